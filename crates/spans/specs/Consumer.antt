@@ -1,0 +1,66 @@
+-- What a consumer of a feed sees, and the tests that it makes of each message.
+use Rattle.std.specs.Prelude.{ℕ, List, [], ◌∷◌, ◌++◌, Bool, true, false, not, ◌&&◌, ◌||◌, ◌==◌, ◌≡◌, nat_le, nat_lt, if◌then◌else◌, Option, Some, None}
+use Rattle.timestamps.specs.declared.row.Row.{Row}
+use Rattle.spans.specs.declared.span.Span.{Span}
+use Rattle.spans.specs.declared.calls.messages.Message.{Message}
+use Rattle.spans.specs.declared.calls.messages.Message.TheVariants as messages
+use Rattle.spans.specs.Keys.{in_span}
+use Rattle.spans.specs.SpanTests.{key_lt}
+use Rattle.spans.specs.Effects.{Effect}
+use Rattle.spans.specs.Serial.{Map, put, map_at}
+use Rattle.spans.specs.Feeds.{Feed, told_to, last_resolved}
+
+-- the map changed by the rows of the messages, in order
+abbrev pub view_of : Map → List Message → Map
+view_of m [] = m
+view_of m (messages.Row r ∷ ms) = view_of (put m r.key r.after) ms
+view_of m (messages.Resolved t ∷ ms) = view_of m ms
+
+-- the part of a map in a span
+abbrev pub span_part : Span → Map → Map
+span_part span m = λ x. if in_span span x then m x else None
+
+-- the row that was taken last, where there was one
+abbrev pub last_row : Option Row → List Message → Option Row
+last_row o [] = o
+last_row o (messages.Row r ∷ ms) = last_row (Some r) ms
+last_row o (messages.Resolved t ∷ ms) = last_row o ms
+
+-- by timestamp and then by key
+abbrev pub row_lt : Row → Row → Bool
+row_lt r s = nat_lt r.ts s.ts || ((r.ts == s.ts) && key_lt r.key s.key)
+
+abbrev pub is_after : Option Row → Row → Bool
+is_after None r = true
+is_after (Some last) r = row_lt last r
+
+abbrev pub reaches : Option Row → ℕ → Bool
+reaches None t = true
+reaches (Some last) t = nat_le last.ts t
+
+-- why a message is refused, where taken are the messages before it
+pub data ApplyFault : Type 0 where
+  NotAfter : ApplyFault
+  OutsideSpan : ApplyFault
+  ResolvedBack : ApplyFault
+
+-- a row comes after the cursor, all resolved timestamps and the row before it, and lies in the span; a resolved
+-- timestamp is above the cursor and all resolved ones, and not below the row before it
+abbrev pub apply_fault : Span → ℕ → List Message → Message → Option ApplyFault
+apply_fault span cursor taken (messages.Row r) =
+    if not (nat_lt (last_resolved cursor taken) r.ts && is_after (last_row None taken) r) then Some NotAfter
+    else (if not (in_span span r.key) then Some OutsideSpan else None)
+apply_fault span cursor taken (messages.Resolved t) =
+    if not (nat_lt (last_resolved cursor taken) t && reaches (last_row None taken) t) then Some ResolvedBack else None
+
+-- each of the messages passes the tests, where taken are those before them
+abbrev pub AllTaken : Span → ℕ → List Message → List Message → Type 0
+AllTaken span cursor taken [] = Unit {0}
+AllTaken span cursor taken (m ∷ ms) = (apply_fault span cursor taken m ≡ None) × AllTaken span cursor (taken ++ m ∷ []) ms
+
+-- a consumer that began with the span's part of the map at the cursor takes every message, and has after each resolved
+-- one the span's part of the map at its timestamp
+pub record ConsumerIsRight (p : List Effect) (f : ℕ) (feed : Feed) : Type 0 where
+  pub takes : AllTaken feed.span feed.cursor [] (told_to p f)
+  pub views : (before rest : List Message) (t : ℕ) → told_to p f ≡ before ++ messages.Resolved t ∷ rest
+      → (x : List ℕ) → view_of (span_part feed.span (map_at p feed.cursor)) before x ≡ span_part feed.span (map_at p t) x

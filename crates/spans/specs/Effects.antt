@@ -1,0 +1,67 @@
+-- What an event did to the database. A history is a list of events, its newest first; all definitions
+-- but those of answers and of legal histories read the list of its effects, the newest first as well.
+use Rattle.std.specs.Prelude.{ℕ, List, map, Option, Some, None}
+use Rattle.spans.specs.declared.span.Span.{Span}
+use Rattle.spans.specs.declared.calls.commands.Cmd.{Cmd}
+use Rattle.spans.specs.declared.calls.commands.Cmd.TheVariants.{Begin, Get, Scan, Put, Del, Commit, Abort, Close, CloseHard, Protect, Release, Collect, Open, Poll, Cancel, ReadAt, ScanAt}
+use Rattle.spans.specs.declared.calls.replies.Reply.{Reply}
+use Rattle.spans.specs.declared.calls.replies.Reply.TheVariants.{Started, Found, Rows, Written, Committed, Aborted, Closed, Protected, Released, Collected, Opened, Messages, Cancelled, Refused}
+use Rattle.spans.specs.declared.calls.replies.Refusal.TheVariants.{TooLate}
+use Rattle.spans.specs.declared.calls.messages.Message.{Message}
+use Rattle.spans.specs.declared.calls.events.Event.{Event}
+
+-- what a write leaves at a key: a value, or none for a delete
+abbrev pub After : Type 0
+After = Option (List ℕ)
+
+pub data Effect : Type 0 where
+  Begins : (t seat : ℕ) → Effect
+  Reads : (t : ℕ) (x : List ℕ) (found : After) → Effect
+  Scans : (t : ℕ) (span : Span) (rows : List (List ℕ × List ℕ)) → Effect
+  Writes : (t : ℕ) (x : List ℕ) (after : After) → Effect
+  Commits : (t : ℕ) → Effect
+  Aborts : (t : ℕ) → Effect
+  Closes : (at : ℕ) → Effect
+  HardCloses : (to at : ℕ) → Effect
+  SnapshotReads : (t : ℕ) (x : List ℕ) (found : After) → Effect
+  SnapshotScans : (t : ℕ) (span : Span) (rows : List (List ℕ × List ℕ)) → Effect
+  Protects : (id t : ℕ) → Effect
+  Releases : (id : ℕ) → Effect
+  Collects : (horizon : ℕ) → Effect
+  Opens : (feed seat : ℕ) (span : Span) (cursor : ℕ) → Effect
+  Polls : (feed max : ℕ) (messages : List Message) → Effect
+  Cancels : (feed : ℕ) → Effect
+  NoEffect : Effect
+
+-- what a seat's command did, by its reply: a refusal does nothing, but that a write which is too late
+-- aborts its transaction
+abbrev pub effect : ℕ → Cmd → Reply → Effect
+effect seat (Begin t) Started = Begins t seat
+effect seat (Get t x) (Found v) = Reads t x v
+effect seat (Scan t span) (Rows rows) = Scans t span rows
+effect seat (Put t x v) Written = Writes t x (Some v)
+effect seat (Put t x v) (Refused TooLate) = Aborts t
+effect seat (Del t x) Written = Writes t x None
+effect seat (Del t x) (Refused TooLate) = Aborts t
+effect seat (Commit t) (Committed keys) = Commits t
+effect seat (Abort t) Aborted = Aborts t
+effect seat (Close to) (Closed at aborted) = Closes at
+effect seat (CloseHard to) (Closed at aborted) = HardCloses to at
+effect seat (ReadAt t x) (Found v) = SnapshotReads t x v
+effect seat (ScanAt t span) (Rows rows) = SnapshotScans t span rows
+effect seat (Protect t) (Protected id) = Protects id t
+effect seat (Release id) Released = Releases id
+effect seat (Collect to) (Collected horizon removed) = Collects horizon
+effect seat (Open span cursor) (Opened feed) = Opens feed seat span cursor
+effect seat (Poll feed max) (Messages ms) = Polls feed max ms
+effect seat (Cancel feed) Cancelled = Cancels feed
+effect seat cmd reply = NoEffect
+
+abbrev pub effect_of : Event → Effect
+effect_of e = effect e.seat e.cmd e.reply
+
+abbrev pub effects_of : List Event → List Effect
+effects_of h = map effect_of h
+
+abbrev pub event : ℕ → ℕ → Cmd → Reply → Event
+event n seat cmd reply = record { position = n; seat = seat; cmd = cmd; reply = reply }

@@ -1,0 +1,15 @@
+pub mod SpanTests
+pub mod Keys
+pub mod Effects
+pub mod Transactions
+pub mod Newest
+pub mod Versions
+pub mod Reads
+pub mod Streams
+pub mod Feeds
+pub mod FeedRight
+pub mod Collection
+pub mod Answer
+pub mod Legal
+pub mod Serial
+pub mod Consumer

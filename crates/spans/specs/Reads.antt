@@ -1,0 +1,29 @@
+-- Reads, and the write rule of multiversion timestamp ordering (Bernstein, Hadzilacos and Goodman, section 5.3;
+-- Reed 1978: a version is known valid from its write to its latest read, and a write inside that interval is refused).
+use Rattle.std.specs.Prelude.{ℕ, List, [], ◌∷◌, Bool, true, false, ◌&&◌, ◌||◌, ◌≡◌, ◌<◌, ◌⊎◌, nat_lt, bytes_eq}
+use Rattle.spans.specs.Keys.{in_span}
+use Rattle.spans.specs.Effects.{After, Effect, Reads, Scans}
+use Rattle.spans.specs.Versions.{visible}
+
+-- j read x, and was given the version of k, which left v. A scan reads every key of its span, the absent ones too
+abbrev pub IsRead : List Effect → ℕ → List ℕ → ℕ → After → Type 0
+IsRead [] j x k v = ⊥
+IsRead (Reads t y w ∷ p) j x k v = ((t ≡ j) × (y ≡ x) × ((visible p y t).ts ≡ k) × (w ≡ v)) ⊎ IsRead p j x k v
+IsRead (Scans t span rows ∷ p) j x k v = ((t ≡ j) × (in_span span x ≡ true) × ((visible p x t).ts ≡ k) × ((visible p x t).after ≡ v)) ⊎ IsRead p j x k v
+IsRead (_ ∷ p) j x k v = IsRead p j x k v
+
+-- some read of x by a transaction above i was given a version from below i
+pub record IsReadAcross (p : List Effect) (x : List ℕ) (i : ℕ) : Type 0 where
+  pub reader : ℕ
+  pub source : ℕ
+  pub found : After
+  pub read : IsRead p reader x source found
+  pub low : source < i
+  pub high : i < reader
+
+-- the write rule: a write of x at i is too late where some read goes across it. This is the test that IsReadAcross states
+abbrev pub too_late : List Effect → List ℕ → ℕ → Bool
+too_late [] x i = false
+too_late (Reads j y v ∷ p) x i = (bytes_eq y x && (nat_lt (visible p y j).ts i && nat_lt i j)) || too_late p x i
+too_late (Scans j span rows ∷ p) x i = (in_span span x && (nat_lt (visible p x j).ts i && nat_lt i j)) || too_late p x i
+too_late (_ ∷ p) x i = too_late p x i

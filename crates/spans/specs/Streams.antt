@@ -1,0 +1,23 @@
+-- The ordered list of committed versions that a feed tells: CockroachDB's rows after a cursor, made one total
+-- order by timestamp and then by key.
+use Rattle.std.specs.Prelude.{ℕ, zero, suc, List, [], ◌++◌, map, filter, ◌&&◌, nat_lt, if◌then◌else◌, Option, Some, None}
+use Rattle.timestamps.specs.declared.row.Row.{Row}
+use Rattle.spans.specs.declared.span.Span.{Span}
+use Rattle.spans.specs.Keys.{in_span}
+use Rattle.spans.specs.Effects.{After, Effect}
+use Rattle.spans.specs.Transactions.{is_committed}
+use Rattle.spans.specs.Versions.{write_of, write_set}
+
+-- what a write left, and nothing where there is none
+abbrev pub written_value : Option After → After
+written_value None = None
+written_value (Some a) = a
+
+-- the rows of t in the span: each key with what t last wrote there, keys rising
+abbrev pub rows_of : List Effect → Span → ℕ → List Row
+rows_of p span t = map (λ x. record { ts = t; key = x; after = written_value (write_of p t x) }) (filter (in_span span) (write_set p t))
+
+-- the rows of the span that transactions above the cursor and at or below t committed, by timestamp and then by key
+abbrev pub stream_of : List Effect → Span → ℕ → ℕ → List Row
+stream_of p span cursor zero = []
+stream_of p span cursor (suc t) = stream_of p span cursor t ++ (if nat_lt cursor (suc t) && is_committed p (suc t) then rows_of p span (suc t) else [])

@@ -1,0 +1,47 @@
+//! What a session asks for.
+
+use crate::span::Span;
+use timestamps::key::Key;
+use timestamps::value::Value;
+
+/// A command. Numbers range over the whole of `u64`: the database answers those that it can't take
+/// with a [`Refusal`](crate::calls::Refusal).
+#[derive(Debug, Drop, PartialEq, Eq)]
+pub enum Cmd {
+    /// Begins the transaction of this timestamp.
+    Begin { ts: u64 },
+    /// Reads a key in a transaction.
+    Get { ts: u64, key: Key },
+    /// Reads every key of a span in a transaction.
+    Scan { ts: u64, span: Span },
+    /// Writes a value in a transaction.
+    Put { ts: u64, key: Key, value: Value },
+    /// Deletes a key in a transaction.
+    Del { ts: u64, key: Key },
+    /// Commits a transaction.
+    Commit { ts: u64 },
+    /// Aborts a transaction.
+    Abort { ts: u64 },
+    /// Moves the closed timestamp up to `to`, or to just below the oldest undecided transaction.
+    Close { to: u64 },
+    /// Aborts what is undecided at or below `to`, and moves the closed timestamp up to `to`.
+    CloseHard { to: u64 },
+    /// Reads the committed value of a key at a closed timestamp.
+    ReadAt { t: u64, key: Key },
+    /// Reads the committed values of a span at a closed timestamp.
+    ScanAt { t: u64, span: Span },
+    /// Keeps the versions that a read at `t` wants from being collected.
+    Protect { t: u64 },
+    /// Ends a protection.
+    Release { id: u64 },
+    /// Drops dead versions, up to `to` at most.
+    Collect { to: u64 },
+    /// Opens a feed of the versions of a span above a timestamp.
+    Open { span: Span, cursor: u64 },
+    /// Takes the next messages of a feed, at most `max`.
+    Poll { feed: u64, max: u64 },
+    /// Ends a feed, from any seat.
+    Cancel { feed: u64 },
+    /// Counts what the database holds.
+    Stats,
+}

@@ -1,0 +1,108 @@
+//! What a command is answered.
+ghost use Rattle.std.specs.Prelude.{◌≡◌};
+
+use crate::calls::messages::Messages;
+use std::marker::Model;
+use timestamps::key::Key;
+use timestamps::value::Value;
+
+/// The answer to a command.
+#[derive(Debug, Drop)]
+pub enum Reply {
+    Started,
+    Found(Option<Value>),
+    Rows(Rows),
+    Written,
+    Committed {
+        keys: u64,
+    },
+    Aborted,
+    Closed {
+        at: u64,
+        aborted: u64,
+    },
+    Protected {
+        id: u64,
+    },
+    Released,
+    Collected {
+        horizon: u64,
+        removed: u64,
+    },
+    Opened {
+        feed: u64,
+    },
+    Messages(Messages),
+    Cancelled,
+    Stats {
+        versions: u64,
+        undecided: u64,
+        feeds: u64,
+        closed: u64,
+        horizon: u64,
+    },
+    Refused(Refusal),
+}
+
+/// Why a command was refused. After every refusal but `TooLate` the database is as it was.
+#[derive(Clone, Copy, Debug, PartialEq, Eq)]
+pub enum Refusal {
+    /// The transaction would begin at or below the closed timestamp.
+    BelowClosed { closed: u64 },
+    /// A transaction of this timestamp began before.
+    TsUsed,
+    /// The number is no timestamp.
+    TsRange,
+    /// The version to be read is another transaction's, which is undecided.
+    Blocked { by: u64 },
+    /// No transaction of this timestamp began.
+    NoTxn,
+    /// Another seat owns the transaction, or the feed.
+    NotOwner,
+    /// The transaction is decided, or its timestamp is closed.
+    Ended,
+    /// A later reader has read the version before this write. The transaction is aborted.
+    TooLate,
+    /// The timestamp isn't closed.
+    NotClosed { closed: u64 },
+    /// Versions at this timestamp may have been collected.
+    BelowHorizon { horizon: u64 },
+    /// No such protection stands.
+    NoProtection,
+    /// No such feed was opened.
+    NoFeed,
+    /// The feed was cancelled.
+    FeedCancelled,
+    /// A growth of memory was refused.
+    NoMemory,
+}
+
+/// The keys that a scan found, rising, each with its value.
+#[derive(Debug, Drop)]
+pub struct Rows {
+    pairs: Vec<(Key, Value)>,
+}
+
+impl Model for Rows {
+    ghost use Rattle.std.specs.Prelude.{List, ℕ};
+
+    ghost Value = { List (List ℕ × List ℕ) };
+
+    ghost view = { λ r. r.pairs.items };
+}
+
+impl Rows {
+    /// The rows of a list.
+    pub fn from_vec(pairs: Vec<(Key, Value)>) -> Rows
+        ensures { result ≡ pairs.items }
+    {
+        Rows { pairs }
+    }
+
+    /// The rows, lent.
+    pub fn as_slice(&self) -> &[(Key, Value)]
+        ensures { result.now ≡ self.now }
+    {
+        self.pairs.as_slice()
+    }
+}

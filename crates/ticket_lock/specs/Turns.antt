@@ -1,0 +1,39 @@
+-- How a call for a turn ends.
+use Rattle.std.specs.Prelude.{◌≡◌, ℕ, ◌+◌, ◌<◌, ◌≤◌, List, length, Some, None, true, false}
+use Rattle.ticket_lock.specs.declared.denied.Denied.{Denied}
+use Rattle.ticket_lock.specs.declared.denied.Denied.TheVariants.{Busy, Spent}
+use Rattle.ticket_lock.specs.declared.chronicle.Chronicle.{Ghosts}
+use Rattle.ticket_lock.specs.declared.lock.Seat.{Seat}
+use Rattle.ticket_lock.specs.Lists.{StartsWith}
+use Rattle.ticket_lock.specs.Seats.{Keeps, seen, known, ticket, found, raised}
+use Rattle.ticket_lock.specs.Seats as seats
+
+module _ {T E : Type 0} {C : Ghosts T E} where
+  -- The seat has the turn t of a lock that began at `first`. The value stands for what it found: all turns so far, which begin with what it had seen.
+  pub record HasTurn (stands : T → ℕ → List E → Type 0) (floor_of : T → ℕ) (first : ℕ) (old : Seat T E C) (value : T) (t : ℕ) (new : Seat T E C) : Type 0 where
+    pub keeps : Keeps old new
+    pub unspent : seats.met_spent old ≡ false
+    pub ticket : ticket new ≡ Some t
+    pub stood : stands value first (found new)
+    pub begins : StartsWith (found new) (seen new)
+    pub place : first + length (found new) ≡ t
+    pub high : known old ≤ floor_of value
+    pub unraised : raised new ≡ 0
+
+  -- no ticket is left, and the seat knows it
+  pub record IsSpent (old new : Seat T E C) : Type 0 where
+    pub keeps : Keeps old new
+    pub free : ticket new ≡ None
+    pub met : seats.met_spent new ≡ true
+
+  -- the turn that was served was no older than what the seat had seen, and a later one was to be drawn
+  pub record IsBusy (first : ℕ) (old : Seat T E C) (served next : ℕ) (new : Seat T E C) : Type 0 where
+    pub keeps : Keeps old new
+    pub free : ticket new ≡ None
+    pub met : seats.met_spent new ≡ seats.met_spent old
+    pub ahead : served < next
+    pub reached : first + length (seen old) ≤ served
+
+  abbrev pub IsDenied : ℕ → Seat T E C → Denied → Seat T E C → Type 0
+  IsDenied first old (Busy served next) new = IsBusy first old served next new
+  IsDenied first old Spent new = IsSpent old new

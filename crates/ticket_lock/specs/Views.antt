@@ -1,0 +1,90 @@
+-- What a seat of the table knows, and what each step makes of it.
+use Rattle.std.specs.Prelude.{◌≡◌, ℕ, List, [], ◌∷◌, ◌++◌, map, max, Option, Some, None, Bool, true, false, cond}
+use Rattle.atomic_table.specs.Table.{Me}
+use Rattle.ticket_lock.specs.Lists.{span, head_or, tail, longer}
+use Rattle.ticket_lock.specs.declared.rule.SeatRecord.{SeatRecord}
+use Rattle.ticket_lock.specs.declared.rule.View.{View}
+use Rattle.ticket_lock.specs.declared.rule.Setup.{Setup}
+
+-- a view, with the slots that its seat has taken
+abbrev pub SeatState : Type 0 → Type 0 → Type 0
+SeatState T E = Me (Option T) (View E)
+
+abbrev pub setup : ℕ → ℕ → Setup
+setup first count = record { first = first; count = count }
+
+module _ {E : Type 0} where
+  abbrev pub fresh_record : ℕ → ℕ → SeatRecord E
+  fresh_record first n = record { first = first; number = n; seen = []; mine = []; spent = false; known = 0 }
+
+  -- no seat, but it still issues those of the numbers
+  abbrev pub issuer : ℕ → List ℕ → View E
+  issuer first numbers = record { sits = false; kept = fresh_record first 0; gathered = []; unissued = numbers; ticket = None; holds = false; found = []; raised = 0; loaded = 0; heard = [] }
+
+  -- a seat before its first turn
+  abbrev pub seat : ℕ → ℕ → View E
+  seat first n = record { sits = true; kept = fresh_record first n; gathered = []; unissued = []; ticket = None; holds = false; found = []; raised = 0; loaded = 0; heard = [] }
+
+  -- the table's first view: it issues all seats
+  abbrev pub opener : Setup → View E
+  opener k = issuer k.first (span 0 k.count)
+
+  abbrev pub after_issue : View E → View E
+  after_issue v = record v { unissued = tail v.unissued }
+
+  abbrev pub issued : View E → View E
+  issued v = seat v.kept.first (head_or v.unissued)
+
+  -- no seat, with what was seen
+  abbrev pub report : List E → ℕ → View E
+  report seen known = record { sits = false; kept = record { first = 0; number = 0; seen = seen; mine = []; spent = false; known = known }; gathered = []; unissued = []; ticket = None; holds = false; found = []; raised = 0; loaded = 0; heard = [] }
+
+  -- what a joined view leaves
+  abbrev pub nobody : View E
+  nobody = report [] 0
+
+  abbrev pub itself : View E → View E
+  itself v = v
+
+  abbrev pub report_of : View E → View E
+  report_of v = report v.kept.seen v.kept.known
+
+  -- v has taken in the report w
+  abbrev pub hearing : View E → View E → View E
+  hearing v w = record v { kept = record v.kept { known = max v.kept.known w.kept.known }; heard = w.kept.seen }
+
+  -- no seat, but it has gathered seats that kept this
+  abbrev pub gatherer : List (SeatRecord E) → View E
+  gatherer records = record { sits = false; kept = record { first = 0; number = 0; seen = []; mine = []; spent = false; known = 0 }; gathered = records; unissued = []; ticket = None; holds = false; found = []; raised = 0; loaded = 0; heard = [] }
+
+  abbrev pub gathering : View E → View E → View E
+  gathering v w = record v { gathered = w.kept ∷ v.gathered }
+
+  -- what was heard of is seen too
+  abbrev pub caught_up : View E → ℕ → View E
+  caught_up v n = record v { kept = record v.kept { seen = longer v.kept.seen v.heard }; loaded = n; heard = [] }
+
+  -- the numbers of the seats that it stands for
+  abbrev pub numbers : View E → List ℕ
+  numbers v = cond v.sits (v.kept.number ∷ []) [] ++ (map (λ c. c.number) v.gathered ++ v.unissued)
+
+  abbrev pub met_spent : View E → View E
+  met_spent v = record v { kept = record v.kept { spent = true } }
+
+  abbrev pub drawn : View E → ℕ → View E
+  drawn v n = record v { ticket = Some n }
+
+  abbrev pub looked : View E → ℕ → View E
+  looked v n = record v { loaded = n }
+
+  abbrev pub holding : View E → ℕ → List E → View E
+  holding v n h = record v { holds = true; loaded = n; found = h }
+
+  abbrev pub ended : View E → List E → View E
+  ended v entries = record v { kept = record v.kept { seen = v.found ++ entries; mine = v.kept.mine ++ entries }; ticket = None; holds = false; found = []; raised = 0 }
+
+  abbrev pub raises : View E → ℕ → ℕ → View E
+  raises v r k = record v { kept = record v.kept { known = max r k }; raised = max v.raised k }
+
+  abbrev pub knows_floor : View E → ℕ → View E
+  knows_floor v r = record v { kept = record v.kept { known = r } }

@@ -1,0 +1,42 @@
+//! A ticket lock over one value, and the history that its turns make.
+//!
+//! Each caller has a `Seat`. A turn gives its seat the value, and ends with an entry that names the
+//! seat. The entries of all turns, in the order of their tickets, are the one history that the
+//! value stands for. It exists in the contracts alone, as do the lists that a seat keeps: the
+//! beginning of the history that it has `seen`, and the entries that are `mine`.
+//!
+//! Three words say whose turn it is, and one slot has the value while nobody has a turn. Two seats
+//! on a lock that began at 5:
+//!
+//! ```text
+//!                    ticket serving floor  value    history
+//! new(.., 5, 2)         5      5      0    at home  (none)
+//! seat 0 has a turn     6      5      0    seat 0   (none)       seat 1: try_turn is Busy{5, 6}
+//! seat 1 waits          7      5      0    seat 0   (none)
+//! raise_floor to 40     7      5     40    seat 0   (none)       seat 1: floor is 40
+//! end with entry a      7      6     40    at home  a            seat 0 has seen a, mine is a
+//! seat 1 has its turn   7      6     40    seat 1   a            what it found: a
+//! ```
+//!
+//! A turn costs a compare-exchange to draw a ticket, a load to see it served and a store to end it.
+//! `floor`, `raise_floor` and a refused `try_turn` are one to three steps, and `meet` is six loads.
+//! Only `new` takes memory, and only `turn` waits.
+#![tactic(auto)]
+
+mod chronicle;
+mod denied;
+mod finishing;
+mod floors;
+mod issuing;
+mod lock;
+mod meetings;
+mod plays;
+mod rule;
+mod steps;
+#[cfg(test)]
+mod tests;
+mod turns;
+
+pub use chronicle::Chronicle;
+pub use denied::Denied;
+pub use lock::{Held, Seat, SeatsMissing, Spent, TicketLock};

@@ -1,0 +1,82 @@
+//! The table behind a lock, and what its seats know.
+
+use crate::chronicle::Chronicle;
+use atomic_table::{Seat as TableSeat, TableRule};
+use std::collections::LinkedList;
+use std::marker::PhantomData;
+
+/// The word with the next ticket to be drawn.
+pub(crate) const TICKET: usize = 0;
+
+/// The word with the ticket whose turn it is.
+pub(crate) const SERVING: usize = 1;
+
+/// The word with the greatest floor that a holder raised it to.
+pub(crate) const FLOOR: usize = 2;
+
+/// The slot that has the value while nobody has a turn.
+pub(crate) const HOME: usize = 0;
+
+/// What a seat keeps from turn to turn. No value of it is made.
+pub struct SeatRecord<E> {
+    /// The number of the lock's first ticket.
+    pub first: u64,
+    /// Its number among the seats.
+    pub number: u8,
+    /// The beginning of the history that it has seen.
+    pub seen: LinkedList<E>,
+    /// The entries of its own turns.
+    pub mine: LinkedList<E>,
+    /// It found that no ticket is left.
+    pub spent: bool,
+    /// The greatest floor that it knows.
+    pub known: u64,
+}
+
+/// What a seat at the table knows. No value of it is made.
+pub struct View<E> {
+    /// It is a seat of the lock. The seat that issues the others, a report of what one has seen and
+    /// the seat that gathers all at the end are none.
+    pub sits: bool,
+    pub kept: SeatRecord<E>,
+    /// What the seats that it gathered kept.
+    pub gathered: LinkedList<SeatRecord<E>>,
+    /// The numbers of the seats that it has still to issue.
+    pub unissued: LinkedList<u8>,
+    /// The ticket that it drew, until its turn ends.
+    pub ticket: Option<u64>,
+    /// It has the turn.
+    pub holds: bool,
+    /// The history that the value stood for when the turn came.
+    pub found: LinkedList<E>,
+    /// The greatest floor that it raised the word to in this turn.
+    pub raised: u64,
+    /// The serving number that it loaded last.
+    pub loaded: u64,
+    /// What another seat had seen, until it is compared with what this one has.
+    pub heard: LinkedList<E>,
+}
+
+/// What the table is told once: the first ticket and the number of seats.
+#[derive(Drop)]
+pub struct Setup {
+    pub first: u64,
+    pub count: u8,
+}
+
+/// The rule of the table.
+pub struct TurnOrder<T> {
+    marker: PhantomData<T>,
+}
+
+impl<T: Chronicle> TableRule<Option<T>, View<T::Entry>, Setup> for TurnOrder<T> {
+    ghost use Rattle.ticket_lock.specs.Rule.{Ordered};
+    ghost use Rattle.ticket_lock.specs.Views.{opener};
+
+    ghost holds = { Ordered T.stands T.seat_of T.floor_of };
+
+    ghost first = { opener };
+}
+
+/// The token by which a seat makes its steps. It has no bytes.
+pub type Pass<T, E> = TableSeat<Option<T>, View<E>>;

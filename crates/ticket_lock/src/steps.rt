@@ -1,0 +1,130 @@
+//! The single steps of a turn.
+ghost use Rattle.std.specs.Prelude.{◌≡◌, List, ◌≤◌, ◌<◌, ◌+◌, ◌-◌, ◌^◌, ◌++◌, [], ◌∷◌, length, true, false, Some, None, IfSome, IfNone, IfOk, IfErr};
+ghost use Rattle.ticket_lock.specs.Lists.{of_seat, StartsWith};
+ghost use Rattle.ticket_lock.specs.Views.{drawn, met_spent, looked, holding, ended};
+ghost use Rattle.ticket_lock.specs.Steps.{DeniedAt};
+ghost use Rattle.ticket_lock.specs.Proper.{IsSamePass};
+
+use crate::chronicle::Chronicle;
+use crate::denied::Denied;
+use crate::lock::TicketLock;
+use crate::plays::{AwaitTurn, DrawTicket, EndTurn, EndsWith, LoadServing, LoadTicket};
+use crate::rule::{HOME, Pass, SERVING, TICKET};
+use crossbeam_utils::Backoff;
+use std::sync::Wait;
+
+impl<T: Chronicle> TicketLock<T> {
+    // Draws a ticket, unless none is left.
+    pub(crate) fn draw<R: Wait>(&self, rt: &R, pass: &mut Pass<T, T::Entry>) -> Option<u64>
+        requires own { pass.old.table_id ≡ self.now.board.shared.table_id }
+        requires free { (pass.old.me.0.sits ≡ true) × (pass.old.me.0.ticket ≡ None) }
+        ensures same { IsSamePass pass.old pass.new }
+        ensures some { IfSome result (λ n. (n < 2 ^ 64 - 1) × (pass.new.me ≡ (drawn pass.old.me.0 n, pass.old.me.1)) × (pass.old.me.0.kept.spent ≡ false)) }
+        ensures none { IfNone result (pass.new.me ≡ (met_spent pass.old.me.0, pass.old.me.1)) }
+    {
+        let shared = &self.board.shared;
+        for _ in rt.forever() {
+            let next = shared.load::<LoadTicket>(pass, TICKET);
+            if next == u64::MAX {
+                return None;
+            }
+            let found = shared.compare_exchange::<DrawTicket>(pass, TICKET, next, next + 1);
+            if found == next {
+                return Some(next);
+            }
+        }
+        unreachable!()
+    }
+
+    // Draws a ticket if it is served at once.
+    pub(crate) fn try_draw(&self, pass: &mut Pass<T, T::Entry>) -> Result<u64, Denied>
+        requires own { pass.old.table_id ≡ self.now.board.shared.table_id }
+        requires free { (pass.old.me.0.sits ≡ true) × (pass.old.me.0.ticket ≡ None) }
+        ensures same { IsSamePass pass.old pass.new }
+        ensures ok { IfOk result (λ n. (n < 2 ^ 64 - 1) × (pass.new.me ≡ (drawn (looked pass.old.me.0 n) n, pass.old.me.1)) × (pass.old.me.0.kept.spent ≡ false)) }
+        ensures err { IfErr result (λ d. DeniedAt pass.old.me d pass.new.me) }
+    {
+        let shared = &self.board.shared;
+        let served = shared.load::<LoadServing>(pass, SERVING);
+        let next = shared.load::<LoadTicket>(pass, TICKET);
+        if next == u64::MAX {
+            return Err(Denied::Spent);
+        }
+        if served < next {
+            return Err(Denied::Busy { served, next });
+        }
+        let found = shared.compare_exchange::<DrawTicket>(pass, TICKET, served, served + 1);
+        if found == served {
+            Ok(served)
+        } else {
+            Err(Denied::Busy {
+                served,
+                next: found,
+            })
+        }
+    }
+
+    // Takes the value, where the ticket was drawn at its turn.
+    pub(crate) fn take_turn(&self, pass: &mut Pass<T, T::Entry>, ticket: u64) -> T
+        requires own { pass.old.table_id ≡ self.now.board.shared.table_id }
+        requires drew { (pass.old.me.0.sits ≡ true) × (pass.old.me.0.ticket ≡ Some ticket) × (pass.old.me.0.holds ≡ false) × (pass.old.me.1 ≡ []) × (pass.old.me.0.loaded ≡ ticket) }
+        ensures same { IsSamePass pass.old pass.new }
+        ensures takes { (found : List T.Entry) × (pass.new.me ≡ (holding pass.old.me.0 ticket found, (0, None) ∷ [])) × T.stands result pass.old.me.0.kept.first found × StartsWith found pass.old.me.0.kept.seen × (pass.old.me.0.kept.first + length found ≡ ticket) × (pass.old.me.0.kept.known ≤ T.floor_of result) }
+    {
+        let _ = ticket;
+        self.board.shared.load::<AwaitTurn>(pass, SERVING);
+        let Some(value) = self.board.shared.exchange(pass, HOME, None) else {
+            unreachable!()
+        };
+        value
+    }
+
+    // Waits for the turn of the ticket, and takes the value.
+    pub(crate) fn await_turn<R: Wait>(&self, rt: &R, pass: &mut Pass<T, T::Entry>, ticket: u64) -> T
+        requires own { pass.old.table_id ≡ self.now.board.shared.table_id }
+        requires drew { (pass.old.me.0.sits ≡ true) × (pass.old.me.0.ticket ≡ Some ticket) × (pass.old.me.0.holds ≡ false) × (pass.old.me.1 ≡ []) }
+        ensures same { IsSamePass pass.old pass.new }
+        ensures takes { (found : List T.Entry) × (pass.new.me ≡ (holding pass.old.me.0 ticket found, (0, None) ∷ [])) × T.stands result pass.old.me.0.kept.first found × StartsWith found pass.old.me.0.kept.seen × (pass.old.me.0.kept.first + length found ≡ ticket) × (pass.old.me.0.kept.known ≤ T.floor_of result) }
+    {
+        let backoff = Backoff::new();
+        for _ in rt.forever() {
+            let serving = self.board.shared.load::<AwaitTurn>(pass, SERVING);
+            if serving == ticket {
+                let Some(value) = self.board.shared.exchange(pass, HOME, None) else {
+                    unreachable!()
+                };
+                return value;
+            }
+            backoff.snooze();
+        }
+        unreachable!()
+    }
+
+    // Gives the value back, and the turn to the next ticket.
+    pub(crate) fn release<J: EndsWith<T::Entry>>(
+        &self,
+        pass: &mut Pass<T, T::Entry>,
+        value: T,
+        ticket: u64,
+        entry: &T::Entry,
+    )
+        requires own { pass.old.table_id ≡ self.now.board.shared.table_id }
+        requires seat { (pass.old.me.0.sits ≡ true) × (pass.old.me.0.gathered ≡ []) × (pass.old.me.0.unissued ≡ []) }
+        requires turn { (pass.old.me.0.holds ≡ true) × (pass.old.me.0.ticket ≡ Some ticket) × (pass.old.me.1 ≡ (0, None) ∷ []) × (ticket < 2 ^ 64 - 1) }
+        requires said { J.entries ≡ entry.now ∷ [] }
+        requires names { T.seat_of entry.now ≡ pass.old.me.0.kept.number }
+        requires stands { T.stands value pass.old.me.0.kept.first (pass.old.me.0.found ++ entry.now ∷ []) }
+        requires high { pass.old.me.0.raised ≤ T.floor_of value }
+        ensures same { IsSamePass pass.old pass.new }
+        ensures ended { pass.new.me ≡ (ended pass.old.me.0 (entry.now ∷ []), []) }
+        ensures high { pass.old.me.0.kept.known ≤ T.floor_of value }
+        ensures own_before { pass.old.me.0.kept.mine ≡ of_seat T.seat_of pass.old.me.0.kept.number pass.old.me.0.found }
+    {
+        let _ = entry;
+        let empty = self.board.shared.exchange(pass, HOME, Some(value));
+        let None = empty else { unreachable!() };
+        self.board
+            .shared
+            .store::<EndTurn<J>>(pass, SERVING, ticket + 1);
+    }
+}

@@ -1,0 +1,79 @@
+//! Turns: how a seat gets the value, and gives it back.
+ghost use Rattle.std.specs.Prelude.{◌≡◌, ◌≤◌, ◌++◌, List, [], ◌∷◌, None, Some, IfOk, IfErr};
+ghost use Rattle.ticket_lock.specs.Lists.{of_seat};
+ghost use Rattle.ticket_lock.specs.Seats.{number, seen, mine, met_spent, known, ticket, found, raised, IsOf, IsSame};
+ghost use Rattle.ticket_lock.specs.Turns.{HasTurn, IsSpent, IsDenied};
+
+use crate::chronicle::Chronicle;
+use crate::denied::Denied;
+use crate::lock::{Held, Seat, Spent, TicketLock};
+use std::marker::Brand;
+use std::sync::Wait;
+
+impl<T: Chronicle> TicketLock<T> {
+    /// Draws the next ticket and waits until it is served.
+    ///
+    /// `Spent` comes exactly where the next ticket would be 18446744073709551615, and at each later
+    /// call for a turn of this seat too. Whether the wait ends is not promised: it does once the
+    /// turns of all older tickets have ended.
+    pub fn turn<R: Wait>(&self, rt: &R, seat: &mut Seat<T>) -> Result<Held<T>, Spent>
+        requires own { IsOf self.now seat.old }
+        requires free { ticket seat.old ≡ None }
+        ensures ok { IfOk result (λ h. HasTurn T.stands T.floor_of self.now.first seat.old h.value h.ticket seat.new) }
+        ensures err { IfErr result (λ _. IsSpent seat.old seat.new) }
+        ensures own { mine seat.old ≡ of_seat T.seat_of (number seat.old) (seen seat.old) }
+    {
+        let Some(ticket) = self.draw(rt, &mut seat.pass) else {
+            return Err(Spent);
+        };
+        let value = self.await_turn(rt, &mut seat.pass, ticket);
+        Ok(Held { value, ticket })
+    }
+
+    /// The turn of the next ticket, if it is served at once. It waits for nobody, and draws a ticket
+    /// only where it has the turn: at most four steps.
+    ///
+    /// `Spent` comes where the next ticket would be 18446744073709551615, and before `Busy`.
+    pub fn try_turn(&self, seat: &mut Seat<T>) -> Result<Held<T>, Denied>
+        requires own { IsOf self.now seat.old }
+        requires free { ticket seat.old ≡ None }
+        ensures ok { IfOk result (λ h. HasTurn T.stands T.floor_of self.now.first seat.old h.value h.ticket seat.new) }
+        ensures err { IfErr result (λ d. IsDenied self.now.first seat.old d seat.new) }
+        ensures own { mine seat.old ≡ of_seat T.seat_of (number seat.old) (seen seat.old) }
+    {
+        let ticket = self.try_draw(&mut seat.pass)?;
+        let value = self.take_turn(&mut seat.pass, ticket);
+        Ok(Held { value, ticket })
+    }
+
+    /// Ends a turn: the value goes back for the next ticket, and the entry is the last of the
+    /// history so far. It is one store, and waits for nobody.
+    pub fn end(&self, seat: &mut Seat<T>, held: Held<T>, entry: &T::Entry)
+        requires own { IsOf self.now seat.old }
+        requires turn { ticket seat.old ≡ Some held.ticket }
+        requires names { T.seat_of entry.now ≡ number seat.old }
+        requires stands { T.stands held.value self.now.first (found seat.old ++ entry.now ∷ []) }
+        requires high { raised seat.old ≤ T.floor_of held.value }
+        ensures same { IsSame seat.old seat.new }
+        ensures free { ticket seat.new ≡ None }
+        ensures seen { seen seat.new ≡ found seat.old ++ entry.now ∷ [] }
+        ensures mine { mine seat.new ≡ mine seat.old ++ entry.now ∷ [] }
+        ensures own { mine seat.new ≡ of_seat T.seat_of (number seat.new) (seen seat.new) }
+        ensures known { known seat.new ≡ known seat.old }
+        ensures high { known seat.old ≤ T.floor_of held.value }
+        ensures spent { met_spent seat.new ≡ met_spent seat.old }
+        ensures unraised { raised seat.new ≡ 0 }
+    {
+        let Held { value, ticket } = held;
+        self.release::<Brand>(&mut seat.pass, value, ticket, entry);
+    }
+}
+
+impl<T> Held<T> {
+    /// The ticket of the turn: the number of the entry that the turn will end with.
+    pub fn ticket(&self) -> u64
+        ensures { result ≡ self.now.ticket }
+    {
+        self.ticket
+    }
+}

@@ -1,0 +1,23 @@
+//! The smallest words of the database: timestamps, keys, values and the rows that join them.
+//!
+//! A [`Timestamp`](ts::Ts) is a number from 1 to 9223372036854775807, so that 0 can mean "before all"
+//! and one more still fits a `u64`. A key is 1 to 64 bytes, ordered byte by byte; a value is 0 to 1024
+//! bytes. Contracts see a timestamp as its number, a key or a value as its list of bytes.
+//!
+//! ```text
+//! Ts::new(0)            None                  Key::new(alloc, b"")      Err(KeyLength)
+//! Ts::new(10)           Some(10)              Key::new(alloc, b"a")     Ok("a")
+//! Ts::new(1 << 63)      None                  "a" < "aa" < "b"          a beginning first
+//! ```
+//!
+//! Cost: making and copying a key or a value copies its bytes once; comparing two is one comparison
+//! of memory.
+#![tactic(auto)]
+
+pub mod key;
+pub mod row;
+pub mod ts;
+pub mod value;
+
+#[cfg(test)]
+mod tests;

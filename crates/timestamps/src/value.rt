@@ -1,0 +1,85 @@
+//! Values: 0 to 1024 bytes.
+ghost use Rattle.std.specs.Prelude.{◌≡◌, ℕ, List, ◌<◌, ◌≤◌, length, bytes_eq, IfOk, IfErr, OnOk};
+ghost use Rattle.std.specs.Cmp.{partial_equiv_from_equiv};
+ghost use Rattle.std.specs.Cmp.Lexicographic.{nat_list_eq_equiv};
+ghost use Rattle.timestamps.specs.declared.value.TheConstants.{MAX_VALUE_BYTES};
+ghost use Rattle.timestamps.specs.declared.value.ValueError.TheVariants.{ValueLength, NoMemory};
+
+use std::alloc::{AllocError, Global};
+use std::marker::Model;
+
+/// The most bytes that a value has.
+pub const MAX_VALUE_BYTES: usize = 1024;
+
+/// What is stored under a key: 0 to [`MAX_VALUE_BYTES`] bytes.
+#[derive(Debug, Drop)]
+pub struct Value {
+    bytes: Vec<u8>,
+}
+
+impl Model for Value {
+    ghost use Rattle.std.specs.Prelude.{ℕ, List, ◌≤◌, length};
+
+    ghost Value = { List ℕ };
+
+    ghost view = { λ v. v.bytes.items };
+
+    ghost invariant = { λ v. length v.bytes.items ≤ 1024 };
+}
+
+/// Why bytes are no value.
+#[derive(Clone, Copy, Debug, PartialEq, Eq)]
+pub enum ValueError {
+    /// There are more than [`MAX_VALUE_BYTES`] bytes.
+    ValueLength,
+    /// A growth of memory was refused.
+    NoMemory,
+}
+
+impl Value {
+    /// The value of these bytes. It copies them.
+    pub fn new(alloc: Global, bytes: &[u8]) -> Result<Value, ValueError>
+        ensures bytes { IfOk result (λ v. v ≡ bytes.now) }
+        ensures in_range { OnOk result (length bytes.now ≤ MAX_VALUE_BYTES) }
+        ensures refused { IfErr result (λ e. e ≡ ValueLength → MAX_VALUE_BYTES < length bytes.now) }
+        ensures memory { IfErr result (λ e. e ≡ NoMemory → length bytes.now ≤ MAX_VALUE_BYTES) }
+    {
+        if bytes.len() > MAX_VALUE_BYTES {
+            return Err(ValueError::ValueLength);
+        }
+        match bytes.to_vec(alloc) {
+            Ok(bytes) => Ok(Value { bytes }),
+            Err(_) => Err(ValueError::NoMemory),
+        }
+    }
+
+    /// Its bytes.
+    pub fn bytes(&self) -> &[u8]
+        ensures bytes { result.now ≡ self.now }
+        ensures in_range { length self.now ≤ MAX_VALUE_BYTES }
+    {
+        self.bytes.as_slice()
+    }
+
+    /// The same value once more.
+    pub fn copy(&self) -> Result<Value, AllocError>
+        ensures { IfOk result (λ v. v ≡ self.now) }
+    {
+        let bytes = self.bytes.clone()?;
+        Ok(Value { bytes })
+    }
+}
+
+impl PartialEq for Value {
+    ghost eq = { bytes_eq };
+
+    ghost laws = { partial_equiv_from_equiv nat_list_eq_equiv };
+
+    fn eq(&self, other: &Value) -> bool {
+        self.bytes.as_slice() == other.bytes.as_slice()
+    }
+}
+
+impl Eq for Value {
+    ghost laws = { nat_list_eq_equiv };
+}
