@@ -1,0 +1,12 @@
+pub mod Steps
+pub mod Copies
+pub mod Legal
+pub mod Keyed
+pub mod Rows
+pub mod Marks
+pub mod Open
+pub mod WriteSets
+pub mod StreamOrder
+pub mod Feeding
+pub mod Viewing
+pub mod Taking

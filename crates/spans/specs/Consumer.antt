@@ -1,13 +1,13 @@
 -- What a consumer of a feed sees, and the tests that it makes of each message.
-use Rattle.std.specs.Prelude.{ℕ, List, [], ◌∷◌, ◌++◌, Bool, true, false, not, ◌&&◌, ◌||◌, ◌==◌, ◌≡◌, nat_le, nat_lt, if◌then◌else◌, Option, Some, None}
+use Rattle.std.specs.Prelude.{ℕ, List, [], ◌∷◌, ◌++◌, Bool, true, not, ◌&&◌, ◌≡◌, nat_le, nat_lt, if◌then◌else◌, Option, Some, None}
 use Rattle.timestamps.specs.declared.row.Row.{Row}
 use Rattle.spans.specs.declared.span.Span.{Span}
 use Rattle.spans.specs.declared.calls.messages.Message.{Message}
 use Rattle.spans.specs.declared.calls.messages.Message.TheVariants as messages
 use Rattle.spans.specs.Keys.{in_span}
-use Rattle.spans.specs.SpanTests.{key_lt}
 use Rattle.spans.specs.Effects.{Effect}
 use Rattle.spans.specs.Serial.{Map, put, map_at}
+use Rattle.spans.specs.Streams.{row_lt}
 use Rattle.spans.specs.Feeds.{Feed, told_to, last_resolved}
 
 -- the map changed by the rows of the messages, in order
@@ -25,10 +25,6 @@ abbrev pub last_row : Option Row → List Message → Option Row
 last_row o [] = o
 last_row o (messages.Row r ∷ ms) = last_row (Some r) ms
 last_row o (messages.Resolved t ∷ ms) = last_row o ms
-
--- by timestamp and then by key
-abbrev pub row_lt : Row → Row → Bool
-row_lt r s = nat_lt r.ts s.ts || ((r.ts == s.ts) && key_lt r.key s.key)
 
 abbrev pub is_after : Option Row → Row → Bool
 is_after None r = true

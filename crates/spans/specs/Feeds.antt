@@ -1,6 +1,6 @@
 -- Feeds: what was opened, what was told, and what comes next (CockroachDB's changefeeds; the exact order and the
 -- complete resolved messages are this project's).
-use Rattle.std.specs.Prelude.{ℕ, suc, List, [], ◌∷◌, ◌++◌, map, filter, filter_map, take, Bool, true, false, not, ◌&&◌, ◌||◌, ◌==◌, nat_lt, max, if◌then◌else◌, Option, Some, None, bytes_eq}
+use Rattle.std.specs.Prelude.{ℕ, suc, List, [], ◌∷◌, ◌++◌, map, filter, filter_map, take, Bool, false, not, ◌&&◌, ◌||◌, ◌==◌, nat_lt, max, if◌then◌else◌, Option, Some, None, bytes_eq}
 use Rattle.std.specs.List.{list_any}
 use Rattle.timestamps.specs.declared.row.Row.{Row}
 use Rattle.spans.specs.declared.span.Span.{Span}

@@ -1,12 +1,17 @@
 -- The ordered list of committed versions that a feed tells: CockroachDB's rows after a cursor, made one total
 -- order by timestamp and then by key.
-use Rattle.std.specs.Prelude.{ℕ, zero, suc, List, [], ◌++◌, map, filter, ◌&&◌, nat_lt, if◌then◌else◌, Option, Some, None}
+use Rattle.std.specs.Prelude.{ℕ, zero, suc, List, [], ◌++◌, map, filter, Bool, ◌&&◌, ◌||◌, ◌==◌, nat_lt, if◌then◌else◌, Option, Some, None}
 use Rattle.timestamps.specs.declared.row.Row.{Row}
 use Rattle.spans.specs.declared.span.Span.{Span}
 use Rattle.spans.specs.Keys.{in_span}
+use Rattle.spans.specs.SpanTests.{key_lt}
 use Rattle.spans.specs.Effects.{After, Effect}
 use Rattle.spans.specs.Transactions.{is_committed}
 use Rattle.spans.specs.Versions.{write_of, write_set}
+
+-- the order of rows: by timestamp and then by key
+abbrev pub row_lt : Row → Row → Bool
+row_lt r s = nat_lt r.ts s.ts || ((r.ts == s.ts) && key_lt r.key s.key)
 
 -- what a write left, and nothing where there is none
 abbrev pub written_value : Option After → After

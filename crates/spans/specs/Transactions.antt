@@ -1,6 +1,6 @@
 -- Which transactions began, whose they are, how they ended, and up to where timestamps are closed.
 -- (This project; "committed" and "aborted" are those of Bernstein, Hadzilacos and Goodman.)
-use Rattle.std.specs.Prelude.{ℕ, List, [], ◌∷◌, ◌-◌, min, map, filter, Bool, true, false, not, ◌&&◌, ◌||◌, ◌==◌, nat_le, if◌then◌else◌, Option, Some, None, is_some}
+use Rattle.std.specs.Prelude.{ℕ, List, [], ◌∷◌, ◌-◌, min, map, filter, Bool, false, not, ◌&&◌, ◌||◌, ◌==◌, nat_le, if◌then◌else◌, Option, Some, None, is_some}
 use Rattle.spans.specs.Effects.{Effect, Begins, Commits, Aborts, Closes, HardCloses}
 
 -- the seat that began t

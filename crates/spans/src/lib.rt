@@ -4,4 +4,5 @@
 
 pub mod bound;
 pub mod calls;
+pub mod law;
 pub mod span;

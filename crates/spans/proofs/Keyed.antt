@@ -1,0 +1,122 @@
+-- Rising keys, and the rows that they give.
+use Rattle.std.proofs.Common.{◌≡◌, ℕ, ◌⊎◌, Bool, true, false, cond, List, [], ◌∷◌, Option, Some, None, refl, sym, ◌∙◌, ap, subst, inl, inr}
+use Rattle.std.specs.Prelude.{◌↔◌, filter}
+use Rattle.std.specs.declared.cmp.Ordering.{Ordering}
+use Rattle.std.specs.declared.cmp.Ordering.TheVariants.{Less, Equal, Greater}
+use Rattle.std.specs.Ordering.{ordering_reverse}
+use Rattle.std.proofs.lemmas.Cmp.{nat_list_cmp_total}
+use Rattle.std.proofs.lemmas.Map.Lookups.{exact_bytes}
+use Rattle.spans.specs.declared.span.Span.{Span}
+use Rattle.timestamps.specs.Bytes.{key_cmp}
+use Rattle.spans.specs.Keys.{in_span, insert_where, insert_key, with_value, pairs_of, IsPairIn, KeysRise, AreRows}
+
+abbrev pub IsIn : List ℕ → List (List ℕ) → Type 0
+IsIn x [] = ⊥
+IsIn x (y ∷ ys) = (y ≡ x) ⊎ IsIn x ys
+
+abbrev pub RisingKeys : List (List ℕ) → Type 0
+RisingKeys [] = Unit {0}
+RisingKeys (y ∷ ys) = ((x : List ℕ) → IsIn x ys → key_cmp y x ≡ Less) × RisingKeys ys
+
+pub added_in : (x : List ℕ) (ys : List (List ℕ)) → IsIn x (insert_key x ys)
+added_in x [] = inl refl
+added_in x (y ∷ ys) = by_order (key_cmp x y) refl (added_in x ys)
+  where
+    by_order : (o : Ordering) → key_cmp x y ≡ o → IsIn x (insert_key x ys) → IsIn x (insert_where o x y ys (insert_key x ys))
+    by_order Less e more = inl refl
+    by_order Equal e more = inl (sym (exact_bytes x y e))
+    by_order Greater e more = inr more
+
+pub stays_in : (x z : List ℕ) (ys : List (List ℕ)) → IsIn z ys → IsIn z (insert_key x ys)
+stays_in x z [] i = absurd i
+stays_in x z (y ∷ ys) i = by_order (key_cmp x y) i (stays_in x z ys)
+  where
+    by_order : (o : Ordering) → IsIn z (y ∷ ys) → (IsIn z ys → IsIn z (insert_key x ys)) → IsIn z (insert_where o x y ys (insert_key x ys))
+    by_order Less i more = inr i
+    by_order Equal i more = i
+    by_order Greater i more = elim i [ inl here ↦ inl here | inr there ↦ inr (more there) ]
+
+pub only_in : (x z : List ℕ) (ys : List (List ℕ)) → IsIn z (insert_key x ys) → (x ≡ z) ⊎ IsIn z ys
+only_in x z [] i = i
+only_in x z (y ∷ ys) i = by_order (key_cmp x y) i (only_in x z ys)
+  where
+    by_order : (o : Ordering) → IsIn z (insert_where o x y ys (insert_key x ys)) → (IsIn z (insert_key x ys) → (x ≡ z) ⊎ IsIn z ys) → (x ≡ z) ⊎ IsIn z (y ∷ ys)
+    by_order Less i more = i
+    by_order Equal i more = inr i
+    by_order Greater i more = elim i [ inl here ↦ inr (inl here) | inr there ↦ (elim (more there) [ inl e ↦ inl e | inr k ↦ inr (inr k) ]) ]
+
+pub add_rises : (x : List ℕ) (ys : List (List ℕ)) → RisingKeys ys → RisingKeys (insert_key x ys)
+add_rises x [] r = (λ z i. absurd i, tt)
+add_rises x (y ∷ ys) r = by_order (key_cmp x y) refl (add_rises x ys r.1)
+  where
+    by_order : (o : Ordering) → key_cmp x y ≡ o → RisingKeys (insert_key x ys) → RisingKeys (insert_where o x y ys (insert_key x ys))
+    by_order Less e more = (λ z i. elim i [ inl here ↦ subst (λ k. key_cmp x k ≡ Less) here e | inr there ↦ nat_list_cmp_total.trans x y z e (r.0 z there) ], r)
+    by_order Equal e more = r
+    by_order Greater e more = (
+      λ z i. elim (only_in x z ys i) [
+        | inl here ↦ subst (λ k. key_cmp y k ≡ Less) here (nat_list_cmp_total.antisymm y x ∙ ap ordering_reverse e)
+        | inr there ↦ r.0 z there
+      ],
+      more,
+    )
+
+pub filter_in : (p : List ℕ → Bool) (x : List ℕ) (ys : List (List ℕ)) → IsIn x (filter p ys) ↔ ((p x ≡ true) × IsIn x ys)
+filter_in p x [] = (λ i. absurd i, λ i. absurd i.1)
+filter_in p x (y ∷ ys) = by_test' (p y) refl (filter_in p x ys)
+  where
+    by_test' : (b : Bool) → p y ≡ b → (IsIn x (filter p ys) ↔ ((p x ≡ true) × IsIn x ys)) → IsIn x (cond b (y ∷ filter p ys) (filter p ys)) ↔ ((p x ≡ true) × IsIn x (y ∷ ys))
+    by_test' true e more = (
+      λ i. elim i [ inl here ↦ (subst (λ k. p k ≡ true) here e, inl here) | inr there ↦ (let m = more.0 there in (m.0, inr m.1)) ],
+      λ i. elim i.1 [ inl here ↦ inl here | inr there ↦ inr (more.1 (i.0, there)) ],
+    )
+    by_test' false e more = (
+      λ i. let m = more.0 i in (m.0, inr m.1),
+      λ i. elim i.1 [ inl here ↦ absurd (let no : true ≡ false = sym i.0 ∙ subst (λ k. p k ≡ false) here e in cc) | inr there ↦ more.1 (i.0, there) ],
+    )
+
+pub filter_rises : (p : List ℕ → Bool) (ys : List (List ℕ)) → RisingKeys ys → RisingKeys (filter p ys)
+filter_rises p [] r = tt
+filter_rises p (y ∷ ys) r = by_test' (p y) (filter_rises p ys r.1)
+  where
+    by_test' : (b : Bool) → RisingKeys (filter p ys) → RisingKeys (cond b (y ∷ filter p ys) (filter p ys))
+    by_test' true more = (λ z i. r.0 z ((filter_in p z ys).0 i).1, more)
+    by_test' false more = more
+
+pub is_pair_of : (m : List ℕ → Option (List ℕ)) (ys : List (List ℕ)) (x v : List ℕ) → IsPairIn (pairs_of m ys) x v ↔ (IsIn x ys × (m x ≡ Some v))
+is_pair_of m [] x v = (λ i. absurd i, λ i. absurd i.0)
+is_pair_of m (y ∷ ys) x v = by_value (m y) refl (is_pair_of m ys x v)
+  where
+    by_value : (o : Option (List ℕ)) → m y ≡ o → (IsPairIn (pairs_of m ys) x v ↔ (IsIn x ys × (m x ≡ Some v))) → IsPairIn (with_value y o (pairs_of m ys)) x v ↔ (IsIn x (y ∷ ys) × (m x ≡ Some v))
+    by_value None e more = (
+      λ i. let k = more.0 i in (inr k.0, k.1),
+      λ i. elim i.0 [ inl here ↦ absurd (let no : None ≡ Some v = sym (subst (λ k. m k ≡ None) here e) ∙ i.1 in cc) | inr there ↦ more.1 (there, i.1) ],
+    )
+    by_value (Some w) e more = (
+      λ i. elim i [ inl here ↦ (inl here.0, subst (λ k. m k ≡ Some v) here.0 (e ∙ ap Some here.1)) | inr there ↦ (let k = more.0 there in (inr k.0, k.1)) ],
+      λ i. elim i.0 [ inl here ↦ inl (here, (let s : Some w ≡ Some v = sym (subst (λ k. m k ≡ Some w) here e) ∙ i.1 in cc)) | inr there ↦ inr (more.1 (there, i.1)) ],
+    )
+
+pub pairs_rise : (m : List ℕ → Option (List ℕ)) (ys : List (List ℕ)) → RisingKeys ys → KeysRise (pairs_of m ys)
+pairs_rise m [] r = tt
+pairs_rise m (y ∷ ys) r = by_value (m y) (pairs_rise m ys r.1)
+  where
+    by_value : (o : Option (List ℕ)) → KeysRise (pairs_of m ys) → KeysRise (with_value y o (pairs_of m ys))
+    by_value None more = more
+    by_value (Some w) more = (λ x v i. r.0 x ((is_pair_of m ys x v).0 i).0, more)
+
+-- where each key with a value is among the keys
+pub are_rows : (span : Span) (m : List ℕ → Option (List ℕ)) (keys : List (List ℕ)) → RisingKeys keys → ((x v : List ℕ) → m x ≡ Some v → IsIn x keys) → AreRows span m (pairs_of m (filter (in_span span) keys))
+are_rows span m keys r all = record {
+  rising = pairs_rise m (filter (in_span span) keys) (filter_rises (in_span span) keys r);
+  each = λ x v. (
+    λ i. let k = (is_pair_of m (filter (in_span span) keys) x v).0 i in (((filter_in (in_span span) x keys).0 k.0).0, k.1),
+    λ i. (is_pair_of m (filter (in_span span) keys) x v).1 ((filter_in (in_span span) x keys).1 (i.0, all x v i.1), i.1),
+  );
+}
+
+-- maps that are alike in the span have the same rows
+pub rows_like : (span : Span) (m n : List ℕ → Option (List ℕ)) (rows : List (List ℕ × List ℕ)) → ((x : List ℕ) → in_span span x ≡ true → m x ≡ n x) → AreRows span m rows → AreRows span n rows
+rows_like span m n rows same r = record {
+  rising = r.rising;
+  each = λ x v. (λ i. let k = (r.each x v).0 i in (k.0, sym (same x k.0) ∙ k.1), λ i. (r.each x v).1 (i.0, same x i.0 ∙ i.1));
+}

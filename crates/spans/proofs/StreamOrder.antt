@@ -1,0 +1,208 @@
+-- A stream rises strictly by timestamp and then by key.
+use Rattle.std.proofs.Common.{◌≡◌, ℕ, zero, suc, ◌<◌, ◌≤◌, ◌⊎◌, ◌==◌, Bool, true, false, not, cond, ◌&&◌, List, [], ◌∷◌, ◌++◌, map, Option, Some, None, refl, sym, ◌∙◌, ap, subst, inl, inr, arith}
+use Rattle.std.specs.Prelude.{◌↔◌, is_some, bytes_eq, nat_lt, filter}
+use Rattle.std.specs.List.{list_any}
+use Rattle.std.specs.declared.cmp.Ordering.{Ordering}
+use Rattle.std.specs.declared.cmp.Ordering.TheVariants.{Less, Equal, Greater}
+use Rattle.std.specs.Ordering.{ordering_reverse, is_lt}
+use Rattle.std.proofs.lemmas.Cmp.{nat_list_cmp_total}
+use Rattle.std.proofs.lemmas.Bool.{and_parts, or_cases, and_from, or_left, or_right, ltb-true, lt-ltb, eqb-true, eq-eqb, false_from_ne_true}
+use Rattle.std.proofs.lemmas.Bool.Decides.{nat_tests}
+use Rattle.timestamps.specs.Bytes.{key_cmp}
+use Rattle.timestamps.specs.declared.row.Row.{Row}
+use Rattle.spans.specs.declared.span.Span.{Span}
+use Rattle.spans.specs.Keys.{in_span}
+use Rattle.spans.specs.Effects.{After, Effect}
+use Rattle.spans.specs.Transactions.{is_committed}
+use Rattle.spans.specs.Versions.{write_of, write_set}
+use Rattle.spans.specs.Streams.{row_lt, written_value, rows_of, stream_of}
+use Rattle.spans.specs.Feeds.{same_version}
+use Rattle.spans.proofs.Steps.{by_test, same_key, key_itself}
+use Rattle.spans.proofs.Keyed.{IsIn, RisingKeys, filter_in, filter_rises}
+use Rattle.spans.proofs.WriteSets.{has_in, has_written, write_set_rises}
+
+abbrev pub IsRowIn : Row → List Row → Type 0
+IsRowIn r [] = ⊥
+IsRowIn r (s ∷ rows) = (s ≡ r) ⊎ IsRowIn r rows
+
+abbrev pub RisingRows : List Row → Type 0
+RisingRows [] = Unit {0}
+RisingRows (r ∷ rows) = ((s : Row) → IsRowIn s rows → row_lt r s ≡ true) × RisingRows rows
+
+key_clash : (x y : List ℕ) → key_cmp x y ≡ Less → key_cmp y x ≡ Less → ⊥
+key_clash x y e h = let r : key_cmp y x ≡ ordering_reverse (key_cmp x y) = nat_list_cmp_total.antisymm y x in let no : Less ≡ Greater = sym h ∙ r ∙ ap ordering_reverse e in cc
+
+less_is : (o : Ordering) → is_lt o ≡ true → o ≡ Less
+less_is Less e = refl
+less_is Equal e = cc
+less_is Greater e = cc
+
+-- no two rows are each before the other
+pub rows_clash : (r s : Row) → row_lt r s ≡ true → row_lt s r ≡ true → ⊥
+rows_clash r s e h = elim (or_cases _ _ e) [
+  | inl less ↦ (let l : r.ts < s.ts = ltb-true _ _ less in elim (or_cases _ _ h) [
+    | inl more ↦ (let m : s.ts < r.ts = ltb-true _ _ more in omega arith)
+    | inr same ↦ (let m : s.ts ≡ r.ts = eqb-true _ _ (and_parts _ _ same).0 in omega arith)
+  ])
+  | inr alike ↦ (let l : r.ts ≡ s.ts = eqb-true _ _ (and_parts _ _ alike).0 in elim (or_cases _ _ h) [
+    | inl more ↦ (let m : s.ts < r.ts = ltb-true _ _ more in omega arith)
+    | inr same ↦ key_clash r.key s.key (less_is _ (and_parts _ _ alike).1) (less_is _ (and_parts _ _ same).1)
+  ])
+]
+
+-- a row before another isn't the same version
+pub before_differs : (r s : Row) → row_lt s r ≡ true → same_version r s ≡ false
+before_differs r s before = false_from_ne_true _ (λ same.
+    let both = and_parts _ _ same in
+    let at : r.ts ≡ s.ts = eqb-true _ _ both.0 in
+    let of : r.key ≡ s.key = same_key r.key s.key both.1 in
+    elim (or_cases _ _ before) [
+      | inl less ↦ (let l : s.ts < r.ts = ltb-true _ _ less in omega arith)
+      | inr alike ↦ (let l : key_cmp s.key r.key ≡ Less = less_is _ (and_parts _ _ alike).1 in
+          let l' : key_cmp s.key s.key ≡ Less = subst (λ k. key_cmp s.key k ≡ Less) of l in
+          key_clash s.key s.key l' l')
+    ])
+
+pub in_append : (r : Row) (xs ys : List Row) → IsRowIn r (xs ++ ys) ↔ (IsRowIn r xs ⊎ IsRowIn r ys)
+in_append r [] ys = (λ i. inr i, λ i. elim i [ inl l ↦ absurd l | inr k ↦ k ])
+in_append r (x ∷ xs) ys = let more = in_append r xs ys in (
+  λ i. elim i [ inl here ↦ inl (inl here) | inr there ↦ (elim (more.0 there) [ inl l ↦ inl (inr l) | inr k ↦ inr k ]) ],
+  λ i. elim i [ inl l ↦ (elim l [ inl here ↦ inl here | inr there ↦ inr (more.1 (inl there)) ]) | inr k ↦ inr (more.1 (inr k)) ],
+)
+
+pub rises_append : (xs ys : List Row) → RisingRows xs → RisingRows ys → ((r s : Row) → IsRowIn r xs → IsRowIn s ys → row_lt r s ≡ true) → RisingRows (xs ++ ys)
+rises_append [] ys h k before = k
+rises_append (x ∷ xs) ys h k before = (
+  λ s i. elim ((in_append s xs ys).0 i) [ inl l ↦ h.0 s l | inr r ↦ before x s (inl refl) r ],
+  rises_append xs ys h.1 k (λ r s i j. before r s (inr i) j),
+)
+
+-- what rises rises in both parts, and the first is before the second
+pub rises_parts : (xs ys : List Row) → RisingRows (xs ++ ys) → RisingRows xs × RisingRows ys × ((r s : Row) → IsRowIn r xs → IsRowIn s ys → row_lt r s ≡ true)
+rises_parts [] ys h = (tt, h, λ r s i j. absurd i)
+rises_parts (x ∷ xs) ys h = let more = rises_parts xs ys h.1 in (
+  (λ s i. h.0 s ((in_append s xs ys).1 (inl i)), more.0),
+  more.1,
+  λ r s i j. elim i [ inl here ↦ subst (λ q. row_lt q s ≡ true) here (h.0 s ((in_append s xs ys).1 (inr j))) | inr there ↦ more.2 r s there j ],
+)
+
+abbrev row : List Effect → ℕ → List ℕ → Row
+row p t x = record { ts = t; key = x; after = written_value (write_of p t x) }
+
+in_rows : (p : List Effect) (t : ℕ) (r : Row) (keys : List (List ℕ)) → IsRowIn r (map (row p t) keys) ↔ (IsIn r.key keys × (row p t r.key ≡ r))
+in_rows p t r [] = (λ i. absurd i, λ i. absurd i.0)
+in_rows p t r (x ∷ xs) = let more = in_rows p t r xs in (
+  λ i. elim i [
+    | inl here ↦ (let e : x ≡ r.key = ap (λ (q : Row). q.key) here in (inl e, ap (row p t) (sym e) ∙ here))
+    | inr there ↦ (let m = more.0 there in (inr m.0, m.1))
+  ],
+  λ i. elim i.0 [ inl here ↦ inl (ap (row p t) here ∙ i.1) | inr there ↦ inr (more.1 (there, i.1)) ],
+)
+
+some_value : (o : Option After) (a : After) → is_some o ≡ true → written_value o ≡ a → o ≡ Some a
+some_value None a e h = cc
+some_value (Some b) a e h = ap Some h
+
+rows_rise : (p : List Effect) (t : ℕ) (keys : List (List ℕ)) → RisingKeys keys → RisingRows (map (row p t) keys)
+rows_rise p t [] h = tt
+rows_rise p t (x ∷ xs) h = (
+  λ s i. let m = (in_rows p t s xs).0 i in
+      let at : t ≡ s.ts = ap (λ (q : Row). q.ts) m.1 in
+      or_right _ _ (and_from _ _ (eq-eqb t s.ts at) (ap is_lt (h.0 s.key m.0))),
+  rows_rise p t xs h.1,
+)
+
+-- a row of the stream
+pub record IsStreamed (p : List Effect) (span : Span) (c n : ℕ) (r : Row) : Type 0 where
+  pub above : c < r.ts
+  pub low : r.ts ≤ n
+  pub done : is_committed p r.ts ≡ true
+  pub inside : in_span span r.key ≡ true
+  pub wrote : write_of p r.ts r.key ≡ Some r.after
+
+in_txn_rows : (p : List Effect) (span : Span) (t : ℕ) (r : Row) → IsRowIn r (rows_of p span t) ↔ ((r.ts ≡ t) × (in_span span r.key ≡ true) × (write_of p t r.key ≡ Some r.after))
+in_txn_rows p span t r = let m = in_rows p t r (filter (in_span span) (write_set p t)) in (
+  λ i. let k = m.0 i in let f = (filter_in (in_span span) r.key (write_set p t)).0 k.0 in
+      (sym (ap (λ (q : Row). q.ts) k.1), f.0, some_value (write_of p t r.key) r.after (sym (has_written p t r.key) ∙ (has_in r.key (write_set p t)).0 f.1) (ap (λ (q : Row). q.after) k.1)),
+  λ i. m.1 (
+    (filter_in (in_span span) r.key (write_set p t)).1 (i.1, (has_in r.key (write_set p t)).1 (has_written p t r.key ∙ ap is_some i.2)),
+    made r.ts t r.key r.after i.0 (ap written_value i.2),
+  ),
+)
+  where
+    made : (n t : ℕ) (x : List ℕ) (a : After) → n ≡ t → written_value (write_of p t x) ≡ a → row p t x ≡ record { ts = n; key = x; after = a }
+    made n t x a e h = rw (e, h) refl
+
+pub in_stream : (p : List Effect) (span : Span) (c n : ℕ) (r : Row) → IsRowIn r (stream_of p span c n) ↔ IsStreamed p span c n r
+in_stream p span c zero r = (λ i. absurd i, λ s. absurd (omega (arith, s.above, s.low)))
+in_stream p span c (suc t) r =
+    let before = in_stream p span c t r in
+    let join = in_append r (stream_of p span c t) (cond (nat_lt c (suc t) && is_committed p (suc t)) (rows_of p span (suc t)) []) in
+    let now = in_txn_rows p span (suc t) r in (
+      λ i. elim (join.0 i) [
+        | inl earlier ↦ (let s = before.0 earlier in record { above = s.above; low = omega (arith, s.low); done = s.done; inside = s.inside; wrote = s.wrote })
+        | inr here ↦ by_test (nat_lt c (suc t) && is_committed p (suc t))
+            (λ is. let b = and_parts _ _ is in let k = now.0 (rw is at here) in record {
+              above = let l : c < suc t = ltb-true c (suc t) b.0 in omega (arith, k.0);
+              low = omega (arith, k.0);
+              done = subst (λ n. is_committed p n ≡ true) (sym k.0) b.1;
+              inside = k.1;
+              wrote = subst (λ n. write_of p n r.key ≡ Some r.after) (sym k.0) k.2;
+            })
+            (λ isnt. absurd (rw isnt at here))
+      ],
+      λ s. join.1 (by_test (r.ts == suc t)
+          (λ same. let e : r.ts ≡ suc t = eqb-true _ _ same in
+          let is : (nat_lt c (suc t) && is_committed p (suc t)) ≡ true = and_from _ _ (lt-ltb c (suc t) (omega (arith, s.above))) (subst (λ n. is_committed p n ≡ true) e s.done) in
+          inr (rw is (now.1 (e, s.inside, subst (λ n. write_of p n r.key ≡ Some r.after) e s.wrote))))
+          (λ other. inl (before.1 (record { above = s.above; low = grind (arith, nat_tests, s.low); done = s.done; inside = s.inside; wrote = s.wrote })))),
+    )
+
+pub stream_rises : (p : List Effect) (span : Span) (c n : ℕ) → RisingRows (stream_of p span c n)
+stream_rises p span c zero = tt
+stream_rises p span c (suc t) = rises_append (stream_of p span c t) (cond (nat_lt c (suc t) && is_committed p (suc t)) (rows_of p span (suc t)) []) (stream_rises p span c t) (last (nat_lt c (suc t) && is_committed p (suc t)))
+    (λ r s i j. let l = ((in_stream p span c t r).0 i).low in let e : s.ts ≡ suc t = at (nat_lt c (suc t) && is_committed p (suc t)) s j in or_left _ _ (lt-ltb r.ts s.ts (omega arith)))
+  where
+    last : (b : Bool) → RisingRows (cond b (rows_of p span (suc t)) [])
+    last false = tt
+    last true = rows_rise p (suc t) (filter (in_span span) (write_set p (suc t))) (filter_rises (in_span span) (write_set p (suc t)) (write_set_rises p (suc t)))
+
+    at : (b : Bool) (s : Row) → IsRowIn s (cond b (rows_of p span (suc t)) []) → s.ts ≡ suc t
+    at false s i = absurd i
+    at true s i = ((in_txn_rows p span (suc t) s).0 i).0
+
+-- the row was told
+abbrev pub is_told : List Row → Row → Bool
+is_told rows r = list_any (same_version r) rows
+
+told_in : (r : Row) (rows : List Row) → IsRowIn r rows → is_told rows r ≡ true
+told_in r [] i = absurd i
+told_in r (s ∷ rows) i = elim i [
+  | inl here ↦ or_left _ _ (and_from _ _ (eq-eqb r.ts s.ts (ap (λ (q : Row). q.ts) (sym here))) (subst (λ k. bytes_eq r.key k ≡ true) (ap (λ (q : Row). q.key) (sym here)) (key_itself r.key)))
+  | inr there ↦ or_right _ _ (told_in r rows there)
+]
+
+not_told : (r : Row) (rows : List Row) → ((s : Row) → IsRowIn s rows → row_lt s r ≡ true) → is_told rows r ≡ false
+not_told r [] before = refl
+not_told r (s ∷ rows) before = rw (before_differs r s (before s (inl refl)), not_told r rows (λ q i. before q (inr i))) refl
+
+all_told : (rows told : List Row) → ((r : Row) → IsRowIn r rows → IsRowIn r told) → filter (λ r. not (is_told told r)) rows ≡ []
+all_told [] told among = refl
+all_told (r ∷ rows) told among = rw (told_in r told (among r (inl refl))) (all_told rows told (λ s i. among s (inr i)))
+
+none_told : (rows told : List Row) → ((s r : Row) → IsRowIn s told → IsRowIn r rows → row_lt s r ≡ true) → filter (λ r. not (is_told told r)) rows ≡ rows
+none_told [] told before = refl
+none_told (r ∷ rows) told before = rw (not_told r told (λ s i. before s r i (inl refl))) (ap (λ l. r ∷ l) (none_told rows told (λ s q i j. before s q i (inr j))))
+
+filter_append : (q : Row → Bool) (xs ys : List Row) → filter q (xs ++ ys) ≡ filter q xs ++ filter q ys
+filter_append q [] ys = refl
+filter_append q (x ∷ xs) ys = by_test (q x)
+    (λ is. rw is (ap (λ l. x ∷ l) (filter_append q xs ys)))
+    (λ isnt. rw isnt (filter_append q xs ys))
+
+-- of rising rows, without those that were told and stand first, the rest is left
+pub left_untold : (told rest : List Row) → RisingRows (told ++ rest) → filter (λ r. not (is_told told r)) (told ++ rest) ≡ rest
+left_untold told rest rises =
+    filter_append (λ r. not (is_told told r)) told rest
+    ∙ ap (λ l. l ++ filter (λ r. not (is_told told r)) rest) (all_told told told (λ r i. i))
+    ∙ none_told rest told (λ s r i j. (rises_parts told rest rises).2 s r i j)

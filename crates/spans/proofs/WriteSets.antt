@@ -1,0 +1,73 @@
+-- Which keys are among those that a transaction wrote.
+use Rattle.std.proofs.Common.{◌≡◌, ℕ, ◌==◌, Bool, true, false, ◌&&◌, ◌||◌, List, [], ◌∷◌, refl, sym, ◌∙◌, ap, subst, inl, inr}
+use Rattle.std.specs.Prelude.{◌↔◌, is_some, bytes_eq, filter}
+use Rattle.std.specs.List.{list_any}
+use Rattle.std.specs.declared.cmp.Ordering.{Ordering}
+use Rattle.std.specs.declared.cmp.Ordering.TheVariants.{Less, Equal, Greater}
+use Rattle.std.proofs.lemmas.Bool.{or_cases, or_left, or_right}
+use Rattle.std.proofs.lemmas.Map.Lookups.{exact_bytes}
+use Rattle.timestamps.specs.Bytes.{key_cmp}
+use Rattle.spans.specs.Effects.{Effect, Writes}
+use Rattle.spans.specs.Keys.{insert_where, insert_key}
+use Rattle.spans.specs.Versions.{write_of, write_set}
+use Rattle.spans.proofs.Steps.{by_test, same_key, key_itself}
+use Rattle.spans.proofs.Keyed.{IsIn, RisingKeys, add_rises}
+
+-- the key is one of the list
+abbrev pub has : List ℕ → List (List ℕ) → Bool
+has x keys = list_any (λ y. bytes_eq y x) keys
+
+pub has_added : (x y : List ℕ) (keys : List (List ℕ)) → has x (insert_key y keys) ≡ (bytes_eq y x || has x keys)
+has_added x y [] = refl
+has_added x y (z ∷ zs) = by_order (key_cmp y z) refl (has_added x y zs)
+  where
+    twice : (a b : Bool) → (a || b) ≡ (a || (a || b))
+    twice true b = refl
+    twice false b = refl
+
+    swap : (a b c : Bool) → (a || (b || c)) ≡ (b || (a || c))
+    swap true true c = refl
+    swap true false c = refl
+    swap false b c = refl
+
+    by_order : (o : Ordering) → key_cmp y z ≡ o → has x (insert_key y zs) ≡ (bytes_eq y x || has x zs) → has x (insert_where o y z zs (insert_key y zs)) ≡ (bytes_eq y x || has x (z ∷ zs))
+    by_order Less e more = refl
+    by_order Equal e more = twice (bytes_eq z x) (has x zs) ∙ ap (λ k. bytes_eq k x || has x (z ∷ zs)) (sym (exact_bytes y z e))
+    by_order Greater e more = ap (λ b. bytes_eq z x || b) more ∙ swap (bytes_eq z x) (bytes_eq y x) (has x zs)
+
+pub has_written : (p : List Effect) (t : ℕ) (x : List ℕ) → has x (write_set p t) ≡ is_some (write_of p t x)
+has_written [] t x = refl
+has_written (Writes k y a ∷ p) t x = by_test (k == t)
+    (λ same. rw same (has_added x y (write_set p t) ∙ by_test (bytes_eq y x)
+    (λ here. rw here refl)
+    (λ there. rw there (has_written p t x))))
+    (λ other. rw other (has_written p t x))
+has_written (_ ∷ p) t x = has_written p t x
+
+pub has_filtered : (q : List ℕ → Bool) (x : List ℕ) (keys : List (List ℕ)) → has x (filter q keys) ≡ (q x && has x keys)
+has_filtered q x [] = and_false (q x)
+  where
+    and_false : (a : Bool) → false ≡ (a && false)
+    and_false true = refl
+    and_false false = refl
+has_filtered q x (y ∷ ys) = by_test (bytes_eq y x)
+    (λ here. by_test (q y)
+    (λ in'. rw (in', here) (let e : q x ≡ true = subst (λ k. q k ≡ true) (same_key y x here) in' in rw e refl))
+    (λ out. rw out (has_filtered q x ys ∙ (let e : q x ≡ false = subst (λ k. q k ≡ false) (same_key y x here) out in rw e refl))))
+    (λ there. by_test (q y)
+    (λ in'. rw (in', there) (has_filtered q x ys))
+    (λ out. rw (out, there) (has_filtered q x ys)))
+
+pub has_in : (x : List ℕ) (keys : List (List ℕ)) → IsIn x keys ↔ (has x keys ≡ true)
+has_in x [] = (λ i. absurd i, λ e. cc)
+has_in x (y ∷ ys) = let more = has_in x ys in (
+  λ i. elim i [ inl here ↦ or_left _ _ (subst (λ z. bytes_eq z x ≡ true) (sym here) (key_itself x)) | inr there ↦ or_right _ _ (more.0 there) ],
+  λ e. elim (or_cases _ _ e) [ inl here ↦ inl (same_key y x here) | inr there ↦ inr (more.1 there) ],
+)
+
+pub write_set_rises : (p : List Effect) (t : ℕ) → RisingKeys (write_set p t)
+write_set_rises [] t = tt
+write_set_rises (Writes k x a ∷ p) t = by_test (k == t)
+    (λ same. rw same (add_rises x (write_set p t) (write_set_rises p t)))
+    (λ other. rw other (write_set_rises p t))
+write_set_rises (_ ∷ p) t = write_set_rises p t

@@ -1,0 +1,25 @@
+use Rattle.spans.specs.Effects.{effects_of}
+use Rattle.spans.proofs.Legal.{legal_allowed, law}
+use Rattle.spans.proofs.Marks.{late_across, across_late}
+use Rattle.spans.proofs.Feeding.{fed, feeding}
+use Rattle.spans.proofs.Taking.{told_taken}
+use Rattle.spans.proofs.Viewing.{views}
+use Rattle.spans.proofs.law.law_of_histories.Goals as goal
+
+pub returns-clause-one_copy : goal.returns-clause-one_copy
+returns-clause-one_copy c = law
+
+pub returns-clause-write_rule : goal.returns-clause-write_rule
+returns-clause-write_rule c = λ h x i. (late_across (effects_of h) x i, across_late (effects_of h) x i)
+
+pub returns-clause-feeds : goal.returns-clause-feeds
+returns-clause-feeds c = λ h legal f feed is. fed (effects_of h) (legal_allowed h legal) f feed is
+
+pub returns-clause-consumers : goal.returns-clause-consumers
+returns-clause-consumers c = λ h legal f feed is.
+    let all = legal_allowed h legal in
+    let right = fed (effects_of h) all f feed is in
+    let so_far = feeding (effects_of h) all f feed is in record {
+      takes = told_taken (effects_of h) f feed so_far.begins.0 so_far.begins.1 so_far.divides so_far.rises so_far.below;
+      views = views (effects_of h) f feed right.divides right.rises;
+    }
