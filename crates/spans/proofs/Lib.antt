@@ -2,7 +2,6 @@ pub mod Steps
 pub mod Copies
 pub mod Legal
 pub mod Keyed
-pub mod Rows
 pub mod Marks
 pub mod Open
 pub mod WriteSets

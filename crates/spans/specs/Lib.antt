@@ -13,3 +13,5 @@ pub mod Answer
 pub mod Legal
 pub mod Serial
 pub mod Consumer
+pub mod Kept
+pub mod WorkedHistories

@@ -1,5 +1,5 @@
 -- What a contract says of a seat, and of the same seat after a call.
-use Rattle.std.specs.Prelude.{◌≡◌, ℕ, List, Option, Some, None, Bool}
+use Rattle.std.specs.Prelude.{◌≡◌, ℕ, List, Option, None, Bool}
 use mathlib.Core.Option.{some}
 use lib.ListN.{get_elem?}
 use Rattle.ticket_lock.specs.declared.rule.SeatRecord.{SeatRecord}

@@ -1,9 +1,8 @@
 -- What each step tells the seat that makes it.
-use Rattle.std.specs.Prelude.{◌≡◌, ◌≢◌, ℕ, ◌+◌, ◌<◌, ◌≤◌, List, [], ◌∷◌, length, max, Option, Some, None, Bool, true}
+use Rattle.std.specs.Prelude.{◌≡◌, ◌≢◌, ℕ, ◌+◌, ◌<◌, ◌≤◌, List, [], ◌∷◌, length, max, Option, Some, true}
 use Rattle.atomic_table.specs.Table.{Step, rest}
 use Rattle.ticket_lock.specs.Lists.{most, StartsWith, of_seat, longer}
 use Rattle.ticket_lock.specs.Views.{SeatState, nobody, caught_up, met_spent, drawn, looked, holding, ended, raises, knows_floor}
-use Rattle.ticket_lock.specs.declared.rule.View.{View}
 use Rattle.ticket_lock.specs.declared.denied.Denied.{Denied}
 use Rattle.ticket_lock.specs.declared.denied.Denied.TheVariants.{Busy, Spent}
 

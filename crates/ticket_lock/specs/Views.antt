@@ -1,5 +1,5 @@
 -- What a seat of the table knows, and what each step makes of it.
-use Rattle.std.specs.Prelude.{◌≡◌, ℕ, List, [], ◌∷◌, ◌++◌, map, max, Option, Some, None, Bool, true, false, cond}
+use Rattle.std.specs.Prelude.{ℕ, List, [], ◌∷◌, ◌++◌, map, max, Option, Some, None, true, false, cond}
 use Rattle.atomic_table.specs.Table.{Me}
 use Rattle.ticket_lock.specs.Lists.{span, head_or, tail, longer}
 use Rattle.ticket_lock.specs.declared.rule.SeatRecord.{SeatRecord}

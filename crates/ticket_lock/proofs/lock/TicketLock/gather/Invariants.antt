@@ -1,5 +1,5 @@
 use Rattle.std.proofs.Common.{◌≡◌, List, ◌++◌, [], length, map}
-use Rattle.ticket_lock.specs.Lock.{gatherer}
+use Rattle.ticket_lock.specs.Views.{gatherer}
 use Rattle.ticket_lock.specs.Seats.{record_of}
 use Rattle.ticket_lock.proofs.lock.TicketLock.gather.Given as goal
 

@@ -1,5 +1,5 @@
 use Rattle.std.proofs.Common.{rules}
-use Rattle.ticket_lock.proofs.Keeps.{issues_next, issued_next}
+use Rattle.ticket_lock.proofs.Beginning.{issues_next, issued_next}
 use Rattle.ticket_lock.proofs.lock.TicketLock.issue.Goals as goal
 
 pub split_seat-pass-requires : goal.split_seat-pass-requires

@@ -1,6 +1,6 @@
 use Rattle.std.proofs.Common.{rules, sym, subst, arith, ℕ}
 use Rattle.std.proofs.lemmas.Grind.{common_steps}
-use Rattle.ticket_lock.proofs.Lists.{each_push}
+use Rattle.ticket_lock.proofs.ListFacts.{each_push}
 use Rattle.ticket_lock.specs.Seats.{IsNew, AllNew}
 use Rattle.ticket_lock.proofs.lock.TicketLock.issue_all.Goals as goal
 

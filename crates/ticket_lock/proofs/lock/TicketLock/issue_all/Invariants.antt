@@ -1,5 +1,6 @@
 use Rattle.std.proofs.Common.{◌≡◌, ◌-◌, [], length}
-use Rattle.ticket_lock.specs.Lock.{issuer, span}
+use Rattle.ticket_lock.specs.Views.{issuer}
+use Rattle.ticket_lock.specs.Lists.{span}
 use Rattle.ticket_lock.specs.Seats.{AllNew}
 use Rattle.ticket_lock.proofs.lock.TicketLock.issue_all.Given as goal
 

@@ -1,5 +1,5 @@
 use Rattle.std.proofs.Common.{rules, refl}
-use Rattle.ticket_lock.proofs.Keeps.{releases_from}
+use Rattle.ticket_lock.proofs.Releasing.{releases_from}
 use Rattle.ticket_lock.proofs.lock.TicketLock.release.Goals as goal
 
 pub store-requires : goal.store-requires

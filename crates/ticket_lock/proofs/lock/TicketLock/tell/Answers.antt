@@ -1,5 +1,5 @@
 use Rattle.std.proofs.Common.{rules, ap, ◌∙◌}
-use Rattle.ticket_lock.proofs.Keeps.{reports, hears, compares}
+use Rattle.ticket_lock.proofs.Meeting.{reports, hears, compares}
 use Rattle.ticket_lock.proofs.lock.TicketLock.tell.Goals as goal
 
 pub split_seat-report-requires : goal.split_seat-report-requires

@@ -1,0 +1,4 @@
+pub mod RecordLists
+pub mod Telling
+pub mod FeedTies
+pub mod ProtectionTies

@@ -1,0 +1,71 @@
+-- The tie of the protections is kept: by each call, and by every effect of no protection.
+use Rattle.std.proofs.Common.{◌≡◌, ℕ, suc, ◌==◌, Bool, true, false, not, cond, ◌||◌, List, [], ◌∷◌, ◌++◌, map, refl, sym, ◌∙◌, ap, arith}
+use Rattle.std.specs.Prelude.{filter, min}
+use Rattle.std.specs.List.{list_any}
+use Rattle.std.proofs.lemmas.List.{append-nil}
+use Rattle.std.proofs.lemmas.List.Elements.{filter-append}
+use Rattle.std.proofs.lemmas.List.Folds.{list_any-append}
+use Rattle.spans.specs.Effects.{Effect, Protects, Releases}
+use Rattle.spans.specs.Transactions.{least_of}
+use Rattle.spans.specs.Collection as collection
+use Rattle.spans.specs.Collection.{protections_made, protections_of, is_protected}
+use Rattle.spans.proofs.Steps.{by_test}
+use Rattle.feed_book.specs.declared.protections.Protection.{Protection}
+use Rattle.feed_book.specs.ProtectionTie.{Standing, protection, released, newest_first, ProtectionsTied, IsOfNoProtection}
+
+-- an effect of no protection leaves the tie
+pub protections_kept : (kept : Standing) (p : List Effect) (d : Effect) → IsOfNoProtection d → ProtectionsTied kept p → ProtectionsTied kept (d ∷ p)
+protections_kept kept p (Protects id t) other tied = absurd other
+protections_kept kept p (Releases id) other tied = absurd other
+protections_kept kept p (_) other tied = record { made = tied.made; standing = tied.standing }
+
+newest_push : (xs : List Protection) (x : Protection) → newest_first (xs ++ x ∷ []) ≡ record { id = x.id; at = x.at } ∷ newest_first xs
+newest_push [] x = refl
+newest_push (y ∷ ys) x = ap (λ l. l ++ record { id = y.id; at = y.at } ∷ []) (newest_push ys x)
+
+-- a protection was made
+pub protections_protect : (kept : Standing) (p : List Effect) (id t : ℕ) → id ≡ suc kept.made → ProtectionsTied kept p
+    → ProtectionsTied (record { made = id; standing = kept.standing ++ protection id t ∷ [] }) (Protects id t ∷ p)
+protections_protect kept p id t next tied = record {
+  made = ap suc tied.made ∙ sym next;
+  standing = ap (λ l. record { id = id; at = t } ∷ l) tied.standing ∙ sym (newest_push kept.standing (protection id t));
+}
+
+newest_released : (id : ℕ) (xs : List Protection) → filter (λ (x : collection.Protection). not (x.id == id)) (newest_first xs) ≡ newest_first (released id xs)
+newest_released id [] = refl
+newest_released id (x ∷ xs) =
+    filter-append (λ (y : collection.Protection). not (y.id == id)) (newest_first xs) (record { id = x.id; at = x.at } ∷ [])
+    ∙ by_test (x.id == id)
+    (λ same. rw (same, newest_released id xs) (append-nil _))
+    (λ other. rw (other, newest_released id xs) refl)
+
+-- a protection was released
+pub protections_release : (kept : Standing) (p : List Effect) (id : ℕ) → ProtectionsTied kept p → ProtectionsTied (record kept { standing = released id kept.standing }) (Releases id ∷ p)
+protections_release kept p id tied = record {
+  made = tied.made;
+  standing = ap (filter (λ (x : collection.Protection). not (x.id == id))) tied.standing ∙ newest_released id kept.standing;
+}
+
+any_newest : (id : ℕ) (xs : List Protection) → list_any (λ (x : collection.Protection). x.id == id) (newest_first xs) ≡ list_any (λ (x : Protection). x.id == id) xs
+any_newest id [] = refl
+any_newest id (x ∷ xs) =
+    list_any-append (λ (y : collection.Protection). y.id == id) (newest_first xs) (record { id = x.id; at = x.at } ∷ [])
+    ∙ by_test (x.id == id)
+    (λ same. rw (same, any_newest id xs) (or_true (list_any (λ (y : Protection). y.id == id) xs)))
+    (λ other. rw (other, any_newest id xs) (or_false (list_any (λ (y : Protection). y.id == id) xs)))
+  where
+    or_true : (b : Bool) → (b || true) ≡ true
+    or_true true = refl
+    or_true false = refl
+
+    or_false : (b : Bool) → (b || false) ≡ b
+    or_false true = refl
+    or_false false = refl
+
+-- whether a protection of this number stands
+pub protections_any : (kept : Standing) (p : List Effect) (id : ℕ) → ProtectionsTied kept p → list_any (λ (x : Protection). x.id == id) kept.standing ≡ is_protected p id
+protections_any kept p id tied = sym (ap (list_any (λ (x : collection.Protection). x.id == id)) tied.standing ∙ any_newest id kept.standing)
+
+-- the protected timestamps
+pub protections_at : (kept : Standing) (p : List Effect) → ProtectionsTied kept p → map (λ (x : collection.Protection). x.at) (protections_of p) ≡ map (λ (x : collection.Protection). x.at) (newest_first kept.standing)
+protections_at kept p tied = ap (map (λ (x : collection.Protection). x.at)) tied.standing

@@ -1,0 +1,74 @@
+-- What a feed is told next, and what its last message says.
+use Rattle.std.proofs.Common.{◌≡◌, ℕ, zero, suc, ◌<◌, ◌≤◌, List, [], ◌∷◌, ◌++◌, map, length, take, drop, Option, Some, None, refl, sym, ◌∙◌, ap, subst, arith}
+use Rattle.std.specs.Prelude.{slice_get, nat_lt, if◌then◌else◌}
+use Rattle.std.proofs.Math.Seq.{drop-append_seam}
+use Rattle.timestamps.specs.declared.row.Row.{Row}
+use Rattle.spans.specs.declared.calls.messages.Message.{Message}
+use Rattle.spans.specs.declared.calls.messages.Message.TheVariants as messages
+use Rattle.spans.specs.Effects.{Effect}
+use Rattle.spans.specs.Transactions.{closed_of}
+use Rattle.spans.specs.Streams.{stream_of}
+use Rattle.spans.specs.Feeds.{Feed, feed_of, told_to, rows_in, last_resolved, due_message, untold_rows, next_messages}
+use Rattle.spans.specs.FeedRight.{FeedIsRight}
+use Rattle.spans.specs.Collection.{floor_after}
+use Rattle.spans.proofs.Feeding.{untold_is}
+use Rattle.feed_book.specs.declared.record.FeedRecord.{FeedRecord}
+use Rattle.feed_book.specs.Records.{due_at, due_in, next_in}
+
+-- enough rows for max
+pub next_full : (max : ℕ) (rows : List Row) (due : List Message) → max ≤ length (take max rows) → map messages.Row (take max rows) ≡ take max (map messages.Row rows ++ due)
+next_full zero rows due high = refl
+next_full (suc max) [] due high = absurd (omega arith)
+next_full (suc max) (r ∷ rows) due high = ap (λ l. messages.Row r ∷ l) (next_full max rows due (omega arith))
+
+-- fewer rows than max: what is due follows
+pub next_more : (max : ℕ) (rows : List Row) (due : Option ℕ) → length (take max rows) < max → map messages.Row (take max rows) ++ due_at due ≡ take max (map messages.Row rows ++ due_at due)
+next_more zero rows due low = absurd (omega arith)
+next_more (suc max) [] None low = refl
+next_more (suc max) [] (Some t) low = ap (λ l. messages.Resolved t ∷ l) (none_left max)
+  where
+    none_left : (n : ℕ) → [] ≡ take n []
+    none_left zero = refl
+    none_left (suc n) = refl
+next_more (suc max) (r ∷ rows) due low = ap (λ l. messages.Row r ∷ l) (next_more max rows due (omega arith))
+
+-- up to where all is told after a message
+abbrev pub floor_told : Message → ℕ
+floor_told (messages.Row r) = r.ts - 1
+floor_told (messages.Resolved t) = t
+
+-- the last message says the floor
+pub floor_last : (n : ℕ) (ms : List Message) (i : ℕ) (m : Message) → suc i ≡ length ms → slice_get ms i ≡ Some m → floor_after n ms ≡ floor_told m
+floor_last n [] i m at is = absurd (omega arith)
+floor_last n (x ∷ []) zero m at is = let e : x ≡ m = cc in floor_one x ∙ ap floor_told e
+  where
+    floor_one : (x : Message) → floor_after n (x ∷ []) ≡ floor_told x
+    floor_one (messages.Row r) = refl
+    floor_one (messages.Resolved t) = refl
+floor_last n (x ∷ []) (suc i) m at is = absurd (omega arith)
+floor_last n (x ∷ y ∷ ms) zero m at is = absurd (omega arith)
+floor_last n (messages.Row r ∷ y ∷ ms) (suc i) m at is = floor_last (r.ts - 1) (y ∷ ms) i m (omega arith) is
+floor_last n (messages.Resolved t ∷ y ∷ ms) (suc i) m at is = floor_last t (y ∷ ms) i m (omega arith) is
+
+-- the next messages by the record are those by the effects
+pub next_is : (p : List Effect) (f : ℕ) (feed : Feed) (x : FeedRecord) (max : ℕ) → told_to p f ≡ x.told → feed.cursor ≡ x.cursor → FeedIsRight p f feed
+    → next_in x max (closed_of p) (stream_of p feed.span feed.cursor (closed_of p)) ≡ next_messages p f feed max
+next_is p f feed x max told cursor right = ap (take max) (rows ∙ due)
+  where
+    begins : (rest : List Row) × (stream_of p feed.span feed.cursor (closed_of p) ≡ rows_in (told_to p f) ++ rest)
+    begins = right.begins (closed_of p) (omega arith)
+
+    left : drop (length (rows_in x.told)) (stream_of p feed.span feed.cursor (closed_of p)) ≡ untold_rows p f feed
+    left =
+        ap (λ ms. drop (length (rows_in ms)) (stream_of p feed.span feed.cursor (closed_of p))) (sym told)
+        ∙ ap (drop (length (rows_in (told_to p f)))) begins.1
+        ∙ drop-append_seam (rows_in (told_to p f)) begins.0
+        ∙ sym (untold_is p f feed begins.0 begins.1)
+
+    rows : map messages.Row (drop (length (rows_in x.told)) (stream_of p feed.span feed.cursor (closed_of p))) ++ due_in x (closed_of p) ≡ map messages.Row (untold_rows p f feed) ++ due_in x (closed_of p)
+    rows = ap (λ l. map messages.Row l ++ due_in x (closed_of p)) left
+
+    due : map messages.Row (untold_rows p f feed) ++ due_in x (closed_of p) ≡ map messages.Row (untold_rows p f feed) ++ due_message p f feed
+    due = ap (λ l. map messages.Row (untold_rows p f feed) ++ l)
+        (ap (λ c. if nat_lt (last_resolved c x.told) (closed_of p) then messages.Resolved (closed_of p) ∷ [] else []) (sym cursor)
+        ∙ ap (λ ms. if nat_lt (last_resolved feed.cursor ms) (closed_of p) then messages.Resolved (closed_of p) ∷ [] else []) (sym told))

@@ -1,0 +1,200 @@
+//! The book of all feeds that were opened.
+ghost use Rattle.std.specs.Prelude.{◌≡◌, ◌<◌, ◌≤◌, ◌++◌, ◌∷◌, [], List, ℕ, suc, not, map, length, Bool, Some, IfOk, OnOk, OnErr, IfNone, is_some, vec_len};
+ghost use Rattle.std.specs.Option.{option_copied};
+ghost use Rattle.timestamps.specs.declared.ts.TheConstants.{MAX};
+ghost use Rattle.spans.specs.declared.calls.replies.Refusal.TheVariants.{NoFeed, FeedCancelled};
+ghost use Rattle.spans.specs.Effects.{Effect, Opens, Cancels, Polls};
+ghost use Rattle.spans.specs.Transactions.{closed_of, least_of};
+ghost use Rattle.spans.specs.Streams.{stream_of};
+ghost use Rattle.spans.specs.Feeds.{Feed, feed_of, feeds_opened, is_cancelled, next_messages};
+ghost use Rattle.spans.specs.FeedRight.{FeedIsRight};
+ghost use Rattle.spans.specs.Collection.{floor_of, live_feeds};
+ghost use Rattle.spans.specs.Answer.{first_refusal};
+ghost use Rattle.feed_book.specs.Records.{feed_part, floors_in, telling, cancelled, changed_at, record_at, live_in};
+ghost use Rattle.feed_book.specs.FeedTie.{FeedsTied, IsOpened, refusal_of_poll};
+
+use crate::record::{FeedRecord, FeedState};
+use spans::calls::{Message, Messages, Refusal};
+use spans::span::Span;
+use std::alloc::{AllocError, Global};
+use std::marker::Model;
+use timestamps::row::Row;
+
+/// The feeds that were opened, in the order of opening.
+#[derive(Debug, Drop)]
+pub struct FeedBook {
+    alloc: Global,
+    feeds: Vec<FeedRecord>,
+}
+
+impl Model for FeedBook {
+    ghost use Rattle.std.specs.Prelude.{List};
+    ghost use Rattle.feed_book.specs.declared.record.FeedRecord.{FeedRecord};
+
+    ghost Value = { List FeedRecord };
+
+    ghost view = { λ b. b.feeds.items };
+}
+
+impl FeedBook {
+    /// A book without feeds.
+    pub fn new(alloc: Global) -> FeedBook
+        ensures { FeedsTied result [] }
+    {
+        FeedBook {
+            alloc,
+            feeds: Vec::new(alloc),
+        }
+    }
+
+    /// Opens a feed, and answers its number.
+    pub fn open(&mut self, seat: u8, span: &Span, cursor: u64) -> Result<u64, AllocError>
+        requires room { length self.old < u64.MAX }
+        ensures number { IfOk result (λ number. (p : List Effect) → FeedsTied self.old p → number ≡ suc (feeds_opened p)) }
+        ensures opened { IfOk result (λ number. (p : List Effect) → FeedsTied self.old p → FeedsTied self.new (Opens number seat span.now cursor ∷ p)) }
+        ensures err { OnErr result (self.new ≡ self.old) }
+    {
+        let feed = FeedRecord::new(self.alloc, seat, span, cursor)?;
+        self.feeds.push(feed)?;
+        Ok(self.feeds.len() as u64)
+    }
+
+    /// Why a seat may not poll a feed, if it may not.
+    pub fn poll_refusal(&self, feed: u64, seat: u8) -> Option<Refusal>
+        ensures refusal { (p : List Effect) → FeedsTied self.now p → result ≡ refusal_of_poll p seat feed (feed_of p feed) }
+        ensures opened { IfNone result (IsOpened self.now feed) }
+    {
+        match self.find(feed) {
+            None => Some(Refusal::NoFeed),
+            Some(record) => {
+                if !record.is_live() {
+                    return Some(Refusal::FeedCancelled);
+                }
+                if record.seat != seat {
+                    return Some(Refusal::NotOwner);
+                }
+                None
+            }
+        }
+    }
+
+    /// Why a feed can't be cancelled, if it can't.
+    pub fn cancel_refusal(&self, feed: u64) -> Option<Refusal>
+        ensures refusal { (p : List Effect) → FeedsTied self.now p → result ≡ first_refusal ((not (is_some (feed_of p feed)), NoFeed) ∷ (is_cancelled p feed, FeedCancelled) ∷ []) }
+        ensures opened { IfNone result (IsOpened self.now feed) }
+    {
+        match self.find(feed) {
+            None => Some(Refusal::NoFeed),
+            Some(record) => {
+                if !record.is_live() {
+                    return Some(Refusal::FeedCancelled);
+                }
+                None
+            }
+        }
+    }
+
+    /// The record of a feed.
+    fn find(&self, feed: u64) -> Option<&FeedRecord>
+        ensures { option_copied result ≡ record_at self.now feed }
+    {
+        find_feed(self.feeds.as_slice(), feed)
+    }
+
+    /// Cancels a feed. It takes no memory.
+    pub fn cancel(&mut self, feed: u64)
+        requires opened { IsOpened self.old feed }
+        ensures { (p : List Effect) → FeedsTied self.old p → FeedsTied self.new (Cancels feed ∷ p) }
+    {
+        cancel_at(&mut self.feeds, (feed - 1) as usize);
+    }
+
+    /// A feed that was opened: its span and cursor say which stream a poll wants.
+    pub fn feed(&self, number: u64) -> &FeedRecord
+        requires opened { IsOpened self.now number }
+        ensures { (p : List Effect) → FeedsTied self.now p → feed_of p number ≡ Some (feed_part result.now) }
+    {
+        &self.feeds[(number - 1) as usize]
+    }
+
+    /// The next messages of a feed, at most `max`, where `stream` is that of its span and cursor
+    /// through `closed`. The feed isn't told them yet.
+    pub fn next_messages(
+        &self,
+        alloc: Global,
+        feed: u64,
+        max: u64,
+        closed: u64,
+        stream: &[Row],
+    ) -> Result<Messages, AllocError>
+        requires opened { IsOpened self.now feed }
+        requires closed { closed ≤ MAX }
+        ensures { IfOk result (λ messages. (p : List Effect) (f : Feed) → FeedsTied self.now p → feed_of p feed ≡ Some f → FeedIsRight p feed f → closed ≡ closed_of p → stream.now ≡ stream_of p f.span f.cursor closed → messages ≡ next_messages p feed f max) }
+    {
+        self.feed(feed).next_messages(alloc, max, closed, stream)
+    }
+
+    /// Keeps that a feed was told these messages.
+    pub fn tell(&mut self, feed: u64, messages: &Messages) -> Result<(), AllocError>
+        requires opened { IsOpened self.old feed }
+        ensures told { OnOk result ((p : List Effect) (max : ℕ) → FeedsTied self.old p → FeedsTied self.new (Polls feed max messages.now ∷ p)) }
+        ensures err { OnErr result (self.new ≡ self.old) }
+    {
+        tell_at(self.alloc, &mut self.feeds, (feed - 1) as usize, messages.as_slice())
+    }
+
+    /// How many feeds live.
+    pub fn live_count(&self) -> u64
+        ensures { (p : List Effect) → FeedsTied self.now p → result ≡ length (live_feeds p) }
+    {
+        self.feeds.iter().filter(|feed| feed.is_live()).count() as u64
+    }
+
+    /// The least of `n` and the floors of the feeds that live.
+    pub fn least_floor(&self, n: u64) -> u64
+        ensures { (p : List Effect) → FeedsTied self.now p → result ≡ least_of n (map (floor_of p) (live_feeds p)) }
+    {
+        least_live_floor(self.feeds.as_slice(), n)
+    }
+}
+
+fn find_feed(feeds: &[FeedRecord], feed: u64) -> Option<&FeedRecord>
+    ensures { option_copied result ≡ record_at feeds.now feed }
+{
+    if feed == 0 {
+        return None;
+    }
+    feeds.get((feed - 1) as usize)
+}
+
+fn cancel_at(feeds: &mut Vec<FeedRecord>, at: usize)
+    requires { at < vec_len feeds.old }
+    ensures { feeds.new.items ≡ changed_at cancelled feeds.old.items at }
+{
+    feeds[at].state = FeedState::Cancelled;
+}
+
+fn tell_at(
+    alloc: Global,
+    feeds: &mut Vec<FeedRecord>,
+    at: usize,
+    messages: &[Message],
+) -> Result<(), AllocError>
+    requires { at < vec_len feeds.old }
+    ensures ok { OnOk result (feeds.new.items ≡ changed_at (telling messages.now) feeds.old.items at) }
+    ensures err { OnErr result (feeds.new.items ≡ feeds.old.items) }
+{
+    feeds[at].told.add(alloc, messages)
+}
+
+fn least_live_floor(feeds: &[FeedRecord], n: u64) -> u64
+    ensures { result ≡ least_of n (floors_in feeds.now) }
+{
+    let mut least = n;
+    for feed in feeds {
+        if feed.is_live() {
+            least = least.min(feed.floor());
+        }
+    }
+    least
+}

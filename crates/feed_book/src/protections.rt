@@ -1,0 +1,91 @@
+//! The protections that stand.
+ghost use Rattle.std.specs.Prelude.{◌≡◌, ◌<◌, ◌++◌, ◌∷◌, [], List, ℕ, suc, map, IfOk, OnErr};
+ghost use Rattle.std.specs.List.{list_any};
+ghost use Rattle.spans.specs.Effects.{Effect, Protects, Releases};
+ghost use Rattle.spans.specs.Transactions.{least_of};
+ghost use Rattle.spans.specs.Collection as collection;
+ghost use Rattle.spans.specs.Collection.{protections_made, protections_of, is_protected};
+ghost use Rattle.feed_book.specs.ProtectionTie.{ProtectionsTied, newest_first};
+
+use std::alloc::{AllocError, Global};
+use std::marker::Model;
+
+/// What a read at a timestamp wants is kept from being collected.
+#[derive(Clone, Copy, Debug, PartialEq, Eq)]
+pub struct Protection {
+    /// Its number.
+    pub id: u64,
+    /// The timestamp.
+    pub at: u64,
+}
+
+/// The protections that stand, and how many were made.
+#[derive(Debug, Drop)]
+pub struct Protections {
+    made: u64,
+    standing: Vec<Protection>,
+}
+
+impl Model for Protections {
+    ghost use Rattle.feed_book.specs.ProtectionTie.{Standing};
+
+    ghost Value = { Standing };
+
+    ghost view = { λ p. record { made = p.made; standing = p.standing.items } };
+}
+
+impl Protections {
+    /// No protection.
+    pub fn new(alloc: Global) -> Protections
+        ensures { ProtectionsTied result [] }
+    {
+        Protections {
+            made: 0,
+            standing: Vec::new(alloc),
+        }
+    }
+
+    /// Protects a timestamp, and answers the protection's number.
+    pub fn protect(&mut self, t: u64) -> Result<u64, AllocError>
+        requires room { self.old.made < u64.MAX }
+        ensures number { IfOk result (λ id. (p : List Effect) → ProtectionsTied self.old p → id ≡ suc (protections_made p)) }
+        ensures protected { IfOk result (λ id. (p : List Effect) → ProtectionsTied self.old p → ProtectionsTied self.new (Protects id t ∷ p)) }
+        ensures err { OnErr result (self.new ≡ self.old) }
+    {
+        let id = self.made + 1;
+        self.standing.push(Protection { id, at: t })?;
+        self.made = id;
+        Ok(id)
+    }
+
+    /// Ends a protection. It takes no memory, and does nothing where none of this number stands.
+    pub fn release(&mut self, id: u64)
+        ensures { (p : List Effect) → ProtectionsTied self.old p → ProtectionsTied self.new (Releases id ∷ p) }
+    {
+        self.standing.retain(|protection| protection.id != id);
+    }
+
+    /// Whether a protection of this number stands.
+    pub fn is_standing(&self, id: u64) -> bool
+        ensures { (p : List Effect) → ProtectionsTied self.now p → result ≡ is_protected p id }
+    {
+        self.standing.iter().any(|protection| protection.id == id)
+    }
+
+    /// The least of `n` and the protected timestamps.
+    pub fn least(&self, n: u64) -> u64
+        ensures { (p : List Effect) → ProtectionsTied self.now p → result ≡ least_of n (map (λ (x : collection.Protection). x.at) (protections_of p)) }
+    {
+        least_protected(self.standing.as_slice(), n)
+    }
+}
+
+fn least_protected(standing: &[Protection], n: u64) -> u64
+    ensures { result ≡ least_of n (map (λ (x : collection.Protection). x.at) (newest_first standing.now)) }
+{
+    let mut least = n;
+    for protection in standing {
+        least = least.min(protection.at);
+    }
+    least
+}

@@ -1,0 +1,118 @@
+//! One feed: whose it is, what it watches, what it was told, and whether it lives.
+ghost use Rattle.std.specs.Prelude.{◌≡◌, ◌≤◌, ◌++◌, take, drop, map, length, IfOk, OnOk, OnErr};
+ghost use Rattle.timestamps.specs.declared.ts.TheConstants.{MAX};
+ghost use Rattle.feed_book.specs.Records.{new_record, is_live, floor_in, due_at, due_in, next_in};
+
+use crate::told::Told;
+use spans::calls::{Message, Messages};
+use spans::span::Span;
+use std::alloc::{AllocError, Global};
+use timestamps::row::Row;
+use timestamps::ts::Ts;
+
+/// Whether a feed still tells, and holds the horizon back.
+#[derive(Clone, Copy, Debug, PartialEq, Eq)]
+pub enum FeedState {
+    Live,
+    Cancelled,
+}
+
+/// What is kept of a feed. Its number is one more than its place in the book.
+#[derive(Debug, Drop)]
+pub struct FeedRecord {
+    /// The seat that opened it.
+    pub seat: u8,
+    pub span: Span,
+    /// It tells versions above this timestamp.
+    pub cursor: u64,
+    pub told: Told,
+    pub state: FeedState,
+}
+
+impl FeedRecord {
+    /// A feed that lives and was told nothing.
+    pub fn new(alloc: Global, seat: u8, span: &Span, cursor: u64) -> Result<FeedRecord, AllocError>
+        ensures { IfOk result (λ feed. feed ≡ new_record seat span.now cursor) }
+    {
+        let span = span.copy()?;
+        Ok(FeedRecord {
+            seat,
+            span,
+            cursor,
+            told: Told::new(alloc),
+            state: FeedState::Live,
+        })
+    }
+
+    /// Whether it lives.
+    pub fn is_live(&self) -> bool
+        ensures { result ≡ is_live self.now }
+    {
+        match self.state {
+            FeedState::Live => true,
+            FeedState::Cancelled => false,
+        }
+    }
+
+    /// Up to where all is told.
+    pub fn floor(&self) -> u64
+        ensures { result ≡ floor_in self.now }
+    {
+        self.told.floor_from(self.cursor)
+    }
+
+    /// The rows of the stream that follow those that were told, then the resolved message that is
+    /// due: the first `max` of these.
+    pub fn next_messages(
+        &self,
+        alloc: Global,
+        max: u64,
+        closed: u64,
+        stream: &[Row],
+    ) -> Result<Messages, AllocError>
+        requires { closed ≤ MAX }
+        ensures { IfOk result (λ messages. messages ≡ next_in self.now max closed stream.now) }
+    {
+        let rest = rows_after(stream, self.told.row_count());
+        let mut messages = first_rows(alloc, rest, max)?;
+        if (messages.len() as u64) < max {
+            if let Some(at) = self.due(closed) {
+                messages.push(Message::Resolved(at))?;
+            }
+        }
+        Ok(Messages::from_vec(messages))
+    }
+
+    /// The timestamp of the resolved message that is due, if one is.
+    fn due(&self, closed: u64) -> Option<Ts>
+        requires { closed ≤ MAX }
+        ensures { due_in self.now closed ≡ due_at result }
+    {
+        if self.told.resolved_from(self.cursor) < closed {
+            return Ts::new(closed);
+        }
+        None
+    }
+}
+
+/// The rows from a place on.
+fn rows_after(stream: &[Row], told: usize) -> &[Row]
+    ensures { result.now ≡ drop told stream.now }
+{
+    if told >= stream.len() {
+        return &stream[stream.len()..];
+    }
+    &stream[told..]
+}
+
+/// Copies of the first `max` rows, as messages.
+fn first_rows(alloc: Global, rows: &[Row], max: u64) -> Result<Vec<Message>, AllocError>
+    ensures { IfOk result (λ messages. messages.items ≡ map Message.Row (take max rows.now)) }
+{
+    let mut messages = Vec::new(alloc);
+    for row in &rows[..rows.len().min(max as usize)] {
+        let copy = row.copy()?;
+        messages.push(Message::Row(copy))?;
+    }
+    Ok(messages)
+}

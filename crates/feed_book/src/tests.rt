@@ -1,0 +1,1 @@
+//! What no clause says: that good input is taken.

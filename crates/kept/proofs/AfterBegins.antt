@@ -1,0 +1,76 @@
+-- What is kept at first, and after a transaction began.
+use Rattle.std.proofs.Common.{cond, false, Some, sym, Option, arith, ap, List, true, Bool, refl, subst, None, ◌≡◌, ◌==◌, ◌&&◌, ◌||◌, ◌∷◌, ◌∙◌, ℕ, []}
+use Rattle.std.proofs.lemmas.Bool.{lt-ltb, eqb-true}
+use Rattle.std.specs.Prelude.{nat_lt, nat_le, is_some, option_map}
+use Rattle.spans.specs.Collection.{protections_made}
+use Rattle.spans.specs.Effects.{Aborts, Begins, HardCloses, Writes, Effect, Commits}
+use Rattle.spans.specs.Feeds.{feeds_opened}
+use Rattle.spans.specs.Kept.{Kept, transaction_with, IsKeptOf, Transaction, transaction_of}
+use Rattle.spans.specs.Transactions.{is_committed, owner_of, is_aborted, closed_of}
+use Rattle.spans.specs.Versions.{write_set}
+use Rattle.spans.proofs.Copies.{Allowed, AllAllowed, kept}
+use Rattle.spans.proofs.Steps.{by_test}
+use Rattle.kept.specs.Table.{new_transaction}
+use Rattle.kept.proofs.VersionCounts.{at}
+
+-- an engine that is new
+pub new_is_kept : IsKeptOf (record { closed = 0; horizon = 0; version = λ x t. None; decided = λ x t. false; marked = λ x j. false; transaction = λ t. None; protections = []; protections_made = 0; feed = λ f. None; feeds_opened = 0 }) []
+new_is_kept = record {
+  closed_at = refl; horizon_at = refl; versions = λ x t. refl; decided = λ x t a is. cc;
+  marks = λ x i above fresh. (λ late. cc, λ c. absurd (let no' : false ≡ true = c.mark in cc));
+  transactions = λ t. none (nat_lt 0 t);
+  protected = refl; made = refl; feeds = λ f. refl; opened = refl;
+}
+  where
+    none : (b : Bool) → None ≡ cond b (option_map (transaction_with [] 0) None) None
+    none true = refl
+    none false = refl
+
+-- who has not begun has done nothing
+pub record IsFresh (p : List Effect) (t : ℕ) : Type 0 where
+  pub uncommitted : is_committed p t ≡ false
+  pub unaborted : is_aborted p t ≡ false
+  pub wrote : write_set p t ≡ []
+
+pub unbegun : (p : List Effect) → AllAllowed p → (t : ℕ) → owner_of p t ≡ None → IsFresh p t
+unbegun [] all t none = record { uncommitted = refl; unaborted = refl; wrote = refl }
+unbegun (Begins k seat ∷ p) all t none = by_test (k == t)
+    (λ same. absurd (let no : Some seat ≡ None = rw same at none in cc))
+    (λ other. let h = unbegun p all.1 t (rw other at none) in record { uncommitted = h.uncommitted; unaborted = h.unaborted; wrote = h.wrote })
+unbegun (Writes k x a ∷ p) all t none = let h = unbegun p all.1 t none in record { uncommitted = h.uncommitted; unaborted = h.unaborted; wrote = by_test (k == t)
+    (λ same. absurd (let b : is_some (owner_of p t) ≡ true = subst (λ n. is_some (owner_of p n) ≡ true) (eqb-true k t same) all.0.0.begun in let no : false ≡ true = ap is_some (sym none) ∙ b in cc))
+    (λ other. rw other h.wrote) }
+unbegun (Commits k ∷ p) all t none = let h = unbegun p all.1 t none in record { unaborted = h.unaborted; wrote = h.wrote; uncommitted = by_test (k == t)
+    (λ same. absurd (let b : is_some (owner_of p t) ≡ true = subst (λ n. is_some (owner_of p n) ≡ true) (eqb-true k t same) all.0.begun in let no : false ≡ true = ap is_some (sym none) ∙ b in cc))
+    (λ other. rw other h.uncommitted) }
+unbegun (Aborts k ∷ p) all t none = let h = unbegun p all.1 t none in record { uncommitted = h.uncommitted; wrote = h.wrote; unaborted = by_test (k == t)
+    (λ same. absurd (let b : is_some (owner_of p t) ≡ true = subst (λ n. is_some (owner_of p n) ≡ true) (eqb-true k t same) all.0.begun in let no : false ≡ true = ap is_some (sym none) ∙ b in cc))
+    (λ other. rw other h.unaborted) }
+unbegun (HardCloses to n ∷ p) all t none = let h = unbegun p all.1 t none in record { uncommitted = h.uncommitted; wrote = h.wrote; unaborted = rw (none, h.unaborted) (off (nat_le t to)) }
+  where
+    off : (b : Bool) → ((b && false) || false) ≡ false
+    off true = refl
+    off false = refl
+unbegun (_ ∷ p) all t none = let h = unbegun p all.1 t none in record { uncommitted = h.uncommitted; unaborted = h.unaborted; wrote = h.wrote }
+
+-- after a beginning
+pub after_begins : (k : Kept) (p : List Effect) → AllAllowed p → IsKeptOf k p → (t seat : ℕ) → Allowed p (Begins t seat) → (τ' : ℕ → Option Transaction)
+    → ((i : ℕ) → τ' i ≡ cond (t == i) (Some (new_transaction seat)) (k.transaction i)) → IsKeptOf (record k { transaction = τ' }) (Begins t seat ∷ p)
+after_begins k p all kept t seat allowed τ' ts = record {
+  closed_at = kept.closed_at; horizon_at = kept.horizon_at; versions = kept.versions; decided = kept.decided; marks = kept.marks;
+  transactions = λ i. ts i ∙ by_test (t == i)
+      (λ same. let e : t ≡ i = eqb-true t i same in
+      let h : IsFresh p i = unbegun p all i (subst (λ n. owner_of p n ≡ None) e allowed.1) in
+      let above : nat_lt (closed_of p) i ≡ true = lt-ltb (closed_of p) i (omega (arith, allowed.0)) in
+      let now : transaction_of (Begins t seat ∷ p) i ≡ Some (made (is_committed p i) (is_aborted p i) (write_set p i)) = rw (above, same) refl in
+      ap (λ b. cond b (Some (new_transaction seat)) (k.transaction i)) same ∙ sym (now ∙ parts h.uncommitted h.unaborted h.wrote))
+      (λ other. let now : transaction_of (Begins t seat ∷ p) i ≡ transaction_of p i = rw other refl in
+      ap (λ b. cond b (Some (new_transaction seat)) (k.transaction i)) other ∙ kept.transactions i ∙ sym now);
+  protected = kept.protected; made = kept.made; feeds = kept.feeds; opened = kept.opened;
+}
+  where
+    made : Bool → Bool → List (List ℕ) → Transaction
+    made c a ks = record { seat = seat; committed = c; aborted = a; keys = ks }
+
+    parts : {c a : Bool} {ks : List (List ℕ)} → c ≡ false → a ≡ false → ks ≡ [] → Some (made c a ks) ≡ Some (new_transaction seat)
+    parts e f g = rw (e, f, g) refl

@@ -1,0 +1,136 @@
+-- What is kept after a closing and after a hard closing.
+use Rattle.std.proofs.Common.{cond, false, Some, sym, Option, map, arith, ap, List, true, Bool, refl, not, None, ◌≡◌, ◌<◌, ◌≤◌, ◌-◌, ◌&&◌, ◌||◌, ◌∷◌, ◌∙◌, ℕ, []}
+use Rattle.std.proofs.lemmas.Bool.{and_parts, false_from_ne_true}
+use Rattle.std.proofs.lemmas.Bool.Decides.{nat_tests}
+use Rattle.std.specs.Prelude.{nat_lt, nat_le, filter, is_some, option_map, min}
+use Rattle.spans.specs.Collection.{is_dead, version_name}
+use Rattle.spans.specs.Effects.{HardCloses, Closes, Effect, After}
+use Rattle.spans.specs.Kept.{Kept, transaction_with, IsKeptOf, Transaction, kept_version}
+use Rattle.spans.specs.Reads.{too_late}
+use Rattle.spans.specs.Transactions.{is_committed, is_undecided, closed_of, owner_of, least_of, is_aborted, decided_through, begun_of, undecided_timestamps}
+use Rattle.spans.specs.Versions.{write_set, committed_version_of, version_of, write_of}
+use Rattle.spans.proofs.Copies.{Allowed, AllAllowed, kept, closed_grows}
+use Rattle.spans.proofs.Open.{least_below, open_above, begun_among}
+use Rattle.spans.proofs.Steps.{by_test}
+use Rattle.kept.specs.Marks.{IsForgotten}
+use Rattle.kept.specs.Table.{reach, IsOldest, is_open}
+use Rattle.kept.proofs.Dead.{committed_is, committed_stands}
+use Rattle.kept.proofs.Marking.{marks_aborted}
+use Rattle.kept.proofs.Staying.{marks_of, kept_stays, to_kept}
+
+pub open_is : (k : Kept) (p : List Effect) → AllAllowed p → IsKeptOf k p → (t : ℕ) → is_open (k.transaction t) ≡ is_undecided p t
+open_is k p all kept t = ap is_open (kept.transactions t) ∙ by_test (nat_lt (closed_of p) t)
+    (λ is. rw is (by_owner (owner_of p t)))
+    (λ isnt. rw isnt (sym (false_from_ne_true _ (λ u. let l : closed_of p < t = open_above p all t u in grind (arith, nat_tests)))))
+  where
+    by_owner : (o : Option ℕ) → is_open (option_map (transaction_with p t) o) ≡ (is_some o && (not (is_committed p t) && not (is_aborted p t)))
+    by_owner None = refl
+    by_owner (Some seat) = refl
+
+least_above : (q : ℕ → Bool) (m n : ℕ) (ks : List ℕ) → m ≤ n → ((t : ℕ) → q t ≡ true → m ≤ t - 1) → m ≤ least_of n (map (λ t. t - 1) (filter q ks))
+least_above q m n [] low h = low
+least_above q m n (t ∷ ks) low h = let more : m ≤ least_of n (map (λ t. t - 1) (filter q ks)) = least_above q m n ks low h in by_test (q t)
+    (λ is. rw is (let l = h t is in omega arith))
+    (λ isnt. rw isnt more)
+
+least_under : (n : ℕ) (ms : List ℕ) → least_of n ms ≤ n
+least_under n [] = omega arith
+least_under n (m ∷ ms) = omega (arith, least_under n ms)
+
+least_all : (q : ℕ → Bool) (n : ℕ) (ks : List ℕ) → ((t : ℕ) → q t ≡ false) → least_of n (map (λ t. t - 1) (filter q ks)) ≡ n
+least_all q n [] h = refl
+least_all q n (t ∷ ks) h = rw (h t) (least_all q n ks h)
+
+-- closing reaches as far as the history says
+pub reach_is : (k : Kept) (p : List Effect) → AllAllowed p → IsKeptOf k p → (to : ℕ) (o : Option ℕ) → IsOldest k.transaction o → reach to o ≡ decided_through p to
+reach_is k p all kept to None h = sym (least_all (is_undecided p) to (begun_of p) (λ t. sym (open_is k p all kept t) ∙ h t))
+reach_is k p all kept to (Some o) h =
+    let u : is_undecided p o ≡ true = sym (open_is k p all kept o) ∙ h.0 in
+    let low : decided_through p to ≤ o - 1 = least_below (is_undecided p) to o (begun_of p) (begun_among p o (and_parts _ _ u).0) u in
+    let high : min to (o - 1) ≤ decided_through p to = least_above (is_undecided p) (min to (o - 1)) to (begun_of p) (omega arith) (λ t is. let l : o ≤ t = h.1 t (open_is k p all kept t ∙ is) in omega arith) in
+    let top : decided_through p to ≤ to = least_under to (map (λ t. t - 1) (undecided_timestamps p)) in
+    omega arith
+
+-- after closing
+pub after_closes : (k : Kept) (p : List Effect) → AllAllowed p → IsKeptOf k p → (n : ℕ) → Allowed p (Closes n)
+    → (m' : List ℕ → ℕ → Bool) (τ' : ℕ → Option Transaction)
+    → ((y : List ℕ) → IsForgotten (k.marked y) (m' y) n)
+    → ((i : ℕ) → τ' i ≡ cond (nat_lt n i) (k.transaction i) None)
+    → IsKeptOf (record k { closed = n; marked = m'; transaction = τ' }) (Closes n ∷ p)
+after_closes k p all kept n allowed m' τ' ms ts = record {
+  closed_at = refl; horizon_at = kept.horizon_at;
+  versions = λ y i. kept.versions y i ∙ sym (kept_stays p (Closes n) all allowed refl y i);
+  decided = kept.decided;
+  marks = λ y i above fresh. let b = kept.marks y i (omega (arith, closed_grows p (Closes n) allowed)) fresh in (
+    λ late. let c = b.0 late in record { reader = c.reader; mark = (ms y).above c.reader (omega (arith, c.above)) ∙ c.mark; above = c.above; none = c.none },
+    λ c. b.1 (record { reader = c.reader; mark = (ms y).only c.reader c.mark; above = c.above; none = c.none }),
+  );
+  transactions = λ i. ts i ∙ by_test (nat_lt n i)
+      (λ is. let e : nat_lt (closed_of p) i ≡ true = (let g : closed_of p ≤ n = closed_grows p (Closes n) allowed in grind (arith, nat_tests)) in rw is (kept.transactions i ∙ (rw e refl)))
+      (λ isnt. rw isnt refl);
+  protected = kept.protected; made = kept.made; feeds = kept.feeds; opened = kept.opened;
+}
+
+-- after a hard closing
+pub after_hard_closes : (k : Kept) (p : List Effect) → AllAllowed p → IsKeptOf k p → (to n : ℕ) → Allowed p (HardCloses to n)
+    → (v' : List ℕ → ℕ → Option After) (m' : List ℕ → ℕ → Bool) (τ' : ℕ → Option Transaction)
+    → ((y : List ℕ) (i : ℕ) → v' y i ≡ cond (nat_le i to && is_open (k.transaction i)) None (k.version y i))
+    → ((y : List ℕ) → IsForgotten (k.marked y) (m' y) n)
+    → ((i : ℕ) → τ' i ≡ cond (nat_lt n i) (k.transaction i) None)
+    → IsKeptOf (record k { closed = n; version = v'; marked = m'; transaction = τ' }) (HardCloses to n ∷ p)
+after_hard_closes k p all kept to n allowed v' m' τ' vs ms ts = record {
+  closed_at = refl; horizon_at = kept.horizon_at;
+  versions = kept_now;
+  decided = λ y i b is. kept.decided y i b (still y i b is);
+  marks = λ y i above fresh. let b = to_kept (HardCloses to n ∷ p) (allowed, all) y (k.marked y) (v' y) (kept_now y) i above (too_late p y i ≡ true)
+      (marks_aborted p all y (k.marked y) (version_of (HardCloses to n ∷ p) y) (λ w none. gone (cut w) (is_aborted p w) (write_of p w y) none) (λ w a is. stands y w a is) (marks_of k p all kept y) i (omega (arith, closed_grows p (HardCloses to n) allowed)) fresh) in (
+    λ late. let c = b.0 late in record { reader = c.reader; mark = (ms y).above c.reader (omega (arith, c.above)) ∙ c.mark; above = c.above; none = c.none },
+    λ c. b.1 (record { reader = c.reader; mark = (ms y).only c.reader c.mark; above = c.above; none = c.none }),
+  );
+  transactions = λ i. ts i ∙ by_test (nat_lt n i)
+      (λ is. let e : nat_lt (closed_of p) i ≡ true = (let g : closed_of p ≤ n = closed_grows p (HardCloses to n) allowed in grind (arith, nat_tests)) in
+      let far : nat_le i to ≡ false = grind (arith, nat_tests, allowed) in
+      let stays : is_aborted (HardCloses to n ∷ p) i ≡ is_aborted p i = rw far refl in
+      rw is (kept.transactions i ∙ ap (λ b. cond b (option_map (transaction_with p i) (owner_of p i)) None) e ∙ ap (λ c. option_map (with_state i c) (owner_of p i)) (sym stays)))
+      (λ isnt. rw isnt refl);
+  protected = kept.protected; made = kept.made; feeds = kept.feeds; opened = kept.opened;
+}
+  where
+    with_state : ℕ → Bool → ℕ → Transaction
+    with_state i c seat = record { seat = seat; committed = is_committed p i; aborted = c; keys = write_set p i }
+
+    cut : ℕ → Bool
+    cut i = nat_le i to && (is_some (owner_of p i) && not (is_committed p i))
+
+    still : (y : List ℕ) (i : ℕ) (b : After) → v' y i ≡ Some b → k.version y i ≡ Some b
+    still y i b is = step (nat_le i to && is_open (k.transaction i)) (k.version y i) (sym (vs y i) ∙ is)
+      where
+        step : (c : Bool) (o : Option After) → cond c None o ≡ Some b → o ≡ Some b
+        step true o e = cc
+        step false o e = e
+
+    gone : (b a : Bool) (o : Option After) → cond a None o ≡ None → cond (b || a) None o ≡ None
+    gone true a o e = refl
+    gone false a o e = e
+
+    stands : (y : List ℕ) (w : ℕ) (a : After) → committed_version_of p y w ≡ Some a → version_of (HardCloses to n ∷ p) y w ≡ Some a
+    stands y w a is = rw (committed_is p y w a is).0 (step (nat_le w to) (is_some (owner_of p w)) (committed_stands p all y w a is))
+      where
+        step : (b c : Bool) → version_of p y w ≡ Some a → cond ((b && (c && not true)) || is_aborted p w) None (write_of p w y) ≡ Some a
+        step true true e = e
+        step true false e = e
+        step false c e = e
+
+    kept_now : (y : List ℕ) (i : ℕ) → v' y i ≡ kept_version (HardCloses to n ∷ p) y i
+    kept_now y i = vs y i ∙ ap (λ b. cond (nat_le i to && b) None (k.version y i)) (open_is k p all kept i) ∙ ap (λ o. cond (nat_le i to && is_undecided p i) None o) (kept.versions y i)
+        ∙ step (is_dead p (version_name y i)) (nat_le i to) (is_some (owner_of p i)) (is_committed p i) (is_aborted p i) (write_of p i y)
+        ∙ sym (kept_stays p (HardCloses to n) all allowed refl y i)
+      where
+        step : (d b c m a : Bool) (o : Option After) → cond (b && (c && (not m && not a))) None (cond d None (cond a None o)) ≡ cond d None (cond ((b && (c && not m)) || a) None o)
+        step d false c m a o = refl
+        step d true false m a o = refl
+        step d true true true a o = refl
+        step true true true false true o = refl
+        step false true true false true o = refl
+        step true true true false false o = refl
+        step false true true false false o = refl

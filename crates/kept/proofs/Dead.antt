@@ -1,0 +1,110 @@
+-- What is dead, and what is kept.
+use Rattle.std.proofs.Common.{cond, inr, false, Some, sym, inl, Option, map, arith, List, true, Bool, refl, subst, None, ◌≡◌, ◌<◌, ◌≤◌, ◌⊎◌, ◌==◌, ◌∷◌, ◌++◌, ◌∙◌, ℕ, []}
+use Rattle.std.proofs.lemmas.Bool.{or_cases, or_right, and_parts, ltb-true, lt-ltb, false_from_ne_true, leb-true, eqb-true, and_from, le-leb}
+use Rattle.std.proofs.lemmas.Bool.Decides.{nat_tests}
+use Rattle.std.specs.Prelude.{nat_le, is_some, min}
+use Rattle.spans.specs.Collection.{floor_of, horizon_of, is_dead, Protection, live_feeds, protections_of, is_delete, version_name}
+use Rattle.spans.specs.Effects.{Collects, Begins, HardCloses, Closes, Writes, Effect, After}
+use Rattle.spans.specs.Kept.{kept_version}
+use Rattle.spans.specs.Newest.{newest}
+use Rattle.spans.specs.Transactions.{is_committed, closed_of, owner_of, least_of}
+use Rattle.spans.specs.Versions.{committed_version_of, version_of, write_of}
+use Rattle.spans.proofs.Copies.{not_both, AllAllowed, closed_grows}
+use Rattle.spans.proofs.Open.{open_above}
+use Rattle.spans.proofs.Steps.{by_test, version_wrote, no_version_wrote}
+use Rattle.kept.proofs.VersionCounts.{at}
+
+least_low : (n : ℕ) (ms : List ℕ) → least_of n ms ≤ n
+least_low n [] = omega arith
+least_low n (m ∷ ms) = omega (arith, least_low n ms)
+
+-- the horizon is at or below closed
+pub horizon_low : (p : List Effect) → AllAllowed p → horizon_of p ≤ closed_of p
+horizon_low [] all = omega arith
+horizon_low (Collects n ∷ p) all = omega (arith, all.0.1, horizon_low p all.1, least_low (min all.0.0 (closed_of p)) (map (λ (n : Protection). n.at) (protections_of p) ++ map (floor_of p) (live_feeds p)))
+horizon_low (Closes n ∷ p) all = omega (arith, horizon_low p all.1, closed_grows p (Closes n) all.0)
+horizon_low (HardCloses to n ∷ p) all = omega (arith, horizon_low p all.1, closed_grows p (HardCloses to n) all.0)
+horizon_low (_ ∷ p) all = horizon_low p all.1
+
+-- who wrote has begun
+pub wrote_begun : (p : List Effect) → AllAllowed p → (t : ℕ) (x : List ℕ) (a : After) → write_of p t x ≡ Some a → is_some (owner_of p t) ≡ true
+wrote_begun [] all t x a is = cc
+wrote_begun (Begins k seat ∷ p) all t x a is = by_test (k == t)
+    (λ same. rw same refl)
+    (λ other. rw other (wrote_begun p all.1 t x a is))
+wrote_begun (Writes k y b ∷ p) all t x a is = by_test (k == t)
+    (λ same. subst (λ n. is_some (owner_of p n) ≡ true) (eqb-true k t same) all.0.0.begun)
+    (λ other. wrote_begun p all.1 t x a (rw other at is))
+wrote_begun (_ ∷ p) all t x a is = wrote_begun p all.1 t x a is
+
+-- a version at or below closed is committed
+pub closed_committed : (p : List Effect) → AllAllowed p → (x : List ℕ) (i : ℕ) (a : After) → version_of p x i ≡ Some a → i ≤ closed_of p → is_committed p i ≡ true
+closed_committed p all x i a is low =
+    let wrote = version_wrote p x i a is in
+    by_test (is_committed p i) (λ yes'. yes')
+    (λ isnt. absurd (let above : closed_of p < i = open_above p all i (and_from _ _ (wrote_begun p all i x a wrote.1) (rw (isnt, wrote.0) refl)) in omega arith))
+
+-- at or below closed the versions are the committed ones
+pub closed_version : (p : List Effect) → AllAllowed p → (x : List ℕ) (i : ℕ) → i ≤ closed_of p → version_of p x i ≡ committed_version_of p x i
+closed_version p all x i low = by_version (version_of p x i) refl
+  where
+    by_version : (o : Option After) → version_of p x i ≡ o → version_of p x i ≡ committed_version_of p x i
+    by_version (Some a) is = rw (closed_committed p all x i a is low) (is ∙ sym (version_wrote p x i a is).1)
+    by_version None is = by_test (is_committed p i)
+        (λ yes'. rw yes' (is ∙ sym (no_version_wrote p x i is (not_both p all i yes'))))
+        (λ isnt. rw isnt is)
+
+pub committed_is : (p : List Effect) (x : List ℕ) (i : ℕ) (a : After) → committed_version_of p x i ≡ Some a → (is_committed p i ≡ true) × (write_of p i x ≡ Some a)
+committed_is p x i a h = step (is_committed p i) (write_of p i x) h
+  where
+    step : (b : Bool) (o : Option After) → cond b o None ≡ Some a → (b ≡ true) × (o ≡ Some a)
+    step true o e = (refl, e)
+    step false o e = cc
+
+pub committed_stands : (p : List Effect) → AllAllowed p → (x : List ℕ) (i : ℕ) (a : After) → committed_version_of p x i ≡ Some a → version_of p x i ≡ Some a
+committed_stands p all x i a h = let c = committed_is p x i a h in rw (not_both p all i c.0) c.1
+
+-- what is dead
+pub record IsDropped (p : List Effect) (x : List ℕ) (i : ℕ) : Type 0 where
+  pub committed : is_committed p i ≡ true
+  pub low : i ≤ horizon_of p
+  pub why : (is_delete (write_of p i x) ≡ true) ⊎ (i < (newest (committed_version_of p x) (horizon_of p)).ts)
+
+pub dead_is : (p : List Effect) (x : List ℕ) (i : ℕ) → is_dead p (version_name x i) ≡ true → IsDropped p x i
+dead_is p x i is =
+    let a = and_parts _ _ is in let b = and_parts _ _ a.1 in record {
+      committed = a.0;
+      low = leb-true _ _ b.0;
+      why = elim (or_cases _ _ b.1) [ inl d ↦ inl d | inr s ↦ inr (ltb-true _ _ s) ];
+    }
+
+pub older_dead : (p : List Effect) (x : List ℕ) (i : ℕ) → is_committed p i ≡ true → i ≤ horizon_of p → i < (newest (committed_version_of p x) (horizon_of p)).ts → is_dead p (version_name x i) ≡ true
+older_dead p x i is low below = and_from _ _ is (and_from _ _ (le-leb i (horizon_of p) low) (or_right _ _ (lt-ltb i _ below)))
+
+high_live : (q : List Effect) (x : List ℕ) (i : ℕ) → nat_le i (horizon_of q) ≡ false → is_dead q (version_name x i) ≡ false
+high_live q x i high = false_from_ne_true _ (λ is. let d = dead_is q x i is in grind (arith, nat_tests, d.low))
+
+-- what an open transaction wrote isn't dead
+pub open_live : (p : List Effect) (x : List ℕ) (t : ℕ) → is_committed p t ≡ false → is_dead p (version_name x t) ≡ false
+open_live p x t open' = rw open' refl
+
+pub no_kept : (p : List Effect) (x : List ℕ) (i : ℕ) → version_of p x i ≡ None → kept_version p x i ≡ None
+no_kept p x i none = step (is_dead p (version_name x i)) (version_of p x i) none
+  where
+    step : (b : Bool) (o : Option After) → o ≡ None → cond b None o ≡ None
+    step true o e = refl
+    step false o e = e
+
+-- what is above the horizon is kept
+pub kept_above : (p : List Effect) (x : List ℕ) (i : ℕ) → horizon_of p < i → kept_version p x i ≡ version_of p x i
+kept_above p x i above = by_test (is_dead p (version_name x i))
+    (λ is. absurd (let d = dead_is p x i is in omega (arith, d.low)))
+    (λ isnt. rw isnt refl)
+
+-- a kept version is a version
+pub kept_is : (p : List Effect) (x : List ℕ) (i : ℕ) (a : After) → kept_version p x i ≡ Some a → version_of p x i ≡ Some a
+kept_is p x i a h = step (is_dead p (version_name x i)) (version_of p x i) h
+  where
+    step : (b : Bool) (o : Option After) → cond b None o ≡ Some a → o ≡ Some a
+    step true o e = cc
+    step false o e = e

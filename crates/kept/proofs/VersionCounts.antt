@@ -1,0 +1,110 @@
+-- The versions that are kept are counted by those of the history.
+use Rattle.std.proofs.Common.{cond, length, inr, false, Some, sym, inl, Option, map, arith, ap, List, true, Bool, refl, not, subst, None, ◌≡◌, ◌-◌, ◌+◌, ◌∷◌, ◌∙◌, ℕ, []}
+use Rattle.std.specs.Prelude.{flat_map, filter, is_some, ◌↔◌}
+use Rattle.spans.specs.Collection.{is_dead, versions_of, dead_of, VersionName}
+use Rattle.spans.specs.Effects.{Collects, Effect, After}
+use Rattle.spans.specs.Kept.{Kept, IsKeptOf, kept_version}
+use Rattle.spans.specs.Transactions.{is_aborted, begun_of}
+use Rattle.spans.specs.Versions.{write_set, version_of, write_of}
+use Rattle.spans.proofs.Copies.{Allowed, AllAllowed, kept}
+use Rattle.spans.proofs.Open.{begun_among}
+use Rattle.spans.proofs.Steps.{by_test, version_wrote}
+use Rattle.spans.proofs.WriteSets.{has_in, has_written, write_set_rises}
+use Rattle.kept.specs.Lists.{Has, AreDistinct}
+use Rattle.kept.proofs.Counting.{has_filter, has_is, in_has, distinct_append, among_has, distinct_filter, same_length, has_append, rising_distinct, begun_distinct}
+use Rattle.kept.proofs.Dead.{wrote_begun}
+
+abbrev at : ℕ → List ℕ → List ℕ × ℕ
+at t x = (x, t)
+
+has_at : (t : ℕ) (v : VersionName) (ks : List (List ℕ)) → Has v (map (at t) ks) ↔ ((t ≡ v.ts) × Has v.key ks)
+has_at t v [] = (λ i. absurd i, λ i. absurd i.1)
+has_at t v (x ∷ xs) = let more = has_at t v xs in (
+  λ i. elim i [ inl here ↦ (ap (λ (w : List ℕ × ℕ). w.1) here, inl (ap (λ (w : List ℕ × ℕ). w.0) here)) | inr there ↦ (let m = more.0 there in (m.0, inr m.1)) ],
+  λ i. elim i.1 [ inl here ↦ inl (joined t v.ts x v.key i.0 here) | inr there ↦ inr (more.1 (i.0, there)) ],
+)
+  where
+    joined : (t n : ℕ) (x y : List ℕ) → t ≡ n → x ≡ y → at t x ≡ at n y
+    joined t n x y e h = rw (e, h) refl
+
+distinct_at : (t : ℕ) (ks : List (List ℕ)) → AreDistinct ks → AreDistinct (map (at t) ks)
+distinct_at t [] d = tt
+distinct_at t (x ∷ xs) d = (λ i. d.0 ((has_at t (at t x) xs).0 i).1, distinct_at t xs d.1)
+
+abbrev names_of : List Effect → List ℕ → List VersionName
+names_of p ts = flat_map (λ t. map (λ x. (x, t)) (write_set p t)) ts
+
+has_of : (p : List Effect) (v : VersionName) (ts : List ℕ) → Has v (names_of p ts) ↔ (Has v.ts ts × Has v.key (write_set p v.ts))
+has_of p v [] = (λ i. absurd i, λ i. absurd i.0)
+has_of p v (t ∷ ts) =
+    let join = has_append v (map (at t) (write_set p t)) (names_of p ts) in
+    let here = has_at t v (write_set p t) in
+    let more = has_of p v ts in (
+      λ i. elim (join.0 i) [ inl l ↦ (let h = here.0 l in (inl h.0, subst (λ n. Has v.key (write_set p n)) h.0 h.1)) | inr r ↦ (let m = more.0 r in (inr m.0, m.1)) ],
+      λ i. join.1 (elim i.0 [ inl e ↦ inl (here.1 (e, subst (λ n. Has v.key (write_set p n)) (sym e) i.1)) | inr k ↦ inr (more.1 (k, i.1)) ]),
+    )
+
+distinct_of : (p : List Effect) (ts : List ℕ) → AreDistinct ts → AreDistinct (names_of p ts)
+distinct_of p [] d = tt
+distinct_of p (t ∷ ts) d = distinct_append (map (at t) (write_set p t)) (names_of p ts) (distinct_at t (write_set p t) (rising_distinct (write_set p t) (write_set_rises p t))) (distinct_of p ts d.1)
+    (λ v i j. let e = ((has_at t v (write_set p t)).0 i).0 in d.0 (subst (λ n. Has n ts) (sym e) ((has_of p v ts).0 j).0))
+
+pub versions_distinct : (p : List Effect) → AllAllowed p → AreDistinct (versions_of p)
+versions_distinct p all = distinct_of p (filter (λ t. not (is_aborted p t)) (begun_of p)) (distinct_filter (λ t. not (is_aborted p t)) (begun_of p) (begun_distinct p all))
+
+pub has_versions : (p : List Effect) → AllAllowed p → (v : VersionName) → Has v (versions_of p) ↔ (is_some (version_of p v.key v.ts) ≡ true)
+has_versions p all v =
+    let m = has_of p v (filter (λ t. not (is_aborted p t)) (begun_of p)) in
+    let f = has_filter (λ t. not (is_aborted p t)) v.ts (begun_of p) in
+    let w = has_written p v.ts v.key in (
+      λ i. let h = m.0 i in step (is_aborted p v.ts) (write_of p v.ts v.key) (f.0 h.0).0 (sym w ∙ (has_in v.key (write_set p v.ts)).0 (has_is v.key (write_set p v.ts) h.1)),
+      λ is. by_version (version_of p v.key v.ts) refl is,
+    )
+  where
+    step : (b : Bool) (o : Option After) → not b ≡ true → is_some o ≡ true → is_some (cond b None o) ≡ true
+    step true o e h = cc
+    step false o e h = h
+
+    by_version : (o : Option After) → version_of p v.key v.ts ≡ o → is_some o ≡ true → Has v (versions_of p)
+    by_version None e is = cc
+    by_version (Some a) e is =
+        let wrote = version_wrote p v.key v.ts a e in
+        (has_of p v (filter (λ t. not (is_aborted p t)) (begun_of p))).1 (
+          (has_filter (λ t. not (is_aborted p t)) v.ts (begun_of p)).1 (ap not wrote.0, among_has v.ts (begun_of p) (begun_among p v.ts (wrote_begun p all v.ts v.key a wrote.1))),
+          in_has v.key (write_set p v.ts) ((has_in v.key (write_set p v.ts)).1 (has_written p v.ts v.key ∙ ap is_some wrote.1)),
+        )
+
+parted : {A : Type 0} (q : A → Bool) (xs : List A) → length xs ≡ length (filter (λ x. not (q x)) xs) + length (filter q xs)
+parted q [] = refl
+parted q (x ∷ xs) = let more = parted q xs in by_test (q x)
+    (λ is. rw is (omega (arith, more)))
+    (λ isnt. rw isnt (omega (arith, more)))
+
+-- any list that has each version of the store once is as long as the versions less the dead
+pub stored_count : (k : Kept) (p : List Effect) → AllAllowed p → IsKeptOf k p → (vs : List VersionName) → AreDistinct vs → ((v : VersionName) → Has v vs ↔ (is_some (k.version v.key v.ts) ≡ true))
+    → length (versions_of p) ≡ length vs + length (dead_of p)
+stored_count k p all kept vs d same =
+    let q : VersionName → Bool = λ v. not (is_dead p v) in
+    let e : length vs ≡ length (filter (λ v. not (is_dead p v)) (versions_of p)) = same_length vs (filter (λ v. not (is_dead p v)) (versions_of p)) d (distinct_filter (λ v. not (is_dead p v)) (versions_of p) (versions_distinct p all)) (λ v.
+    let f = has_filter (λ w. not (is_dead p w)) v (versions_of p) in let h = has_versions p all v in (
+      λ i. f.1 (let s : is_some (kept_version p v.key v.ts) ≡ true = ap is_some (sym (kept.versions v.key v.ts)) ∙ (same v).0 i in let b = split (is_dead p (v.key, v.ts)) (version_of p v.key v.ts) s in (b.0, h.1 b.1)),
+      λ i. (same v).1 (ap is_some (kept.versions v.key v.ts) ∙ join (is_dead p (v.key, v.ts)) (version_of p v.key v.ts) (f.0 i).0 (h.0 (f.0 i).1)),
+    )) in
+    parted (is_dead p) (versions_of p) ∙ ap (λ n. n + length (dead_of p)) (sym e)
+  where
+    split : (b : Bool) (o : Option After) → is_some (cond b None o) ≡ true → (not b ≡ true) × (is_some o ≡ true)
+    split true o e = cc
+    split false o e = (refl, e)
+
+    join : (b : Bool) (o : Option After) → not b ≡ true → is_some o ≡ true → is_some (cond b None o) ≡ true
+    join true o e h = cc
+    join false o e h = h
+
+-- so a collection removes as many as the store loses
+pub removed_count : (k k' : Kept) (p : List Effect) (n : ℕ) → AllAllowed p → Allowed p (Collects n) → IsKeptOf k p → IsKeptOf k' (Collects n ∷ p) → (vs vs' : List VersionName) → AreDistinct vs → AreDistinct vs'
+    → ((v : VersionName) → Has v vs ↔ (is_some (k.version v.key v.ts) ≡ true)) → ((v : VersionName) → Has v vs' ↔ (is_some (k'.version v.key v.ts) ≡ true))
+    → length vs - length vs' ≡ length (dead_of (Collects n ∷ p)) - length (dead_of p)
+removed_count k k' p n all allowed kept kept' vs vs' d d' same same' =
+    let before : length (versions_of p) ≡ length vs + length (dead_of p) = stored_count k p all kept vs d same in
+    let after : length (versions_of p) ≡ length vs' + length (dead_of (Collects n ∷ p)) = stored_count k' (Collects n ∷ p) (allowed, all) kept' vs' d' same' in
+    omega (arith, before, after)

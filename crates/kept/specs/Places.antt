@@ -1,0 +1,60 @@
+-- What the place of a live feed answers.
+use Rattle.std.specs.Prelude.{nat_lt, max, min, Bool, Option, List, Some, None, true, ◌≡◌, ◌≤◌, ◌-◌, ◌&&◌, ℕ, ◌↔◌}
+use Rattle.timestamps.specs.declared.row.Row.{Row}
+use Rattle.spans.specs.Collection.{LiveFeed}
+use Rattle.spans.specs.Consumer.{last_row, is_after}
+use Rattle.spans.specs.Effects.{After}
+use Rattle.spans.specs.Feeds.{last_resolved}
+use Rattle.spans.specs.Kept.{Place}
+use Rattle.spans.specs.Keys.{in_span}
+use Rattle.spans.specs.declared.calls.messages.Message.{Message}
+use Rattle.spans.specs.declared.span.Span.{Span}
+use Rattle.spans.proofs.StreamOrder.{RisingRows, IsRowIn}
+
+abbrev pub row_floor : Option Row → ℕ
+row_floor None = 0
+row_floor (Some r) = r.ts - 1
+
+-- up to where all is told
+abbrev pub place_floor : Place → ℕ
+place_floor place = max place.after (row_floor place.row)
+
+-- the least of what there is, if anything
+abbrev pub or_min : Option ℕ → ℕ → ℕ
+or_min None n = n
+or_min (Some m) n = min m n
+
+abbrev pub IsLeastFloor : (ℕ → Option Place) → Option ℕ → Type 0
+IsLeastFloor feed None = (f : ℕ) → feed f ≡ None
+IsLeastFloor feed (Some m) = ((f : ℕ) × (place : Place) × (feed f ≡ Some place) × (place_floor place ≡ m)) × ((f : ℕ) (place : Place) → feed f ≡ Some place → m ≤ place_floor place)
+
+-- the place after messages
+abbrev pub moved : List Message → Place → Place
+moved ms place = record place { after = last_resolved place.after ms; row = last_row place.row ms }
+
+abbrev pub live_feed : ℕ → ℕ → LiveFeed
+live_feed f c = record { number = f; cursor = c }
+
+-- a row that comes after the place
+abbrev pub is_beyond : Place → Row → Bool
+is_beyond place r = nat_lt place.after r.ts && is_after place.row r
+
+-- a committed version of the feed's span that is kept, beyond the place and not above a timestamp
+pub record IsStored (version : List ℕ → ℕ → Option After) (decided : List ℕ → ℕ → Bool) (place : Place) (through : ℕ) (r : Row) : Type 0 where
+  pub there : version r.key r.ts ≡ Some r.after
+  pub done : decided r.key r.ts ≡ true
+  pub inside : in_span place.span r.key ≡ true
+  pub later : is_beyond place r ≡ true
+  pub low : r.ts ≤ through
+
+-- these are the rows that are left for a feed at the place, in their order
+pub record AreLeft (version : List ℕ → ℕ → Option After) (decided : List ℕ → ℕ → Bool) (place : Place) (through : ℕ) (rows : List Row) : Type 0 where
+  pub rising : RisingRows rows
+  pub each : (r : Row) → IsRowIn r rows ↔ IsStored version decided place through r
+
+abbrev pub whole : Span
+whole = record { lo = None; hi = None }
+
+-- a row that a feed is offered
+abbrev pub wanted : Span → ℕ → Row → Bool
+wanted span c r = in_span span r.key && nat_lt c r.ts

@@ -1,0 +1,11 @@
+// scratch
+#![tactic(auto)]
+
+mod lines;
+mod output;
+
+use std::io;
+
+fn main(rt: HostRuntime) -> io::Result<()> {
+    Ok(())
+}

@@ -1,0 +1,54 @@
+//! The output, handed to its device in large blocks.
+ghost use Rattle.std.specs.Prelude.{◌≤◌, ◌<◌, length};
+
+use std::alloc::{AllocError, Global};
+use std::io::Write;
+
+/// How many bytes are kept before they are written.
+pub const BLOCK: usize = 65536;
+
+/// A device failed to write, or took nothing. It is not tried again.
+#[derive(Clone, Copy, Debug, PartialEq, Eq)]
+pub struct WriteFailed;
+
+/// A device with the bytes that wait to be written to it.
+#[derive(Drop)]
+pub struct Output<W> {
+    sink: W,
+    pub pending: Vec<u8>,
+}
+
+impl<W: Write + Drop> Output<W> {
+    /// An output to which nothing was written.
+    pub fn new(alloc: Global, sink: W) -> Result<Output<W>, AllocError> {
+        let pending = Vec::with_capacity(alloc, BLOCK)?;
+        Ok(Output { sink, pending })
+    }
+
+    /// Writes what waits where that is a block or more.
+    pub fn write_full(&mut self) -> Result<(), WriteFailed> {
+        if self.pending.len() < BLOCK {
+            return Ok(());
+        }
+        self.write_out()
+    }
+
+    /// Writes all that waits.
+    pub fn write_out(&mut self) -> Result<(), WriteFailed> {
+        write_all(&mut self.sink, self.pending.as_slice())?;
+        self.pending.clear();
+        Ok(())
+    }
+}
+
+/// Writes the bytes, in as many pieces as the device takes. Where it fails, those before are written.
+fn write_all<W: Write>(sink: &mut W, bytes: &[u8]) -> Result<(), WriteFailed> {
+    let mut rest = bytes;
+    while !rest.is_empty() {
+        match sink.write(rest) {
+            Err(_) | Ok(0) => return Err(WriteFailed),
+            Ok(count) => rest = &rest[count..],
+        }
+    }
+    Ok(())
+}

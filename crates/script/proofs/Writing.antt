@@ -1,0 +1,19 @@
+-- What stands in a buffer stays there.
+use Rattle.std.proofs.Common.{◌≡◌, List, ℕ, ◌++◌, [], length, take, append_assoc, sym, ◌∙◌, ap, refl, arith}
+use Rattle.std.proofs.lemmas.List.{append-nil, take_at}
+use Rattle.script.specs.Writing.{Keeps}
+
+pub keeps_text : (old new text : List ℕ) → new ≡ old ++ text → Keeps old new
+keeps_text old new text e = record { more = text; is = e }
+
+pub keeps_same : (old new : List ℕ) → new ≡ old → Keeps old new
+keeps_same old new e = record { more = []; is = e ∙ sym (append-nil old) }
+
+pub keeps_then : (a b c : List ℕ) → Keeps a b → Keeps b c → Keeps a c
+keeps_then a b c p q = record { more = p.more ++ q.more; is = q.is ∙ ap (λ (x : List ℕ). x ++ q.more) p.is ∙ append_assoc a p.more q.more }
+
+pub ruleset keeping = (keeps_text, keeps_same, keeps_then)
+
+-- cutting a buffer to its length before leaves what stood there
+pub undone : (old new : List ℕ) → Keeps old new → take (length old) new ≡ old
+undone old new keeps = ap (take (length old)) keeps.is ∙ take_at old keeps.more (length old) refl

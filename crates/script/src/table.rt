@@ -1,0 +1,139 @@
+//! The table of commands: the name of each, and how many arguments stand behind it.
+
+/// Which command.
+#[derive(Clone, Copy, Debug, PartialEq, Eq)]
+pub(crate) enum Verb {
+    Begin,
+    Get,
+    Put,
+    Del,
+    Commit,
+    Abort,
+    Close,
+    Scan,
+    CloseHard,
+    ReadAt,
+    ScanAt,
+    Protect,
+    Release,
+    Collect,
+    Open,
+    Poll,
+    Cancel,
+    Stats,
+}
+
+/// A row of the table.
+#[derive(Clone, Copy)]
+pub(crate) struct Form {
+    pub(crate) name: &'static [u8],
+    pub(crate) verb: Verb,
+    pub(crate) arguments: usize,
+}
+
+/// How many rows of the table are served: a command of a later row is unknown to `read_command`.
+pub(crate) const SERVED: usize = 7;
+
+/// All commands, the most frequent first.
+pub(crate) static FORMS: [Form; 18] = [
+    Form {
+        name: b"begin",
+        verb: Verb::Begin,
+        arguments: 1,
+    },
+    Form {
+        name: b"get",
+        verb: Verb::Get,
+        arguments: 2,
+    },
+    Form {
+        name: b"put",
+        verb: Verb::Put,
+        arguments: 3,
+    },
+    Form {
+        name: b"del",
+        verb: Verb::Del,
+        arguments: 2,
+    },
+    Form {
+        name: b"commit",
+        verb: Verb::Commit,
+        arguments: 1,
+    },
+    Form {
+        name: b"abort",
+        verb: Verb::Abort,
+        arguments: 1,
+    },
+    Form {
+        name: b"close",
+        verb: Verb::Close,
+        arguments: 1,
+    },
+    Form {
+        name: b"scan",
+        verb: Verb::Scan,
+        arguments: 3,
+    },
+    Form {
+        name: b"closehard",
+        verb: Verb::CloseHard,
+        arguments: 1,
+    },
+    Form {
+        name: b"readat",
+        verb: Verb::ReadAt,
+        arguments: 2,
+    },
+    Form {
+        name: b"scanat",
+        verb: Verb::ScanAt,
+        arguments: 3,
+    },
+    Form {
+        name: b"protect",
+        verb: Verb::Protect,
+        arguments: 1,
+    },
+    Form {
+        name: b"release",
+        verb: Verb::Release,
+        arguments: 1,
+    },
+    Form {
+        name: b"collect",
+        verb: Verb::Collect,
+        arguments: 1,
+    },
+    Form {
+        name: b"open",
+        verb: Verb::Open,
+        arguments: 3,
+    },
+    Form {
+        name: b"poll",
+        verb: Verb::Poll,
+        arguments: 2,
+    },
+    Form {
+        name: b"cancel",
+        verb: Verb::Cancel,
+        arguments: 1,
+    },
+    Form {
+        name: b"stats",
+        verb: Verb::Stats,
+        arguments: 0,
+    },
+];
+
+/// The row of a name among the rows.
+pub(crate) fn form_of(forms: &[Form], name: &[u8]) -> Option<Form> {
+    for form in forms {
+        if form.name == name {
+            return Some(*form);
+        }
+    }
+    None
+}

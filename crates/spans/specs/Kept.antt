@@ -1,0 +1,82 @@
+-- What an engine that forgets keeps of a history, and when it is that of a history (this project). Versions that are
+-- dead are gone, and so are transactions at or below closed and marks of readers there; each layer of an engine keeps
+-- its part of the record. The length of the history is kept beside it.
+use Rattle.std.specs.Prelude.{ℕ, List, [], ◌∷◌, Bool, true, false, ◌&&◌, ◌≡◌, ◌<◌, ◌≤◌, ◌↔◌, nat_lt, if◌then◌else◌, Option, Some, None, option_map}
+use Rattle.timestamps.specs.declared.row.Row.{Row}
+use Rattle.spans.specs.declared.span.Span.{Span}
+use Rattle.spans.specs.Effects.{After, Effect}
+use Rattle.spans.specs.Keys.{in_span}
+use Rattle.spans.specs.Transactions.{owner_of, closed_of, is_committed, is_aborted}
+use Rattle.spans.specs.Versions.{write_set, version_of, committed_version_of}
+use Rattle.spans.specs.Reads.{too_late}
+use Rattle.spans.specs.Streams.{row_lt}
+use Rattle.spans.specs.Feeds.{Feed, feed_of, feeds_opened, is_cancelled, told_to, last_resolved}
+use Rattle.spans.specs.Collection.{Protection, VersionName, version_name, horizon_of, protections_of, protections_made, is_dead}
+use Rattle.spans.specs.Consumer.{last_row, is_after}
+
+-- a transaction: its owner, how it ended, and the keys that it wrote, rising
+pub record Transaction : Type 0 where
+  pub seat : ℕ
+  pub committed : Bool
+  pub aborted : Bool
+  pub keys : List (List ℕ)
+
+-- a live feed's place: the greatest of its cursor and its resolved timestamps, and the row that was told last
+pub record Place : Type 0 where
+  pub seat : ℕ
+  pub span : Span
+  pub after : ℕ
+  pub row : Option Row
+
+-- what is kept, as the layers of an engine are seen: a version at a key and a timestamp, whether it is committed, the
+-- readers that are marked at a key, the transactions, the protections and the live feeds
+pub record Kept : Type 0 where
+  pub closed : ℕ
+  pub horizon : ℕ
+  pub version : List ℕ → ℕ → Option After
+  pub decided : List ℕ → ℕ → Bool
+  pub marked : List ℕ → ℕ → Bool
+  pub transaction : ℕ → Option Transaction
+  pub protections : List Protection
+  pub protections_made : ℕ
+  pub feed : ℕ → Option Place
+  pub feeds_opened : ℕ
+
+-- the version of x that t made, unless it is dead
+abbrev pub kept_version : List Effect → List ℕ → ℕ → Option After
+kept_version p x t = if is_dead p (version_name x t) then None else version_of p x t
+
+abbrev pub transaction_with : List Effect → ℕ → ℕ → Transaction
+transaction_with p t seat = record { seat = seat; committed = is_committed p t; aborted = is_aborted p t; keys = write_set p t }
+
+-- a transaction above closed
+abbrev pub transaction_of : List Effect → ℕ → Option Transaction
+transaction_of p t = if nat_lt (closed_of p) t then option_map (transaction_with p t) (owner_of p t) else None
+
+abbrev pub place_with : List Effect → ℕ → Feed → Place
+place_with p f feed = record { seat = feed.seat; span = feed.span; after = last_resolved feed.cursor (told_to p f); row = last_row None (told_to p f) }
+
+-- the place of a feed that lives
+abbrev pub place_of : List Effect → ℕ → Option Place
+place_of p f = if is_cancelled p f then None else option_map (place_with p f) (feed_of p f)
+
+-- a marked reader above i, and no version between the two: a write at i is refused
+pub record IsCrossed (marked : ℕ → Bool) (versions : ℕ → Option After) (i : ℕ) : Type 0 where
+  pub reader : ℕ
+  pub mark : marked reader ≡ true
+  pub above : i < reader
+  pub none : (n : ℕ) → i < n → n < reader → versions n ≡ None
+
+-- k is what is kept of p. Its marks need only answer for writes that can still come: above closed, and not where a
+-- transaction has committed
+pub record IsKeptOf (k : Kept) (p : List Effect) : Type 0 where
+  pub closed_at : k.closed ≡ closed_of p
+  pub horizon_at : k.horizon ≡ horizon_of p
+  pub versions : (x : List ℕ) (t : ℕ) → k.version x t ≡ kept_version p x t
+  pub decided : (x : List ℕ) (t : ℕ) (a : After) → k.version x t ≡ Some a → k.decided x t ≡ is_committed p t
+  pub marks : (x : List ℕ) (i : ℕ) → closed_of p < i → committed_version_of p x i ≡ None → (too_late p x i ≡ true) ↔ IsCrossed (k.marked x) (k.version x) i
+  pub transactions : (t : ℕ) → k.transaction t ≡ transaction_of p t
+  pub protected : k.protections ≡ protections_of p
+  pub made : k.protections_made ≡ protections_made p
+  pub feeds : (f : ℕ) → k.feed f ≡ place_of p f
+  pub opened : k.feeds_opened ≡ feeds_opened p

@@ -1,0 +1,129 @@
+-- Worked histories, each computed from the definitions: calls of seats in turn, and the replies to them.
+use Rattle.std.specs.Prelude.{◌≡◌, ℕ, List, [], ◌∷◌, Some, None, refl}
+use Rattle.timestamps.specs.declared.row.Row.{Row}
+use Rattle.spans.specs.declared.calls.commands.Cmd.{Cmd}
+use Rattle.spans.specs.declared.calls.commands.Cmd.TheVariants.{Begin, Get, Scan, Put, Del, Commit, Abort, Close, CloseHard, Protect, Release, Collect, Open, Poll, Cancel, Stats, ReadAt, ScanAt}
+use Rattle.spans.specs.declared.calls.replies.Reply.{Reply}
+use Rattle.spans.specs.declared.calls.replies.Reply.TheVariants.{Started, Found, Rows, Written, Committed, Aborted, Closed, Protected, Released, Collected, Opened, Messages, Cancelled, Refused}
+use Rattle.spans.specs.declared.calls.replies.Reply.TheVariants as replies
+use Rattle.spans.specs.declared.calls.replies.Refusal.TheVariants.{BelowClosed, TsUsed, TsRange, Blocked, NoTxn, NotOwner, Ended, TooLate, NotClosed, BelowHorizon, NoProtection, NoFeed, FeedCancelled}
+use Rattle.spans.specs.declared.calls.messages.Message.{Message}
+use Rattle.spans.specs.declared.calls.messages.Message.TheVariants as messages
+use Rattle.spans.specs.declared.span.Span.{Span}
+use Rattle.spans.specs.Effects.{After, Effect, effect}
+use Rattle.spans.specs.Answer.{answer_of}
+
+-- the replies to calls of seats, after the effects p
+abbrev pub replies_to : List Effect → List (ℕ × Cmd) → List Reply
+replies_to p [] = []
+replies_to p (call ∷ calls) = let r = answer_of p call.0 call.1 in r ∷ replies_to (effect call.0 call.1 r ∷ p) calls
+
+abbrev a : List ℕ
+a = 97 ∷ []
+
+abbrev b : List ℕ
+b = 98 ∷ []
+
+abbrev c : List ℕ
+c = 99 ∷ []
+
+abbrev one : List ℕ
+one = 49 ∷ []
+
+abbrev two : List ℕ
+two = 50 ∷ []
+
+abbrev three : List ℕ
+three = 51 ∷ []
+
+abbrev whole : Span
+whole = record { lo = None; hi = None }
+
+-- a row as a feed tells it
+abbrev row : ℕ → List ℕ → After → Message
+row t x v = messages.Row (record { ts = t; key = x; after = v })
+
+-- two sessions: what one commits, the other reads
+pub two_sessions : replies_to [] ((0, Begin 10) ∷ (0, Put 10 a one) ∷ (0, Commit 10) ∷ (1, Begin 20) ∷ (1, Get 20 a) ∷ [])
+    ≡ Started ∷ Written ∷ Committed 1 ∷ Started ∷ Found (Some one) ∷ []
+two_sessions = refl
+
+-- a write between two versions is no write beneath a read: the later reader read the newer one
+pub between_versions : replies_to [] ((0, Begin 5) ∷ (0, Put 5 a one) ∷ (0, Commit 5) ∷ (0, Begin 12) ∷ (0, Put 12 a two) ∷ (0, Commit 12) ∷ (1, Begin 15) ∷ (1, Get 15 a) ∷ (0, Begin 11) ∷ (0, Put 11 a three) ∷ [])
+    ≡ Started ∷ Written ∷ Committed 1 ∷ Started ∷ Written ∷ Committed 1 ∷ Started ∷ Found (Some two) ∷ Started ∷ Written ∷ []
+between_versions = refl
+
+-- read, then written, by one transaction: the read still counts
+pub read_then_written : replies_to [] ((0, Begin 20) ∷ (0, Get 20 a) ∷ (0, Put 20 a one) ∷ (1, Begin 10) ∷ (1, Put 10 a two) ∷ [])
+    ≡ Started ∷ Found None ∷ Written ∷ Started ∷ Refused TooLate ∷ []
+read_then_written = refl
+
+-- a read of one's own version stands in no other's way
+pub own_read : replies_to [] ((0, Begin 20) ∷ (0, Put 20 a one) ∷ (0, Get 20 a) ∷ (1, Begin 10) ∷ (1, Put 10 a two) ∷ [])
+    ≡ Started ∷ Written ∷ Found (Some one) ∷ Started ∷ Written ∷ []
+own_read = refl
+
+-- an absent key was scanned
+pub absent_key : replies_to [] ((0, Begin 20) ∷ (0, Scan 20 whole) ∷ (1, Begin 10) ∷ (1, Put 10 c one) ∷ [])
+    ≡ Started ∷ Rows [] ∷ Started ∷ Refused TooLate ∷ []
+absent_key = refl
+
+-- a write beneath a later read
+pub beneath : replies_to [] ((0, Begin 10) ∷ (1, Begin 20) ∷ (1, Get 20 a) ∷ (0, Put 10 a one) ∷ (0, Commit 10) ∷ (1, Commit 20) ∷ [])
+    ≡ Started ∷ Started ∷ Found None ∷ Refused TooLate ∷ Refused Ended ∷ Committed 0 ∷ []
+beneath = refl
+
+-- closing
+pub closing : replies_to [] ((0, Begin 10) ∷ (0, Close 100) ∷ (0, Commit 10) ∷ (0, Close 100) ∷ (0, Begin 50) ∷ (0, Close 20) ∷ (0, Begin 100) ∷ (0, Begin 101) ∷ (0, Commit 50) ∷ [])
+    ≡ Started ∷ Closed 9 0 ∷ Committed 0 ∷ Closed 100 0 ∷ Refused (BelowClosed 100) ∷ Closed 100 0 ∷ Refused (BelowClosed 100) ∷ Started ∷ Refused Ended ∷ []
+closing = refl
+
+-- commit order isn't stream order
+pub order : replies_to [] ((0, Open whole 0) ∷ (1, Begin 20) ∷ (1, Put 20 a one) ∷ (1, Commit 20) ∷ (2, Begin 10) ∷ (2, Put 10 b one) ∷ (2, Commit 10) ∷ (0, Poll 1 10) ∷ (0, Close 30) ∷ (0, Poll 1 10) ∷ [])
+    ≡ Opened 1 ∷ Started ∷ Written ∷ Committed 1 ∷ Started ∷ Written ∷ Committed 1 ∷ Messages [] ∷ Closed 30 0
+    ∷ Messages (row 10 b (Some one) ∷ row 20 a (Some one) ∷ messages.Resolved 30 ∷ []) ∷ []
+order = refl
+
+-- the floor of a feed that lags
+pub lagging : replies_to [] ((0, Begin 5) ∷ (0, Put 5 a one) ∷ (0, Commit 5) ∷ (0, Begin 10) ∷ (0, Put 10 a two) ∷ (0, Commit 10) ∷ (0, Begin 20) ∷ (0, Put 20 a three) ∷ (0, Commit 20)
+    ∷ (0, Open whole 5) ∷ (0, Close 30) ∷ (0, Poll 1 1) ∷ (0, Collect 30) ∷ (0, Poll 1 10) ∷ (0, Collect 30) ∷ (0, Stats) ∷ (0, ReadAt 29 a) ∷ (0, ReadAt 30 a) ∷ (0, ReadAt 31 a) ∷ [])
+    ≡ Started ∷ Written ∷ Committed 1 ∷ Started ∷ Written ∷ Committed 1 ∷ Started ∷ Written ∷ Committed 1
+    ∷ Opened 1 ∷ Closed 30 0 ∷ Messages (row 10 a (Some two) ∷ []) ∷ Collected 9 0
+    ∷ Messages (row 20 a (Some three) ∷ messages.Resolved 30 ∷ []) ∷ Collected 30 2 ∷ replies.Stats 1 0 1 30 30
+    ∷ Refused (BelowHorizon 30) ∷ Found (Some three) ∷ Refused (NotClosed 30) ∷ []
+lagging = refl
+
+-- hard closing, snapshots and protection
+pub hard : replies_to [] ((0, Begin 10) ∷ (0, Put 10 a one) ∷ (1, Begin 50) ∷ (1, Put 50 b two) ∷ (2, CloseHard 20) ∷ (0, Commit 10) ∷ (1, Commit 50) ∷ (2, Close 50) ∷ (2, ScanAt 50 whole)
+    ∷ (2, Protect 20) ∷ (2, Collect 50) ∷ (0, Release 1) ∷ (0, Release 1) ∷ (2, Collect 50) ∷ (2, Protect 20) ∷ [])
+    ≡ Started ∷ Written ∷ Started ∷ Written ∷ Closed 20 1 ∷ Refused Ended ∷ Committed 1 ∷ Closed 50 0 ∷ Rows ((b, two) ∷ [])
+    ∷ Protected 1 ∷ Collected 20 0 ∷ Released ∷ Refused NoProtection ∷ Collected 50 0 ∷ Refused (BelowHorizon 50) ∷ []
+hard = refl
+
+-- an absent key was scanned, and a dropped delete keeps its mark
+pub dropped : replies_to [] ((0, Begin 3) ∷ (0, Put 3 a one) ∷ (0, Commit 3) ∷ (0, Begin 5) ∷ (0, Del 5 a) ∷ (0, Commit 5) ∷ (1, Begin 20) ∷ (2, Begin 15) ∷ (0, Close 10) ∷ (1, Get 20 a) ∷ (0, Collect 10) ∷ (2, Put 15 a two) ∷ (0, Stats) ∷ [])
+    ≡ Started ∷ Written ∷ Committed 1 ∷ Started ∷ Written ∷ Committed 1 ∷ Started ∷ Started ∷ Closed 10 0 ∷ Found None ∷ Collected 10 2 ∷ Refused TooLate ∷ replies.Stats 0 1 0 10 10 ∷ []
+dropped = refl
+
+-- a blocked read leaves no mark, and the read that follows the decision does
+pub blocks : replies_to [] ((0, Begin 10) ∷ (0, Put 10 a one) ∷ (1, Begin 20) ∷ (2, Begin 15) ∷ (1, Get 20 a) ∷ (1, Scan 20 whole) ∷ (0, Commit 10) ∷ (1, Scan 20 whole) ∷ (2, Put 15 b two) ∷ [])
+    ≡ Started ∷ Written ∷ Started ∷ Started ∷ Refused (Blocked 10) ∷ Refused (Blocked 10) ∷ Committed 1 ∷ Rows ((a, one) ∷ []) ∷ Refused TooLate ∷ []
+blocks = refl
+
+-- a transaction split over polls, with a closing between
+pub split_over_polls : replies_to [] ((0, Open whole 0) ∷ (1, Begin 10) ∷ (1, Put 10 a one) ∷ (1, Put 10 b two) ∷ (1, Commit 10) ∷ (0, Close 10) ∷ (0, Poll 1 1) ∷ (0, Close 15) ∷ (0, Poll 1 1) ∷ (0, Poll 1 1) ∷ (0, Poll 1 10) ∷ [])
+    ≡ Opened 1 ∷ Started ∷ Written ∷ Written ∷ Committed 2 ∷ Closed 10 0 ∷ Messages (row 10 a (Some one) ∷ []) ∷ Closed 15 0
+    ∷ Messages (row 10 b (Some two) ∷ []) ∷ Messages (messages.Resolved 15 ∷ []) ∷ Messages [] ∷ []
+split_over_polls = refl
+
+-- cancellation
+pub cancellation : replies_to [] ((0, Open whole 0) ∷ (1, Poll 1 1) ∷ (1, Cancel 1) ∷ (0, Poll 1 1) ∷ (1, Cancel 1) ∷ (0, Poll 2 1) ∷ [])
+    ≡ Opened 1 ∷ Refused NotOwner ∷ Cancelled ∷ Refused FeedCancelled ∷ Refused FeedCancelled ∷ Refused NoFeed ∷ []
+cancellation = refl
+
+-- what holds the horizon back
+pub held_back : replies_to [] ((0, Close 40) ∷ (0, Protect 10) ∷ (1, Protect 30) ∷ (0, Collect 40) ∷ (1, Release 1) ∷ (0, Collect 40) ∷ (0, Protect 29) ∷ (0, Open whole 29) ∷ (0, Open whole 30) ∷ (0, Release 2)
+    ∷ (0, Collect 40) ∷ (1, Cancel 1) ∷ (0, Collect 40) ∷ (0, Stats) ∷ [])
+    ≡ Closed 40 0 ∷ Protected 1 ∷ Protected 2 ∷ Collected 10 0 ∷ Released ∷ Collected 30 0 ∷ Refused (BelowHorizon 30) ∷ Refused (BelowHorizon 30) ∷ Opened 1 ∷ Released
+    ∷ Collected 30 0 ∷ Cancelled ∷ Collected 40 0 ∷ replies.Stats 0 0 0 40 40 ∷ []
+held_back = refl
