@@ -1,0 +1,4 @@
+pub mod Numbers
+pub mod Views
+pub mod Drawing
+pub mod Passes

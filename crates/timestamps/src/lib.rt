@@ -2,22 +2,28 @@
 //!
 //! A [`Timestamp`](ts::Ts) is a number from 1 to 9223372036854775807, so that 0 can mean "before all"
 //! and one more still fits a `u64`. A key is 1 to 64 bytes, ordered byte by byte; a value is 0 to 1024
-//! bytes. Contracts see a timestamp as its number, a key or a value as its list of bytes.
+//! bytes. Contracts see a timestamp as its number, a key or a value as its list of bytes. Threads that
+//! want timestamps of their own lease them, 32 at a time, from an [`Oracle`](oracle::Oracle).
 //!
 //! ```text
 //! Ts::new(0)            None                  Key::new(alloc, b"")      Err(KeyLength)
 //! Ts::new(10)           Some(10)              Key::new(alloc, b"a")     Ok("a")
 //! Ts::new(1 << 63)      None                  "a" < "aa" < "b"          a beginning first
+//! oracle.draw(&mut pass)    Ok([33 ..= 64])       the same pass again       Ok([65 ..= 96])
 //! ```
 //!
 //! Cost: making and copying a key or a value copies its bytes once; comparing two is one comparison
-//! of memory.
+//! of memory. A draw of 32 timestamps is two steps on one word, and takes no memory.
 #![tactic(auto)]
 
+mod blocks;
 pub mod key;
+pub mod lease;
+#[cfg(test)]
+mod lease_tests;
+pub mod oracle;
 pub mod row;
-pub mod ts;
-pub mod value;
-
 #[cfg(test)]
 mod tests;
+pub mod ts;
+pub mod value;

@@ -21,8 +21,16 @@ fn limits(rt: HostRuntime) -> Result<(), Fail> {
         (1025, false, false),
     ] {
         assert!(rt; length <= 1025);
-        assert_eq!(rt; Key::new(rt.alloc(), &bytes[..length]).is_ok(), key, "a key of {length}");
-        assert_eq!(rt; Value::new(rt.alloc(), &bytes[..length]).is_ok(), value, "a value of {length}");
+        assert_eq!(rt;
+            Key::new(rt.alloc(), &bytes[..length]).is_ok(),
+            key,
+            "a key of {length}"
+        );
+        assert_eq!(rt;
+            Value::new(rt.alloc(), &bytes[..length]).is_ok(),
+            value,
+            "a value of {length}"
+        );
     }
     Ok(())
 }

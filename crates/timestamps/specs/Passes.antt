@@ -1,0 +1,41 @@
+-- What a contract says of a pass.
+use Rattle.std.specs.Prelude.{◌≡◌, ℕ, List, []}
+use Rattle.std.specs.List.{flat_map}
+use Rattle.atomic_table.specs.declared.shared.Seat.{Seat}
+use Rattle.timestamps.specs.declared.blocks.Draws.{Draws}
+use Rattle.timestamps.specs.declared.oracle.Oracle.{Oracle}
+use Rattle.timestamps.specs.declared.oracle.OraclePass.{OraclePass}
+use Rattle.timestamps.specs.Numbers.{timestamps_of}
+use Rattle.timestamps.specs.Blocks.{NoSlot, opener}
+
+-- the blocks that the pass drew, the oldest first
+abbrev pub drawn : OraclePass → List ℕ
+drawn p = p.seat.me.0.drawn
+
+-- the timestamps of its leases
+abbrev pub leased : OraclePass → List ℕ
+leased p = flat_map timestamps_of (drawn p)
+
+-- the number of the next block, as it loaded it last
+abbrev pub loaded : OraclePass → ℕ
+loaded p = p.seat.me.0.loaded
+
+-- the number that it loaded before that
+abbrev pub earlier : OraclePass → ℕ
+earlier p = p.seat.me.0.earlier
+
+-- the pass is of this oracle
+abbrev pub IsOf : Oracle → OraclePass → Type 0
+IsOf oracle p = p.seat.table_id ≡ oracle.board.shared.table_id
+
+-- of the same oracle as before
+abbrev pub IsSame : OraclePass → OraclePass → Type 0
+IsSame p q = q.seat.table_id ≡ p.seat.table_id
+
+-- a pass of this oracle that has drawn nothing, and knows the first block
+abbrev pub IsNew : Oracle → ℕ → OraclePass → Type 0
+IsNew oracle first p = IsOf oracle p × (drawn p ≡ []) × (loaded p ≡ first)
+
+-- what the passes are cut from
+abbrev pub IsSource : Oracle → Seat NoSlot Draws → Type 0
+IsSource oracle s = (s.table_id ≡ oracle.board.shared.table_id) × (s.me ≡ (opener s.me.0.loaded, []))

@@ -1,0 +1,131 @@
+//! The one word of an oracle, and what each pass knows of it.
+//!
+//! The word is the number of the next block. A pass loads it, and draws the block that it found by a
+//! compare-exchange to the next number. Between any two steps the word is at least each number that
+//! a pass loaded; each block from the first to the word stands among the blocks of one pass, once;
+//! no other block stands among those of any.
+//!
+//! ```text
+//! first 0                word 0     pass 1: []          pass 2: []
+//! pass 1 draws           word 1     pass 1: [0]         pass 2: []
+//! pass 2 draws           word 2     pass 1: [0]         pass 2: [1]
+//! pass 1 draws           word 3     pass 1: [0, 2]      pass 2: [1]
+//! ```
+//!
+//! Two passes that meet compare their blocks: one lends its blocks to the other, which finds in a
+//! load of the word that no block is in both, and gives them back. Those lists stand in proofs alone.
+
+use atomic_table::{Join, Play, Seat, Split, Table, TableRule};
+use std::alloc::Global;
+use std::collections::LinkedList;
+
+/// Where the number of the next block stands.
+pub(crate) const NEXT: usize = 0;
+
+/// What a pass knows. No value of it is made.
+pub struct Draws {
+    /// The blocks that it drew, the oldest first.
+    pub drawn: LinkedList<u64>,
+    /// The blocks of another pass, while the two meet.
+    pub lent: LinkedList<u64>,
+    /// The number that it loaded last, and the one before that.
+    pub loaded: u64,
+    pub earlier: u64,
+}
+
+/// The rule, which is told the first block.
+pub struct EachOnce;
+
+impl TableRule<(), Draws, u64> for EachOnce {
+    ghost use Rattle.timestamps.specs.Blocks.{IsDrawnOnce, opener};
+
+    ghost holds = { IsDrawnOnce };
+
+    ghost first = { opener };
+}
+
+pub type Board = Table<(), Draws, u64, EachOnce, Global>;
+
+pub type Pass = Seat<(), Draws>;
+
+/// A load.
+pub struct Look;
+
+impl Play<(), Draws> for Look {
+    ghost use Rattle.timestamps.specs.Blocks.{Looks};
+
+    ghost then = { Looks };
+}
+
+/// A compare-exchange to the next number.
+pub struct Draw;
+
+impl Play<(), Draws> for Draw {
+    ghost use Rattle.timestamps.specs.Blocks.{DrawsNext};
+
+    ghost then = { DrawsNext };
+}
+
+/// A load while the blocks of another pass are there.
+pub struct Compare;
+
+impl Play<(), Draws> for Compare {
+    ghost use Rattle.timestamps.specs.Blocks.{Compares};
+
+    ghost then = { Compares };
+}
+
+/// A new pass.
+pub struct Enter;
+
+impl Split<Draws> for Enter {
+    ghost use Rattle.timestamps.specs.Blocks.{itself, newcomer};
+
+    ghost left = { itself };
+
+    ghost right = { newcomer };
+}
+
+/// A pass hands its blocks out.
+pub struct HandOut;
+
+impl Split<Draws> for HandOut {
+    ghost use Rattle.timestamps.specs.Blocks.{without_drawn, only_drawn};
+
+    ghost left = { without_drawn };
+
+    ghost right = { only_drawn };
+}
+
+/// Another pass has them.
+pub struct Borrow;
+
+impl Join<Draws> for Borrow {
+    ghost use Rattle.timestamps.specs.Blocks.{borrowing, nobody};
+
+    ghost both = { borrowing };
+
+    ghost spent = { nobody };
+}
+
+/// It hands them out again.
+pub struct Return;
+
+impl Split<Draws> for Return {
+    ghost use Rattle.timestamps.specs.Blocks.{without_lent, only_lent};
+
+    ghost left = { without_lent };
+
+    ghost right = { only_lent };
+}
+
+/// The first pass has them once more.
+pub struct TakeBack;
+
+impl Join<Draws> for TakeBack {
+    ghost use Rattle.timestamps.specs.Blocks.{taking_back, nobody};
+
+    ghost both = { taking_back };
+
+    ghost spent = { nobody };
+}
