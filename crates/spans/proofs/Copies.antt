@@ -6,7 +6,7 @@ use Rattle.std.proofs.lemmas.Bool.Decides.{nat_tests}
 use Rattle.spans.specs.Effects.{After, Effect, Begins, Reads, Scans, SnapshotScans, Writes, Commits, Aborts, Closes, HardCloses, Protects, Releases, Collects, Opens, Polls, Cancels, SnapshotReads, NoEffect}
 use Rattle.spans.specs.Transactions.{owner_of, closed_of, is_committed, is_aborted, decided_through}
 use Rattle.spans.specs.Versions.{write_of, version_of, committed_version_of, visible, is_blocked, committed_value}
-use Rattle.spans.specs.Newest.{Version}
+use Rattle.spans.specs.Newest.{Version, IsNewest}
 use Rattle.spans.specs.Reads.{too_late, IsRead}
 use Rattle.spans.specs.Keys.{in_span, AreRows}
 use Rattle.spans.specs.Feeds.{Feed, feed_of, feeds_opened, is_cancelled, next_messages}
@@ -153,6 +153,19 @@ not_both (HardCloses to n ∷ p) all t is = rw is (rw (not_both p all.1 t is) (t
     two_and true false = refl
     two_and false b = refl
 not_both (_ ∷ p) all t is = not_both p all.1 t is
+
+-- a read was given what is now the newest committed version below its reader
+pub reads_from : (p : List Effect) → AllAllowed p → (t : ℕ) (x : List ℕ) (k : ℕ) (v : After) → IsRead p (suc t) x k v → k ≤ t → IsNewest (committed_version_of p x) t k v
+reads_from p all t x k v r below = let h = kept p all (suc t) x k v r (omega arith) in record {
+  at_most = below;
+  gap = λ i low high. by_test (is_committed p i)
+      (λ is. rw is (no_version_wrote p x i (h.gap i low (omega arith)) (not_both p all i is)))
+      (λ isnt. rw isnt refl);
+  has = elim h.whole [
+    | inl none ↦ inl none
+    | inr wrote ↦ inr (wrote.0, rw wrote.1 wrote.2)
+  ];
+}
 
 -- what is kept for a read stands in the map from which its reader began
 pub kept_in_map : (p : List Effect) → AllAllowed p → (t : ℕ) (x : List ℕ) (k : ℕ) (v : After) → k ≤ t → IsKept p (suc t) x k v → map_at p t x ≡ v

@@ -42,7 +42,7 @@ transaction_tests p seat t =
 abbrev pub is_timestamp : ℕ → Bool
 is_timestamp t = nat_lt 0 t && nat_le t MAX
 
--- a reply for the owner of a feed that lives
+-- the tests of a poll, in order: no such feed, cancelled, another's; and else the reply
 abbrev pub with_feed : List Effect → ℕ → ℕ → Option Feed → (Feed → Reply) → Reply
 with_feed p seat f None reply = Refused NoFeed
 with_feed p seat f (Some feed) reply =

@@ -9,7 +9,7 @@ use Rattle.spans.specs.Newest.{newest}
 use Rattle.spans.specs.Versions.{write_of, write_set, committed_version_of}
 use Rattle.spans.specs.Feeds.{told_to}
 
--- the horizon: reads below it are refused
+-- the horizon: what the last collection answered, and 0 at first. Reads below it are refused
 abbrev pub horizon_of : List Effect → ℕ
 horizon_of [] = 0
 horizon_of (Collects n ∷ p) = n
@@ -36,7 +36,7 @@ protections_of (_ ∷ p) = protections_of p
 abbrev pub is_protected : List Effect → ℕ → Bool
 is_protected p id = list_any (λ (n : Protection). n.id == id) (protections_of p)
 
--- a feed that lives: its number and its cursor
+-- a feed lives where it was opened and not cancelled: its number and its cursor
 pub record LiveFeed : Type 0 where
   pub number : ℕ
   pub cursor : ℕ
@@ -47,7 +47,8 @@ live_feeds (Opens f seat span cursor ∷ p) = record { number = f; cursor = curs
 live_feeds (Cancels f ∷ p) = filter (λ (n : LiveFeed). not (n.number == f)) (live_feeds p)
 live_feeds (_ ∷ p) = live_feeds p
 
--- the floor of a feed, n at first: up to where its last message says that all is told
+-- the floor after messages: n where there are none, t after a resolved t, and t - 1 after a row of t, since more rows of t
+-- may follow
 abbrev pub floor_after : ℕ → List Message → ℕ
 floor_after n [] = n
 floor_after n (messages.Row r ∷ ms) = floor_after (r.ts - 1) ms

@@ -1,4 +1,6 @@
--- What a consumer of a feed sees, and the tests that it makes of each message.
+-- What a consumer of a feed sees, and the tests that it makes of each message. A consumer begins with the map at the
+-- cursor of the finished history: seed it from a snapshot at a cursor that is closed, since what is committed later at or
+-- below the cursor is never told.
 use Rattle.std.specs.Prelude.{ℕ, List, [], ◌∷◌, ◌++◌, Bool, true, not, ◌&&◌, ◌≡◌, nat_le, nat_lt, if◌then◌else◌, Option, Some, None}
 use Rattle.timestamps.specs.declared.row.Row.{Row}
 use Rattle.spans.specs.declared.span.Span.{Span}
@@ -26,10 +28,12 @@ last_row o [] = o
 last_row o (messages.Row r ∷ ms) = last_row (Some r) ms
 last_row o (messages.Resolved t ∷ ms) = last_row o ms
 
+-- the row comes after the last one
 abbrev pub is_after : Option Row → Row → Bool
 is_after None r = true
 is_after (Some last) r = row_lt last r
 
+-- the resolved timestamp is not below the row
 abbrev pub reaches : Option Row → ℕ → Bool
 reaches None t = true
 reaches (Some last) t = nat_le last.ts t

@@ -1,5 +1,7 @@
--- What an event did to the database. A history is a list of events, its newest first; all definitions
--- but those of answers and of legal histories read the list of its effects, the newest first as well.
+-- What an event did to the database. A history h is a list of events, its newest first; all definitions but those of
+-- answers and of legal histories read the list p of its effects, the newest first as well, so that what was so earlier
+-- is the tail of a list. Lists of messages and of rows stand in the order in which they are told, the oldest first.
+-- t, i, j, k are timestamps, x and y keys, f and g numbers of feeds.
 use Rattle.std.specs.Prelude.{ℕ, List, map, Option, Some, None}
 use Rattle.spans.specs.declared.span.Span.{Span}
 use Rattle.spans.specs.declared.calls.commands.Cmd.{Cmd}
@@ -21,7 +23,9 @@ pub data Effect : Type 0 where
   Writes : (t : ℕ) (x : List ℕ) (after : After) → Effect
   Commits : (t : ℕ) → Effect
   Aborts : (t : ℕ) → Effect
+  -- at is where closed then stands
   Closes : (at : ℕ) → Effect
+  -- to is what was asked, and says who is aborted
   HardCloses : (to at : ℕ) → Effect
   SnapshotReads : (t : ℕ) (x : List ℕ) (found : After) → Effect
   SnapshotScans : (t : ℕ) (span : Span) (rows : List (List ℕ × List ℕ)) → Effect

@@ -1,4 +1,5 @@
--- Which histories are legal.
+-- Which histories are legal, and which lists of events have no gap. Mind the order: IsLegal takes the newest event first,
+-- IsGapless the oldest.
 use Rattle.std.specs.Prelude.{ℕ, suc, List, [], ◌∷◌, Bool, true, false, ◌≡◌, ◌⊎◌}
 use Rattle.spans.specs.declared.calls.commands.Cmd.{Cmd}
 use Rattle.spans.specs.declared.calls.commands.Cmd.TheVariants.{Commit, Abort, Close, CloseHard, Release, Cancel, Stats}

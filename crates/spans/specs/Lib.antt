@@ -7,11 +7,11 @@ pub mod Versions
 pub mod Reads
 pub mod Streams
 pub mod Feeds
-pub mod FeedRight
 pub mod Collection
 pub mod Answer
 pub mod Legal
 pub mod Serial
+pub mod FeedRight
 pub mod Consumer
 pub mod Kept
 pub mod WorkedHistories

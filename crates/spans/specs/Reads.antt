@@ -12,7 +12,7 @@ IsRead (Reads t y w ∷ p) j x k v = ((t ≡ j) × (y ≡ x) × ((visible p y t)
 IsRead (Scans t span rows ∷ p) j x k v = ((t ≡ j) × (in_span span x ≡ true) × ((visible p x t).ts ≡ k) × ((visible p x t).after ≡ v)) ⊎ IsRead p j x k v
 IsRead (_ ∷ p) j x k v = IsRead p j x k v
 
--- some read of x by a transaction above i was given a version from below i
+-- the write rule, in the book's words: some read of x by a transaction above i was given a version from below i
 pub record IsReadAcross (p : List Effect) (x : List ℕ) (i : ℕ) : Type 0 where
   pub reader : ℕ
   pub source : ℕ
@@ -21,7 +21,7 @@ pub record IsReadAcross (p : List Effect) (x : List ℕ) (i : ℕ) : Type 0 wher
   pub low : source < i
   pub high : i < reader
 
--- the write rule: a write of x at i is too late where some read goes across it. This is the test that IsReadAcross states
+-- the same as a test: a write of x at i is too late. The law says that test and rule agree
 abbrev pub too_late : List Effect → List ℕ → ℕ → Bool
 too_late [] x i = false
 too_late (Reads j y v ∷ p) x i = (bytes_eq y x && (nat_lt (visible p y j).ts i && nat_lt i j)) || too_late p x i

@@ -34,7 +34,8 @@ is_undecided p t = is_some (owner_of p t) && (not (is_committed p t) && not (is_
 abbrev pub undecided_timestamps : List Effect → List ℕ
 undecided_timestamps p = filter (is_undecided p) (begun_of p)
 
--- the closed timestamp: nothing at or below it is undecided, and none is to begin there
+-- the closed timestamp: what the last closing answered, and 0 at first. (In a legal history nothing at or below it is
+-- undecided, or begins later.)
 abbrev pub closed_of : List Effect → ℕ
 closed_of [] = 0
 closed_of (Closes at ∷ p) = at
@@ -46,6 +47,7 @@ abbrev pub least_of : ℕ → List ℕ → ℕ
 least_of n [] = n
 least_of n (m ∷ ms) = min m (least_of n ms)
 
--- to, or just below the oldest undecided transaction where that is lower
+-- how far a closing to `to` reaches: to `to`, or just below the oldest undecided transaction
+-- where that is lower
 abbrev pub decided_through : List Effect → ℕ → ℕ
 decided_through p to = least_of to (map (λ t. t - 1) (undecided_timestamps p))

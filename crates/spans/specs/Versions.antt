@@ -18,7 +18,7 @@ write_set [] t = []
 write_set (Writes k x a ∷ p) t = if k == t then insert_key x (write_set p t) else write_set p t
 write_set (_ ∷ p) t = write_set p t
 
--- how many keys t wrote
+-- how many keys t wrote: the length of its write set
 abbrev pub write_count : List Effect → ℕ → ℕ
 write_count [] t = 0
 write_count (Writes k x a ∷ p) t = if (k == t) && not (is_some (write_of p t x)) then suc (write_count p t) else write_count p t
@@ -42,7 +42,7 @@ committed_version_of p x t = if is_committed p t then write_of p t x else None
 abbrev pub visible : List Effect → List ℕ → ℕ → Version
 visible p x t = newest (version_of p x) t
 
--- the committed value of x at t
+-- the committed value of x at t. Answers use this; that it is the value of the database with one copy is the law's
 abbrev pub committed_value : List Effect → List ℕ → ℕ → After
 committed_value p x t = (newest (committed_version_of p x) t).after
 

@@ -100,7 +100,7 @@ pub hard : replies_to [] ((0, Begin 10) ∷ (0, Put 10 a one) ∷ (1, Begin 50) 
     ∷ Protected 1 ∷ Collected 20 0 ∷ Released ∷ Refused NoProtection ∷ Collected 50 0 ∷ Refused (BelowHorizon 50) ∷ []
 hard = refl
 
--- an absent key was scanned, and a dropped delete keeps its mark
+-- a dropped delete keeps its mark: the reader that found none still refuses the write beneath it
 pub dropped : replies_to [] ((0, Begin 3) ∷ (0, Put 3 a one) ∷ (0, Commit 3) ∷ (0, Begin 5) ∷ (0, Del 5 a) ∷ (0, Commit 5) ∷ (1, Begin 20) ∷ (2, Begin 15) ∷ (0, Close 10) ∷ (1, Get 20 a) ∷ (0, Collect 10) ∷ (2, Put 15 a two) ∷ (0, Stats) ∷ [])
     ≡ Started ∷ Written ∷ Committed 1 ∷ Started ∷ Written ∷ Committed 1 ∷ Started ∷ Started ∷ Closed 10 0 ∷ Found None ∷ Collected 10 2 ∷ Refused TooLate ∷ replies.Stats 0 1 0 10 10 ∷ []
 dropped = refl
@@ -127,3 +127,48 @@ pub held_back : replies_to [] ((0, Close 40) ∷ (0, Protect 10) ∷ (1, Protect
     ≡ Closed 40 0 ∷ Protected 1 ∷ Protected 2 ∷ Collected 10 0 ∷ Released ∷ Collected 30 0 ∷ Refused (BelowHorizon 30) ∷ Refused (BelowHorizon 30) ∷ Opened 1 ∷ Released
     ∷ Collected 30 0 ∷ Cancelled ∷ Collected 40 0 ∷ replies.Stats 0 0 0 40 40 ∷ []
 held_back = refl
+
+-- an abort drops what was written, and ends the transaction
+pub aborted : replies_to [] ((0, Begin 10) ∷ (0, Put 10 a one) ∷ (0, Stats) ∷ (0, Abort 10) ∷ (0, Commit 10) ∷ (0, Begin 20) ∷ (0, Get 20 a) ∷ (0, Stats) ∷ [])
+    ≡ Started ∷ Written ∷ replies.Stats 1 1 0 0 0 ∷ Aborted ∷ Refused Ended ∷ Started ∷ Found None ∷ replies.Stats 0 1 0 0 0 ∷ []
+aborted = refl
+
+-- a delete that comes too late aborts its transaction as well
+pub delete_too_late : replies_to [] ((0, Begin 10) ∷ (1, Begin 20) ∷ (1, Get 20 a) ∷ (0, Del 10 a) ∷ (0, Commit 10) ∷ [])
+    ≡ Started ∷ Started ∷ Found None ∷ Refused TooLate ∷ Refused Ended ∷ []
+delete_too_late = refl
+
+-- the tests of a transaction, one by one and in their order
+pub tests_in_order : replies_to [] ((0, Begin 0) ∷ (0, Begin 10) ∷ (1, Begin 10) ∷ (1, Get 10 a) ∷ (1, Put 10 a one) ∷ (0, Get 7 a) ∷ (0, Get 0 a) ∷ (0, Commit 10) ∷ (1, Commit 10) ∷ (0, Commit 10) ∷ (0, Cancel 1) ∷ [])
+    ≡ Refused TsRange ∷ Started ∷ Refused TsUsed ∷ Refused NotOwner ∷ Refused NotOwner ∷ Refused NoTxn ∷ Refused Ended ∷ Committed 0 ∷ Refused NotOwner ∷ Refused Ended ∷ Refused NoFeed ∷ []
+tests_in_order = refl
+
+-- a closing stops below the oldest of several, and a hard closing reaches its own timestamp
+pub oldest_of_several : replies_to [] ((0, Begin 20) ∷ (0, Begin 10) ∷ (0, Begin 30) ∷ (0, Put 20 a one) ∷ (0, Close 40) ∷ (0, CloseHard 20) ∷ (0, Begin 25) ∷ (0, Get 25 a) ∷ [])
+    ≡ Started ∷ Started ∷ Started ∷ Written ∷ Closed 9 0 ∷ Closed 20 2 ∷ Started ∷ Found None ∷ []
+oldest_of_several = refl
+
+-- a blocked scan names the writer at the least key, and looks at no key outside its span
+pub blocked_scans : replies_to [] ((0, Begin 10) ∷ (0, Begin 11) ∷ (0, Put 10 b one) ∷ (0, Put 11 a one) ∷ (1, Begin 20) ∷ (1, Scan 20 whole) ∷ (0, Commit 10) ∷ (1, Scan 20 (record { lo = Some b; hi = Some c })) ∷ [])
+    ≡ Started ∷ Started ∷ Written ∷ Written ∷ Started ∷ Refused (Blocked 11) ∷ Committed 1 ∷ Rows ((b, one) ∷ []) ∷ []
+blocked_scans = refl
+
+-- several writes of a key are one version, an empty value is a value, and a delete is told
+pub last_write : replies_to [] ((0, Open (record { lo = Some b; hi = Some c }) 0) ∷ (1, Begin 10) ∷ (1, Put 10 a one) ∷ (1, Put 10 b two) ∷ (1, Put 10 b []) ∷ (1, Commit 10) ∷ (1, Begin 20) ∷ (1, Del 20 b) ∷ (1, Commit 20)
+    ∷ (0, Close 20) ∷ (0, Poll 1 10) ∷ [])
+    ≡ Opened 1 ∷ Started ∷ Written ∷ Written ∷ Written ∷ Committed 2 ∷ Started ∷ Written ∷ Committed 1
+    ∷ Closed 20 0 ∷ Messages (row 10 b (Some []) ∷ row 20 b None ∷ messages.Resolved 20 ∷ []) ∷ []
+last_write = refl
+
+-- the horizon stops at `to`, at closed and where it was, and `removed` is by how much the dead versions grew
+pub collections : replies_to [] ((0, Begin 1) ∷ (0, Put 1 a one) ∷ (0, Commit 1) ∷ (0, Begin 2) ∷ (0, Put 2 a two) ∷ (0, Commit 2) ∷ (0, Begin 3) ∷ (0, Del 3 a) ∷ (0, Commit 3)
+    ∷ (0, Close 30) ∷ (0, Collect 2) ∷ (0, Collect 1) ∷ (0, Collect 3) ∷ (0, Stats) ∷ (0, Collect 100) ∷ (0, Stats) ∷ [])
+    ≡ Started ∷ Written ∷ Committed 1 ∷ Started ∷ Written ∷ Committed 1 ∷ Started ∷ Written ∷ Committed 1
+    ∷ Closed 30 0 ∷ Collected 2 1 ∷ Collected 2 0 ∷ Collected 3 2 ∷ replies.Stats 0 0 0 30 3 ∷ Collected 30 0 ∷ replies.Stats 0 0 0 30 30 ∷ []
+collections = refl
+
+-- a feed holds the horizon at what it resolved, a cancelled one doesn't; a protection's number isn't used again; another
+-- seat's poll of a cancelled feed says that it was cancelled
+pub holding_and_letting_go : replies_to [] ((0, Open whole 0) ∷ (0, Close 10) ∷ (0, Poll 1 9) ∷ (0, Close 30) ∷ (0, Collect 30) ∷ (1, Cancel 1) ∷ (0, Collect 20) ∷ (1, Poll 1 9) ∷ (0, Protect 20) ∷ (0, Release 1) ∷ (0, Protect 20) ∷ [])
+    ≡ Opened 1 ∷ Closed 10 0 ∷ Messages (messages.Resolved 10 ∷ []) ∷ Closed 30 0 ∷ Collected 10 0 ∷ Cancelled ∷ Collected 20 0 ∷ Refused FeedCancelled ∷ Protected 1 ∷ Released ∷ Protected 2 ∷ []
+holding_and_letting_go = refl

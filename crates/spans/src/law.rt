@@ -1,23 +1,27 @@
 //! The law of histories: what holds of every legal history, as the contract of one function.
-ghost use Rattle.std.specs.Prelude.{List, ℕ, ◌≡◌, ◌↔◌, true, Some};
+ghost use Rattle.std.specs.Prelude.{List, ℕ, suc, ◌≡◌, ◌≤◌, ◌↔◌, true, Some};
 ghost use Rattle.spans.specs.declared.calls.events.Event.{Event};
-ghost use Rattle.spans.specs.Effects.{effects_of};
+ghost use Rattle.spans.specs.Effects.{After, effects_of};
 ghost use Rattle.spans.specs.Legal.{IsLegal};
-ghost use Rattle.spans.specs.Reads.{IsReadAcross, too_late};
+ghost use Rattle.spans.specs.Reads.{IsRead, IsReadAcross, too_late};
+ghost use Rattle.spans.specs.Newest.{IsNewest};
+ghost use Rattle.spans.specs.Versions.{committed_version_of};
 ghost use Rattle.spans.specs.Feeds.{Feed, feed_of};
 ghost use Rattle.spans.specs.FeedRight.{FeedIsRight};
 ghost use Rattle.spans.specs.Consumer.{ConsumerIsRight};
 ghost use Rattle.spans.specs.Serial.{IsOneCopy};
 
 /// A legal history, its newest event first, is that of a database with one copy, run in timestamp
-/// order; it tells each feed the right messages; and a consumer of a feed takes them all, and has
+/// order; each feed tells the right messages; and a consumer of a feed takes them all, and has
 /// after each resolved message the map at its timestamp. Beside it: the write rule that the answers
-/// test is the one of Bernstein, Hadzilacos and Goodman.
+/// test is the one of Bernstein, Hadzilacos and Goodman; and every read, also one of a transaction
+/// that was aborted, was given what is for good the newest committed version below its reader.
 ///
 /// It does nothing. Its contract is the theorem.
 pub fn law_of_histories()
     ensures one_copy { (h : List Event) → IsLegal h → IsOneCopy (effects_of h) }
     ensures write_rule { (h : List Event) (x : List ℕ) (i : ℕ) → (too_late (effects_of h) x i ≡ true) ↔ IsReadAcross (effects_of h) x i }
+    ensures reads_from { (h : List Event) → IsLegal h → (t : ℕ) (x : List ℕ) (k : ℕ) (v : After) → IsRead (effects_of h) (suc t) x k v → k ≤ t → IsNewest (committed_version_of (effects_of h) x) t k v }
     ensures feeds { (h : List Event) → IsLegal h → (f : ℕ) (feed : Feed) → feed_of (effects_of h) f ≡ Some feed → FeedIsRight (effects_of h) f feed }
     ensures consumers { (h : List Event) → IsLegal h → (f : ℕ) (feed : Feed) → feed_of (effects_of h) f ≡ Some feed → ConsumerIsRight (effects_of h) f feed }
 {}

@@ -10,7 +10,8 @@ use timestamps::ts::Ts;
 pub enum Message {
     /// A committed version of the feed's span.
     Row(Row),
-    /// Every version of the span at or below this timestamp was told before, and none comes after.
+    /// Every version of the span above the feed's cursor and at or below this timestamp was told
+    /// before, and none comes after.
     Resolved(Ts),
 }
 

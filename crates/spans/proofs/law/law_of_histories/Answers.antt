@@ -1,6 +1,7 @@
 use Rattle.spans.specs.Effects.{effects_of}
 use Rattle.spans.proofs.Legal.{legal_allowed, law}
 use Rattle.spans.proofs.Marks.{late_across, across_late}
+use Rattle.spans.proofs.Copies.{reads_from}
 use Rattle.spans.proofs.Feeding.{fed, feeding}
 use Rattle.spans.proofs.Taking.{told_taken}
 use Rattle.spans.proofs.Viewing.{views}
@@ -11,6 +12,9 @@ returns-clause-one_copy c = law
 
 pub returns-clause-write_rule : goal.returns-clause-write_rule
 returns-clause-write_rule c = λ h x i. (late_across (effects_of h) x i, across_late (effects_of h) x i)
+
+pub returns-clause-reads_from : goal.returns-clause-reads_from
+returns-clause-reads_from c = λ h legal t x k v read below. reads_from (effects_of h) (legal_allowed h legal) t x k v read below
 
 pub returns-clause-feeds : goal.returns-clause-feeds
 returns-clause-feeds c = λ h legal f feed is. fed (effects_of h) (legal_allowed h legal) f feed is
