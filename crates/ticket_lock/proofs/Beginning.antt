@@ -129,6 +129,7 @@ module _ {T E : Type 0} (stands : T → ℕ → List E → Type 0) (seat_of : E 
   pub issued_next : (first count : ℕ) (m m' : M) (n : ℕ) → n < count → m ≡ (issuer first (span n (count - n)), []) → m' ≡ (after_issue m.0, m.1) → m' ≡ (issuer first (span (n + 1) (count - (n + 1))), [])
   issued_next first count m m' n room is now = now ∙ (ap (λ (z : M). (after_issue z.0, z.1)) is ∙ (ap (λ (l : List ℕ). (issuer first (tail l), [])) (span_more n count room) ∙ ap (λ (k : ℕ). (issuer first (span k (count - k)), [])) (suc_is n)))
 
-  pub starts : (first count : ℕ) (beds : List ℕ) (x : T) (items : List S) → key ≡ setup first count → items ≡ Some x ∷ [] → stands x first [] → Rule (opening (first ∷ first ∷ 0 ∷ beds) items (opener key))
-  starts first count beds x items known is new = subst (λ (xs : List S). Rule (opening (first ∷ first ∷ 0 ∷ beds) xs (opener key))) (sym is)
-      (subst (λ (f : ℕ). Rule (opening (f ∷ f ∷ 0 ∷ beds) (Some x ∷ []) (opener key))) (ap (λ (k : Setup). k.first) known) (opens beds x (subst (λ (f : ℕ). stands x f []) (sym (ap (λ (k : Setup). k.first) known)) new)))
+  pub starts : (first count : ℕ) (beds words : List ℕ) (x : T) (items : List S) → key ≡ setup first count → words ≡ first ∷ first ∷ 0 ∷ beds → items ≡ Some x ∷ [] → stands x first [] → Rule (opening words items (opener key))
+  starts first count beds words x items known laid is new = let f : key.first ≡ first = ap (λ (k : Setup). k.first) known in
+      subst (λ (z : List ℕ × List S). Rule (opening z.0 z.1 (opener key))) (λ i. (sym laid i, sym is i))
+      (subst (λ (f : ℕ). Rule (opening (f ∷ f ∷ 0 ∷ beds) (Some x ∷ []) (opener key))) f (opens beds x (subst (λ (f : ℕ). stands x f []) (sym f) new)))

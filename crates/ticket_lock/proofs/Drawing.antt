@@ -75,14 +75,14 @@ module _ {T E : Type 0} (stands : T → ℕ → List E → Type 0) (seat_of : E 
   draw_knows : (s : St) (r : Rule s) (id j : ℕ) (v w : View E) → r.ticket < most → KnowsAt r j v → w.kept ≡ v.kept → w.sits ≡ v.sits → w.heard ≡ v.heard → w.gathered ≡ v.gathered → w.unissued ≡ v.unissued → w.loaded ≤ r.serving
       → ((t : ℕ) → w.ticket ≡ Some t → (r.serving ≤ t) × (t < r.ticket + 1) × (owner_after r.ticket id r.owner t ≡ j) × (w.sits ≡ true))
       → (w.holds ≡ true → (r.away ≡ true) × (w.ticket ≡ Some r.serving) × (w.found ≡ r.history)) → K (r.ticket + 1) r.serving r.floor r.history r.away (owner_after r.ticket id r.owner) j w
-  draw_knows s r id j v w room k card sits heard gathered unissued low out holder = record {
-    sees = subst (λ (c : SeatRecord E). StartsWith r.history c.seen) (sym card) k.sees;
+  draw_knows s r id j v w room k kept sits heard gathered unissued low out holder = record {
+    sees = subst (λ (c : SeatRecord E). StartsWith r.history c.seen) (sym kept) k.sees;
     heard = subst (StartsWith r.history) (sym heard) k.heard;
-    fits = λ e. subst (Fits seat_of key.first key.count (r.ticket + 1) r.serving r.floor r.history) (sym card) (draw_fits s r v.kept room (k.fits (sym sits ∙ e)));
+    fits = λ e. subst (Fits seat_of key.first key.count (r.ticket + 1) r.serving r.floor r.history) (sym kept) (draw_fits s r v.kept room (k.fits (sym sits ∙ e)));
     gathered = subst (λ (cs : List (SeatRecord E)). (i : ℕ) (c : SeatRecord E) → get_elem? cs i ≡ some c → Fits seat_of key.first key.count (r.ticket + 1) r.serving r.floor r.history c) (sym gathered) (λ i c e. draw_fits s r c room (k.gathered i c e));
     unissued = subst (λ (ns : List ℕ). (i n : ℕ) → get_elem? ns i ≡ some n → of_seat seat_of n r.history ≡ []) (sym unissued) k.unissued;
     low = low;
-    cap = subst (λ (c : SeatRecord E). c.known ≤ r.floor) (sym card) k.cap;
+    cap = subst (λ (c : SeatRecord E). c.known ≤ r.floor) (sym kept) k.cap;
     out = out;
     holder = holder;
   }

@@ -54,8 +54,8 @@ module _ {T E : Type 0} (stands : T → ℕ → List E → Type 0) (seat_of : E 
       })
       (λ f. gathering_sum f v u vm us uc um)
 
-  pub absorbs_from : (id other number : ℕ) (m u : M) (cards : List (SeatRecord E)) → m ≡ (gatherer cards, []) → IsProper seat_of number u → u.0.ticket ≡ None → Joins Rule id m.0 other u.0 (gathering m.0 u.0) nobody
-  absorbs_from id other number m u cards e p free = absorbs id other m.0 u.0 (ap (λ (z : M). z.0.unissued) e) p.sits p.alone p.issued_all free (p.turn ∙ ap has free)
+  pub absorbs_from : (id other number : ℕ) (m u : M) (records : List (SeatRecord E)) → m ≡ (gatherer records, []) → IsProper seat_of number u → u.0.ticket ≡ None → Joins Rule id m.0 other u.0 (gathering m.0 u.0) nobody
+  absorbs_from id other number m u records e p free = absorbs id other m.0 u.0 (ap (λ (z : M). z.0.unissued) e) p.sits p.alone p.issued_all free (p.turn ∙ ap has free)
 
   pub empty_hand : (number : ℕ) (u : M) → IsProper seat_of number u → u.0.ticket ≡ None → u.1 ≡ []
   empty_hand number u p free = p.hand ∙ ap in_hand (p.turn ∙ ap has free)
@@ -75,26 +75,26 @@ module _ {T E : Type 0} (stands : T → ℕ → List E → Type 0) (seat_of : E 
       subst (λ (b : Bool). 1 ≤ sum_by (λ (x : ℕ). 1) (cond b (v.kept.number ∷ []) [] ++ rest)) (sym sits) (omega (arith, sum_by-cons (λ (x : ℕ). 1) v.kept.number rest))
 
   -- whoever stands for all seats and has no ticket knows that none is out
-  all_in : (s : St) (r : Rule s) (id : ℕ) (cards : List (SeatRecord E)) → get_elem? s.views id ≡ some (gatherer cards) → length cards ≡ key.count → (t : ℕ) → r.serving ≤ t → t < r.ticket → ⊥
+  all_in : (s : St) (r : Rule s) (id : ℕ) (records : List (SeatRecord E)) → get_elem? s.views id ≡ some (gatherer records) → length records ≡ key.count → (t : ℕ) → r.serving ≤ t → t < r.ticket → ⊥
   unfolding weight
-  all_in s r id cards at all t a b = let v : View E = gatherer cards in let o = r.out t a b in let u = o.0 in let sits = (r.each (r.owner t) u o.1).out t o.2 in
+  all_in s r id records at all t a b = let v : View E = gatherer records in let o = r.out t a b in let u = o.0 in let sits = (r.each (r.owner t) u o.1).out t o.2 in
       let ne : id ≢ r.owner t = λ e. let same : u ≡ v = some-injective u v (sym o.1 ∙ ap (get_elem? s.views) (sym e) ∙ at) in none_out v refl t (ap (λ (x : View E). x.ticket) (sym same) ∙ o.2) in
       let two = two_in weight s.views id (r.owner t) v u ne at o.1 in let one = weighs_one u sits.3 in let total = r.counted (λ (x : ℕ). 1) in let span_is = ones_span 0 key.count in
-      let mine : weight v ≡ length (map (λ (c : SeatRecord E). c.number) cards ++ []) = ones_length (map (λ (c : SeatRecord E). c.number) cards ++ []) in
-      omega (arith, length-append (map (λ (c : SeatRecord E). c.number) cards) [], length-map cards (λ (c : SeatRecord E). c.number))
+      let mine : weight v ≡ length (map (λ (c : SeatRecord E). c.number) records ++ []) = ones_length (map (λ (c : SeatRecord E). c.number) records ++ []) in
+      omega (arith, length-append (map (λ (c : SeatRecord E). c.number) records) [], length-map records (λ (c : SeatRecord E). c.number))
 
-  sums_up : (s : St) (r : Rule s) (id : ℕ) (cards : List (SeatRecord E)) → get_elem? s.views id ≡ some (gatherer cards) → length cards ≡ key.count → (f : ℕ → ℕ) → sum_by f (map (λ (c : SeatRecord E). c.number) cards) ≡ sum_by f (span 0 key.count)
+  sums_up : (s : St) (r : Rule s) (id : ℕ) (records : List (SeatRecord E)) → get_elem? s.views id ≡ some (gatherer records) → length records ≡ key.count → (f : ℕ → ℕ) → sum_by f (map (λ (c : SeatRecord E). c.number) records) ≡ sum_by f (span 0 key.count)
   unfolding weight
-  sums_up s r id cards at all f = let v : View E = gatherer cards in let total = r.counted (λ (x : ℕ). 1) in let span_is = ones_span 0 key.count in let b : List ℕ = map (λ (c : SeatRecord E). c.number) cards in
+  sums_up s r id records at all f = let v : View E = gatherer records in let total = r.counted (λ (x : ℕ). 1) in let span_is = ones_span 0 key.count in let b : List ℕ = map (λ (c : SeatRecord E). c.number) records in
       let mine : weight v ≡ length (b ++ []) = ones_length (b ++ []) in
-      let whole : sum_by weight s.views ≡ weight v = omega (arith, length-append b [], length-map cards (λ (c : SeatRecord E). c.number)) in
+      let whole : sum_by weight s.views ≡ weight v = omega (arith, length-append b [], length-map records (λ (c : SeatRecord E). c.number)) in
       let q = only_one weight (λ (u : View E). sum_by f (numbers u)) s.views id v at (λ u z. none_sum f (numbers u) z) whole in
       ap (sum_by f) (sym (append-nil b)) ∙ (sym q ∙ r.counted f)
 
-  pub finishes : (id : ℕ) (cards : List (SeatRecord E)) (words : List ℕ) (slots : List S) → length cards ≡ key.count → Final (Seen Rule id (gatherer cards)) words slots
-      → (x : T) × (get_elem? slots 0 ≡ some (Some x)) × Whole stands seat_of floor_of key.first key.count cards x
-  finishes id cards words slots all end = let s = end.0 in let r = end.1.0 in let at = end.1.1 in let k = r.each id (gatherer cards) at in
-      let none_out_now = all_in s r id cards at all in
+  pub finishes : (id : ℕ) (records : List (SeatRecord E)) (words : List ℕ) (slots : List S) → length records ≡ key.count → Final (Seen Rule id (gatherer records)) words slots
+      → (x : T) × (get_elem? slots 0 ≡ some (Some x)) × Whole stands seat_of floor_of key.first key.count records x
+  finishes id records words slots all end = let s = end.0 in let r = end.1.0 in let at = end.1.1 in let k = r.each id (gatherer records) at in
+      let none_out_now = all_in s r id records at all in
       let even : r.ticket ≡ r.serving = (let a = r.ahead in ⊎_elim (λ (l : r.serving < r.ticket). absurd (none_out_now r.serving (le_refl r.serving) l)) (λ (l : r.ticket ≤ r.serving). omega arith) (cases_lt r.serving r.ticket)) in
       let home : r.away ≡ false = either_way r.away (λ w. let h = r.held w in let kh = r.each (r.owner r.serving) h.0 h.1 in let o = kh.out r.serving (kh.holder h.2.0).1 in none_out_now r.serving o.0 o.1) in
       let homes : s.homes ≡ some (Some r.last) ∷ [] = r.home ∙ ap (λ b. cond b none (some (Some r.last)) ∷ []) home in (
@@ -104,13 +104,13 @@ module _ {T E : Type 0} (stands : T → ℕ → List E → Type 0) (seat_of : E 
           history = r.history;
           stood = r.stood;
           each = λ i c e. let f = k.gathered i c e in (f.sees, f.owns, (λ spent. let m = f.ended spent in let c = r.come in omega arith), (let q = r.capped home in let z = f.low in omega arith));
-          numbered = sums_up s r id cards at all;
+          numbered = sums_up s r id records at all;
           named = r.named;
         },
       )
 
-  pub finishes_from : (first count id : ℕ) (m : M) (cards : List (SeatRecord E)) (words : List ℕ) (slots : List S) (v : S) → key ≡ setup first count → m ≡ (gatherer cards, []) → length cards ≡ count → Final (Seen Rule id m.0) words slots → get_elem? slots 0 ≡ some v
-      → (x : T) × (v ≡ Some x) × Whole stands seat_of floor_of first count cards x
-  finishes_from first count id m cards words slots v known is all end there = let f : key.first ≡ first = ap (λ (k : Setup). k.first) known in let n : key.count ≡ count = ap (λ (k : Setup). k.count) known in
-      let r = finishes id cards words slots (all ∙ sym n) (subst (λ (z : M). Final (Seen Rule id z.0) words slots) is end) in
-      (r.0, some-injective v (Some r.0) (sym there ∙ r.1), subst (λ (z : ℕ × ℕ). Whole stands seat_of floor_of z.0 z.1 cards r.0) (λ i. (f i, n i)) r.2)
+  pub finishes_from : (first count id : ℕ) (m : M) (records : List (SeatRecord E)) (words : List ℕ) (slots : List S) (v : S) → key ≡ setup first count → m ≡ (gatherer records, []) → length records ≡ count → Final (Seen Rule id m.0) words slots → get_elem? slots 0 ≡ some v
+      → (x : T) × (v ≡ Some x) × Whole stands seat_of floor_of first count records x
+  finishes_from first count id m records words slots v known is all end there = let f : key.first ≡ first = ap (λ (k : Setup). k.first) known in let n : key.count ≡ count = ap (λ (k : Setup). k.count) known in
+      let r = finishes id records words slots (all ∙ sym n) (subst (λ (z : M). Final (Seen Rule id z.0) words slots) is end) in
+      (r.0, some-injective v (Some r.0) (sym there ∙ r.1), subst (λ (z : ℕ × ℕ). Whole stands seat_of floor_of z.0 z.1 records r.0) (λ i. (f i, n i)) r.2)

@@ -49,14 +49,14 @@ module _ {T E : Type 0} {stands : T → ℕ → List E → Type 0} {seat_of : E 
   pub at_words : (s : State (Option T) (View E)) (r : Ordered stands seat_of floor_of key s) (F : List ℕ → Type 0) → F (r.ticket ∷ r.serving ∷ r.floor ∷ r.beds) → F s.words
   at_words s r F x = subst F (sym r.words) x
 
-  -- a step that changes no word, takes no slot and keeps the seat's ticket
-  pub unmoved : (s : State (Option T) (View E)) (r : Ordered stands seat_of floor_of key s) (id : ℕ) (v w : View E) → get_elem? s.views id ≡ some v → w.ticket ≡ v.ticket → w.holds ≡ v.holds → w.raised ≡ v.raised → KnowsAt r id w → ((f : ℕ → ℕ) → sum_by f (numbers w) ≡ sum_by f (numbers v))
-      → Ordered stands seat_of floor_of key record { words = r.ticket ∷ r.serving ∷ r.floor ∷ r.beds; homes = s.homes; views = set s.views id w }
-  unmoved s r id v w at same_ticket same_holds same_raised mine same = record {
+  -- a step that changes no word but a bed, takes no slot and keeps the seat's ticket
+  pub unmoved_beds : (s : State (Option T) (View E)) (r : Ordered stands seat_of floor_of key s) (beds : List ℕ) (id : ℕ) (v w : View E) → get_elem? s.views id ≡ some v → w.ticket ≡ v.ticket → w.holds ≡ v.holds → w.raised ≡ v.raised → KnowsAt r id w → ((f : ℕ → ℕ) → sum_by f (numbers w) ≡ sum_by f (numbers v))
+      → Ordered stands seat_of floor_of key record { words = r.ticket ∷ r.serving ∷ r.floor ∷ beds; homes = s.homes; views = set s.views id w }
+  unmoved_beds s r beds id v w at same_ticket same_holds same_raised mine same = record {
     ticket = r.ticket;
     serving = r.serving;
     floor = r.floor;
-    beds = r.beds;
+    beds = beds;
     history = r.history;
     last = r.last;
     away = r.away;
@@ -74,7 +74,12 @@ module _ {T E : Type 0} {stands : T → ℕ → List E → Type 0} {seat_of : E 
     counted = λ f. same_sum (λ (u : View E). sum_by f (numbers u)) s.views id v w (sum_by f (span 0 key.count)) at (same f) (r.counted f);
   }
 
-  -- a card that ends where it ended
+  -- the same where no word changes
+  pub unmoved : (s : State (Option T) (View E)) (r : Ordered stands seat_of floor_of key s) (id : ℕ) (v w : View E) → get_elem? s.views id ≡ some v → w.ticket ≡ v.ticket → w.holds ≡ v.holds → w.raised ≡ v.raised → KnowsAt r id w → ((f : ℕ → ℕ) → sum_by f (numbers w) ≡ sum_by f (numbers v))
+      → Ordered stands seat_of floor_of key record { words = r.ticket ∷ r.serving ∷ r.floor ∷ r.beds; homes = s.homes; views = set s.views id w }
+  unmoved s r = unmoved_beds s r r.beds
+
+  -- what a seat knows once it has loaded the serving word
   pub knows_looked : (s : State (Option T) (View E)) (r : Ordered stands seat_of floor_of key s) (id : ℕ) (v : View E) → KnowsAt r id v → (n : ℕ) → n ≤ r.serving → KnowsAt r id (looked v n)
   knows_looked s r id v k n l = record { sees = k.sees; heard = k.heard; fits = k.fits; gathered = k.gathered; unissued = k.unissued; low = l; cap = k.cap; out = k.out; holder = k.holder }
 

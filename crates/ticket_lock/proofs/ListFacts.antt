@@ -130,11 +130,15 @@ module _ {A : Type 0} where
   each_first P l x old new zero s e = subst P (some-injective x s e) new
   each_first P l x old new (suc k) s e = old k s e
 
-  pub each_push : (P : ℕ → A → Type 0) (l : List A) (x : A) → ((k : ℕ) (s : A) → get_elem? l k ≡ some s → P k s) → P (length l) x → (k : ℕ) (s : A) → get_elem? (l ++ x ∷ []) k ≡ some s → P k s
+  each_push : (P : ℕ → A → Type 0) (l : List A) (x : A) → ((k : ℕ) (s : A) → get_elem? l k ≡ some s → P k s) → P (length l) x → (k : ℕ) (s : A) → get_elem? (l ++ x ∷ []) k ≡ some s → P k s
   each_push P [] x old new zero s e = subst (P 0) (some-injective x s e) new
   each_push P [] x old new (suc k) s e = absurd (some-ne-none s (sym e))
   each_push P (y ∷ ys) x old new zero s e = old zero s e
   each_push P (y ∷ ys) x old new (suc k) s e = each_push (λ i. P (suc i)) ys x (λ i t. old (suc i) t) new k s e
+
+  -- the same of a list that has one more than l, which is n long
+  pub each_grown : (P : ℕ → A → Type 0) (l m : List A) (x : A) (n : ℕ) → m ≡ l ++ x ∷ [] → length l ≡ n → ((k : ℕ) (s : A) → get_elem? l k ≡ some s → P k s) → P n x → (k : ℕ) (s : A) → get_elem? m k ≡ some s → P k s
+  each_grown P l m x n is long old new k s e = each_push P l x old (subst (λ (i : ℕ). P i x) (sym long) new) k s (ap (λ (z : List A). get_elem? z k) (sym is) ∙ e)
 
 -- 1 at n
 abbrev pub times : ℕ → ℕ → ℕ

@@ -65,11 +65,12 @@ module _ {T E : Type 0} (stands : T → ℕ → List E → Type 0) (seat_of : E 
     mine_of history (s ∷ ss) owns = let q = mine_of history ss (λ k x g. owns (suc k) x g) in let p = ap length (owns 0 s refl) in
         omega (arith, sum_by-cons (λ (x : Seat T E C). length (mine x)) s ss, sum_by-cons (λ (x : Seat T E C). length (of_seat seat_of (number x) history)) s ss)
 
-    pub merges : (first count : ℕ) (seats : List (Seat T E C)) (x : T) → Whole first count (map record_of seats) x → IsMerge stands seat_of floor_of first count seats x
-    merges first count seats x w = let h : List E = w.history in
+    pub merges : (first count : ℕ) (seats : List (Seat T E C)) (x : T) → length seats ≡ count → Whole first count (map record_of seats) x → IsMerge stands seat_of floor_of first count seats x
+    merges first count seats x all w = let h : List E = w.history in
         let weighed : ((f : ℕ → ℕ) → sum_by (λ (s : Seat T E C). f (number s)) seats ≡ sum_by f (span 0 count)) = λ f. by_number f seats ∙ w.numbered f in
         let part : ((k : ℕ) (s : Seat T E C) → get_elem? seats k ≡ some s → IsPartOf seat_of first (floor_of x) h s) =
         (λ k s g. let e = w.each k (record_of s) (at_map record_of seats k s g) in record { sees = e.0; owns = e.1 ∙ ap (λ (n : ℕ). of_seat seat_of n h) s.proper.numbered; spent = e.2; known = e.3 }) in record {
+          all = all;
           history = h;
           stood = w.stood;
           named = w.named;

@@ -45,8 +45,8 @@ module _ {T E : Type 0} (stands : T → ℕ → List E → Type 0) (floor_of : T
   pub room_left : (s n : ℕ) (m m' : M) → m' ≡ (looked m.0 s, m.1) → m'.0.loaded ≤ n → n ≤ s → n ≢ most → n < 18446744073709551616 → s < most
   room_left s n m m' is low back not fits = let e : m'.0.loaded ≡ s = ap (λ (z : M). z.0.loaded) is in omega arith
 
-  pub grew : (m u m' : M) (cards : List (SeatRecord E)) → m' ≡ (gathering m.0 u.0, m.1) → m ≡ (gatherer cards, []) → m' ≡ (gatherer (u.0.kept ∷ cards), [])
-  grew m u m' cards now is = now ∙ ap (λ (z : M). (gathering z.0 u.0, z.1)) is
+  pub grew : (m u m' : M) (records : List (SeatRecord E)) → m' ≡ (gathering m.0 u.0, m.1) → m ≡ (gatherer records, []) → m' ≡ (gatherer (u.0.kept ∷ records), [])
+  grew m u m' records now is = now ∙ ap (λ (z : M). (gathering z.0 u.0, z.1)) is
 
   pub meets : (f : E → ℕ) (one other one1 other1 one2 other2 : M) → one1 ≡ one → HearsOf f one.0.kept.seen one.0.kept.known other other1 → other2 ≡ other1 → HearsOf f other1.0.kept.seen other1.0.kept.known one1 one2
       → (one2.0.kept.seen ≡ longer other.0.kept.seen one.0.kept.seen) × (other2.0.kept.seen ≡ one2.0.kept.seen)

@@ -17,6 +17,7 @@ module _ {T E : Type 0} {C : Ghosts T E} where
 
   -- The value stands for one history, and that is the merge of what the seats made: each entry names one of them, and each has all entries that name it, in their order.
   pub record IsMerge (stands : T → ℕ → List E → Type 0) (seat_of : E → ℕ) (floor_of : T → ℕ) (first count : ℕ) (seats : List (Seat T E C)) (value : T) : Type 0 where
+    pub all : length seats ≡ count
     pub history : List E
     pub stood : stands value first history
     pub named : (k : ℕ) (e : E) → get_elem? history k ≡ some e → seat_of e < count

@@ -1,5 +1,5 @@
 -- What a contract says of a seat, and of the same seat after a call.
-use Rattle.std.specs.Prelude.{◌≡◌, ℕ, List, Option, None, Bool}
+use Rattle.std.specs.Prelude.{◌≡◌, ℕ, List, length, Option, None, Bool}
 use mathlib.Core.Option.{some}
 use lib.ListN.{get_elem?}
 use Rattle.ticket_lock.specs.declared.rule.SeatRecord.{SeatRecord}
@@ -46,16 +46,26 @@ module _ {T E : Type 0} {C : Ghosts T E} where
   raised s = s.pass.me.0.raised
 
   -- the lock was made with this seat
-  abbrev pub IsOf : TicketLock T E → Seat T E C → Type 0
-  IsOf lock s = (s.pass.table_id ≡ lock.board.shared.table_id) × (s.pass.me.0.kept.first ≡ lock.first)
+  pub record IsOf (lock : TicketLock T E) (s : Seat T E C) : Type 0 where
+    pub table : s.pass.table_id ≡ lock.board.shared.table_id
+    pub first : s.pass.me.0.kept.first ≡ lock.first
 
   -- the seat of this number, before its first turn
-  abbrev pub IsNew : TicketLock T E → ℕ → Seat T E C → Type 0
-  IsNew lock n s = (s.pass.table_id ≡ lock.board.shared.table_id) × (s.number ≡ n) × (s.pass.me.0 ≡ seat lock.first n)
+  pub record IsNew (lock : TicketLock T E) (n : ℕ) (s : Seat T E C) : Type 0 where
+    pub table : s.pass.table_id ≡ lock.board.shared.table_id
+    pub number : s.number ≡ n
+    pub view : s.pass.me.0 ≡ seat lock.first n
 
   -- the seats are new, numbered from 0
   abbrev pub AllNew : TicketLock T E → List (Seat T E C) → Type 0
   AllNew lock seats = (k : ℕ) (s : Seat T E C) → get_elem? seats k ≡ some s → IsNew lock k s
+
+  -- the first ticket of the lock is `start`, and it was made with these `size` seats
+  pub record IsBegun (start size : ℕ) (lock : TicketLock T E) (seats : List (Seat T E C)) : Type 0 where
+    pub first : lock.first ≡ start
+    pub count : lock.count ≡ size
+    pub all : length seats ≡ size
+    pub new : AllNew lock seats
 
   -- the seats are of the lock, and none has a turn
   abbrev pub AllFree : TicketLock T E → List (Seat T E C) → Type 0

@@ -29,6 +29,9 @@ module _ {T E : Type 0} where
   abbrev pub entered : Step (Option T) → SeatState T E → ℕ → SeatState T E → Type 0
   entered st m r m' = m' ≡ (nobody, [])
 
+  abbrev pub unchanged : Step (Option T) → SeatState T E → ℕ → SeatState T E → Type 0
+  unchanged st m r m' = m' ≡ m
+
   -- the turn came: the value that was at home stands for the list of all turns so far
   abbrev pub Takes : (T → ℕ → List E → Type 0) → (T → ℕ) → SeatState T E → ℕ → SeatState T E → Type 0
   Takes stands floor_of m t m' = (found : List E) × (x : T) × (m' ≡ (holding m.0 t found, (0, Some x) ∷ m.1)) × stands x m.0.kept.first found × StartsWith found m.0.kept.seen × (m.0.kept.first + length found ≡ t) × (m.0.kept.known ≤ floor_of x)

@@ -13,6 +13,7 @@ module _ {T E : Type 0} {C : Ghosts T E} where
   pub record HasTurn (stands : T → ℕ → List E → Type 0) (floor_of : T → ℕ) (first : ℕ) (old : Seat T E C) (value : T) (t : ℕ) (new : Seat T E C) : Type 0 where
     pub keeps : Keeps old new
     pub unspent : seats.met_spent old ≡ false
+    pub still : seats.met_spent new ≡ false
     pub ticket : ticket new ≡ Some t
     pub stood : stands value first (found new)
     pub begins : StartsWith (found new) (seen new)
@@ -34,6 +35,7 @@ module _ {T E : Type 0} {C : Ghosts T E} where
     pub ahead : served < next
     pub reached : first + length (seen old) ≤ served
 
+  -- what a refusal tells, by its kind
   abbrev pub IsDenied : ℕ → Seat T E C → Denied → Seat T E C → Type 0
   IsDenied first old (Busy served next) new = IsBusy first old served next new
   IsDenied first old Spent new = IsSpent old new

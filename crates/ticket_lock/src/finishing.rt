@@ -28,7 +28,7 @@ impl<T: Chronicle> TicketLock<T> {
     /// what `new` took.
     pub fn finish(self, seats: Vec<Seat<T>>) -> Result<T, SeatsMissing<T>>
         requires free { AllFree self seats.items }
-        ensures ok { IfOk result (λ x. IsMerge T.stands T.seat_of T.floor_of self.first self.count seats.items x × (length seats.items ≡ self.count)) }
+        ensures ok { IfOk result (λ x. IsMerge T.stands T.seat_of T.floor_of self.first self.count seats.items x) }
         ensures err { IfErr result (λ m. (m.lock ≡ self) × (m.seats ≡ seats) × (length seats.items ≢ self.count)) }
     {
         if seats.len() != usize::from(self.count) {

@@ -3,12 +3,12 @@ ghost use Rattle.std.specs.Prelude.{◌≡◌, ◌≤◌, ◌<◌, ◌+◌, ◌-
 ghost use Rattle.ticket_lock.specs.Lists.{span};
 ghost use Rattle.ticket_lock.specs.Views.{issuer};
 ghost use Rattle.ticket_lock.specs.Proper.{IsSamePass};
-ghost use Rattle.ticket_lock.specs.Seats.{number, IsNew, AllNew};
+ghost use Rattle.ticket_lock.specs.Seats.{number, IsNew, AllNew, IsBegun};
 
 use crate::chronicle::Chronicle;
 use crate::lock::{Seat, TicketLock};
 use crate::plays::IssueSeat;
-use crate::rule::{Pass, Setup};
+use crate::rule::{BEDS, Pass, SERVING, Setup, TICKET};
 use atomic_table::Table;
 use std::alloc::{AllocError, Global};
 
@@ -50,13 +50,16 @@ impl<T: Chronicle + Drop> TicketLock<T> {
     ) -> Result<(TicketLock<T>, Vec<Seat<T>>), AllocError>
         requires seats { (0 < seats) × (seats ≤ 64) }
         requires value { T.stands value first [] }
-        ensures { IfOk result (λ r. (length r.1.items ≡ seats) × (r.0.first ≡ first) × (r.0.count ≡ seats) × AllNew r.0 r.1.items) }
+        ensures begun { IfOk result (λ r. IsBegun first seats r.0 r.1.items) }
     {
+        let mut words = vec![in alloc; 0; BEDS + seats]?;
+        words[TICKET] = first;
+        words[SERVING] = first;
         let mut slots = Vec::with_capacity(alloc, 1)?;
         slots.push(Some(value))?;
         let count = seats as u8;
         let setup = Setup { first, count };
-        let Ok((board, source)) = Table::new(alloc, &[first, first, 0], slots, &setup) else {
+        let Ok((board, source)) = Table::new(alloc, words.as_slice(), slots, &setup) else {
             return Err(AllocError);
         };
         let lock = TicketLock {

@@ -19,8 +19,9 @@
 //! ```
 //!
 //! A turn costs a compare-exchange to draw a ticket, a load to see it served and a store to end it.
-//! `floor`, `raise_floor` and a refused `try_turn` are one to three steps, and `meet` is six loads.
-//! Only `new` takes memory, and only `turn` waits.
+//! A seat that waits long sleeps on a word of its own, its bed, and whoever ends the turn before
+//! wakes that seat alone. `floor`, `raise_floor` and a refused `try_turn` are one to three steps,
+//! and `meet` is six loads. Only `new` takes memory, and only `turn` waits.
 #![tactic(auto)]
 
 mod chronicle;

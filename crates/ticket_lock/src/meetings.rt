@@ -1,7 +1,7 @@
 //! Two seats compare what they have seen.
 ghost use Rattle.std.specs.Prelude.{◌≡◌, max, true};
 ghost use Rattle.ticket_lock.specs.Lists.{of_seat, longer, StartsWith};
-ghost use Rattle.ticket_lock.specs.Seats.{number, seen, mine, known, IsOf, KeepsTurn};
+ghost use Rattle.ticket_lock.specs.Seats.{number, seen, mine, known, raised, IsOf, KeepsTurn};
 ghost use Rattle.ticket_lock.specs.Proper.{IsSamePass};
 ghost use Rattle.ticket_lock.specs.Steps.{HearsOf};
 
@@ -32,6 +32,7 @@ impl<T: Chronicle> TicketLock<T> {
         ensures longer { (seen one.new ≡ longer (seen other.old) (seen one.old)) × (seen other.new ≡ seen one.new) }
         ensures begins { StartsWith (seen one.new) (seen one.old) × StartsWith (seen one.new) (seen other.old) }
         ensures known { (known one.new ≡ max (known other.old) (known one.old)) × (known other.new ≡ known one.new) }
+        ensures raised { (raised one.new ≡ raised one.old) × (raised other.new ≡ raised other.old) }
         ensures one_owns { mine one.new ≡ of_seat T.seat_of (number one.new) (seen one.new) }
         ensures other_owns { mine other.new ≡ of_seat T.seat_of (number other.new) (seen other.new) }
     {

@@ -90,6 +90,15 @@ impl<T: Chronicle> Play<Option<T>, View<T::Entry>> for LoadFloor {
     ghost then = { saw_floor };
 }
 
+/// A store of a bed.
+pub struct MarkBed;
+
+impl<T: Chronicle> Play<Option<T>, View<T::Entry>> for MarkBed {
+    ghost use Rattle.ticket_lock.specs.Steps.{unchanged};
+
+    ghost then = { unchanged };
+}
+
 /// A new seat at the table, to gather the others.
 pub struct EnterGatherer;
 

@@ -14,6 +14,16 @@ pub(crate) const SERVING: usize = 1;
 /// The word with the greatest floor that a holder raised it to.
 pub(crate) const FLOOR: usize = 2;
 
+/// The first of the beds, one word for each seat, on which seats sleep. The rule below says nothing
+/// of what they contain.
+pub(crate) const BEDS: usize = 3;
+
+/// What a bed says while a seat sleeps there, or is about to.
+pub(crate) const ASLEEP: u64 = 1;
+
+/// What it says else.
+pub(crate) const AWAKE: u64 = 0;
+
 /// The slot that has the value while nobody has a turn.
 pub(crate) const HOME: usize = 0;
 

@@ -8,8 +8,8 @@ ghost use Rattle.ticket_lock.specs.Proper.{IsSamePass};
 use crate::chronicle::Chronicle;
 use crate::denied::Denied;
 use crate::lock::TicketLock;
-use crate::plays::{AwaitTurn, DrawTicket, EndTurn, EndsWith, LoadServing, LoadTicket};
-use crate::rule::{HOME, Pass, SERVING, TICKET};
+use crate::plays::{AwaitTurn, DrawTicket, EndTurn, EndsWith, LoadServing, LoadTicket, MarkBed};
+use crate::rule::{ASLEEP, AWAKE, BEDS, HOME, Pass, SERVING, TICKET};
 use crossbeam_utils::Backoff;
 use std::sync::Wait;
 
@@ -79,23 +79,38 @@ impl<T: Chronicle> TicketLock<T> {
         value
     }
 
-    // Waits for the turn of the ticket, and takes the value.
+    // Waits for the turn of the ticket, and takes the value. It spins, then gives way to other
+    // threads, and then sleeps until it is woken by name.
     pub(crate) fn await_turn<R: Wait>(&self, rt: &R, pass: &mut Pass<T, T::Entry>, ticket: u64) -> T
         requires own { pass.old.table_id ≡ self.now.board.shared.table_id }
         requires drew { (pass.old.me.0.sits ≡ true) × (pass.old.me.0.ticket ≡ Some ticket) × (pass.old.me.0.holds ≡ false) × (pass.old.me.1 ≡ []) }
         ensures same { IsSamePass pass.old pass.new }
         ensures takes { (found : List T.Entry) × (pass.new.me ≡ (holding pass.old.me.0 ticket found, (0, None) ∷ [])) × T.stands result pass.old.me.0.kept.first found × StartsWith found pass.old.me.0.kept.seen × (pass.old.me.0.kept.first + length found ≡ ticket) × (pass.old.me.0.kept.known ≤ T.floor_of result) }
     {
+        let shared = &self.board.shared;
+        let bed = self.bed(ticket);
         let backoff = Backoff::new();
+        let mut announced = false;
         for _ in rt.forever() {
-            let serving = self.board.shared.load::<AwaitTurn>(pass, SERVING);
+            let serving = shared.load::<AwaitTurn>(pass, SERVING);
             if serving == ticket {
-                let Some(value) = self.board.shared.exchange(pass, HOME, None) else {
+                let Some(value) = shared.exchange(pass, HOME, None) else {
                     unreachable!()
                 };
                 return value;
             }
-            backoff.snooze();
+            if announced {
+                shared.park(rt, bed, ASLEEP as u32);
+                announced = false;
+                backoff.reset();
+            } else if backoff.is_completed() {
+                // It sleeps after one more look, so that whoever passes the turn on meanwhile
+                // either was seen or sees the mark.
+                shared.store::<MarkBed>(pass, bed, ASLEEP);
+                announced = true;
+            } else {
+                backoff.snooze();
+            }
         }
         unreachable!()
     }
@@ -126,5 +141,28 @@ impl<T: Chronicle> TicketLock<T> {
         self.board
             .shared
             .store::<EndTurn<J>>(pass, SERVING, ticket + 1);
+        self.wake(pass, ticket + 1);
+    }
+
+    // The bed of the seat with this ticket. At most as many tickets are out as there are seats, so
+    // two that wait have different beds.
+    fn bed(&self, ticket: u64) -> usize
+        ensures { (3 ≤ result) × (result < self.now.board.shared.table_id.words) }
+    {
+        BEDS + (ticket % u64::from(self.count)) as usize
+    }
+
+    // Wakes the seat with this ticket, if it sleeps. Where it marked its bed too late to be seen
+    // here, it will find its turn before it sleeps.
+    fn wake(&self, pass: &mut Pass<T, T::Entry>, ticket: u64)
+        requires own { pass.old.table_id ≡ self.now.board.shared.table_id }
+        ensures same { IsSamePass pass.old pass.new × (pass.new.me ≡ pass.old.me) }
+    {
+        let shared = &self.board.shared;
+        let bed = self.bed(ticket);
+        if shared.peek(bed) == ASLEEP {
+            shared.store::<MarkBed>(pass, bed, AWAKE);
+            shared.wake_one(bed);
+        }
     }
 }

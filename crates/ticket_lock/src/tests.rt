@@ -155,6 +155,71 @@ fn a_held_turn_keeps_others_busy(rt: HostRuntime) -> Result<(), Fail> {
     Ok(())
 }
 
+/// A turn that takes a while, in which another seat falls asleep.
+fn dawdle<R: Wait>(
+    rt: &R,
+    lock: &TicketLock<Counter>,
+    mut seat: Seat<Counter>,
+    begun: &AtomicBool,
+) -> Seat<Counter>
+    requires own { IsOf lock.now seat × (ticket seat ≡ None) }
+    ensures own { IsOf lock.now result × (ticket result ≡ None) }
+{
+    let Ok(mut held) = lock.turn(rt, &mut seat) else {
+        return seat;
+    };
+    held.value.count += 1;
+    begun.store(true, SeqCst);
+    for _ in 0..10_000 {
+        yield_now();
+    }
+    let mark = Mark {
+        seat: seat.number(),
+    };
+    lock.end(&mut seat, held, &mark);
+    seat
+}
+
+/// A turn after the other's, and its ticket.
+fn follow<R: Wait>(
+    rt: &R,
+    lock: &TicketLock<Counter>,
+    mut seat: Seat<Counter>,
+    begun: &AtomicBool,
+) -> (Seat<Counter>, Option<u64>)
+    requires own { IsOf lock.now seat × (ticket seat ≡ None) }
+    ensures own { IsOf lock.now result.0 × (ticket result.0 ≡ None) }
+{
+    if !saw(begun) {
+        return (seat, None);
+    }
+    let ticket = tick(rt, lock, &mut seat).ok();
+    (seat, ticket)
+}
+
+#[test]
+fn a_seat_that_sleeps_is_woken(rt: HostRuntime) -> Result<(), Fail> {
+    let (lock, mut seats) = TicketLock::new(rt.alloc(), Counter { count: 0 }, 0, 2)?;
+    let second = last(&rt, &lock, &mut seats);
+    let first = last(&rt, &lock, &mut seats);
+    let begun = AtomicBool::new(false);
+    let (shared, host, flag) = (&lock, &rt, &begun);
+    let (mut first, (_, told)) = join(
+        &rt,
+        || -> Seat<Counter>
+            requires { IsOf shared.now first × (ticket first ≡ None) }
+            ensures { IsOf shared.entry.now result × (ticket result ≡ None) }
+        { dawdle(host, shared, first, flag) },
+        || -> (Seat<Counter>, Option<u64>)
+            requires { IsOf shared.now second × (ticket second ≡ None) }
+            ensures { IsOf shared.entry.now result.0 × (ticket result.0 ≡ None) }
+        { follow(host, shared, second, flag) },
+    );
+    assert_eq!(rt; told, Some(1));
+    assert_eq!(rt; tick(&rt, &lock, &mut first).ok(), Some(2));
+    Ok(())
+}
+
 /// Has turns until no ticket is left, and then once more. The turns that it had.
 fn spend<R: Wait + Abort>(
     rt: &R,

@@ -14,8 +14,8 @@ impl<T: Chronicle> TicketLock<T> {
     /// Draws the next ticket and waits until it is served.
     ///
     /// `Spent` comes exactly where the next ticket would be 18446744073709551615, and at each later
-    /// call for a turn of this seat too. Whether the wait ends is not promised: it does once the
-    /// turns of all older tickets have ended.
+    /// call for a turn of this seat too. That the wait ends is not promised: it takes as long as the
+    /// turns of all older tickets.
     pub fn turn<R: Wait>(&self, rt: &R, seat: &mut Seat<T>) -> Result<Held<T>, Spent>
         requires own { IsOf self.now seat.old }
         requires free { ticket seat.old ≡ None }
@@ -47,7 +47,7 @@ impl<T: Chronicle> TicketLock<T> {
     }
 
     /// Ends a turn: the value goes back for the next ticket, and the entry is the last of the
-    /// history so far. It is one store, and waits for nobody.
+    /// history so far. It is one store, and a wake where the next seat sleeps. It waits for nobody.
     pub fn end(&self, seat: &mut Seat<T>, held: Held<T>, entry: &T::Entry)
         requires own { IsOf self.now seat.old }
         requires turn { ticket seat.old ≡ Some held.ticket }

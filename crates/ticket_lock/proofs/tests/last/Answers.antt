@@ -9,8 +9,8 @@ returns-clause-new g c = λ k s e. c.requires.new k s (ap (λ l. get_elem? l k) 
 
 pub returns-clause-own : goal.returns-clause-own
 returns-clause-own g c = let items = c.args.seats.now.items in
-    let a = c.requires.new (length c.pop.new.self.items) c.in-Some.seat (at_middle c.pop.new.self.items [] c.in-Some.seat items items (sym (append-nil items)) c.in-Some.ensures.items) in ((a.0, ap (λ v. v.kept.first) a.2), ap (λ v. v.ticket) a.2)
+    let a = c.requires.new (length c.pop.new.self.items) c.in-Some.seat (at_middle c.pop.new.self.items [] c.in-Some.seat items items (sym (append-nil items)) c.in-Some.ensures.items) in (record { table = a.table; first = ap (λ v. v.kept.first) a.view }, ap (λ v. v.ticket) a.view)
 
 pub returns-clause-number : goal.returns-clause-number
 returns-clause-number g c = let items = c.args.seats.now.items in
-    (c.requires.new (length c.pop.new.self.items) c.in-Some.seat (at_middle c.pop.new.self.items [] c.in-Some.seat items items (sym (append-nil items)) c.in-Some.ensures.items)).1
+    (c.requires.new (length c.pop.new.self.items) c.in-Some.seat (at_middle c.pop.new.self.items [] c.in-Some.seat items items (sym (append-nil items)) c.in-Some.ensures.items)).number

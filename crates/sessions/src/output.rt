@@ -1,6 +1,9 @@
 //! The output, handed to its device in large blocks.
 ghost use Rattle.std.specs.Prelude.{◌≤◌, ◌<◌, length};
 
+use script::events::{write_event, write_fault, write_spent};
+use script::fault::LineFault;
+use spans::calls::Event;
 use std::alloc::{AllocError, Global};
 use std::io::Write;
 
@@ -15,7 +18,7 @@ pub struct WriteFailed;
 #[derive(Drop)]
 pub struct Output<W> {
     sink: W,
-    pub pending: Vec<u8>,
+    pending: Vec<u8>,
 }
 
 impl<W: Write + Drop> Output<W> {
@@ -23,6 +26,36 @@ impl<W: Write + Drop> Output<W> {
     pub fn new(alloc: Global, sink: W) -> Result<Output<W>, AllocError> {
         let pending = Vec::with_capacity(alloc, BLOCK)?;
         Ok(Output { sink, pending })
+    }
+
+    /// Keeps the text of an event. Where memory is wanted, none of it.
+    pub fn keep_event(&mut self, event: &Event) -> Result<(), AllocError> {
+        let before = self.pending.len();
+        let kept = write_event(&mut self.pending, event);
+        if kept.is_err() {
+            self.pending.truncate(before);
+        }
+        kept
+    }
+
+    /// Keeps the last line of an output whose input has a faulty line.
+    pub fn keep_fault(&mut self, line: u64, fault: LineFault) -> Result<(), AllocError> {
+        let before = self.pending.len();
+        let kept = write_fault(&mut self.pending, line, fault);
+        if kept.is_err() {
+            self.pending.truncate(before);
+        }
+        kept
+    }
+
+    /// Keeps the last line of an output whose positions are used up.
+    pub fn keep_spent(&mut self, line: u64) -> Result<(), AllocError> {
+        let before = self.pending.len();
+        let kept = write_spent(&mut self.pending, line);
+        if kept.is_err() {
+            self.pending.truncate(before);
+        }
+        kept
     }
 
     /// Writes what waits where that is a block or more.

@@ -1,0 +1,191 @@
+//! The program's runs, byte for byte, over readers and writers in memory.
+
+mod devices;
+mod rows;
+
+use crate::run::run_io;
+use crate::status::{status_of, word_of};
+use devices::{Sink, Source};
+use sessions::End;
+use std::alloc::{AllocError, Global};
+use std::test::Fail;
+
+/// What a run of the program wrote, and how it ended.
+#[derive(Drop)]
+struct Ran {
+    end: End,
+    output: Vec<u8>,
+}
+
+fn run_of(alloc: Global, input: &[u8]) -> Ran {
+    let mut sink = Sink::new(alloc);
+    let end = run_io(alloc, Source::new(input), &mut sink);
+    Ran {
+        end,
+        output: sink.taken,
+    }
+}
+
+/// The script whose transcript this is: each line without its position and its answer.
+fn script_of(alloc: Global, transcript: &str) -> Result<Vec<u8>, AllocError> {
+    let mut script = Vec::new(alloc);
+    for line in transcript.lines() {
+        let call = line.split_once(' ').map_or(line, |parts| parts.1);
+        let call = call.split_once(" => ").map_or(call, |parts| parts.0);
+        script.extend_from_slice(call.as_bytes())?;
+        script.push(b'\n')?;
+    }
+    Ok(script)
+}
+
+#[test]
+fn transcripts(rt: HostRuntime) -> Result<(), Fail> {
+    for transcript in rows::TRANSCRIPTS {
+        let script = script_of(rt.alloc(), transcript)?;
+        let ran = run_of(rt.alloc(), script.as_slice());
+        assert_eq!(rt; ran.end, End::Done, "{transcript}");
+        assert_eq!(rt;
+            ran.output.as_slice(),
+            transcript.as_bytes(),
+            "{transcript}"
+        );
+    }
+    Ok(())
+}
+
+#[test]
+fn faulty_lines(rt: HostRuntime) {
+    for (line, last) in rows::FAULTS {
+        let ran = run_of(rt.alloc(), line.as_bytes());
+        assert_eq!(rt; ran.end, End::Faulty, "{line:?}");
+        assert_eq!(rt; ran.output.as_slice(), last.as_bytes(), "{line:?}");
+    }
+}
+
+/// A line of `before`, some letters and `after`.
+fn padded(
+    alloc: Global,
+    before: &str,
+    letter: u8,
+    count: usize,
+    after: &str,
+) -> Result<Vec<u8>, AllocError> {
+    let mut line = Vec::from_slice(alloc, before.as_bytes())?;
+    for _ in 0..count {
+        line.push(letter)?;
+    }
+    line.extend_from_slice(after.as_bytes())?;
+    Ok(line)
+}
+
+#[test]
+fn lengths(rt: HostRuntime) -> Result<(), Fail> {
+    for (before, letter, count, after, last) in rows::LENGTHS {
+        let line = padded(rt.alloc(), before, letter, count, after)?;
+        let ran = run_of(rt.alloc(), line.as_slice());
+        assert_eq!(rt; ran.end, End::Faulty, "{before} and {count} letters");
+        assert_eq!(rt;
+            ran.output.as_slice(),
+            last.as_bytes(),
+            "{before} and {count} letters"
+        );
+    }
+    Ok(())
+}
+
+#[test]
+fn events_before_a_fault_are_kept(rt: HostRuntime) -> Result<(), Fail> {
+    let mut script = padded(rt.alloc(), "0 begin 10\n0 put 10 ", b'a', 64, " 1\n")?;
+    let more = padded(rt.alloc(), "0 put 10 ", b'a', 65, " 1\n")?;
+    script.extend_from_slice(more.as_slice())?;
+    let ran = run_of(rt.alloc(), script.as_slice());
+    let mut wanted = padded(
+        rt.alloc(),
+        "0 0 begin 10 => started\n1 0 put 10 ",
+        b'a',
+        64,
+        " 1 => written\n",
+    )?;
+    wanted.extend_from_slice(b"fault 3 4 keylength\n")?;
+    assert_eq!(rt; ran.end, End::Faulty);
+    assert_eq!(rt; ran.output.as_slice(), wanted.as_slice());
+    Ok(())
+}
+
+/// The input of the two sessions, cut after the first `length` bytes.
+const TWO_SESSIONS: &str = "0 begin 10\n0 put 10 a 1\n0 commit 10\n1 begin 20\n1 get 20 a\n";
+
+#[test]
+fn a_read_fails(rt: HostRuntime) {
+    let mut sink = Sink::new(rt.alloc());
+    // Two lines and five bytes of the third.
+    let source = Source::new(TWO_SESSIONS.as_bytes()).failing_after(29);
+    let end = run_io(rt.alloc(), source, &mut sink);
+    assert_eq!(rt; end, End::Input);
+    assert_eq!(rt;
+        sink.taken.as_slice(),
+        b"0 0 begin 10 => started\n1 0 put 10 a 1 => written\n".as_slice()
+    );
+}
+
+#[test]
+fn a_write_fails(rt: HostRuntime) {
+    for stuck in [false, true] {
+        let mut sink = Sink::new(rt.alloc()).with_room(30, stuck);
+        let end = run_io(rt.alloc(), Source::new(TWO_SESSIONS.as_bytes()), &mut sink);
+        assert_eq!(rt; end, End::Output);
+        assert_eq!(rt;
+            sink.taken.as_slice(),
+            b"0 0 begin 10 => started\n1 0 pu".as_slice()
+        );
+    }
+}
+
+#[test]
+fn any_cut_of_the_reads_gives_the_same_output(rt: HostRuntime) {
+    let whole = run_of(rt.alloc(), TWO_SESSIONS.as_bytes());
+    for piece in 1..TWO_SESSIONS.len() {
+        let mut sink = Sink::new(rt.alloc());
+        let source = Source::new(TWO_SESSIONS.as_bytes()).in_pieces_of(piece);
+        let end = run_io(rt.alloc(), source, &mut sink);
+        assert_eq!(rt; end, End::Done);
+        assert_eq!(rt;
+            sink.taken.as_slice(),
+            whole.output.as_slice(),
+            "in pieces of {piece}"
+        );
+    }
+}
+
+#[test]
+fn many_lines_pass_many_blocks(rt: HostRuntime) -> Result<(), Fail> {
+    let mut script = Vec::new(rt.alloc());
+    for _ in 0..20000 {
+        script.extend_from_slice(b"0 get 7 a\n")?;
+    }
+    let ran = run_of(rt.alloc(), script.as_slice());
+    assert_eq!(rt; ran.end, End::Done);
+    assert!(rt;
+        ran.output
+            .as_slice()
+            .ends_with(b"\n19999 0 get 7 a => notxn\n")
+    );
+    let newlines = ran.output.iter().filter(|b| **b == b'\n').count();
+    assert_eq!(rt; newlines, 20000);
+    Ok(())
+}
+
+#[test]
+fn statuses(rt: HostRuntime) {
+    for (end, status, word) in [
+        (End::Done, 0, None),
+        (End::Faulty, 2, None),
+        (End::Input, 1, Some("input")),
+        (End::Output, 1, Some("output")),
+        (End::Memory, 1, Some("memory")),
+        (End::Spent, 1, Some("spent")),
+    ] {
+        assert_eq!(rt; status_of(end), status);
+        assert_eq!(rt; word_of(end), word);
+    }
+}

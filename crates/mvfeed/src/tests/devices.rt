@@ -1,0 +1,88 @@
+//! A reader and a writer in memory that can be made to fail.
+use std::alloc::Global;
+use std::io::{Error, ErrorKind, Read, Result, Write};
+
+/// A text that is read in pieces, and may fail at some place.
+#[derive(Drop)]
+pub struct Source<'a> {
+    rest: &'a [u8],
+    piece: usize,
+    fails_at_end: bool,
+}
+
+impl<'a> Source<'a> {
+    pub fn new(text: &'a [u8]) -> Source<'a> {
+        Source {
+            rest: text,
+            piece: usize::MAX,
+            fails_at_end: false,
+        }
+    }
+
+    /// Gives this many bytes, and then fails.
+    pub fn failing_after(mut self, length: usize) -> Source<'a> {
+        self.rest = &self.rest[..length.min(self.rest.len())];
+        self.fails_at_end = true;
+        self
+    }
+
+    /// Gives at most this many bytes at once.
+    pub fn in_pieces_of(mut self, piece: usize) -> Source<'a> {
+        self.piece = piece;
+        self
+    }
+}
+
+impl Read for Source<'_> {
+    fn read(&mut self, buf: &mut [u8]) -> Result<usize> {
+        if self.rest.is_empty() && self.fails_at_end {
+            return Err(Error::from(ErrorKind::Interrupted));
+        }
+        let count = self.rest.len().min(buf.len()).min(self.piece);
+        let (now, rest) = self.rest.split_at(count);
+        buf[..count].copy_from_slice(now);
+        self.rest = rest;
+        Ok(count)
+    }
+}
+
+/// The bytes that were written, as far as there is room.
+#[derive(Drop)]
+pub struct Sink {
+    pub taken: Vec<u8>,
+    room: usize,
+    stuck: bool,
+}
+
+impl Sink {
+    pub fn new(alloc: Global) -> Sink {
+        Sink {
+            taken: Vec::new(alloc),
+            room: usize::MAX,
+            stuck: false,
+        }
+    }
+
+    /// Takes this many bytes; then it fails, or takes none where it is stuck.
+    pub fn with_room(mut self, room: usize, stuck: bool) -> Sink {
+        self.room = room;
+        self.stuck = stuck;
+        self
+    }
+}
+
+impl Write for &mut Sink {
+    fn write(&mut self, buf: &[u8]) -> Result<usize> {
+        let count = buf.len().min(self.room);
+        if count == 0 && !self.stuck {
+            return Err(Error::from(ErrorKind::Interrupted));
+        }
+        self.taken.extend_from_slice(&buf[..count])?;
+        self.room -= count;
+        Ok(count)
+    }
+
+    fn flush(&mut self) -> Result<()> {
+        Ok(())
+    }
+}

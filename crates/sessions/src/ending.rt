@@ -1,0 +1,18 @@
+//! How a run ends.
+
+/// Why a run came to its end.
+#[derive(Clone, Copy, Debug, PartialEq, Eq)]
+pub enum End {
+    /// All of the input was taken, and all of the output written.
+    Done,
+    /// A line of the input is faulty. The output says which, as its last line.
+    Faulty,
+    /// The input could not be read to its end.
+    Input,
+    /// The output could not be written.
+    Output,
+    /// A growth of memory was refused.
+    Memory,
+    /// No position is left for another call. The output says at which line, as its last line.
+    Spent,
+}
