@@ -1,24 +1,19 @@
 -- The tie of a book of feeds is kept: by each call, and by every effect of no feed.
-use Rattle.std.proofs.Common.{◌≡◌, ℕ, zero, suc, ◌+◌, ◌<◌, ◌≤◌, ◌==◌, Bool, true, false, cond, ◌||◌, List, [], ◌∷◌, ◌++◌, map, length, Option, Some, None, refl, sym, ◌∙◌, ap, subst, arith, append_assoc, add-one}
-use Rattle.std.specs.Prelude.{slice_get, option_map, is_some}
-use Rattle.std.proofs.lemmas.List.{append-nil, length_push}
+use Rattle.std.proofs.Common.{◌≡◌, ◌≤◌, ℕ, zero, suc, ◌+◌, ◌<◌, ◌==◌, true, List, [], ◌∷◌, ◌++◌, map, length, Option, Some, None, refl, sym, ◌∙◌, ap, arith}
+use Rattle.std.specs.Prelude.{slice_get, option_map, count_by}
+use Rattle.std.proofs.lemmas.List.{length_push}
 use Rattle.std.proofs.lemmas.Bool.{eqb-true}
 use Rattle.spans.specs.declared.calls.messages.Message.{Message}
-use Rattle.spans.specs.declared.calls.commands.Cmd.TheVariants.{Poll, Cancel}
-use Rattle.spans.specs.declared.calls.replies.Reply.TheVariants.{Messages, Cancelled, Refused}
-use Rattle.spans.specs.declared.calls.replies.Refusal.{Refusal}
-use Rattle.spans.specs.declared.calls.replies.Refusal.TheVariants.{FeedCancelled, NotOwner}
 use Rattle.spans.specs.Effects.{Effect, Opens, Polls, Cancels}
-use Rattle.spans.specs.Transactions.{closed_of, least_of}
+use Rattle.spans.specs.Transactions.{closed_of}
 use Rattle.spans.specs.Streams.{stream_of}
-use Rattle.spans.specs.Feeds.{Feed, feed_of, feeds_opened, is_cancelled, told_to, next_messages}
+use Rattle.spans.specs.Feeds.{feeds_opened, Feed, feed_of, told_to, next_messages}
 use Rattle.spans.specs.FeedRight.{FeedIsRight}
 use Rattle.spans.specs.Collection.{floor_of, live_feeds}
-use Rattle.spans.specs.Answer.{answer_of}
 use Rattle.spans.proofs.Steps.{by_test}
 use Rattle.feed_book.specs.declared.record.FeedRecord.{FeedRecord}
-use Rattle.feed_book.specs.Records.{telling, cancelled, changed_at, record_at, feed_part, told_in, is_live, is_cancelled_in, live_one, live_in, floors_in, next_in}
-use Rattle.feed_book.specs.FeedTie.{FeedsTied, IsOpened, IsOfNoFeed, refusal_of_poll}
+use Rattle.feed_book.specs.Records.{telling, cancelled, changed_at, record_at, feed_part, told_in, is_live, is_cancelled_in, floors_in, next_in}
+use Rattle.feed_book.specs.FeedTie.{FeedsTied, IsOfNoFeed}
 use Rattle.feed_book.proofs.RecordLists.{record_push, record_past, live_push, record_changed, length_changed, live_told, live_cancelled, live_count, floors_are}
 use Rattle.feed_book.proofs.Telling.{next_is}
 
@@ -102,8 +97,8 @@ feeds_tell book p i f max ms at low tied = rw (← at) (record {
     same_cancelled (Some x) = refl
 
 -- how many feeds live
-pub feeds_count : (book : List FeedRecord) (p : List Effect) → FeedsTied book p → length (live_feeds p) ≡ length (live_in 1 book)
-feeds_count book p tied = ap length tied.live
+pub feeds_count : (book : List FeedRecord) (p : List Effect) → FeedsTied book p → count_by is_live book ≡ length (live_feeds p)
+feeds_count book p tied = sym (ap length tied.live ∙ live_count 1 book)
 
 -- the floors of the feeds that live
 pub feeds_floors : (book : List FeedRecord) (p : List Effect) → FeedsTied book p → map (floor_of p) (live_feeds p) ≡ floors_in book
@@ -119,10 +114,8 @@ feeds_next book p f feed x max tied has at is right =
     let e : feed ≡ feed_part x = (let both : Some feed ≡ Some (feed_part x) = sym is ∙ has in cc) in
     next_is p f feed x max (tied.told f ∙ ap told_in at) (ap (λ (v : Feed). v.cursor) e) right
 
--- what a refused poll is answered
-pub poll_refused : (p : List Effect) (seat f max : ℕ) (r : Refusal) → refusal_of_poll p seat f (feed_of p f) ≡ Some r → answer_of p seat (Poll f max) ≡ Refused r
-poll_refused p seat f max r is = ?
-
--- what a poll that goes on is answered
-pub poll_goes_on : (p : List Effect) (seat f max : ℕ) (feed : Feed) → refusal_of_poll p seat f (feed_of p f) ≡ None → feed_of p f ≡ Some feed → answer_of p seat (Poll f max) ≡ Messages (next_messages p f feed max)
-poll_goes_on p seat f max feed none is = ?
+-- each feed was opened by an effect of its own
+pub opened_at_most : (p : List Effect) → feeds_opened p ≤ length p
+opened_at_most [] = omega arith
+opened_at_most (Opens f seat span cursor ∷ p) = let before = opened_at_most p in omega arith
+opened_at_most (_ ∷ p) = let before = opened_at_most p in omega arith

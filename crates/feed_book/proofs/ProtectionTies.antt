@@ -1,8 +1,8 @@
 -- The tie of the protections is kept: by each call, and by every effect of no protection.
-use Rattle.std.proofs.Common.{◌≡◌, ℕ, suc, ◌==◌, Bool, true, false, not, cond, ◌||◌, List, [], ◌∷◌, ◌++◌, map, refl, sym, ◌∙◌, ap, arith}
+use Rattle.std.proofs.Common.{◌≡◌, ◌≤◌, ◌<◌, ◌+◌, ℕ, suc, length, drop, get_or, ◌==◌, Bool, true, false, not, ◌||◌, List, [], ◌∷◌, ◌++◌, map, refl, sym, ◌∙◌, ap, arith}
 use Rattle.std.specs.Prelude.{filter, min}
 use Rattle.std.specs.List.{list_any}
-use Rattle.std.proofs.lemmas.List.{append-nil}
+use Rattle.std.proofs.lemmas.List.{append-nil, map-append, at_drop_more}
 use Rattle.std.proofs.lemmas.List.Elements.{filter-append}
 use Rattle.std.proofs.lemmas.List.Folds.{list_any-append}
 use Rattle.spans.specs.Effects.{Effect, Protects, Releases}
@@ -69,3 +69,31 @@ protections_any kept p id tied = sym (ap (list_any (λ (x : collection.Protectio
 -- the protected timestamps
 pub protections_at : (kept : Standing) (p : List Effect) → ProtectionsTied kept p → map (λ (x : collection.Protection). x.at) (protections_of p) ≡ map (λ (x : collection.Protection). x.at) (newest_first kept.standing)
 protections_at kept p tied = ap (map (λ (x : collection.Protection). x.at)) tied.standing
+
+least_append : (n : ℕ) (ms ns : List ℕ) → least_of n (ms ++ ns) ≡ least_of (least_of n ns) ms
+least_append n [] ns = refl
+least_append n (m ∷ ms) ns = ap (min m) (least_append n ms ns)
+
+-- the next protection counts before those after it
+pub least_more : (n : ℕ) (x : Protection) (xs : List Protection)
+    → least_of n (map (λ (y : collection.Protection). y.at) (newest_first (x ∷ xs))) ≡ least_of (min n x.at) (map (λ (y : collection.Protection). y.at) (newest_first xs))
+least_more n x xs =
+    ap (least_of n) (map-append (λ (y : collection.Protection). y.at) (newest_first xs) (record { id = x.id; at = x.at } ∷ []))
+    ∙ least_append n (map (λ (y : collection.Protection). y.at) (newest_first xs)) (x.at ∷ [])
+    ∙ (let e : min x.at n ≡ min n x.at = omega arith in ap (λ m. least_of m (map (λ (y : collection.Protection). y.at) (newest_first xs))) e)
+
+-- one step of the walk that takes the least protected timestamp
+pub least_step : (n least next i : ℕ) (xs : List Protection) (d : Protection) → i < length xs → next ≡ min least (get_or xs i d).at
+    → least_of least (map (λ (y : collection.Protection). y.at) (newest_first (drop i xs))) ≡ least_of n (map (λ (y : collection.Protection). y.at) (newest_first xs))
+    → least_of next (map (λ (y : collection.Protection). y.at) (newest_first (drop (i + 1) xs))) ≡ least_of n (map (λ (y : collection.Protection). y.at) (newest_first xs))
+least_step n least next i xs d low now before =
+    ap (λ m. least_of m (map (λ (y : collection.Protection). y.at) (newest_first (drop (i + 1) xs)))) now
+    ∙ sym (least_more least (get_or xs i d) (drop (i + 1) xs))
+    ∙ sym (at_drop_more (λ l. least_of least (map (λ (y : collection.Protection). y.at) (newest_first l))) xs i d low)
+    ∙ before
+
+-- each protection was made by an effect of its own
+pub made_at_most : (p : List Effect) → protections_made p ≤ length p
+made_at_most [] = omega arith
+made_at_most (Protects id t ∷ p) = let before = made_at_most p in omega arith
+made_at_most (_ ∷ p) = let before = made_at_most p in omega arith

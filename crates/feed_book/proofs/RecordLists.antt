@@ -1,15 +1,16 @@
 -- Lists of feed records: one more at the end, and one of them changed.
-use Rattle.std.proofs.Common.{◌≡◌, ◌≢◌, ℕ, zero, suc, ◌+◌, ◌<◌, ◌≤◌, ◌==◌, Bool, true, false, not, cond, List, [], ◌∷◌, ◌++◌, map, length, get_or, set, Option, Some, None, refl, sym, ◌∙◌, ap, subst, arith, append_assoc, add-zero}
+use Rattle.std.proofs.Common.{◌≡◌, ◌≢◌, ℕ, zero, suc, ◌+◌, drop, ◌<◌, ◌==◌, true, false, not, cond, List, [], ◌∷◌, ◌++◌, map, length, get_or, set, Some, None, refl, sym, ◌∙◌, ap, subst, arith, append_assoc, add-zero}
 use Rattle.std.specs.Prelude.{filter, min, count_by, slice_get, option_map}
-use Rattle.std.proofs.lemmas.List.{append-nil, map-append, length-append}
+use Rattle.std.proofs.lemmas.List.{append-nil, map-append, length-append, at_drop_more}
 use Rattle.std.proofs.lemmas.List.Elements.{filter-append}
+use Rattle.std.proofs.lemmas.List.Recursion.{is_count_by}
 use Rattle.std.proofs.lemmas.Option.{slice_get_past}
 use Rattle.std.proofs.lemmas.Bool.{eq-eqb, eqb-true, ne_eqb, eqb-false}
 use Rattle.spans.specs.declared.calls.messages.Message.{Message}
 use Rattle.spans.specs.Effects.{Effect}
 use Rattle.spans.specs.Transactions.{least_of}
 use Rattle.spans.specs.Feeds.{told_to}
-use Rattle.spans.specs.Collection.{LiveFeed, floor_after, floor_of}
+use Rattle.spans.specs.Collection.{LiveFeed, floor_of}
 use Rattle.spans.proofs.Steps.{by_test}
 use Rattle.feed_book.specs.declared.record.FeedRecord.{FeedRecord}
 use Rattle.feed_book.specs.Records.{telling, cancelled, changed_at, record_at, is_live, live_one, live_in, floor_in, floor_one, floors_in}
@@ -110,15 +111,43 @@ live_cancelled n (suc i) m (x ∷ xs) at =
 
 -- counts and floors
 
+-- how many of the records live
+abbrev live_number : List FeedRecord → ℕ
+live_number [] = 0
+live_number (x ∷ xs) = cond (is_live x) (1 + live_number xs) (live_number xs)
+
+live_numbered : (n : ℕ) (xs : List FeedRecord) → length (live_in n xs) ≡ live_number xs
+live_numbered n [] = refl
+live_numbered n (x ∷ xs) = length-append (live_in (suc n) xs) (live_one n x) ∙ by_test (is_live x)
+    (λ is. rw (is, live_numbered (suc n) xs) (omega arith))
+    (λ isnt. rw (isnt, live_numbered (suc n) xs) (omega arith))
+
 pub live_count : (n : ℕ) (xs : List FeedRecord) → length (live_in n xs) ≡ count_by is_live xs
-live_count n [] = refl
-live_count n (x ∷ xs) = length-append (live_in (suc n) xs) (live_one n x) ∙ by_test (is_live x)
-    (λ is. rw (is, live_count (suc n) xs) (omega arith))
-    (λ isnt. rw (isnt, live_count (suc n) xs) (omega arith))
+live_count n xs = live_numbered n xs ∙ is_count_by live_number is_live refl (λ x xs. refl) xs
 
 pub least_append : (n : ℕ) (ms ns : List ℕ) → least_of n (ms ++ ns) ≡ least_of (least_of n ns) ms
 least_append n [] ns = refl
 least_append n (m ∷ ms) ns = ap (min m) (least_append n ms ns)
+
+-- the next record's floor counts before those of the records after it
+pub least_more : (n : ℕ) (x : FeedRecord) (xs : List FeedRecord) → least_of n (floors_in (x ∷ xs)) ≡ least_of (least_of n (floor_one x)) (floors_in xs)
+least_more n x xs = least_append n (floors_in xs) (floor_one x)
+
+-- one step of the walk that takes the least floor
+pub floors_step : (n least next i : ℕ) (xs : List FeedRecord) (x : FeedRecord) → i < length xs → x ≡ get_or xs i x → next ≡ least_of least (floor_one x)
+    → least_of least (floors_in (drop i xs)) ≡ least_of n (floors_in xs) → least_of next (floors_in (drop (i + 1) xs)) ≡ least_of n (floors_in xs)
+floors_step n least next i xs x low is now before =
+    ap (λ m. least_of m (floors_in (drop (i + 1) xs))) now
+    ∙ sym (least_more least x (drop (i + 1) xs))
+    ∙ ap (λ y. least_of least (floors_in (y ∷ drop (i + 1) xs))) is
+    ∙ sym (at_drop_more (λ l. least_of least (floors_in l)) xs i x low)
+    ∙ before
+
+pub least_live : (n : ℕ) (x : FeedRecord) → is_live x ≡ true → min n (floor_in x) ≡ least_of n (floor_one x)
+least_live n x is = rw is (omega arith)
+
+pub least_cancelled : (n : ℕ) (x : FeedRecord) → is_live x ≡ false → n ≡ least_of n (floor_one x)
+least_cancelled n x isnt = rw isnt refl
 
 -- the floors of the records are those of the feeds that live
 pub floors_are : (p : List Effect) (n : ℕ) (xs : List FeedRecord) → ((i : ℕ) (x : FeedRecord) → slice_get xs i ≡ Some x → told_to p (n + i) ≡ x.told) → map (floor_of p) (live_in n xs) ≡ floors_in xs

@@ -1,6 +1,7 @@
 -- What a feed is told next, and what its last message says.
-use Rattle.std.proofs.Common.{◌≡◌, ℕ, zero, suc, ◌<◌, ◌≤◌, List, [], ◌∷◌, ◌++◌, map, length, take, drop, Option, Some, None, refl, sym, ◌∙◌, ap, subst, arith}
+use Rattle.std.proofs.Common.{◌≡◌, ℕ, zero, suc, ◌-◌, ◌<◌, ◌≤◌, List, [], ◌∷◌, ◌++◌, map, length, take, drop, Option, Some, None, refl, sym, ◌∙◌, ap, arith}
 use Rattle.std.specs.Prelude.{slice_get, nat_lt, if◌then◌else◌}
+use Rattle.std.proofs.lemmas.List.{length-map}
 use Rattle.std.proofs.Math.Seq.{drop-append_seam}
 use Rattle.timestamps.specs.declared.row.Row.{Row}
 use Rattle.spans.specs.declared.calls.messages.Message.{Message}
@@ -8,29 +9,37 @@ use Rattle.spans.specs.declared.calls.messages.Message.TheVariants as messages
 use Rattle.spans.specs.Effects.{Effect}
 use Rattle.spans.specs.Transactions.{closed_of}
 use Rattle.spans.specs.Streams.{stream_of}
-use Rattle.spans.specs.Feeds.{Feed, feed_of, told_to, rows_in, last_resolved, due_message, untold_rows, next_messages}
+use Rattle.spans.specs.Feeds.{Feed, told_to, rows_in, last_resolved, due_message, untold_rows, next_messages}
 use Rattle.spans.specs.FeedRight.{FeedIsRight}
 use Rattle.spans.specs.Collection.{floor_after}
 use Rattle.spans.proofs.Feeding.{untold_is}
 use Rattle.feed_book.specs.declared.record.FeedRecord.{FeedRecord}
 use Rattle.feed_book.specs.Records.{due_at, due_in, next_in}
 
+none_left : (n : ℕ) → let none : List Message = [] in none ≡ take n none
+none_left zero = refl
+none_left (suc n) = refl
+
 -- enough rows for max
-pub next_full : (max : ℕ) (rows : List Row) (due : List Message) → max ≤ length (take max rows) → map messages.Row (take max rows) ≡ take max (map messages.Row rows ++ due)
+next_full : (max : ℕ) (rows : List Row) (due : List Message) → max ≤ length (take max rows) → map messages.Row (take max rows) ≡ take max (map messages.Row rows ++ due)
 next_full zero rows due high = refl
 next_full (suc max) [] due high = absurd (omega arith)
 next_full (suc max) (r ∷ rows) due high = ap (λ l. messages.Row r ∷ l) (next_full max rows due (omega arith))
 
 -- fewer rows than max: what is due follows
-pub next_more : (max : ℕ) (rows : List Row) (due : Option ℕ) → length (take max rows) < max → map messages.Row (take max rows) ++ due_at due ≡ take max (map messages.Row rows ++ due_at due)
+next_more : (max : ℕ) (rows : List Row) (due : Option ℕ) → length (take max rows) < max → map messages.Row (take max rows) ++ due_at due ≡ take max (map messages.Row rows ++ due_at due)
 next_more zero rows due low = absurd (omega arith)
 next_more (suc max) [] None low = refl
 next_more (suc max) [] (Some t) low = ap (λ l. messages.Resolved t ∷ l) (none_left max)
-  where
-    none_left : (n : ℕ) → [] ≡ take n []
-    none_left zero = refl
-    none_left (suc n) = refl
 next_more (suc max) (r ∷ rows) due low = ap (λ l. messages.Row r ∷ l) (next_more max rows due (omega arith))
+
+-- messages that are the first rows: enough of them for max
+pub rows_full : (max : ℕ) (rows : List Row) (due : List Message) (ms : List Message) → ms ≡ map messages.Row (take max rows) → max ≤ length ms → ms ≡ take max (map messages.Row rows ++ due)
+rows_full max rows due ms is high = is ∙ next_full max rows due (let e : length ms ≡ length (take max rows) = ap length is ∙ length-map (take max rows) messages.Row in omega arith)
+
+-- and fewer
+pub rows_more : (max : ℕ) (rows : List Row) (due : Option ℕ) (ms : List Message) → ms ≡ map messages.Row (take max rows) → length ms < max → ms ++ due_at due ≡ take max (map messages.Row rows ++ due_at due)
+rows_more max rows due ms is low = ap (λ l. l ++ due_at due) is ∙ next_more max rows due (let e : length ms ≡ length (take max rows) = ap length is ∙ length-map (take max rows) messages.Row in omega arith)
 
 -- up to where all is told after a message
 abbrev pub floor_told : Message → ℕ

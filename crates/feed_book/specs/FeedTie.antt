@@ -1,5 +1,5 @@
 -- How a book of feeds is tied to the effects of a history.
-use Rattle.std.specs.Prelude.{ℕ, suc, List, [], ◌∷◌, ◌≡◌, ◌≤◌, length, Bool, not, ◌==◌, Option, Some, None, option_map}
+use Rattle.std.specs.Prelude.{ℕ, List, [], ◌∷◌, ◌≡◌, ◌≤◌, length, not, ◌==◌, Option, Some, None, option_map}
 use Rattle.spans.specs.declared.calls.replies.Refusal.{Refusal}
 use Rattle.spans.specs.declared.calls.replies.Refusal.TheVariants.{NoFeed, FeedCancelled, NotOwner}
 use Rattle.spans.specs.Effects.{Effect, Opens, Polls, Cancels}

@@ -1,5 +1,5 @@
 //! The book of all feeds that were opened.
-ghost use Rattle.std.specs.Prelude.{◌≡◌, ◌<◌, ◌≤◌, ◌++◌, ◌∷◌, [], List, ℕ, suc, not, map, length, Bool, Some, IfOk, OnOk, OnErr, IfNone, is_some, vec_len};
+ghost use Rattle.std.specs.Prelude.{◌≡◌, ◌<◌, ◌≤◌, ◌∷◌, [], List, ℕ, suc, not, map, length, count_by, Some, IfOk, IfErr, OnOk, OnErr, IfNone, is_some, true, vec_len};
 ghost use Rattle.std.specs.Option.{option_copied};
 ghost use Rattle.timestamps.specs.declared.ts.TheConstants.{MAX};
 ghost use Rattle.spans.specs.declared.calls.replies.Refusal.TheVariants.{NoFeed, FeedCancelled};
@@ -10,7 +10,7 @@ ghost use Rattle.spans.specs.Feeds.{Feed, feed_of, feeds_opened, is_cancelled, n
 ghost use Rattle.spans.specs.FeedRight.{FeedIsRight};
 ghost use Rattle.spans.specs.Collection.{floor_of, live_feeds};
 ghost use Rattle.spans.specs.Answer.{first_refusal};
-ghost use Rattle.feed_book.specs.Records.{feed_part, floors_in, telling, cancelled, changed_at, record_at, live_in};
+ghost use Rattle.feed_book.specs.Records.{feed_part, floors_in, is_cancelled_in, telling, cancelled, changed_at, record_at, is_live};
 ghost use Rattle.feed_book.specs.FeedTie.{FeedsTied, IsOpened, refusal_of_poll};
 
 use crate::record::{FeedRecord, FeedState};
@@ -47,11 +47,20 @@ impl FeedBook {
         }
     }
 
+    /// How many feeds were opened.
+    pub fn opened(&self) -> u64
+        ensures { result ≡ length self.now }
+    {
+        self.feeds.len() as u64
+    }
+
     /// Opens a feed, and answers its number.
     pub fn open(&mut self, seat: u8, span: &Span, cursor: u64) -> Result<u64, AllocError>
         requires room { length self.old < u64.MAX }
-        ensures number { IfOk result (λ number. (p : List Effect) → FeedsTied self.old p → number ≡ suc (feeds_opened p)) }
-        ensures opened { IfOk result (λ number. (p : List Effect) → FeedsTied self.old p → FeedsTied self.new (Opens number seat span.now cursor ∷ p)) }
+        ensures number { IfOk result (λ number. (p : List Effect) → FeedsTied self.old p →
+            number ≡ suc (feeds_opened p)) }
+        ensures opened { IfOk result (λ number. (p : List Effect) → FeedsTied self.old p →
+            FeedsTied self.new (Opens number seat span.now cursor ∷ p)) }
         ensures err { OnErr result (self.new ≡ self.old) }
     {
         let feed = FeedRecord::new(self.alloc, seat, span, cursor)?;
@@ -61,15 +70,13 @@ impl FeedBook {
 
     /// Why a seat may not poll a feed, if it may not.
     pub fn poll_refusal(&self, feed: u64, seat: u8) -> Option<Refusal>
-        ensures refusal { (p : List Effect) → FeedsTied self.now p → result ≡ refusal_of_poll p seat feed (feed_of p feed) }
+        ensures refusal { (p : List Effect) → FeedsTied self.now p →
+            result ≡ refusal_of_poll p seat feed (feed_of p feed) }
         ensures opened { IfNone result (IsOpened self.now feed) }
     {
-        match self.find(feed) {
-            None => Some(Refusal::NoFeed),
-            Some(record) => {
-                if !record.is_live() {
-                    return Some(Refusal::FeedCancelled);
-                }
+        match self.find_live(feed) {
+            Err(refusal) => Some(refusal),
+            Ok(record) => {
                 if record.seat != seat {
                     return Some(Refusal::NotOwner);
                 }
@@ -80,25 +87,31 @@ impl FeedBook {
 
     /// Why a feed can't be cancelled, if it can't.
     pub fn cancel_refusal(&self, feed: u64) -> Option<Refusal>
-        ensures refusal { (p : List Effect) → FeedsTied self.now p → result ≡ first_refusal ((not (is_some (feed_of p feed)), NoFeed) ∷ (is_cancelled p feed, FeedCancelled) ∷ []) }
+        ensures refusal { (p : List Effect) → FeedsTied self.now p →
+            result ≡ first_refusal ((not (is_some (feed_of p feed)), NoFeed)
+            ∷ (is_cancelled p feed, FeedCancelled) ∷ []) }
         ensures opened { IfNone result (IsOpened self.now feed) }
     {
-        match self.find(feed) {
-            None => Some(Refusal::NoFeed),
-            Some(record) => {
-                if !record.is_live() {
-                    return Some(Refusal::FeedCancelled);
-                }
-                None
-            }
-        }
+        self.find_live(feed).err()
     }
 
-    /// The record of a feed.
-    fn find(&self, feed: u64) -> Option<&FeedRecord>
-        ensures { option_copied result ≡ record_at self.now feed }
+    /// The record of a feed that lives, or why there is none.
+    fn find_live(&self, feed: u64) -> Result<&FeedRecord, Refusal>
+        ensures found { IfOk result (λ x. record_at self.now feed ≡ Some x.now) }
+        ensures live { IfOk result (λ x. is_live x.now ≡ true) }
+        ensures refused { let x = record_at self.now feed in IfErr result (λ r.
+            first_refusal ((not (is_some x), NoFeed)
+            ∷ (is_cancelled_in x, FeedCancelled) ∷ []) ≡ Some r) }
     {
-        find_feed(self.feeds.as_slice(), feed)
+        match find_feed(self.feeds.as_slice(), feed) {
+            None => Err(Refusal::NoFeed),
+            Some(record) => {
+                if !record.is_live() {
+                    return Err(Refusal::FeedCancelled);
+                }
+                Ok(record)
+            }
+        }
     }
 
     /// Cancels a feed. It takes no memory.
@@ -112,7 +125,9 @@ impl FeedBook {
     /// A feed that was opened: its span and cursor say which stream a poll wants.
     pub fn feed(&self, number: u64) -> &FeedRecord
         requires opened { IsOpened self.now number }
-        ensures { (p : List Effect) → FeedsTied self.now p → feed_of p number ≡ Some (feed_part result.now) }
+        ensures record { record_at self.now number ≡ Some result.now }
+        ensures feed { (p : List Effect) → FeedsTied self.now p →
+            feed_of p number ≡ Some (feed_part result.now) }
     {
         &self.feeds[(number - 1) as usize]
     }
@@ -129,7 +144,10 @@ impl FeedBook {
     ) -> Result<Messages, AllocError>
         requires opened { IsOpened self.now feed }
         requires closed { closed ≤ MAX }
-        ensures { IfOk result (λ messages. (p : List Effect) (f : Feed) → FeedsTied self.now p → feed_of p feed ≡ Some f → FeedIsRight p feed f → closed ≡ closed_of p → stream.now ≡ stream_of p f.span f.cursor closed → messages ≡ next_messages p feed f max) }
+        ensures { IfOk result (λ messages. (p : List Effect) (f : Feed) →
+            FeedsTied self.now p → feed_of p feed ≡ Some f → FeedIsRight p feed f →
+            closed ≡ closed_of p → stream.now ≡ stream_of p f.span f.cursor closed →
+            messages ≡ next_messages p feed f max) }
     {
         self.feed(feed).next_messages(alloc, max, closed, stream)
     }
@@ -137,22 +155,29 @@ impl FeedBook {
     /// Keeps that a feed was told these messages.
     pub fn tell(&mut self, feed: u64, messages: &Messages) -> Result<(), AllocError>
         requires opened { IsOpened self.old feed }
-        ensures told { OnOk result ((p : List Effect) (max : ℕ) → FeedsTied self.old p → FeedsTied self.new (Polls feed max messages.now ∷ p)) }
+        ensures told { OnOk result ((p : List Effect) (max : ℕ) → FeedsTied self.old p →
+            FeedsTied self.new (Polls feed max messages.now ∷ p)) }
         ensures err { OnErr result (self.new ≡ self.old) }
     {
-        tell_at(self.alloc, &mut self.feeds, (feed - 1) as usize, messages.as_slice())
+        tell_at(
+            self.alloc,
+            &mut self.feeds,
+            (feed - 1) as usize,
+            messages.as_slice(),
+        )
     }
 
     /// How many feeds live.
     pub fn live_count(&self) -> u64
         ensures { (p : List Effect) → FeedsTied self.now p → result ≡ length (live_feeds p) }
     {
-        self.feeds.iter().filter(|feed| feed.is_live()).count() as u64
+        count_live(self.feeds.as_slice()) as u64
     }
 
     /// The least of `n` and the floors of the feeds that live.
     pub fn least_floor(&self, n: u64) -> u64
-        ensures { (p : List Effect) → FeedsTied self.now p → result ≡ least_of n (map (floor_of p) (live_feeds p)) }
+        ensures { (p : List Effect) → FeedsTied self.now p →
+            result ≡ least_of n (map (floor_of p) (live_feeds p)) }
     {
         least_live_floor(self.feeds.as_slice(), n)
     }
@@ -181,10 +206,17 @@ fn tell_at(
     messages: &[Message],
 ) -> Result<(), AllocError>
     requires { at < vec_len feeds.old }
-    ensures ok { OnOk result (feeds.new.items ≡ changed_at (telling messages.now) feeds.old.items at) }
+    ensures ok { OnOk result
+        (feeds.new.items ≡ changed_at (telling messages.now) feeds.old.items at) }
     ensures err { OnErr result (feeds.new.items ≡ feeds.old.items) }
 {
     feeds[at].told.add(alloc, messages)
+}
+
+fn count_live(feeds: &[FeedRecord]) -> usize
+    ensures { result ≡ count_by is_live feeds.now }
+{
+    feeds.iter().filter(|feed| feed.is_live()).count()
 }
 
 fn least_live_floor(feeds: &[FeedRecord], n: u64) -> u64

@@ -18,7 +18,8 @@ pub fn horizon_reached(
     closed: u64,
     horizon: u64,
 ) -> u64
-    ensures { (p : List Effect) → FeedsTied feeds.now p → ProtectionsTied protections.now p → closed ≡ closed_of p → horizon ≡ horizon_of p → result ≡ collection_horizon p to }
+    ensures { (p : List Effect) → FeedsTied feeds.now p → ProtectionsTied protections.now p →
+        closed ≡ closed_of p → horizon ≡ horizon_of p → result ≡ collection_horizon p to }
 {
     let unread = feeds.least_floor(to.min(closed));
     horizon.max(protections.least(unread))

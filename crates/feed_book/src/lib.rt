@@ -1,23 +1,17 @@
-//! Feeds and protections as plain lists: the part of the reference database that answers by the
-//! definitions which feeds live, what each is told next, and what holds the horizon back.
+//! The feeds and the protections of the reference database, as plain lists that are walked.
 //!
-//! A [`FeedBook`] has one record a feed, in the order of opening, so feed n stands at place n - 1 and
-//! no number is used again. A record keeps every message that its feed was told. A feed over all keys
-//! from 0 on, with versions of "a" committed at 5 and at 9, and closed at 7, then at 9:
+//! A [`FeedBook`] has a record of each feed, in the order of opening: feed n stands at place n - 1,
+//! with every message that it was told. [`Protections`] has those that stand, and how many were made.
 //!
 //! ```text
-//!                    told                     floor
-//! open               (none)                   0
-//! poll at most 1     row 5                    4     a row of 5: another of 5 may follow
-//! poll               row 5, resolved 7        7
-//! poll, closed 9     .., row 9, resolved 9    9
-//! cancel             as before                none: it holds nothing back
+//! open from 5                 told nothing            floor 5
+//! poll 1, of rows 10, 20      told 10                 floor 9, as another row of 10 may follow
+//! poll 9, closed at 30        told 10, 20, to 30      floor 30
+//! cancel                      told 10, 20, to 30      none: it holds no horizon back
 //! ```
 //!
-//! [`Protections`] has those that stand, and how many were made. [`horizon_reached`] joins both.
-//!
-//! Cost: a poll walks what its feed was told and the stream that it is given; floors, counts and
-//! protections are walks of all records; the other calls look at one record.
+//! A poll walks what its feed was told and the stream that it is given. The floors, the count of
+//! live feeds and the protections are walks of all; each other call looks at one record.
 #![tactic(auto)]
 
 mod book;
@@ -31,5 +25,4 @@ mod told;
 pub use book::FeedBook;
 pub use horizon::horizon_reached;
 pub use protections::{Protection, Protections};
-pub use record::{FeedRecord, FeedState};
-pub use told::Told;
+pub use record::FeedRecord;

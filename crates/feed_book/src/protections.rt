@@ -1,10 +1,11 @@
 //! The protections that stand.
-ghost use Rattle.std.specs.Prelude.{◌≡◌, ◌<◌, ◌++◌, ◌∷◌, [], List, ℕ, suc, map, IfOk, OnErr};
+ghost use Rattle.std.specs.Prelude.{◌≡◌, ◌==◌, ◌<◌, ◌∷◌, [], List, suc, map, IfOk, OnErr};
 ghost use Rattle.std.specs.List.{list_any};
 ghost use Rattle.spans.specs.Effects.{Effect, Protects, Releases};
 ghost use Rattle.spans.specs.Transactions.{least_of};
 ghost use Rattle.spans.specs.Collection as collection;
 ghost use Rattle.spans.specs.Collection.{protections_made, protections_of, is_protected};
+ghost use Rattle.feed_book.specs.declared.protections.Protection.{Protection};
 ghost use Rattle.feed_book.specs.ProtectionTie.{ProtectionsTied, newest_first};
 
 use std::alloc::{AllocError, Global};
@@ -45,11 +46,20 @@ impl Protections {
         }
     }
 
+    /// How many protections were made.
+    pub fn made(&self) -> u64
+        ensures { result ≡ self.now.made }
+    {
+        self.made
+    }
+
     /// Protects a timestamp, and answers the protection's number.
     pub fn protect(&mut self, t: u64) -> Result<u64, AllocError>
         requires room { self.old.made < u64.MAX }
-        ensures number { IfOk result (λ id. (p : List Effect) → ProtectionsTied self.old p → id ≡ suc (protections_made p)) }
-        ensures protected { IfOk result (λ id. (p : List Effect) → ProtectionsTied self.old p → ProtectionsTied self.new (Protects id t ∷ p)) }
+        ensures number { IfOk result (λ id. (p : List Effect) → ProtectionsTied self.old p →
+            id ≡ suc (protections_made p)) }
+        ensures protected { IfOk result (λ id. (p : List Effect) → ProtectionsTied self.old p →
+            ProtectionsTied self.new (Protects id t ∷ p)) }
         ensures err { OnErr result (self.new ≡ self.old) }
     {
         let id = self.made + 1;
@@ -60,7 +70,8 @@ impl Protections {
 
     /// Ends a protection. It takes no memory, and does nothing where none of this number stands.
     pub fn release(&mut self, id: u64)
-        ensures { (p : List Effect) → ProtectionsTied self.old p → ProtectionsTied self.new (Releases id ∷ p) }
+        ensures { (p : List Effect) → ProtectionsTied self.old p →
+            ProtectionsTied self.new (Releases id ∷ p) }
     {
         self.standing.retain(|protection| protection.id != id);
     }
@@ -69,19 +80,27 @@ impl Protections {
     pub fn is_standing(&self, id: u64) -> bool
         ensures { (p : List Effect) → ProtectionsTied self.now p → result ≡ is_protected p id }
     {
-        self.standing.iter().any(|protection| protection.id == id)
+        has_id(self.standing.as_slice(), id)
     }
 
     /// The least of `n` and the protected timestamps.
     pub fn least(&self, n: u64) -> u64
-        ensures { (p : List Effect) → ProtectionsTied self.now p → result ≡ least_of n (map (λ (x : collection.Protection). x.at) (protections_of p)) }
+        ensures { (p : List Effect) → ProtectionsTied self.now p →
+            result ≡ least_of n (map (λ (x : collection.Protection). x.at) (protections_of p)) }
     {
         least_protected(self.standing.as_slice(), n)
     }
 }
 
+fn has_id(standing: &[Protection], id: u64) -> bool
+    ensures { result ≡ list_any (λ (x : Protection). x.id == id) standing.now }
+{
+    standing.iter().any(|protection| protection.id == id)
+}
+
 fn least_protected(standing: &[Protection], n: u64) -> u64
-    ensures { result ≡ least_of n (map (λ (x : collection.Protection). x.at) (newest_first standing.now)) }
+    ensures { result ≡ least_of n
+        (map (λ (x : collection.Protection). x.at) (newest_first standing.now)) }
 {
     let mut least = n;
     for protection in standing {

@@ -1,5 +1,5 @@
 //! One feed: whose it is, what it watches, what it was told, and whether it lives.
-ghost use Rattle.std.specs.Prelude.{◌≡◌, ◌≤◌, ◌++◌, take, drop, map, length, IfOk, OnOk, OnErr};
+ghost use Rattle.std.specs.Prelude.{◌≡◌, ◌≤◌, take, drop, map, IfOk};
 ghost use Rattle.timestamps.specs.declared.ts.TheConstants.{MAX};
 ghost use Rattle.feed_book.specs.Records.{new_record, is_live, floor_in, due_at, due_in, next_in};
 
@@ -12,7 +12,7 @@ use timestamps::ts::Ts;
 
 /// Whether a feed still tells, and holds the horizon back.
 #[derive(Clone, Copy, Debug, PartialEq, Eq)]
-pub enum FeedState {
+pub(crate) enum FeedState {
     Live,
     Cancelled,
 }
@@ -25,13 +25,18 @@ pub struct FeedRecord {
     pub span: Span,
     /// It tells versions above this timestamp.
     pub cursor: u64,
-    pub told: Told,
-    pub state: FeedState,
+    pub(crate) told: Told,
+    pub(crate) state: FeedState,
 }
 
 impl FeedRecord {
     /// A feed that lives and was told nothing.
-    pub fn new(alloc: Global, seat: u8, span: &Span, cursor: u64) -> Result<FeedRecord, AllocError>
+    pub(crate) fn new(
+        alloc: Global,
+        seat: u8,
+        span: &Span,
+        cursor: u64,
+    ) -> Result<FeedRecord, AllocError>
         ensures { IfOk result (λ feed. feed ≡ new_record seat span.now cursor) }
     {
         let span = span.copy()?;
@@ -45,7 +50,7 @@ impl FeedRecord {
     }
 
     /// Whether it lives.
-    pub fn is_live(&self) -> bool
+    pub(crate) fn is_live(&self) -> bool
         ensures { result ≡ is_live self.now }
     {
         match self.state {
@@ -55,7 +60,7 @@ impl FeedRecord {
     }
 
     /// Up to where all is told.
-    pub fn floor(&self) -> u64
+    pub(crate) fn floor(&self) -> u64
         ensures { result ≡ floor_in self.now }
     {
         self.told.floor_from(self.cursor)
@@ -63,7 +68,7 @@ impl FeedRecord {
 
     /// The rows of the stream that follow those that were told, then the resolved message that is
     /// due: the first `max` of these.
-    pub fn next_messages(
+    pub(crate) fn next_messages(
         &self,
         alloc: Global,
         max: u64,
@@ -73,8 +78,8 @@ impl FeedRecord {
         requires { closed ≤ MAX }
         ensures { IfOk result (λ messages. messages ≡ next_in self.now max closed stream.now) }
     {
-        let rest = rows_after(stream, self.told.row_count());
-        let mut messages = first_rows(alloc, rest, max)?;
+        let untold = rows_after(stream, self.told.row_count());
+        let mut messages = row_messages(alloc, first_rows(untold, max))?;
         if (messages.len() as u64) < max {
             if let Some(at) = self.due(closed) {
                 messages.push(Message::Resolved(at))?;
@@ -105,12 +110,22 @@ fn rows_after(stream: &[Row], told: usize) -> &[Row]
     &stream[told..]
 }
 
-/// Copies of the first `max` rows, as messages.
-fn first_rows(alloc: Global, rows: &[Row], max: u64) -> Result<Vec<Message>, AllocError>
-    ensures { IfOk result (λ messages. messages.items ≡ map Message.Row (take max rows.now)) }
+/// The first `max` rows.
+fn first_rows(rows: &[Row], max: u64) -> &[Row]
+    ensures { result.now ≡ take max rows.now }
+{
+    if max >= rows.len() as u64 {
+        return rows;
+    }
+    &rows[..max as usize]
+}
+
+/// Copies of rows, as messages.
+fn row_messages(alloc: Global, rows: &[Row]) -> Result<Vec<Message>, AllocError>
+    ensures { IfOk result (λ messages. messages.items ≡ map Message.Row rows.now) }
 {
     let mut messages = Vec::new(alloc);
-    for row in &rows[..rows.len().min(max as usize)] {
+    for row in rows {
         let copy = row.copy()?;
         messages.push(Message::Row(copy))?;
     }

@@ -9,7 +9,7 @@ use std::marker::Model;
 
 /// The messages that a feed was told, the oldest first.
 #[derive(Debug, Drop)]
-pub struct Told {
+pub(crate) struct Told {
     list: Vec<Message>,
 }
 
@@ -24,7 +24,7 @@ impl Model for Told {
 
 impl Told {
     /// Nothing yet.
-    pub fn new(alloc: Global) -> Told
+    pub(crate) fn new(alloc: Global) -> Told
         ensures { result ≡ [] }
     {
         Told {
@@ -33,14 +33,14 @@ impl Told {
     }
 
     /// The messages, lent.
-    pub fn as_slice(&self) -> &[Message]
+    pub(crate) fn as_slice(&self) -> &[Message]
         ensures { result.now ≡ self.now }
     {
         self.list.as_slice()
     }
 
     /// Adds copies of more messages.
-    pub fn add(&mut self, alloc: Global, messages: &[Message]) -> Result<(), AllocError>
+    pub(crate) fn add(&mut self, alloc: Global, messages: &[Message]) -> Result<(), AllocError>
         ensures ok { OnOk result (self.new ≡ self.old ++ messages.now) }
         ensures err { OnErr result (self.new ≡ self.old) }
     {
@@ -50,21 +50,21 @@ impl Told {
     }
 
     /// How many of the messages are rows.
-    pub fn row_count(&self) -> usize
+    pub(crate) fn row_count(&self) -> usize
         ensures { result ≡ length (rows_in self.now) }
     {
         count_rows(self.list.as_slice())
     }
 
     /// The greatest of the cursor and the resolved timestamps.
-    pub fn resolved_from(&self, cursor: u64) -> u64
+    pub(crate) fn resolved_from(&self, cursor: u64) -> u64
         ensures { result ≡ last_resolved cursor self.now }
     {
         greatest_resolved(cursor, self.list.as_slice())
     }
 
     /// Up to where the last message says that all is told; the cursor where there is none.
-    pub fn floor_from(&self, cursor: u64) -> u64
+    pub(crate) fn floor_from(&self, cursor: u64) -> u64
         ensures { result ≡ floor_after cursor self.now }
     {
         floor_of_last(cursor, self.list.as_slice())

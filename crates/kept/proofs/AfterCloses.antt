@@ -1,25 +1,27 @@
 -- What is kept after a closing and after a hard closing.
-use Rattle.std.proofs.Common.{cond, false, Some, sym, Option, map, arith, ap, List, true, Bool, refl, not, None, ◌≡◌, ◌<◌, ◌≤◌, ◌-◌, ◌&&◌, ◌||◌, ◌∷◌, ◌∙◌, ℕ, []}
-use Rattle.std.proofs.lemmas.Bool.{and_parts, false_from_ne_true}
+use Rattle.std.proofs.Common.{Bool, List, not, refl, None, Option, arith, false, ap, true, Some, sym, cond, map, ◌≡◌, ◌<◌, ◌≤◌, ◌-◌, ◌&&◌, ◌||◌, ◌∷◌, ◌∙◌, ℕ, []}
+use Rattle.std.proofs.lemmas.Bool.{false_from_ne_true, and_parts}
 use Rattle.std.proofs.lemmas.Bool.Decides.{nat_tests}
-use Rattle.std.specs.Prelude.{nat_lt, nat_le, filter, is_some, option_map, min}
-use Rattle.spans.specs.Collection.{is_dead, version_name}
-use Rattle.spans.specs.Effects.{HardCloses, Closes, Effect, After}
-use Rattle.spans.specs.Kept.{Kept, transaction_with, IsKeptOf, Transaction, kept_version}
+use Rattle.std.specs.Prelude.{nat_lt, nat_le, filter, option_map, is_some, min}
+use Rattle.spans.specs.Collection.{version_name, is_dead}
+use Rattle.spans.specs.Effects.{HardCloses, Closes, After, Effect}
+use Rattle.spans.specs.Kept.{transaction_with, Transaction, Kept, IsKeptOf, kept_version}
 use Rattle.spans.specs.Reads.{too_late}
-use Rattle.spans.specs.Transactions.{is_committed, is_undecided, closed_of, owner_of, least_of, is_aborted, decided_through, begun_of, undecided_timestamps}
-use Rattle.spans.specs.Versions.{write_set, committed_version_of, version_of, write_of}
-use Rattle.spans.proofs.Copies.{Allowed, AllAllowed, kept, closed_grows}
-use Rattle.spans.proofs.Open.{least_below, open_above, begun_among}
+use Rattle.spans.specs.Transactions.{is_undecided, decided_through, closed_of, is_aborted, is_committed, owner_of, begun_of, least_of, undecided_timestamps}
+use Rattle.spans.specs.Versions.{committed_version_of, version_of, write_of, write_set}
+use Rattle.spans.proofs.Copies.{closed_grows, Allowed, AllAllowed}
+use Rattle.spans.proofs.Open.{begun_among, open_above, least_below}
 use Rattle.spans.proofs.Steps.{by_test}
+use Rattle.kept.proofs.Dead.{least_low}
 use Rattle.kept.specs.Marks.{IsForgotten}
-use Rattle.kept.specs.Table.{reach, IsOldest, is_open}
+use Rattle.kept.specs.Table.{is_open, reach, IsOldest}
 use Rattle.kept.proofs.Dead.{committed_is, committed_stands}
 use Rattle.kept.proofs.Marking.{marks_aborted}
-use Rattle.kept.proofs.Staying.{marks_of, kept_stays, to_kept}
+use Rattle.kept.proofs.Staying.{to_kept, kept_stays, marks_of}
 
+-- the table says who is undecided
 pub open_is : (k : Kept) (p : List Effect) → AllAllowed p → IsKeptOf k p → (t : ℕ) → is_open (k.transaction t) ≡ is_undecided p t
-open_is k p all kept t = ap is_open (kept.transactions t) ∙ by_test (nat_lt (closed_of p) t)
+open_is k p all fits t = ap is_open (fits.transactions t) ∙ by_test (nat_lt (closed_of p) t)
     (λ is. rw is (by_owner (owner_of p t)))
     (λ isnt. rw isnt (sym (false_from_ne_true _ (λ u. let l : closed_of p < t = open_above p all t u in grind (arith, nat_tests)))))
   where
@@ -27,28 +29,26 @@ open_is k p all kept t = ap is_open (kept.transactions t) ∙ by_test (nat_lt (c
     by_owner None = refl
     by_owner (Some seat) = refl
 
+-- what is at most each of the numbers is at most the least
 least_above : (q : ℕ → Bool) (m n : ℕ) (ks : List ℕ) → m ≤ n → ((t : ℕ) → q t ≡ true → m ≤ t - 1) → m ≤ least_of n (map (λ t. t - 1) (filter q ks))
 least_above q m n [] low h = low
 least_above q m n (t ∷ ks) low h = let more : m ≤ least_of n (map (λ t. t - 1) (filter q ks)) = least_above q m n ks low h in by_test (q t)
     (λ is. rw is (let l = h t is in omega arith))
     (λ isnt. rw isnt more)
 
-least_under : (n : ℕ) (ms : List ℕ) → least_of n ms ≤ n
-least_under n [] = omega arith
-least_under n (m ∷ ms) = omega (arith, least_under n ms)
-
+-- where nothing passes the test the least is the bound
 least_all : (q : ℕ → Bool) (n : ℕ) (ks : List ℕ) → ((t : ℕ) → q t ≡ false) → least_of n (map (λ t. t - 1) (filter q ks)) ≡ n
 least_all q n [] h = refl
 least_all q n (t ∷ ks) h = rw (h t) (least_all q n ks h)
 
 -- closing reaches as far as the history says
 pub reach_is : (k : Kept) (p : List Effect) → AllAllowed p → IsKeptOf k p → (to : ℕ) (o : Option ℕ) → IsOldest k.transaction o → reach to o ≡ decided_through p to
-reach_is k p all kept to None h = sym (least_all (is_undecided p) to (begun_of p) (λ t. sym (open_is k p all kept t) ∙ h t))
-reach_is k p all kept to (Some o) h =
-    let u : is_undecided p o ≡ true = sym (open_is k p all kept o) ∙ h.0 in
+reach_is k p all fits to None h = sym (least_all (is_undecided p) to (begun_of p) (λ t. sym (open_is k p all fits t) ∙ h t))
+reach_is k p all fits to (Some o) h =
+    let u : is_undecided p o ≡ true = sym (open_is k p all fits o) ∙ h.0 in
     let low : decided_through p to ≤ o - 1 = least_below (is_undecided p) to o (begun_of p) (begun_among p o (and_parts _ _ u).0) u in
-    let high : min to (o - 1) ≤ decided_through p to = least_above (is_undecided p) (min to (o - 1)) to (begun_of p) (omega arith) (λ t is. let l : o ≤ t = h.1 t (open_is k p all kept t ∙ is) in omega arith) in
-    let top : decided_through p to ≤ to = least_under to (map (λ t. t - 1) (undecided_timestamps p)) in
+    let high : min to (o - 1) ≤ decided_through p to = least_above (is_undecided p) (min to (o - 1)) to (begun_of p) (omega arith) (λ t is. let l : o ≤ t = h.1 t (open_is k p all fits t ∙ is) in omega arith) in
+    let top : decided_through p to ≤ to = least_low to (map (λ t. t - 1) (undecided_timestamps p)) in
     omega arith
 
 -- after closing
@@ -57,18 +57,22 @@ pub after_closes : (k : Kept) (p : List Effect) → AllAllowed p → IsKeptOf k 
     → ((y : List ℕ) → IsForgotten (k.marked y) (m' y) n)
     → ((i : ℕ) → τ' i ≡ cond (nat_lt n i) (k.transaction i) None)
     → IsKeptOf (record k { closed = n; marked = m'; transaction = τ' }) (Closes n ∷ p)
-after_closes k p all kept n allowed m' τ' ms ts = record {
-  closed_at = refl; horizon_at = kept.horizon_at;
-  versions = λ y i. kept.versions y i ∙ sym (kept_stays p (Closes n) all allowed refl y i);
-  decided = kept.decided;
-  marks = λ y i above fresh. let b = kept.marks y i (omega (arith, closed_grows p (Closes n) allowed)) fresh in (
+after_closes k p all fits n allowed m' τ' ms ts = record {
+  closed_at = refl;
+  horizon_at = fits.horizon_at;
+  versions = λ y i. fits.versions y i ∙ sym (kept_stays p (Closes n) all allowed refl y i);
+  decided = fits.decided;
+  marks = λ y i above fresh. let b = fits.marks y i (omega (arith, closed_grows p (Closes n) allowed)) fresh in (
     λ late. let c = b.0 late in record { reader = c.reader; mark = (ms y).above c.reader (omega (arith, c.above)) ∙ c.mark; above = c.above; none = c.none },
     λ c. b.1 (record { reader = c.reader; mark = (ms y).only c.reader c.mark; above = c.above; none = c.none }),
   );
   transactions = λ i. ts i ∙ by_test (nat_lt n i)
-      (λ is. let e : nat_lt (closed_of p) i ≡ true = (let g : closed_of p ≤ n = closed_grows p (Closes n) allowed in grind (arith, nat_tests)) in rw is (kept.transactions i ∙ (rw e refl)))
+      (λ is. let e : nat_lt (closed_of p) i ≡ true = (let g : closed_of p ≤ n = closed_grows p (Closes n) allowed in grind (arith, nat_tests)) in rw is (fits.transactions i ∙ (rw e refl)))
       (λ isnt. rw isnt refl);
-  protected = kept.protected; made = kept.made; feeds = kept.feeds; opened = kept.opened;
+  protected = fits.protected;
+  made = fits.made;
+  feeds = fits.feeds;
+  opened = fits.opened;
 }
 
 -- after a hard closing
@@ -78,22 +82,26 @@ pub after_hard_closes : (k : Kept) (p : List Effect) → AllAllowed p → IsKept
     → ((y : List ℕ) → IsForgotten (k.marked y) (m' y) n)
     → ((i : ℕ) → τ' i ≡ cond (nat_lt n i) (k.transaction i) None)
     → IsKeptOf (record k { closed = n; version = v'; marked = m'; transaction = τ' }) (HardCloses to n ∷ p)
-after_hard_closes k p all kept to n allowed v' m' τ' vs ms ts = record {
-  closed_at = refl; horizon_at = kept.horizon_at;
+after_hard_closes k p all fits to n allowed v' m' τ' vs ms ts = record {
+  closed_at = refl;
+  horizon_at = fits.horizon_at;
   versions = kept_now;
-  decided = λ y i b is. kept.decided y i b (still y i b is);
+  decided = λ y i b is. fits.decided y i b (still y i b is);
   marks = λ y i above fresh. let b = to_kept (HardCloses to n ∷ p) (allowed, all) y (k.marked y) (v' y) (kept_now y) i above (too_late p y i ≡ true)
-      (marks_aborted p all y (k.marked y) (version_of (HardCloses to n ∷ p) y) (λ w none. gone (cut w) (is_aborted p w) (write_of p w y) none) (λ w a is. stands y w a is) (marks_of k p all kept y) i (omega (arith, closed_grows p (HardCloses to n) allowed)) fresh) in (
-    λ late. let c = b.0 late in record { reader = c.reader; mark = (ms y).above c.reader (omega (arith, c.above)) ∙ c.mark; above = c.above; none = c.none },
-    λ c. b.1 (record { reader = c.reader; mark = (ms y).only c.reader c.mark; above = c.above; none = c.none }),
-  );
+      (marks_aborted p all y (k.marked y) (version_of (HardCloses to n ∷ p) y) (λ w none. gone (cut w) (is_aborted p w) (write_of p w y) none) (λ w a is. stands y w a is) (marks_of k p all fits y) i (omega (arith, closed_grows p (HardCloses to n) allowed)) fresh) in (
+        λ late. let c = b.0 late in record { reader = c.reader; mark = (ms y).above c.reader (omega (arith, c.above)) ∙ c.mark; above = c.above; none = c.none },
+        λ c. b.1 (record { reader = c.reader; mark = (ms y).only c.reader c.mark; above = c.above; none = c.none }),
+      );
   transactions = λ i. ts i ∙ by_test (nat_lt n i)
       (λ is. let e : nat_lt (closed_of p) i ≡ true = (let g : closed_of p ≤ n = closed_grows p (HardCloses to n) allowed in grind (arith, nat_tests)) in
       let far : nat_le i to ≡ false = grind (arith, nat_tests, allowed) in
       let stays : is_aborted (HardCloses to n ∷ p) i ≡ is_aborted p i = rw far refl in
-      rw is (kept.transactions i ∙ ap (λ b. cond b (option_map (transaction_with p i) (owner_of p i)) None) e ∙ ap (λ c. option_map (with_state i c) (owner_of p i)) (sym stays)))
+      rw is (fits.transactions i ∙ ap (λ b. cond b (option_map (transaction_with p i) (owner_of p i)) None) e ∙ ap (λ c. option_map (with_state i c) (owner_of p i)) (sym stays)))
       (λ isnt. rw isnt refl);
-  protected = kept.protected; made = kept.made; feeds = kept.feeds; opened = kept.opened;
+  protected = fits.protected;
+  made = fits.made;
+  feeds = fits.feeds;
+  opened = fits.opened;
 }
   where
     with_state : ℕ → Bool → ℕ → Transaction
@@ -122,7 +130,7 @@ after_hard_closes k p all kept to n allowed v' m' τ' vs ms ts = record {
         step false c e = e
 
     kept_now : (y : List ℕ) (i : ℕ) → v' y i ≡ kept_version (HardCloses to n ∷ p) y i
-    kept_now y i = vs y i ∙ ap (λ b. cond (nat_le i to && b) None (k.version y i)) (open_is k p all kept i) ∙ ap (λ o. cond (nat_le i to && is_undecided p i) None o) (kept.versions y i)
+    kept_now y i = vs y i ∙ ap (λ b. cond (nat_le i to && b) None (k.version y i)) (open_is k p all fits i) ∙ ap (λ o. cond (nat_le i to && is_undecided p i) None o) (fits.versions y i)
         ∙ step (is_dead p (version_name y i)) (nat_le i to) (is_some (owner_of p i)) (is_committed p i) (is_aborted p i) (write_of p i y)
         ∙ sym (kept_stays p (HardCloses to n) all allowed refl y i)
       where

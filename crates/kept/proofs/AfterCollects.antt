@@ -1,18 +1,18 @@
 -- What is kept after a collection.
-use Rattle.std.proofs.Common.{cond, length, inr, false, Some, sym, inl, Option, arith, ap, List, true, Bool, refl, not, None, ◌≡◌, ◌<◌, ◌≤◌, ◌-◌, ◌+◌, ◌&&◌, ◌∷◌, ◌∙◌, ℕ, []}
-use Rattle.std.proofs.lemmas.Bool.{or_right, or_left, ltb-true, lt-ltb, and_from, le-leb}
+use Rattle.std.proofs.Common.{Bool, List, not, inr, refl, None, Option, arith, false, ap, true, Some, inl, sym, length, cond, ◌≡◌, ◌<◌, ◌≤◌, ◌-◌, ◌+◌, ◌&&◌, ◌∷◌, ◌∙◌, ℕ, []}
+use Rattle.std.proofs.lemmas.Bool.{or_left, and_from, or_right, le-leb, ltb-true, lt-ltb}
 use Rattle.std.proofs.lemmas.Bool.Decides.{nat_tests}
 use Rattle.std.specs.Prelude.{nat_lt, filter}
-use Rattle.spans.specs.Collection.{horizon_of, is_dead, versions_of, dead_of, VersionName, version_name}
-use Rattle.spans.specs.Effects.{Collects, Effect, After}
+use Rattle.spans.specs.Collection.{horizon_of, VersionName, versions_of, version_name, dead_of, is_dead}
+use Rattle.spans.specs.Effects.{Collects, After, Effect}
 use Rattle.spans.specs.Kept.{Kept, IsKeptOf, kept_version}
 use Rattle.spans.specs.Newest.{newest}
 use Rattle.spans.specs.Reads.{too_late}
 use Rattle.spans.specs.Versions.{committed_version_of, version_of}
-use Rattle.spans.proofs.Copies.{Allowed, AllAllowed, kept}
-use Rattle.spans.proofs.Steps.{by_test, newest_is}
+use Rattle.spans.proofs.Copies.{Allowed, AllAllowed}
+use Rattle.spans.proofs.Steps.{newest_is, by_test}
 use Rattle.kept.proofs.Dead.{dead_is}
-use Rattle.kept.proofs.Staying.{marks_of, to_kept}
+use Rattle.kept.proofs.Staying.{to_kept, marks_of}
 
 -- a greater horizon leaves the dead dead
 pub dead_grows : (p : List Effect) (n : ℕ) → horizon_of p ≤ n → (x : List ℕ) (i : ℕ) → is_dead p (version_name x i) ≡ true → is_dead (Collects n ∷ p) (version_name x i) ≡ true
@@ -38,12 +38,17 @@ pub after_collects : (k : Kept) (p : List Effect) → AllAllowed p → IsKeptOf 
     → ((y : List ℕ) (i : ℕ) → v' y i ≡ cond (is_dead (Collects n ∷ p) (version_name y i)) None (k.version y i))
     → ((y : List ℕ) (i : ℕ) → is_dead p (version_name y i) ≡ true → is_dead (Collects n ∷ p) (version_name y i) ≡ true)
     → IsKeptOf (record k { horizon = n; version = v' }) (Collects n ∷ p)
-after_collects k p all kept n allowed v' vs grows = record {
-  closed_at = kept.closed_at; horizon_at = refl;
+after_collects k p all fits n allowed v' vs grows = record {
+  closed_at = fits.closed_at;
+  horizon_at = refl;
   versions = kept_now;
-  decided = λ y i b is. kept.decided y i b (still y i b is);
-  marks = λ y i above fresh. to_kept (Collects n ∷ p) (allowed, all) y (k.marked y) (v' y) (kept_now y) i above (too_late p y i ≡ true) (marks_of k p all kept y i above fresh);
-  transactions = kept.transactions; protected = kept.protected; made = kept.made; feeds = kept.feeds; opened = kept.opened;
+  decided = λ y i b is. fits.decided y i b (still y i b is);
+  marks = λ y i above fresh. to_kept (Collects n ∷ p) (allowed, all) y (k.marked y) (v' y) (kept_now y) i above (too_late p y i ≡ true) (marks_of k p all fits y i above fresh);
+  transactions = fits.transactions;
+  protected = fits.protected;
+  made = fits.made;
+  feeds = fits.feeds;
+  opened = fits.opened;
 }
   where
     still : (y : List ℕ) (i : ℕ) (b : After) → v' y i ≡ Some b → k.version y i ≡ Some b
@@ -54,7 +59,7 @@ after_collects k p all kept n allowed v' vs grows = record {
         step false o e = e
 
     kept_now : (y : List ℕ) (i : ℕ) → v' y i ≡ kept_version (Collects n ∷ p) y i
-    kept_now y i = vs y i ∙ ap (λ o. cond (is_dead (Collects n ∷ p) (version_name y i)) None o) (kept.versions y i) ∙ step (is_dead (Collects n ∷ p) (version_name y i)) (is_dead p (version_name y i)) (version_of p y i) (grows y i)
+    kept_now y i = vs y i ∙ ap (λ o. cond (is_dead (Collects n ∷ p) (version_name y i)) None o) (fits.versions y i) ∙ step (is_dead (Collects n ∷ p) (version_name y i)) (is_dead p (version_name y i)) (version_of p y i) (grows y i)
       where
         step : (b d : Bool) (o : Option After) → (d ≡ true → b ≡ true) → cond b None (cond d None o) ≡ cond b None o
         step true d o e = refl

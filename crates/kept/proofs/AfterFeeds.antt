@@ -1,22 +1,22 @@
 -- What is kept after the commands on feeds and protections.
-use Rattle.std.proofs.Common.{cond, suc, false, Some, sym, Option, arith, ap, List, true, Bool, refl, not, subst, None, ◌≡◌, ◌<◌, ◌==◌, ◌∷◌, ◌++◌, ◌∙◌, ℕ, []}
+use Rattle.std.proofs.Common.{Bool, List, not, refl, None, Option, arith, false, subst, suc, ap, true, Some, sym, cond, ◌≡◌, ◌<◌, ◌==◌, ◌∷◌, ◌++◌, ◌∙◌, ℕ, []}
 use Rattle.std.proofs.lemmas.Bool.{eqb-true}
-use Rattle.std.specs.Prelude.{filter, is_some, option_map}
+use Rattle.std.specs.Prelude.{filter, option_map, is_some}
 use Rattle.timestamps.specs.declared.row.Row.{Row}
-use Rattle.spans.specs.Collection.{protections_made, Protection}
+use Rattle.spans.specs.Collection.{Protection}
 use Rattle.spans.specs.Consumer.{last_row}
-use Rattle.spans.specs.Effects.{Polls, Opens, Cancels, Protects, Effect, Releases}
-use Rattle.spans.specs.Feeds.{told_to, feed_of, Feed, last_resolved, is_cancelled, feeds_opened}
-use Rattle.spans.specs.Kept.{Kept, IsKeptOf, Place}
+use Rattle.spans.specs.Effects.{Releases, Opens, Polls, Cancels, Protects, Effect}
+use Rattle.spans.specs.Feeds.{told_to, Feed, is_cancelled, feeds_opened, last_resolved, feed_of}
+use Rattle.spans.specs.Kept.{Place, Kept, IsKeptOf}
 use Rattle.spans.specs.declared.calls.messages.Message.{Message}
 use Rattle.spans.specs.declared.span.Span.{Span}
-use Rattle.spans.proofs.Copies.{Allowed, AllAllowed, kept}
+use Rattle.spans.proofs.Copies.{Allowed, AllAllowed}
 use Rattle.spans.proofs.Feeding.{unopened, resolved_join}
 use Rattle.spans.proofs.Steps.{by_test}
 use Rattle.kept.specs.Places.{moved}
-use Rattle.kept.proofs.VersionCounts.{at}
 use Rattle.spans.specs.declared.calls.messages.Message.TheVariants as messages
 
+-- a feed that wasn't opened wasn't cancelled
 pub uncancelled : (p : List Effect) → AllAllowed p → (f : ℕ) → feeds_opened p < f → is_cancelled p f ≡ false
 uncancelled [] all f above = refl
 uncancelled (Opens g seat span cursor ∷ p) all f above = uncancelled p all.1 f (omega arith)
@@ -29,37 +29,61 @@ uncancelled (_ ∷ p) all f above = uncancelled p all.1 f above
 pub after_opens : (k : Kept) (p : List Effect) → AllAllowed p → IsKeptOf k p → (f seat : ℕ) (span : Span) (cursor : ℕ) → Allowed p (Opens f seat span cursor) → (φ : ℕ → Option Place)
     → ((g : ℕ) → φ g ≡ cond (f == g) (Some (record { seat = seat; span = span; after = cursor; row = None })) (k.feed g))
     → IsKeptOf (record k { feed = φ; feeds_opened = suc k.feeds_opened }) (Opens f seat span cursor ∷ p)
-after_opens k p all kept f seat span cursor allowed φ fs = record {
-  closed_at = kept.closed_at; horizon_at = kept.horizon_at; versions = kept.versions; decided = kept.decided; marks = kept.marks; transactions = kept.transactions;
-  protected = kept.protected; made = kept.made;
+after_opens k p all fits f seat span cursor allowed φ fs = record {
+  closed_at = fits.closed_at;
+  horizon_at = fits.horizon_at;
+  versions = fits.versions;
+  decided = fits.decided;
+  marks = fits.marks;
+  transactions = fits.transactions;
+  protected = fits.protected;
+  made = fits.made;
   feeds = λ g. fs g ∙ by_test (f == g)
       (λ same. let above : feeds_opened p < g = (let e = eqb-true f g same in omega (arith, allowed.0)) in
       let live = uncancelled p all g above in let none = (unopened p all g above).1 in rw (same, live, none) refl)
-      (λ other. rw other (kept.feeds g));
-  opened = ap suc kept.opened;
+      (λ other. rw other (fits.feeds g));
+  opened = ap suc fits.opened;
 }
 
+-- after a cancellation
 pub after_cancels : (k : Kept) (p : List Effect) → IsKeptOf k p → (f : ℕ) → (φ : ℕ → Option Place) → ((g : ℕ) → φ g ≡ cond (f == g) None (k.feed g)) → IsKeptOf (record k { feed = φ }) (Cancels f ∷ p)
-after_cancels k p kept f φ fs = record {
-  closed_at = kept.closed_at; horizon_at = kept.horizon_at; versions = kept.versions; decided = kept.decided; marks = kept.marks; transactions = kept.transactions;
-  protected = kept.protected; made = kept.made;
-  feeds = λ g. fs g ∙ by_test (f == g) (λ same. rw same refl) (λ other. rw other (kept.feeds g));
-  opened = kept.opened;
+after_cancels k p fits f φ fs = record {
+  closed_at = fits.closed_at;
+  horizon_at = fits.horizon_at;
+  versions = fits.versions;
+  decided = fits.decided;
+  marks = fits.marks;
+  transactions = fits.transactions;
+  protected = fits.protected;
+  made = fits.made;
+  feeds = λ g. fs g ∙ by_test (f == g) (λ same. rw same refl) (λ other. rw other (fits.feeds g));
+  opened = fits.opened;
 }
 
+-- the row that is taken last of two lists of messages
 row_join : (o : Option Row) (ms ns : List Message) → last_row o (ms ++ ns) ≡ last_row (last_row o ms) ns
 row_join o [] ns = refl
 row_join o (messages.Row r ∷ ms) ns = row_join (Some r) ms ns
 row_join o (messages.Resolved t ∷ ms) ns = row_join o ms ns
 
+-- after a poll
 pub after_polls : (k : Kept) (p : List Effect) → IsKeptOf k p → (f m : ℕ) (ms : List Message) → (φ : ℕ → Option Place) → ((g : ℕ) → φ g ≡ cond (f == g) (option_map (moved ms) (k.feed g)) (k.feed g)) → IsKeptOf (record k { feed = φ }) (Polls f m ms ∷ p)
-after_polls k p kept f m ms φ fs = record {
-  closed_at = kept.closed_at; horizon_at = kept.horizon_at; versions = kept.versions; decided = kept.decided; marks = kept.marks; transactions = kept.transactions;
-  protected = kept.protected; made = kept.made;
+after_polls k p fits f m ms φ fs = record {
+  closed_at = fits.closed_at;
+  horizon_at = fits.horizon_at;
+  versions = fits.versions;
+  decided = fits.decided;
+  marks = fits.marks;
+  transactions = fits.transactions;
+  protected = fits.protected;
+  made = fits.made;
   feeds = λ g. fs g ∙ by_test (f == g)
-      (λ same. rw (same, kept.feeds g) (by_feed (told_to p g) (is_cancelled p g) (feed_of p g)))
-      (λ other. rw other (kept.feeds g));
-  opened = kept.opened;
+      (λ same. let more : told_to (Polls f m ms ∷ p) g ≡ told_to p g ++ ms = rw same refl in
+      ap (λ b. cond b (option_map (moved ms) (k.feed g)) (k.feed g)) same ∙ ap (option_map (moved ms)) (fits.feeds g) ∙ by_feed (told_to p g) (is_cancelled p g) (feed_of p g)
+      ∙ ap (λ ns. cond (is_cancelled p g) None (option_map (after_messages ns) (feed_of p g))) (sym more))
+      (λ other. let as_before : told_to (Polls f m ms ∷ p) g ≡ told_to p g = rw other refl in
+      ap (λ b. cond b (option_map (moved ms) (k.feed g)) (k.feed g)) other ∙ fits.feeds g ∙ ap (λ ns. cond (is_cancelled p g) None (option_map (after_messages ns) (feed_of p g))) (sym as_before));
+  opened = fits.opened;
 }
   where
     after_messages : List Message → Feed → Place
@@ -70,14 +94,32 @@ after_polls k p kept f m ms φ fs = record {
     by_feed ns false None = refl
     by_feed ns false (Some feed) = rw (resolved_join feed.cursor ns ms, row_join None ns ms) refl
 
+-- after a protection
 pub after_protects : (k : Kept) (p : List Effect) → IsKeptOf k p → (id t : ℕ) → IsKeptOf (record k { protections = record { id = id; at = t } ∷ k.protections; protections_made = suc k.protections_made }) (Protects id t ∷ p)
-after_protects k p kept id t = record {
-  closed_at = kept.closed_at; horizon_at = kept.horizon_at; versions = kept.versions; decided = kept.decided; marks = kept.marks; transactions = kept.transactions;
-  protected = ap (λ l. record { id = id; at = t } ∷ l) kept.protected; made = ap suc kept.made; feeds = kept.feeds; opened = kept.opened;
+after_protects k p fits id t = record {
+  closed_at = fits.closed_at;
+  horizon_at = fits.horizon_at;
+  versions = fits.versions;
+  decided = fits.decided;
+  marks = fits.marks;
+  transactions = fits.transactions;
+  protected = ap (λ l. record { id = id; at = t } ∷ l) fits.protected;
+  made = ap suc fits.made;
+  feeds = fits.feeds;
+  opened = fits.opened;
 }
 
+-- after a release
 pub after_releases : (k : Kept) (p : List Effect) → IsKeptOf k p → (id : ℕ) → IsKeptOf (record k { protections = filter (λ (n : Protection). not (n.id == id)) k.protections }) (Releases id ∷ p)
-after_releases k p kept id = record {
-  closed_at = kept.closed_at; horizon_at = kept.horizon_at; versions = kept.versions; decided = kept.decided; marks = kept.marks; transactions = kept.transactions;
-  protected = ap (filter (λ (n : Protection). not (n.id == id))) kept.protected; made = kept.made; feeds = kept.feeds; opened = kept.opened;
+after_releases k p fits id = record {
+  closed_at = fits.closed_at;
+  horizon_at = fits.horizon_at;
+  versions = fits.versions;
+  decided = fits.decided;
+  marks = fits.marks;
+  transactions = fits.transactions;
+  protected = ap (filter (λ (n : Protection). not (n.id == id))) fits.protected;
+  made = fits.made;
+  feeds = fits.feeds;
+  opened = fits.opened;
 }

@@ -1,79 +1,100 @@
 -- What is kept after a read and after a scan.
-use Rattle.std.proofs.Common.{inr, false, Some, sym, inl, Option, arith, List, true, Bool, subst, None, ◌≡◌, ◌<◌, ◌==◌, ◌&&◌, ◌||◌, ◌∷◌, ◌∙◌, ℕ}
+use Rattle.std.proofs.Common.{ℕ, Bool, List, ◌⊎◌, inr, None, Option, arith, false, subst, true, Some, inl, sym, ◌≡◌, ◌<◌, ◌==◌, ◌&&◌, ◌||◌, ◌∷◌, ◌∙◌, ℕ}
 use Rattle.std.proofs.lemmas.Bool.{eqb-true}
 use Rattle.std.proofs.lemmas.Bool.Decides.{nat_tests}
 use Rattle.std.specs.Prelude.{nat_lt, nat_le, bytes_eq, ◌↔◌}
-use Rattle.spans.specs.Effects.{Reads, Scans, Effect, After}
+use Rattle.spans.specs.Effects.{After, Reads, Effect, Scans}
 use Rattle.spans.specs.Kept.{Kept, IsKeptOf, IsCrossed}
 use Rattle.spans.specs.Keys.{in_span}
 use Rattle.spans.specs.Reads.{too_late}
 use Rattle.spans.specs.Transactions.{closed_of}
-use Rattle.spans.specs.Versions.{visible, committed_version_of, is_blocked, version_of}
-use Rattle.spans.proofs.Copies.{Allowed, AllAllowed, kept}
-use Rattle.spans.proofs.Steps.{same_key, by_test, newest_is}
-use Rattle.kept.specs.Finding.{seen, IsNextAbove}
-use Rattle.kept.specs.Marks.{IsMarkedBy, Marked, until}
+use Rattle.spans.specs.Versions.{visible, committed_version_of, version_of, is_blocked}
+use Rattle.spans.proofs.Copies.{Allowed, AllAllowed}
+use Rattle.spans.proofs.Steps.{same_key, newest_is, by_test}
+use Rattle.kept.specs.Finding.{IsNextAbove, seen}
+use Rattle.kept.specs.Marks.{until, IsMarkedBy, IsNoted}
 use Rattle.kept.proofs.Dead.{horizon_low, kept_above}
 use Rattle.kept.proofs.Marking.{own_read, marks_read}
-use Rattle.kept.proofs.Reading.{kept_newest, IsSeen, seen_is}
-use Rattle.kept.proofs.Staying.{marks_of, to_kept}
+use Rattle.kept.proofs.Reading.{seen_is, kept_newest, IsSeen}
+use Rattle.kept.proofs.Staying.{to_kept, marks_of}
 
+-- the read of a key by j left its mark, unless it was of an own version
+abbrev pub Marked : List Effect → List ℕ → ℕ → (ℕ → Bool) → (ℕ → Bool) → Type 0
+Marked p x j m m' = (((visible p x j).ts ≡ j) × ((n : ℕ) → m' n ≡ m n))
+    ⊎ (((visible p x j).ts < j) × (above : ℕ) × (until : ℕ) × ((n : ℕ) → closed_of p < n → above < n → n < until → version_of p x n ≡ None) × IsMarkedBy m m' j above until)
+
+-- the marks of a key that was read answer for the longer history
 marks_after_read : (k : Kept) (p : List Effect) → AllAllowed p → IsKeptOf k p → (j : ℕ) (x : List ℕ) (m' : ℕ → Bool) → is_blocked p x j ≡ false → Marked p x j (k.marked x) m' → (i : ℕ) → closed_of p < i → committed_version_of p x i ≡ None
     → (((nat_lt (visible p x j).ts i && nat_lt i j) || too_late p x i) ≡ true) ↔ IsCrossed m' (k.version x) i
-marks_after_read k p all kept j x m' free marked i above fresh = elim marked [
-  | inl own ↦ rw (own_read p x j i own.0) (let b = kept.marks x i above fresh in (
+marks_after_read k p all fits j x m' free marked i above fresh = elim marked [
+  | inl own ↦ rw (own_read p x j i own.0) (let b = fits.marks x i above fresh in (
     λ late. let c = b.0 late in record { reader = c.reader; mark = own.1 c.reader ∙ c.mark; above = c.above; none = c.none },
     λ c. b.1 (record { reader = c.reader; mark = sym (own.1 c.reader) ∙ c.mark; above = c.above; none = c.none }),
   ))
-  | inr other ↦ to_kept p all x m' (k.version x) (kept.versions x) i above _ (marks_read p all x j other.1 other.2 (k.marked x) m' free other.0 other.3 other.4 i above fresh (marks_of k p all kept x i above fresh))
+  | inr other ↦ to_kept p all x m' (k.version x) (fits.versions x) i above _ (marks_read p all x j other.1 other.2 (k.marked x) m' free other.0 other.3 other.4 i above fresh (marks_of k p all fits x i above fresh))
 ]
 
 -- after a read
 pub after_reads : (k : Kept) (p : List Effect) → AllAllowed p → IsKeptOf k p → (j : ℕ) (x : List ℕ) (v : After) → Allowed p (Reads j x v) → (m' : List ℕ → ℕ → Bool)
     → ((y : List ℕ) → bytes_eq x y ≡ false → (n : ℕ) → m' y n ≡ k.marked y n) → Marked p x j (k.marked x) (m' x) → IsKeptOf (record k { marked = m' }) (Reads j x v ∷ p)
-after_reads k p all kept j x v allowed m' others marked = record {
-  closed_at = kept.closed_at; horizon_at = kept.horizon_at; versions = kept.versions; decided = kept.decided;
+after_reads k p all fits j x v allowed m' others marked = record {
+  closed_at = fits.closed_at;
+  horizon_at = fits.horizon_at;
+  versions = fits.versions;
+  decided = fits.decided;
   marks = λ y i above fresh. by_test (bytes_eq x y)
       (λ same. rw same (let e : x ≡ y = same_key x y same in
       subst (λ z. (((nat_lt (visible p x j).ts i && nat_lt i j) || too_late p z i) ≡ true) ↔ IsCrossed (m' z) (k.version z) i) e
-      (marks_after_read k p all kept j x (m' x) allowed.1 marked i above (subst (λ z. committed_version_of p z i ≡ None) (sym e) fresh))))
-      (λ other. rw other (let b = kept.marks y i above fresh in (
-      λ late. let c = b.0 late in record { reader = c.reader; mark = others y other c.reader ∙ c.mark; above = c.above; none = c.none },
-      λ c. b.1 (record { reader = c.reader; mark = sym (others y other c.reader) ∙ c.mark; above = c.above; none = c.none }),
+      (marks_after_read k p all fits j x (m' x) allowed.1 marked i above (subst (λ z. committed_version_of p z i ≡ None) (sym e) fresh))))
+      (λ other. rw other (let b = fits.marks y i above fresh in (
+        λ late. let c = b.0 late in record { reader = c.reader; mark = others y other c.reader ∙ c.mark; above = c.above; none = c.none },
+        λ c. b.1 (record { reader = c.reader; mark = sym (others y other c.reader) ∙ c.mark; above = c.above; none = c.none }),
       )));
-  transactions = kept.transactions; protected = kept.protected; made = kept.made; feeds = kept.feeds; opened = kept.opened;
+  transactions = fits.transactions;
+  protected = fits.protected;
+  made = fits.made;
+  feeds = fits.feeds;
+  opened = fits.opened;
 }
 
 -- after a scan
 pub after_scans : (k : Kept) (p : List Effect) → AllAllowed p → IsKeptOf k p → (j : ℕ) (span : _) (rows : List (List ℕ × List ℕ)) → Allowed p (Scans j span rows) → (m' : List ℕ → ℕ → Bool)
     → ((y : List ℕ) → in_span span y ≡ false → (n : ℕ) → m' y n ≡ k.marked y n) → ((y : List ℕ) → in_span span y ≡ true → Marked p y j (k.marked y) (m' y)) → IsKeptOf (record k { marked = m' }) (Scans j span rows ∷ p)
-after_scans k p all kept j span rows allowed m' others marked = record {
-  closed_at = kept.closed_at; horizon_at = kept.horizon_at; versions = kept.versions; decided = kept.decided;
+after_scans k p all fits j span rows allowed m' others marked = record {
+  closed_at = fits.closed_at;
+  horizon_at = fits.horizon_at;
+  versions = fits.versions;
+  decided = fits.decided;
   marks = λ y i above fresh. by_test (in_span span y)
-      (λ in'. rw in' (marks_after_read k p all kept j y (m' y) (allowed.1 y in') (marked y in') i above fresh))
-      (λ out. rw out (let b = kept.marks y i above fresh in (
-      λ late. let c = b.0 late in record { reader = c.reader; mark = others y out c.reader ∙ c.mark; above = c.above; none = c.none },
-      λ c. b.1 (record { reader = c.reader; mark = sym (others y out c.reader) ∙ c.mark; above = c.above; none = c.none }),
+      (λ in'. rw in' (marks_after_read k p all fits j y (m' y) (allowed.1 y in') (marked y in') i above fresh))
+      (λ out. rw out (let b = fits.marks y i above fresh in (
+        λ late. let c = b.0 late in record { reader = c.reader; mark = others y out c.reader ∙ c.mark; above = c.above; none = c.none },
+        λ c. b.1 (record { reader = c.reader; mark = sym (others y out c.reader) ∙ c.mark; above = c.above; none = c.none }),
       )));
-  transactions = kept.transactions; protected = kept.protected; made = kept.made; feeds = kept.feeds; opened = kept.opened;
+  transactions = fits.transactions;
+  protected = fits.protected;
+  made = fits.made;
+  feeds = fits.feeds;
+  opened = fits.opened;
 }
 
 -- a read of an own version
 pub own_seen : (k : Kept) (p : List Effect) → AllAllowed p → IsKeptOf k p → (x : List ℕ) (j : ℕ) → closed_of p < j → (seen k x j).ts ≡ j → (visible p x j).ts ≡ j
-own_seen k p all kept x j above own =
-    let s : IsSeen p x j (seen k x j) = subst (IsSeen p x j) (sym (seen_is k p kept x j)) (kept_newest p all x j (omega (arith, horizon_low p all))) in
+own_seen k p all fits x j above own =
+    let s : IsSeen p x j (seen k x j) = subst (IsSeen p x j) (sym (seen_is k p fits x j)) (kept_newest p all x j (omega (arith, horizon_low p all))) in
     elim s.same [ inl same ↦ omega (arith, same, own) | inr dropped ↦ absurd (omega (arith, own, dropped.0)) ]
 
+-- a read of another's version
 pub other_seen : (k : Kept) (p : List Effect) → AllAllowed p → IsKeptOf k p → (x : List ℕ) (j : ℕ) → closed_of p < j → ((seen k x j).ts == j) ≡ false → (visible p x j).ts < j
-other_seen k p all kept x j above other =
-    let s : IsSeen p x j (seen k x j) = subst (IsSeen p x j) (sym (seen_is k p kept x j)) (kept_newest p all x j (omega (arith, horizon_low p all))) in
+other_seen k p all fits x j above other =
+    let s : IsSeen p x j (seen k x j) = subst (IsSeen p x j) (sym (seen_is k p fits x j)) (kept_newest p all x j (omega (arith, horizon_low p all))) in
     let m = (newest_is (version_of p x) j).at_most in
     elim s.same [ inl same ↦ grind (arith, nat_tests, same) | inr dropped ↦ omega (arith, dropped.1, horizon_low p all) ]
 
 -- between the version that the store found and the next there is none above closed
-pub quiet : (k : Kept) (p : List Effect) → AllAllowed p → IsKeptOf k p → (x : List ℕ) (j : ℕ) (o : Option ℕ) → IsNextAbove (k.version x) j o
+pub none_between : (k : Kept) (p : List Effect) → AllAllowed p → IsKeptOf k p → (x : List ℕ) (j : ℕ) (o : Option ℕ) → IsNextAbove (k.version x) j o
     → (n : ℕ) → closed_of p < n → (seen k x j).ts < n → n < until o → version_of p x n ≡ None
-quiet k p all kept x j o nearest n high above below = sym (kept_above p x n (omega (arith, horizon_low p all))) ∙ sym (kept.versions x n) ∙ by_test (nat_le n j)
+none_between k p all fits x j o nearest n high above below = sym (kept_above p x n (omega (arith, horizon_low p all))) ∙ sym (fits.versions x n) ∙ by_test (nat_le n j)
     (λ is. (newest_is (k.version x) j).gap n above (grind (arith, nat_tests)))
     (λ isnt. by_next o nearest (grind (arith, nat_tests)) below)
   where
@@ -81,9 +102,8 @@ quiet k p all kept x j o nearest n high above below = sym (kept_above p x n (ome
     by_next None nearest low high = nearest n low
     by_next (Some s) nearest low high = nearest.2 n low high
 
--- so a read marks by the store's two answers
-pub read_marked : (k : Kept) (p : List Effect) → AllAllowed p → IsKeptOf k p → (x : List ℕ) (j : ℕ) (o : Option ℕ) → closed_of p < j → IsNextAbove (k.version x) j o → (m' : ℕ → Bool)
-    → ((seen k x j).ts ≡ j → (n : ℕ) → m' n ≡ k.marked x n) → (((seen k x j).ts == j) ≡ false → IsMarkedBy (k.marked x) m' j (seen k x j).ts (until o)) → Marked p x j (k.marked x) m'
-read_marked k p all kept x j o above nearest m' own other = by_test ((seen k x j).ts == j)
-    (λ is. let e = eqb-true _ _ is in inl (own_seen k p all kept x j above e, own e))
-    (λ isnt. inr (other_seen k p all kept x j above isnt, (seen k x j).ts, until o, quiet k p all kept x j o nearest, other isnt))
+-- so a read is noted by the two versions that the store finds
+pub read_noted : (k : Kept) (p : List Effect) → AllAllowed p → IsKeptOf k p → (x : List ℕ) (j : ℕ) → closed_of p < j → (m' : ℕ → Bool) → IsNoted k x j m' → Marked p x j (k.marked x) m'
+read_noted k p all fits x j above m' noted = by_test ((seen k x j).ts == j)
+    (λ is. let e = eqb-true _ _ is in inl (own_seen k p all fits x j above e, noted.own e))
+    (λ isnt. inr (other_seen k p all fits x j above isnt, (seen k x j).ts, until noted.next, none_between k p all fits x j noted.next noted.is_next, noted.other isnt))

@@ -1,21 +1,21 @@
 -- What is kept after a write, a commit and an abort.
-use Rattle.std.proofs.Common.{cond, false, Some, sym, Option, arith, ap, List, true, Bool, refl, subst, None, ◌≡◌, ◌<◌, ◌==◌, ◌&&◌, ◌||◌, ◌∷◌, ◌∙◌, ℕ}
+use Rattle.std.proofs.Common.{Bool, List, refl, None, Option, arith, false, subst, ap, true, Some, sym, cond, ◌≡◌, ◌<◌, ◌==◌, ◌&&◌, ◌||◌, ◌∷◌, ◌∙◌, ℕ}
 use Rattle.std.proofs.lemmas.Bool.{both_ways, and_parts, eqb-true}
 use Rattle.std.proofs.lemmas.Bool.Decides.{nat_tests}
-use Rattle.std.specs.Prelude.{nat_lt, bytes_eq, is_some, option_map, ◌↔◌}
-use Rattle.spans.specs.Collection.{is_dead, version_name}
-use Rattle.spans.specs.Effects.{Aborts, Writes, Effect, Commits, After}
-use Rattle.spans.specs.Kept.{Kept, transaction_with, IsKeptOf, Transaction, IsCrossed, kept_version}
+use Rattle.std.specs.Prelude.{nat_lt, bytes_eq, option_map, is_some, ◌↔◌}
+use Rattle.spans.specs.Collection.{version_name, is_dead}
+use Rattle.spans.specs.Effects.{Writes, After, Aborts, Effect, Commits}
+use Rattle.spans.specs.Kept.{transaction_with, Transaction, Kept, IsKeptOf, kept_version, IsCrossed}
 use Rattle.spans.specs.Keys.{insert_key}
 use Rattle.spans.specs.Reads.{too_late}
-use Rattle.spans.specs.Transactions.{is_committed, owner_of, is_aborted, closed_of}
-use Rattle.spans.specs.Versions.{write_set, committed_version_of, version_of, write_of}
-use Rattle.spans.proofs.Copies.{Allowed, AllAllowed, kept}
-use Rattle.spans.proofs.Steps.{same_key, by_test, version_wrote}
-use Rattle.spans.proofs.WriteSets.{has_written, has}
+use Rattle.spans.specs.Transactions.{closed_of, is_aborted, is_committed, owner_of}
+use Rattle.spans.specs.Versions.{committed_version_of, version_of, write_of, write_set}
+use Rattle.spans.proofs.Copies.{Allowed, AllAllowed}
+use Rattle.spans.proofs.Steps.{version_wrote, same_key, by_test}
+use Rattle.spans.proofs.WriteSets.{has, has_written}
 use Rattle.kept.proofs.Dead.{kept_is, committed_is, committed_stands}
-use Rattle.kept.proofs.Marking.{marks_written, crossed_like, marks_aborted}
-use Rattle.kept.proofs.Staying.{marks_of, kept_stays, to_kept}
+use Rattle.kept.proofs.Marking.{marks_aborted, marks_written, crossed_like}
+use Rattle.kept.proofs.Staying.{to_kept, kept_stays, marks_of}
 
 -- after a write
 pub after_writes : (k : Kept) (p : List Effect) → AllAllowed p → IsKeptOf k p → (t : ℕ) (x : List ℕ) (a : After) → Allowed p (Writes t x a)
@@ -24,17 +24,21 @@ pub after_writes : (k : Kept) (p : List Effect) → AllAllowed p → IsKeptOf k 
     → ((y : List ℕ) (i : ℕ) → d' y i ≡ cond ((t == i) && bytes_eq x y) false (k.decided y i))
     → ((i : ℕ) → τ' i ≡ cond (t == i) (option_map (λ (n : Transaction). record n { keys = insert_key x n.keys }) (k.transaction i)) (k.transaction i))
     → IsKeptOf (record k { version = v'; decided = d'; transaction = τ' }) (Writes t x a ∷ p)
-after_writes k p all kept t x a allowed v' d' τ' vs ds ts = record {
-  closed_at = kept.closed_at; horizon_at = kept.horizon_at;
+after_writes k p all fits t x a allowed v' d' τ' vs ds ts = record {
+  closed_at = fits.closed_at;
+  horizon_at = fits.horizon_at;
   versions = kept_now;
   decided = λ y i b is. ds y i ∙ by_test ((t == i) && bytes_eq x y)
       (λ here. rw here (let e : t ≡ i = eqb-true t i (and_parts _ _ here).0 in sym (subst (λ n. is_committed p n ≡ false) e allowed.0.uncommitted)))
-      (λ other. rw other (kept.decided y i b (let e : v' y i ≡ k.version y i = vs y i ∙ (rw other refl) in sym e ∙ is)));
+      (λ other. rw other (fits.decided y i b (let e : v' y i ≡ k.version y i = vs y i ∙ (rw other refl) in sym e ∙ is)));
   marks = λ y i above fresh. to_now y i above (marks_written' y i above (sym (still y i) ∙ fresh));
   transactions = λ i. ts i ∙ by_test (t == i)
-      (λ same. rw (same, kept.transactions i) (let e : (t == i) ≡ true = same in by_owner i e (nat_lt (closed_of p) i) (owner_of p i)))
-      (λ other. rw (other, kept.transactions i) (ap (λ ks. cond (nat_lt (closed_of p) i) (option_map (with_keys i ks) (owner_of p i)) None) (let e : write_set (Writes t x a ∷ p) i ≡ write_set p i = rw other refl in sym e)));
-  protected = kept.protected; made = kept.made; feeds = kept.feeds; opened = kept.opened;
+      (λ same. rw (same, fits.transactions i) (let e : (t == i) ≡ true = same in by_owner i e (nat_lt (closed_of p) i) (owner_of p i)))
+      (λ other. rw (other, fits.transactions i) (ap (λ ks. cond (nat_lt (closed_of p) i) (option_map (with_keys i ks) (owner_of p i)) None) (let e : write_set (Writes t x a ∷ p) i ≡ write_set p i = rw other refl in sym e)));
+  protected = fits.protected;
+  made = fits.made;
+  feeds = fits.feeds;
+  opened = fits.opened;
 }
   where
     with_keys : ℕ → List (List ℕ) → ℕ → Transaction
@@ -58,7 +62,7 @@ after_writes k p all kept t x a allowed v' d' τ' vs ds ts = record {
         let now : cond (is_dead p (version_name y i)) None (version_of (Writes t x a ∷ p) y i) ≡ Some a = rw (open', live, here) refl in
         ap (λ b. cond b (Some a) (k.version y i)) here ∙ sym (kept_stays p (Writes t x a) all allowed refl y i ∙ now))
         (λ other. let now : cond (is_dead p (version_name y i)) None (version_of (Writes t x a ∷ p) y i) ≡ kept_version p y i = rw other refl in
-        ap (λ b. cond b (Some a) (k.version y i)) other ∙ kept.versions y i ∙ sym (kept_stays p (Writes t x a) all allowed refl y i ∙ now))
+        ap (λ b. cond b (Some a) (k.version y i)) other ∙ fits.versions y i ∙ sym (kept_stays p (Writes t x a) all allowed refl y i ∙ now))
 
     differs : (y : List ℕ) (i : ℕ) → bytes_eq x y ≡ false → version_of (Writes t x a ∷ p) y i ≡ version_of p y i
     differs y i e = by_test (t == i) (λ same. rw (same, e) refl) (λ other. rw other refl)
@@ -68,10 +72,11 @@ after_writes k p all kept t x a allowed v' d' τ' vs ds ts = record {
         (λ same. marks_written p y t (k.marked y) (version_of (Writes t x a ∷ p) y) allowed.0 (subst (λ z. too_late p z t ≡ false) (same_key x y same) allowed.1)
         (λ n other. let o : (t == n) ≡ false = grind (arith, nat_tests) in rw o refl)
         (λ n none. grew n none)
-        (marks_of k p all kept y) i above fresh)
-        (λ other. let b = marks_of k p all kept y i above fresh in (
-        λ late. crossed_like (k.marked y) (version_of p y) (version_of (Writes t x a ∷ p) y) i (λ n low none. differs y n other ∙ none) (b.0 late),
-        λ c. b.1 (crossed_like (k.marked y) (version_of (Writes t x a ∷ p) y) (version_of p y) i (λ n low none. sym (differs y n other) ∙ none) c)))
+        (marks_of k p all fits y) i above fresh)
+        (λ other. let b = marks_of k p all fits y i above fresh in (
+          λ late. crossed_like (k.marked y) (version_of p y) (version_of (Writes t x a ∷ p) y) i (λ n low none. differs y n other ∙ none) (b.0 late),
+          λ c. b.1 (crossed_like (k.marked y) (version_of (Writes t x a ∷ p) y) (version_of p y) i (λ n low none. sym (differs y n other) ∙ none) c),
+        ))
       where
         grew : (n : ℕ) → version_of (Writes t x a ∷ p) y n ≡ None → version_of p y n ≡ None
         grew n none = step (is_aborted p n) ((t == n) && bytes_eq x y) (write_of p n y) none
@@ -84,24 +89,34 @@ after_writes k p all kept t x a allowed v' d' τ' vs ds ts = record {
     to_now : (y : List ℕ) (i : ℕ) → closed_of p < i → (too_late p y i ≡ true) ↔ IsCrossed (k.marked y) (version_of (Writes t x a ∷ p) y) i → (too_late p y i ≡ true) ↔ IsCrossed (k.marked y) (v' y) i
     to_now y i above h = to_kept (Writes t x a ∷ p) (allowed, all) y (k.marked y) (v' y) (kept_now y) i above (too_late p y i ≡ true) h
 
+-- what is not committed later wasn't before
+uncommitted_before : (b c : Bool) (o : Option After) → cond (c || b) o None ≡ None → cond b o None ≡ None
+uncommitted_before true true o e = e
+uncommitted_before true false o e = e
+uncommitted_before false c o e = refl
+
 -- after a commit
 pub after_commits : (k : Kept) (p : List Effect) → AllAllowed p → IsKeptOf k p → (t : ℕ) → Allowed p (Commits t)
     → (d' : List ℕ → ℕ → Bool) (τ' : ℕ → Option Transaction)
     → ((y : List ℕ) (i : ℕ) → d' y i ≡ (((t == i) && has y (write_set p t)) || k.decided y i))
     → ((i : ℕ) → τ' i ≡ cond (t == i) (option_map (λ (n : Transaction). record n { committed = true }) (k.transaction i)) (k.transaction i))
     → IsKeptOf (record k { decided = d'; transaction = τ' }) (Commits t ∷ p)
-after_commits k p all kept t allowed d' τ' ds ts = record {
-  closed_at = kept.closed_at; horizon_at = kept.horizon_at;
+after_commits k p all fits t allowed d' τ' ds ts = record {
+  closed_at = fits.closed_at;
+  horizon_at = fits.horizon_at;
   versions = kept_now;
   decided = λ y i b is. ds y i ∙ by_test (t == i)
-      (λ same. rw same (let wrote : write_of p i y ≡ Some b = (version_wrote p y i b (kept_is p y i b (sym (kept.versions y i) ∙ is))).1 in
+      (λ same. rw same (let wrote : write_of p i y ≡ Some b = (version_wrote p y i b (kept_is p y i b (sym (fits.versions y i) ∙ is))).1 in
       let there : has y (write_set p t) ≡ true = subst (λ n. has y (write_set p n) ≡ true) (sym (eqb-true t i same)) (has_written p i y ∙ ap is_some wrote) in rw there refl))
-      (λ other. rw other (kept.decided y i b is));
-  marks = λ y i above fresh. kept.marks y i above (none_before (is_committed p i) (t == i) (write_of p i y) fresh);
+      (λ other. rw other (fits.decided y i b is));
+  marks = λ y i above fresh. fits.marks y i above (uncommitted_before (is_committed p i) (t == i) (write_of p i y) fresh);
   transactions = λ i. ts i ∙ by_test (t == i)
-      (λ same. rw (same, kept.transactions i) (by_owner i same (nat_lt (closed_of p) i) (owner_of p i)))
-      (λ other. rw (other, kept.transactions i) (ap (λ c. cond (nat_lt (closed_of p) i) (option_map (with_state i c) (owner_of p i)) None) (let e : is_committed (Commits t ∷ p) i ≡ is_committed p i = rw other refl in sym e)));
-  protected = kept.protected; made = kept.made; feeds = kept.feeds; opened = kept.opened;
+      (λ same. rw (same, fits.transactions i) (by_owner i same (nat_lt (closed_of p) i) (owner_of p i)))
+      (λ other. rw (other, fits.transactions i) (ap (λ c. cond (nat_lt (closed_of p) i) (option_map (with_state i c) (owner_of p i)) None) (let e : is_committed (Commits t ∷ p) i ≡ is_committed p i = rw other refl in sym e)));
+  protected = fits.protected;
+  made = fits.made;
+  feeds = fits.feeds;
+  opened = fits.opened;
 }
   where
     with_state : ℕ → Bool → ℕ → Transaction
@@ -113,7 +128,7 @@ after_commits k p all kept t allowed d' τ' ds ts = record {
     by_owner i e true (Some seat) = ap (λ c. Some (with_state i c seat)) (let e' : is_committed (Commits t ∷ p) i ≡ true = rw e refl in sym e')
 
     kept_now : (y : List ℕ) (i : ℕ) → k.version y i ≡ kept_version (Commits t ∷ p) y i
-    kept_now y i = kept.versions y i ∙ sym (kept_stays p (Commits t) all allowed refl y i)
+    kept_now y i = fits.versions y i ∙ sym (kept_stays p (Commits t) all allowed refl y i)
 
 -- after an abort
 pub after_aborts : (k : Kept) (p : List Effect) → AllAllowed p → IsKeptOf k p → (t : ℕ) → Allowed p (Aborts t)
@@ -121,16 +136,20 @@ pub after_aborts : (k : Kept) (p : List Effect) → AllAllowed p → IsKeptOf k 
     → ((y : List ℕ) (i : ℕ) → v' y i ≡ cond ((t == i) && has y (write_set p t)) None (k.version y i))
     → ((i : ℕ) → τ' i ≡ cond (t == i) (option_map (λ (n : Transaction). record n { aborted = true }) (k.transaction i)) (k.transaction i))
     → IsKeptOf (record k { version = v'; transaction = τ' }) (Aborts t ∷ p)
-after_aborts k p all kept t allowed v' τ' vs ts = record {
-  closed_at = kept.closed_at; horizon_at = kept.horizon_at;
+after_aborts k p all fits t allowed v' τ' vs ts = record {
+  closed_at = fits.closed_at;
+  horizon_at = fits.horizon_at;
   versions = kept_now;
-  decided = λ y i b is. kept.decided y i b (still y i b is);
+  decided = λ y i b is. fits.decided y i b (still y i b is);
   marks = λ y i above fresh. to_kept (Aborts t ∷ p) (allowed, all) y (k.marked y) (v' y) (kept_now y) i above (too_late p y i ≡ true)
-      (marks_aborted p all y (k.marked y) (version_of (Aborts t ∷ p) y) (λ n none. gone (t == n) (is_aborted p n) (write_of p n y) none) (λ n a is. stands y n a is) (marks_of k p all kept y) i above fresh);
+      (marks_aborted p all y (k.marked y) (version_of (Aborts t ∷ p) y) (λ n none. gone (t == n) (is_aborted p n) (write_of p n y) none) (λ n a is. stands y n a is) (marks_of k p all fits y) i above fresh);
   transactions = λ i. ts i ∙ by_test (t == i)
-      (λ same. rw (same, kept.transactions i) (by_owner i same (nat_lt (closed_of p) i) (owner_of p i)))
-      (λ other. rw (other, kept.transactions i) (ap (λ c. cond (nat_lt (closed_of p) i) (option_map (with_state i c) (owner_of p i)) None) (let e : is_aborted (Aborts t ∷ p) i ≡ is_aborted p i = rw other refl in sym e)));
-  protected = kept.protected; made = kept.made; feeds = kept.feeds; opened = kept.opened;
+      (λ same. rw (same, fits.transactions i) (by_owner i same (nat_lt (closed_of p) i) (owner_of p i)))
+      (λ other. rw (other, fits.transactions i) (ap (λ c. cond (nat_lt (closed_of p) i) (option_map (with_state i c) (owner_of p i)) None) (let e : is_aborted (Aborts t ∷ p) i ≡ is_aborted p i = rw other refl in sym e)));
+  protected = fits.protected;
+  made = fits.made;
+  feeds = fits.feeds;
+  opened = fits.opened;
 }
   where
     with_state : ℕ → Bool → ℕ → Transaction
@@ -161,11 +180,11 @@ after_aborts k p all kept t allowed v' τ' vs ts = record {
     kept_now y i = vs y i ∙ by_test (t == i)
         (λ same. let now : cond (is_dead p (version_name y i)) None (version_of (Aborts t ∷ p) y i) ≡ None = rw same (none_cond (is_dead p (version_name y i))) in
         ap (λ b. cond (b && has y (write_set p t)) None (k.version y i)) same
-        ∙ ap (λ n. cond (has y (write_set p n)) None (k.version y i)) (eqb-true t i same) ∙ ap (λ b. cond b None (k.version y i)) (has_written p i y) ∙ ap (λ o. cond (is_some (write_of p i y)) None o) (kept.versions y i)
+        ∙ ap (λ n. cond (has y (write_set p n)) None (k.version y i)) (eqb-true t i same) ∙ ap (λ b. cond b None (k.version y i)) (has_written p i y) ∙ ap (λ o. cond (is_some (write_of p i y)) None o) (fits.versions y i)
         ∙ none_at (is_dead p (version_name y i)) (is_aborted p i) (write_of p i y)
         ∙ sym (kept_stays p (Aborts t) all allowed refl y i ∙ now))
         (λ other. let now : cond (is_dead p (version_name y i)) None (version_of (Aborts t ∷ p) y i) ≡ kept_version p y i = rw other refl in
-        ap (λ b. cond (b && has y (write_set p t)) None (k.version y i)) other ∙ kept.versions y i ∙ sym (kept_stays p (Aborts t) all allowed refl y i ∙ now))
+        ap (λ b. cond (b && has y (write_set p t)) None (k.version y i)) other ∙ fits.versions y i ∙ sym (kept_stays p (Aborts t) all allowed refl y i ∙ now))
       where
         none_cond : (b : Bool) → cond {A = Option After} b None None ≡ None
         none_cond true = refl

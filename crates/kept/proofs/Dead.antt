@@ -1,20 +1,20 @@
 -- What is dead, and what is kept.
-use Rattle.std.proofs.Common.{cond, inr, false, Some, sym, inl, Option, map, arith, List, true, Bool, refl, subst, None, ◌≡◌, ◌<◌, ◌≤◌, ◌⊎◌, ◌==◌, ◌∷◌, ◌++◌, ◌∙◌, ℕ, []}
-use Rattle.std.proofs.lemmas.Bool.{or_cases, or_right, and_parts, ltb-true, lt-ltb, false_from_ne_true, leb-true, eqb-true, and_from, le-leb}
+use Rattle.std.proofs.Common.{Bool, List, refl, inr, None, Option, arith, subst, false, true, Some, inl, sym, cond, map, ◌≡◌, ◌<◌, ◌≤◌, ◌⊎◌, ◌==◌, ◌∷◌, ◌++◌, ◌∙◌, ℕ, []}
+use Rattle.std.proofs.lemmas.Bool.{or_cases, and_from, leb-true, lt-ltb, or_right, le-leb, false_from_ne_true, and_parts, eqb-true, ltb-true}
 use Rattle.std.proofs.lemmas.Bool.Decides.{nat_tests}
 use Rattle.std.specs.Prelude.{nat_le, is_some, min}
-use Rattle.spans.specs.Collection.{floor_of, horizon_of, is_dead, Protection, live_feeds, protections_of, is_delete, version_name}
-use Rattle.spans.specs.Effects.{Collects, Begins, HardCloses, Closes, Writes, Effect, After}
+use Rattle.spans.specs.Collection.{horizon_of, live_feeds, is_delete, Protection, version_name, is_dead, protections_of, floor_of}
+use Rattle.spans.specs.Effects.{HardCloses, Writes, Closes, Collects, After, Begins, Effect}
 use Rattle.spans.specs.Kept.{kept_version}
 use Rattle.spans.specs.Newest.{newest}
-use Rattle.spans.specs.Transactions.{is_committed, closed_of, owner_of, least_of}
+use Rattle.spans.specs.Transactions.{closed_of, is_committed, owner_of, least_of}
 use Rattle.spans.specs.Versions.{committed_version_of, version_of, write_of}
-use Rattle.spans.proofs.Copies.{not_both, AllAllowed, closed_grows}
+use Rattle.spans.proofs.Copies.{closed_grows, AllAllowed, not_both}
 use Rattle.spans.proofs.Open.{open_above}
-use Rattle.spans.proofs.Steps.{by_test, version_wrote, no_version_wrote}
-use Rattle.kept.proofs.VersionCounts.{at}
+use Rattle.spans.proofs.Steps.{version_wrote, no_version_wrote, by_test}
 
-least_low : (n : ℕ) (ms : List ℕ) → least_of n ms ≤ n
+-- the least is at most the bound
+pub least_low : (n : ℕ) (ms : List ℕ) → least_of n ms ≤ n
 least_low n [] = omega arith
 least_low n (m ∷ ms) = omega (arith, least_low n ms)
 
@@ -54,6 +54,7 @@ closed_version p all x i low = by_version (version_of p x i) refl
         (λ yes'. rw yes' (is ∙ sym (no_version_wrote p x i is (not_both p all i yes'))))
         (λ isnt. rw isnt is)
 
+-- a committed version is what a committed transaction wrote
 pub committed_is : (p : List Effect) (x : List ℕ) (i : ℕ) (a : After) → committed_version_of p x i ≡ Some a → (is_committed p i ≡ true) × (write_of p i x ≡ Some a)
 committed_is p x i a h = step (is_committed p i) (write_of p i x) h
   where
@@ -61,6 +62,7 @@ committed_is p x i a h = step (is_committed p i) (write_of p i x) h
     step true o e = (refl, e)
     step false o e = cc
 
+-- a committed version is a version
 pub committed_stands : (p : List Effect) → AllAllowed p → (x : List ℕ) (i : ℕ) (a : After) → committed_version_of p x i ≡ Some a → version_of p x i ≡ Some a
 committed_stands p all x i a h = let c = committed_is p x i a h in rw (not_both p all i c.0) c.1
 
@@ -70,6 +72,7 @@ pub record IsDropped (p : List Effect) (x : List ℕ) (i : ℕ) : Type 0 where
   pub low : i ≤ horizon_of p
   pub why : (is_delete (write_of p i x) ≡ true) ⊎ (i < (newest (committed_version_of p x) (horizon_of p)).ts)
 
+-- a dead version was dropped, and why
 pub dead_is : (p : List Effect) (x : List ℕ) (i : ℕ) → is_dead p (version_name x i) ≡ true → IsDropped p x i
 dead_is p x i is =
     let a = and_parts _ _ is in let b = and_parts _ _ a.1 in record {
@@ -78,16 +81,19 @@ dead_is p x i is =
       why = elim (or_cases _ _ b.1) [ inl d ↦ inl d | inr s ↦ inr (ltb-true _ _ s) ];
     }
 
+-- a committed version that is older than another one at or below the horizon is dead
 pub older_dead : (p : List Effect) (x : List ℕ) (i : ℕ) → is_committed p i ≡ true → i ≤ horizon_of p → i < (newest (committed_version_of p x) (horizon_of p)).ts → is_dead p (version_name x i) ≡ true
 older_dead p x i is low below = and_from _ _ is (and_from _ _ (le-leb i (horizon_of p) low) (or_right _ _ (lt-ltb i _ below)))
 
-high_live : (q : List Effect) (x : List ℕ) (i : ℕ) → nat_le i (horizon_of q) ≡ false → is_dead q (version_name x i) ≡ false
+-- what is above the horizon isn't dead
+pub high_live : (q : List Effect) (x : List ℕ) (i : ℕ) → nat_le i (horizon_of q) ≡ false → is_dead q (version_name x i) ≡ false
 high_live q x i high = false_from_ne_true _ (λ is. let d = dead_is q x i is in grind (arith, nat_tests, d.low))
 
 -- what an open transaction wrote isn't dead
 pub open_live : (p : List Effect) (x : List ℕ) (t : ℕ) → is_committed p t ≡ false → is_dead p (version_name x t) ≡ false
 open_live p x t open' = rw open' refl
 
+-- where there is no version none is kept
 pub no_kept : (p : List Effect) (x : List ℕ) (i : ℕ) → version_of p x i ≡ None → kept_version p x i ≡ None
 no_kept p x i none = step (is_dead p (version_name x i)) (version_of p x i) none
   where

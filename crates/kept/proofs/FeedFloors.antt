@@ -1,31 +1,32 @@
 -- The horizon is at or below the floor of each live feed.
-use Rattle.std.proofs.Common.{suc, inr, false, Some, sym, inl, Option, map, arith, ap, List, true, Bool, refl, take, not, subst, zero, None, ◌≡◌, ◌<◌, ◌≤◌, ◌==◌, ◌-◌, ◌∷◌, ◌++◌, ◌∙◌, ℕ, []}
-use Rattle.std.proofs.lemmas.Bool.{or_cases, and_parts, ltb-true, eqb-true}
+use Rattle.std.proofs.Common.{Bool, List, not, inr, refl, None, Option, arith, subst, suc, false, ap, true, zero, Some, inl, sym, take, map, ◌≡◌, ◌<◌, ◌≤◌, ◌==◌, ◌-◌, ◌∷◌, ◌++◌, ◌∙◌, ℕ, []}
+use Rattle.std.proofs.lemmas.Bool.{or_cases, and_parts, eqb-true, ltb-true}
 use Rattle.std.proofs.lemmas.Bool.Decides.{nat_tests}
-use Rattle.std.specs.Prelude.{nat_lt, max, filter, min}
+use Rattle.std.specs.Prelude.{max, nat_lt, filter, min}
 use Rattle.timestamps.specs.declared.row.Row.{Row}
-use Rattle.spans.specs.Collection.{floor_of, horizon_of, Protection, floor_after, live_feeds, protections_of, LiveFeed}
-use Rattle.spans.specs.Effects.{Collects, Polls, Opens, Cancels, Effect}
-use Rattle.spans.specs.Feeds.{told_to, feed_of, Feed, due_message, last_resolved, is_cancelled, rows_in, next_messages, untold_rows}
+use Rattle.spans.specs.Collection.{horizon_of, live_feeds, Protection, LiveFeed, floor_after, protections_of, floor_of}
+use Rattle.spans.specs.Effects.{Collects, Opens, Polls, Cancels, Effect}
+use Rattle.spans.specs.Feeds.{told_to, rows_in, due_message, Feed, next_messages, feed_of, is_cancelled, untold_rows, last_resolved}
 use Rattle.spans.specs.Streams.{row_lt}
-use Rattle.spans.specs.Transactions.{least_of, closed_of}
+use Rattle.spans.specs.Transactions.{closed_of, least_of}
 use Rattle.spans.specs.declared.calls.messages.Message.{Message}
 use Rattle.spans.proofs.Copies.{AllAllowed}
-use Rattle.spans.proofs.Feeding.{untold_is, unopened, IsFeeding, due_if, feeding}
+use Rattle.spans.proofs.Feeding.{untold_is, unopened, feeding, IsFeeding, due_if}
 use Rattle.spans.proofs.Steps.{by_test}
-use Rattle.spans.proofs.StreamOrder.{stream_rises, in_append, RisingRows, IsStreamed, in_stream, IsRowIn, rises_parts}
+use Rattle.spans.proofs.StreamOrder.{RisingRows, IsRowIn, in_append, in_stream, rises_parts, stream_rises, IsStreamed}
 use Rattle.kept.specs.Lists.{Has}
 use Rattle.kept.specs.Places.{live_feed}
 use Rattle.kept.proofs.Dead.{horizon_low}
 use Rattle.kept.proofs.Untold.{rest_above}
-use Rattle.kept.proofs.VersionCounts.{at}
 use Rattle.spans.specs.declared.calls.messages.Message.TheVariants as messages
 
-resolved_grows : (n : ℕ) (ms : List Message) → n ≤ last_resolved n ms
+-- the last resolved timestamp is at or above where it began
+pub resolved_grows : (n : ℕ) (ms : List Message) → n ≤ last_resolved n ms
 resolved_grows n [] = omega arith
 resolved_grows n (messages.Row r ∷ ms) = resolved_grows n ms
 resolved_grows n (messages.Resolved t ∷ ms) = omega (arith, resolved_grows (max n t) ms)
 
+-- rows rise by timestamp
 row_order : (s r : Row) → row_lt s r ≡ true → s.ts ≤ r.ts
 row_order s r e = elim (or_cases _ _ e) [
   | inl less ↦ (let l : s.ts < r.ts = ltb-true _ _ less in omega arith)
@@ -60,6 +61,7 @@ rest_high p f feed h r i =
     floor_under feed.cursor feed.cursor (told_to p f) r s.above (omega (arith, s.above)) (λ q j. row_order q r (parts.2 q r j i))
     (rest_above p feed feed.cursor [] h.begins.0 (told_to p f) (sym h.begins.1) h.divides h.below r i s.above)
 
+-- messages of rows above a number and of a resolved timestamp at or above it leave the floor there
 floor_high : (h n c m : ℕ) (b : Bool) (rows : List Row) → h ≤ n → h ≤ c → ((r : Row) → IsRowIn r rows → h < r.ts) → h ≤ floor_after n (take m (map messages.Row rows ++ due_if b c))
 floor_high h n c zero b rows low top high = low
 floor_high h n c (suc m) true [] low top high = last m
@@ -70,11 +72,13 @@ floor_high h n c (suc m) true [] low top high = last m
 floor_high h n c (suc m) false [] low top high = low
 floor_high h n c (suc m) b (r ∷ rows) low top high = floor_high h (r.ts - 1) c m b rows (let l : h < r.ts = high r (inl refl) in omega arith) top (λ q i. high q (inr i))
 
+-- the floor after two lists of messages
 floor_join : (n : ℕ) (ms ns : List Message) → floor_after n (ms ++ ns) ≡ floor_after (floor_after n ms) ns
 floor_join n [] ns = refl
 floor_join n (messages.Row r ∷ ms) ns = floor_join (r.ts - 1) ms ns
 floor_join n (messages.Resolved t ∷ ms) ns = floor_join t ms ns
 
+-- a feed stays listed where another goes
 live_kept : (g f c : ℕ) (ws : List LiveFeed) → (g == f) ≡ false → Has (live_feed f c) ws → Has (live_feed f c) (filter (λ n. not (n.number == g)) ws)
 live_kept g f c [] other i = absurd i
 live_kept g f c (w ∷ ws) other i = elim i [
@@ -84,6 +88,7 @@ live_kept g f c (w ∷ ws) other i = elim i [
       (λ isnt. rw isnt (inr (live_kept g f c ws other there)))
 ]
 
+-- a feed that lives is listed
 pub is_live : (p : List Effect) (f : ℕ) (feed : Feed) → feed_of p f ≡ Some feed → is_cancelled p f ≡ false → Has (live_feed f feed.cursor) (live_feeds p)
 is_live [] f feed is live = cc
 is_live (Opens g seat span cursor ∷ p) f feed is live = by_test (g == f)
@@ -101,6 +106,7 @@ is_live (Cancels g ∷ p) f feed is live = by_test (g == f)
     (λ other. live_kept g f feed.cursor (live_feeds p) other (is_live p f feed is (rw other at live)))
 is_live (_ ∷ p) f feed is live = is_live p f feed is live
 
+-- the least is at or below the floor of each listed feed
 least_floor : (p : List Effect) (n f c : ℕ) (ns : List ℕ) (ws : List LiveFeed) → Has (live_feed f c) ws → least_of n (ns ++ map (floor_of p) ws) ≤ floor_after c (told_to p f)
 least_floor p n f c [] [] i = absurd i
 least_floor p n f c [] (w ∷ ws) i = elim i [

@@ -1,28 +1,29 @@
 -- The floor of a feed from its place, and how far a collection goes.
-use Rattle.std.proofs.Common.{inr, false, Some, sym, inl, Option, map, arith, ap, List, true, Bool, refl, not, subst, None, ◌≡◌, ◌<◌, ◌≤◌, ◌⊎◌, ◌==◌, ◌-◌, ◌∷◌, ◌++◌, ◌∙◌, ℕ, []}
+use Rattle.std.proofs.Common.{Bool, List, not, refl, inr, None, Option, arith, map, subst, false, ap, true, Some, inl, sym, ◌≡◌, ◌<◌, ◌≤◌, ◌⊎◌, ◌==◌, ◌-◌, ◌∷◌, ◌++◌, ◌∙◌, ℕ, []}
 use Rattle.std.proofs.lemmas.Bool.{eqb-true}
 use Rattle.std.proofs.lemmas.Bool.Decides.{nat_tests}
 use Rattle.std.specs.Prelude.{max, filter, min}
 use Rattle.timestamps.specs.declared.row.Row.{Row}
-use Rattle.spans.specs.Collection.{floor_of, horizon_of, collection_horizon, Protection, floor_after, live_feeds, protections_of, LiveFeed}
+use Rattle.spans.specs.Collection.{horizon_of, live_feeds, floor_of, Protection, LiveFeed, floor_after, collection_horizon, protections_of}
 use Rattle.spans.specs.Consumer.{last_row}
 use Rattle.spans.specs.Effects.{Opens, Cancels, Effect}
-use Rattle.spans.specs.FeedRight.{DividesStream, ResolvedRise, RowsAreAbove, RowsFollowResolved}
-use Rattle.spans.specs.Feeds.{told_to, feed_of, Feed, last_resolved, is_cancelled, feeds_opened, rows_in}
-use Rattle.spans.specs.Kept.{Kept, IsKeptOf, place_of, Place, place_with}
-use Rattle.spans.specs.Transactions.{least_of, closed_of}
+use Rattle.spans.specs.FeedRight.{DividesStream, ResolvedRise, RowsFollowResolved, RowsAreAbove}
+use Rattle.spans.specs.Feeds.{told_to, rows_in, Feed, is_cancelled, feeds_opened, last_resolved, feed_of}
+use Rattle.spans.specs.Kept.{Place, place_of, place_with, Kept, IsKeptOf}
+use Rattle.spans.specs.Transactions.{closed_of, least_of}
 use Rattle.spans.specs.declared.calls.messages.Message.{Message}
-use Rattle.spans.proofs.Copies.{AllAllowed, kept}
+use Rattle.spans.proofs.Copies.{AllAllowed}
 use Rattle.spans.proofs.Feeding.{unopened, fed}
 use Rattle.spans.proofs.Steps.{by_test}
-use Rattle.spans.proofs.StreamOrder.{in_append, in_stream, IsRowIn}
+use Rattle.spans.proofs.StreamOrder.{IsRowIn, in_append, in_stream}
+use Rattle.kept.proofs.Dead.{least_low}
 use Rattle.kept.specs.Lists.{Has}
-use Rattle.kept.specs.Places.{row_floor, live_feed, or_min, place_floor, IsLeastFloor}
+use Rattle.kept.specs.Places.{place_floor, IsLeastFloor, or_min, live_feed, row_floor}
 use Rattle.kept.proofs.AfterFeeds.{uncancelled}
 use Rattle.kept.proofs.FeedFloors.{is_live}
-use Rattle.kept.proofs.VersionCounts.{at}
 use Rattle.spans.specs.declared.calls.messages.Message.TheVariants as messages
 
+-- the floor after messages is the place's, where the messages are right
 floor_is : (p : List Effect) (feed : Feed) (before : List Row) (ms : List Message) (a : ℕ) (o : Option Row) → DividesStream p feed before ms → ResolvedRise a ms → RowsAreAbove a ms → RowsFollowResolved ms
     → ((n : ℕ) → ((r : Row) → IsRowIn r before → r.ts ≤ n) → row_floor o ≤ n) → floor_after (max a (row_floor o)) ms ≡ max (last_resolved a ms) (row_floor (last_row o ms))
 floor_is p feed before [] a o d r b parts last = refl
@@ -41,6 +42,7 @@ above_cursor c [] h = tt
 above_cursor c (messages.Row s ∷ ms) h = (h s (inl refl), above_cursor c ms (λ r i. h r (inr i)))
 above_cursor c (messages.Resolved t ∷ ms) h = above_cursor c ms h
 
+-- the floor of a place is the floor of its feed
 pub place_floor_is : (p : List Effect) → AllAllowed p → (f : ℕ) (feed : Feed) → feed_of p f ≡ Some feed → place_floor (place_with p f feed) ≡ floor_after feed.cursor (told_to p f)
 place_floor_is p all f feed is =
     let h = fed p all f feed is in
@@ -79,13 +81,16 @@ live_is (Cancels g ∷ p) all f c i =
         ])
 live_is (_ ∷ p) all f c i = live_is p all.1 f c i
 
+-- the floors of the feeds
 abbrev floors : List Effect → List LiveFeed → List ℕ
 floors p ws = map (floor_of p) ws
 
+-- what is at or below each floor is at or below the least
 floors_low : (p : List Effect) (n m : ℕ) (ws : List LiveFeed) → m ≤ n → ((f c : ℕ) → Has (live_feed f c) ws → m ≤ floor_after c (told_to p f)) → m ≤ least_of n (floors p ws)
 floors_low p n m [] low h = low
 floors_low p n m (w ∷ ws) low h = let here : m ≤ floor_of p w = h w.number w.cursor (inl refl) in let more : m ≤ least_of n (floors p ws) = floors_low p n m ws low (λ f c i. h f c (inr i)) in omega arith
 
+-- the least is at or below each floor
 floors_top : (p : List Effect) (n f c : ℕ) (ws : List LiveFeed) → Has (live_feed f c) ws → least_of n (floors p ws) ≤ floor_after c (told_to p f)
 floors_top p n f c [] i = absurd i
 floors_top p n f c (w ∷ ws) i = elim i [
@@ -93,28 +98,25 @@ floors_top p n f c (w ∷ ws) i = elim i [
   | inr there ↦ (let more = floors_top p n f c ws there in omega arith)
 ]
 
-least_first : (n : ℕ) (ns : List ℕ) → least_of n ns ≤ n
-least_first n [] = omega arith
-least_first n (m ∷ ms) = omega (arith, least_first n ms)
-
-place_at : (k : Kept) (p : List Effect) → IsKeptOf k p → (f : ℕ) (feed : Feed) → feed_of p f ≡ Some feed → is_cancelled p f ≡ false → k.feed f ≡ Some (place_with p f feed)
-place_at k p kept f feed is live = kept.feeds f ∙ (rw (live, is) refl)
+-- the place of a live feed is kept
+pub place_at : (k : Kept) (p : List Effect) → IsKeptOf k p → (f : ℕ) (feed : Feed) → feed_of p f ≡ Some feed → is_cancelled p f ≡ false → k.feed f ≡ Some (place_with p f feed)
+place_at k p fits f feed is live = fits.feeds f ∙ (rw (live, is) refl)
 
 -- the least floor of the places is that of the live feeds
 pub least_floor_is : (k : Kept) (p : List Effect) → AllAllowed p → IsKeptOf k p → (o : Option ℕ) → IsLeastFloor k.feed o → (n : ℕ) → or_min o n ≡ least_of n (floors p (live_feeds p))
-least_floor_is k p all kept None h n = none_left (live_feeds p) (λ f c i. let l = live_is p all f c i in
-        (let no : None ≡ Some (place_with p f l.0) = sym (h f) ∙ place_at k p kept f l.0 l.1 l.2 in cc))
+least_floor_is k p all fits None h n = none_left (live_feeds p) (λ f c i. let l = live_is p all f c i in
+    (let no : None ≡ Some (place_with p f l.0) = sym (h f) ∙ place_at k p fits f l.0 l.1 l.2 in cc))
   where
     none_left : (ws : List LiveFeed) → ((f c : ℕ) → Has (live_feed f c) ws → ⊥) → n ≡ least_of n (floors p ws)
     none_left [] empty = refl
     none_left (w ∷ ws) empty = absurd (empty w.number w.cursor (inl refl))
-least_floor_is k p all kept (Some m) h n =
+least_floor_is k p all fits (Some m) h n =
     let low : min m n ≤ least_of n (floors p (live_feeds p)) = floors_low p n (min m n) (live_feeds p) (omega arith) (λ f c i. let l = live_is p all f c i in
-    let b : m ≤ place_floor (place_with p f l.0) = h.1 f (place_with p f l.0) (place_at k p kept f l.0 l.1 l.2) in
+    let b : m ≤ place_floor (place_with p f l.0) = h.1 f (place_with p f l.0) (place_at k p fits f l.0 l.1 l.2) in
     let e : place_floor (place_with p f l.0) ≡ floor_after l.0.cursor (told_to p f) = place_floor_is p all f l.0 l.1 in
     let e' : floor_after l.0.cursor (told_to p f) ≡ floor_after c (told_to p f) = ap (λ a. floor_after a (told_to p f)) l.3 in omega arith) in
-    let top : least_of n (floors p (live_feeds p)) ≤ m = by_place h.0.0 h.0.1 (sym (kept.feeds h.0.0) ∙ h.0.2) h.0.3 in
-    let first : least_of n (floors p (live_feeds p)) ≤ n = least_first n (floors p (live_feeds p)) in
+    let top : least_of n (floors p (live_feeds p)) ≤ m = by_place h.0.0 h.0.1 (sym (fits.feeds h.0.0) ∙ h.0.2) h.0.3 in
+    let first : least_of n (floors p (live_feeds p)) ≤ n = least_low n (floors p (live_feeds p)) in
     omega arith
   where
     by_place : (f : ℕ) (place : Place) → place_of p f ≡ Some place → place_floor place ≡ m → least_of n (floors p (live_feeds p)) ≤ m
@@ -130,6 +132,7 @@ least_floor_is k p all kept (Some m) h n =
             let t = floors_top p n f feed.cursor (live_feeds p) (is_live p f feed e c) in
             omega (arith, place_floor_is p all f feed e)
 
+-- the least over two lists
 least_join : (n : ℕ) (ms ns : List ℕ) → least_of n (ms ++ ns) ≡ least_of (least_of n ns) ms
 least_join n [] ns = refl
 least_join n (m ∷ ms) ns = ap (min m) (least_join n ms ns)
@@ -137,5 +140,5 @@ least_join n (m ∷ ms) ns = ap (min m) (least_join n ms ns)
 -- how far a collection goes
 pub horizon_reached : (k : Kept) (p : List Effect) → AllAllowed p → IsKeptOf k p → (to : ℕ) (lp lf : Option ℕ) → ((n : ℕ) → or_min lp n ≡ least_of n (map (λ (n : Protection). n.at) k.protections)) → IsLeastFloor k.feed lf
     → max k.horizon (or_min lp (or_min lf (min to k.closed))) ≡ collection_horizon p to
-horizon_reached k p all kept to lp lf hp hf = ap (max k.horizon) (hp (or_min lf (min to k.closed)) ∙ ap (λ n. least_of n (map (λ (n : Protection). n.at) k.protections)) (least_floor_is k p all kept lf hf (min to k.closed)))
-    ∙ rw (kept.horizon_at, kept.closed_at, kept.protected) (ap (max (horizon_of p)) (sym (least_join (min to (closed_of p)) (map (λ (n : Protection). n.at) (protections_of p)) (floors p (live_feeds p)))))
+horizon_reached k p all fits to lp lf hp hf = ap (max k.horizon) (hp (or_min lf (min to k.closed)) ∙ ap (λ n. least_of n (map (λ (n : Protection). n.at) k.protections)) (least_floor_is k p all fits lf hf (min to k.closed)))
+    ∙ rw (fits.horizon_at, fits.closed_at, fits.protected) (ap (max (horizon_of p)) (sym (least_join (min to (closed_of p)) (map (λ (n : Protection). n.at) (protections_of p)) (floors p (live_feeds p)))))

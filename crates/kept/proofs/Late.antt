@@ -1,12 +1,12 @@
 -- The write rule by the marks up to the next version.
-use Rattle.std.proofs.Common.{Bool, refl, Option, false, List, Some, arith, ap, sym, None, true, ◌≡◌, ◌∙◌, ℕ}
+use Rattle.std.proofs.Common.{Bool, List, None, Option, Some, ap, arith, false, refl, sym, true, ℕ, ◌∙◌, ◌≡◌}
 use Rattle.std.proofs.lemmas.Bool.{ltb-true}
 use Rattle.std.proofs.lemmas.Bool.Decides.{nat_tests}
-use Rattle.std.specs.Prelude.{nat_lt, is_some, ◌↔◌}
-use Rattle.spans.specs.Effects.{Effect, After}
-use Rattle.spans.specs.Kept.{Kept, IsCrossed, IsKeptOf}
+use Rattle.std.specs.Prelude.{is_some, nat_lt, ◌↔◌}
+use Rattle.spans.specs.Effects.{After, Effect}
+use Rattle.spans.specs.Kept.{IsCrossed, IsKeptOf, Kept}
 use Rattle.spans.specs.Reads.{too_late}
-use Rattle.spans.proofs.Copies.{IsActive, kept}
+use Rattle.spans.proofs.Copies.{IsActive}
 use Rattle.spans.proofs.Steps.{by_test}
 use Rattle.kept.specs.Finding.{IsNextAbove}
 use Rattle.kept.specs.Marks.{IsBetween}
@@ -19,11 +19,17 @@ between_is m f i None nearest = (
 )
 between_is m f i (Some s) nearest = (
   λ b. record { reader = b.reader; mark = b.mark; above = b.higher; none = λ n low high. nearest.2 n low (omega (arith, b.low)) },
-  λ c. record { reader = c.reader; mark = c.mark; higher = c.above; low = by_test (nat_lt s c.reader)
-      (λ is. absurd (let none : f s ≡ None = c.none s nearest.0 (ltb-true _ _ is) in let no : false ≡ true = ap is_some (sym none) ∙ nearest.1 in cc))
-      (λ isnt. grind (arith, nat_tests)) },
+  λ c. record {
+    reader = c.reader;
+    mark = c.mark;
+    higher = c.above;
+    low = by_test (nat_lt s c.reader)
+        (λ is. absurd (let none : f s ≡ None = c.none s nearest.0 (ltb-true _ _ is) in let no : false ≡ true = ap is_some (sym none) ∙ nearest.1 in cc))
+        (λ isnt. grind (arith, nat_tests));
+  },
 )
 
+-- tests that hold alike are equal
 iff_bool : (a b : Bool) → (a ≡ true) ↔ (b ≡ true) → a ≡ b
 iff_bool true true h = refl
 iff_bool false false h = refl
@@ -32,7 +38,7 @@ iff_bool false true h = h.1 refl
 
 -- a write is too late exactly where the marks' test says so
 pub late_is : (k : Kept) (p : List Effect) → IsKeptOf k p → (x : List ℕ) (t : ℕ) → IsActive p t → (o : Option ℕ) → IsNextAbove (k.version x) t o → (b : Bool) → (b ≡ true) ↔ IsBetween (k.marked x) t o → b ≡ too_late p x t
-late_is k p kept x t here o nearest b h =
-    let l = kept.marks x t here.above (rw here.uncommitted refl) in
+late_is k p fits x t here o nearest b h =
+    let l = fits.marks x t here.above (rw here.uncommitted refl) in
     let g = between_is (k.marked x) (k.version x) t o nearest in
     iff_bool b (too_late p x t) (λ is. l.1 (g.0 (h.0 is)), λ is. h.1 (g.1 (l.0 is)))

@@ -1,21 +1,19 @@
 -- The write rule by marks.
-use Rattle.std.proofs.Common.{suc, inr, false, Some, sym, inl, Option, arith, List, true, Bool, refl, subst, zero, None, ◌≡◌, ◌<◌, ◌≤◌, ◌⊎◌, ◌==◌, ◌&&◌, ◌||◌, ◌∙◌, ℕ}
-use Rattle.std.proofs.lemmas.Bool.{both_ways, or_cases, or_right, and_parts, or_left, ltb-true, lt-ltb, false_from_ne_true, eqb-true, and_from}
+use Rattle.std.proofs.Common.{Bool, List, refl, inr, None, Option, arith, false, subst, suc, true, zero, Some, inl, sym, ◌≡◌, ◌<◌, ◌≤◌, ◌⊎◌, ◌==◌, ◌&&◌, ◌||◌, ◌∙◌, ℕ}
+use Rattle.std.proofs.lemmas.Bool.{or_left, or_cases, and_from, lt-ltb, or_right, false_from_ne_true, both_ways, and_parts, ltb-true, eqb-true}
 use Rattle.std.proofs.lemmas.Bool.Decides.{nat_tests}
 use Rattle.std.specs.Prelude.{nat_lt, nat_le, ◌↔◌}
-use Rattle.spans.specs.Effects.{Effect, After}
-use Rattle.spans.specs.Kept.{IsCrossed, kept_version}
+use Rattle.spans.specs.Effects.{After, Effect}
+use Rattle.spans.specs.Kept.{kept_version, IsCrossed}
 use Rattle.spans.specs.Newest.{newest}
 use Rattle.spans.specs.Reads.{too_late}
-use Rattle.spans.specs.Transactions.{is_committed, closed_of}
-use Rattle.spans.specs.Versions.{visible, committed_version_of, is_blocked, version_of, write_of}
-use Rattle.spans.proofs.Copies.{AllAllowed, kept, IsActive, found_whole}
+use Rattle.spans.specs.Transactions.{closed_of, is_committed}
+use Rattle.spans.specs.Versions.{visible, committed_version_of, version_of, write_of, is_blocked}
+use Rattle.spans.proofs.Copies.{kept, IsActive, AllAllowed, found_whole}
 use Rattle.spans.proofs.Marks.{late_across}
-use Rattle.spans.proofs.Steps.{by_test, newest_is}
-use Rattle.kept.specs.Marks.{IsMarkedBy, IsPiece, until}
-use Rattle.kept.proofs.AfterReads.{quiet}
+use Rattle.spans.proofs.Steps.{newest_is, by_test}
+use Rattle.kept.specs.Marks.{until, IsPiece, IsMarkedBy}
 use Rattle.kept.proofs.Dead.{horizon_low, kept_above}
-use Rattle.kept.proofs.VersionCounts.{at}
 
 -- a version that stands wasn't too late, and isn't
 pub timely : (p : List Effect) → AllAllowed p → (x : List ℕ) (t : ℕ) (a : After) → version_of p x t ≡ Some a → too_late p x t ≡ false
@@ -35,24 +33,27 @@ MarksAt p x m f = (i : ℕ) → closed_of p < i → committed_version_of p x i �
 -- the store's versions serve for all versions
 pub marks_kept : (p : List Effect) → AllAllowed p → (x : List ℕ) (m : ℕ → Bool) (f : ℕ → Option After) → ((n : ℕ) → f n ≡ kept_version p x n) → MarksAt p x m f ↔ MarksAt p x m (version_of p x)
 marks_kept p all x m f same = (
-  λ h i above fresh. let b = h i above fresh in
-      (λ late. crossed_like m f (version_of p x) i (λ n low none. sym (alike n i low above) ∙ sym (same n) ∙ none) (b.0 late),
-      λ c. b.1 (crossed_like m (version_of p x) f i (λ n low none. same n ∙ alike n i low above ∙ none) c)),
-  λ h i above fresh. let b = h i above fresh in
-      (λ late. crossed_like m (version_of p x) f i (λ n low none. same n ∙ alike n i low above ∙ none) (b.0 late),
-      λ c. b.1 (crossed_like m f (version_of p x) i (λ n low none. sym (alike n i low above) ∙ sym (same n) ∙ none) c)),
+  λ h i above fresh. let b = h i above fresh in (
+    λ late. crossed_like m f (version_of p x) i (λ n low none. sym (alike n i low above) ∙ sym (same n) ∙ none) (b.0 late),
+    λ c. b.1 (crossed_like m (version_of p x) f i (λ n low none. same n ∙ alike n i low above ∙ none) c),
+  ),
+  λ h i above fresh. let b = h i above fresh in (
+    λ late. crossed_like m (version_of p x) f i (λ n low none. same n ∙ alike n i low above ∙ none) (b.0 late),
+    λ c. b.1 (crossed_like m f (version_of p x) i (λ n low none. sym (alike n i low above) ∙ sym (same n) ∙ none) c),
+  ),
 )
   where
     alike : (n i : ℕ) → i < n → closed_of p < i → kept_version p x n ≡ version_of p x n
     alike n i low above = kept_above p x n (omega (arith, horizon_low p all))
 
 -- a plain addition does
-pub added : (m m' : ℕ → Bool) (j : ℕ) → ((n : ℕ) → (m' n ≡ true) ↔ ((n ≡ j) ⊎ (m n ≡ true))) → IsMarkedBy m m' j 0 0
-added m m' j adds = record {
+pub added : (m m' : ℕ → Bool) (j above until : ℕ) → ((n : ℕ) → (m' n ≡ true) ↔ ((n ≡ j) ⊎ (m n ≡ true))) → IsMarkedBy m m' j above until
+added m m' j above until adds = record {
   only = λ n is. (adds n).0 is;
   covers = λ n is. (n, (adds n).1 is, omega arith, inl refl);
 }
 
+-- a piece of marks that became their greatest does as well
 pub merged : (m m' : ℕ → Bool) (j above until : ℕ) → above < j → j ≤ until → IsPiece m m' j above until → IsMarkedBy m m' j above until
 merged m m' j above until low high h = record {
   only = λ n is. by_test (nat_lt above n && nat_le n until)
@@ -124,7 +125,7 @@ marks_read p all x j above until m m' free others quiet marks i high fresh befor
 -- an own read marks nothing
 pub own_read : (p : List Effect) (x : List ℕ) (j i : ℕ) → (visible p x j).ts ≡ j → ((nat_lt (visible p x j).ts i && nat_lt i j) || too_late p x i) ≡ too_late p x i
 own_read p x j i own = let e : (nat_lt (visible p x j).ts i && nat_lt i j) ≡ false = false_from_ne_true _ (λ is. let b = and_parts _ _ is in
-        let l : (visible p x j).ts < i = ltb-true _ _ b.0 in let h : i < j = ltb-true _ _ b.1 in omega arith) in rw e refl
+    let l : (visible p x j).ts < i = ltb-true _ _ b.0 in let h : i < j = ltb-true _ _ b.1 in omega arith) in rw e refl
 
 -- a version that wasn't too late is crossed by nobody
 pub marks_written : (p : List Effect) (x : List ℕ) (t : ℕ) (m : ℕ → Bool) (g : ℕ → Option After) → IsActive p t → too_late p x t ≡ false

@@ -1,20 +1,18 @@
 -- A read of what is kept finds what a read of the history finds.
-use Rattle.std.proofs.Common.{inr, false, Some, sym, inl, Option, arith, ap, List, true, Bool, refl, not, subst, None, ◌≡◌, ◌<◌, ◌≤◌, ◌⊎◌, ◌==◌, ◌&&◌, ◌∙◌, ℕ}
-use Rattle.std.proofs.lemmas.Bool.{ltb-true, eqb-true}
+use Rattle.std.proofs.Common.{Bool, List, not, refl, inr, None, Option, arith, subst, false, ap, true, Some, inl, sym, ◌≡◌, ◌<◌, ◌≤◌, ◌⊎◌, ◌==◌, ◌&&◌, ◌∙◌, ℕ}
+use Rattle.std.proofs.lemmas.Bool.{eqb-true, ltb-true}
 use Rattle.std.proofs.lemmas.Bool.Decides.{nat_tests}
 use Rattle.std.specs.Prelude.{nat_lt, is_none}
-use Rattle.spans.specs.Collection.{horizon_of, is_dead, version_name}
-use Rattle.spans.specs.Effects.{Effect, After}
+use Rattle.spans.specs.Collection.{horizon_of, version_name, is_dead}
+use Rattle.spans.specs.Effects.{After, Effect}
 use Rattle.spans.specs.Kept.{Kept, IsKeptOf, kept_version}
-use Rattle.spans.specs.Newest.{IsNewest, version_at, newest, Version}
-use Rattle.spans.specs.Transactions.{is_committed, closed_of}
-use Rattle.spans.specs.Versions.{committed_value, visible, committed_version_of, is_blocked, version_of, write_of}
-use Rattle.spans.proofs.Copies.{AllAllowed, kept}
-use Rattle.spans.proofs.Steps.{newest_only, by_test, newest_same, version_wrote, newest_is}
-use Rattle.spans.proofs.WriteSets.{has}
-use Rattle.kept.specs.Finding.{seen_blocked, seen}
-use Rattle.kept.proofs.Dead.{closed_committed, horizon_low, closed_version, older_dead, IsDropped, dead_is, no_kept, committed_stands}
-use Rattle.kept.proofs.VersionCounts.{at}
+use Rattle.spans.specs.Newest.{version_at, IsNewest, Version, newest}
+use Rattle.spans.specs.Transactions.{closed_of, is_committed}
+use Rattle.spans.specs.Versions.{visible, committed_value, committed_version_of, version_of, write_of, is_blocked}
+use Rattle.spans.proofs.Copies.{AllAllowed}
+use Rattle.spans.proofs.Steps.{version_wrote, newest_only, newest_is, newest_same, by_test}
+use Rattle.kept.specs.Finding.{seen, is_seen_blocked}
+use Rattle.kept.proofs.Dead.{horizon_low, IsDropped, closed_version, no_kept, older_dead, dead_is, closed_committed, committed_stands}
 
 -- the value of the visible version, and the version itself unless it was dropped
 pub record IsSeen (p : List Effect) (x : List ℕ) (t : ℕ) (n : Version) : Type 0 where
@@ -82,22 +80,23 @@ kept_newest p all x t high = by_has (visible p x t).ts (visible p x t).after ref
           (λ live. joined k a at is (record { at_most = m.at_most; gap = λ i low high'. no_kept p x i (m.gap i low high'); has = inr (some.0, rw live some.1) }))
     ]
 
+-- what is found is the newest of the history's versions that are kept
 pub seen_is : (k : Kept) (p : List Effect) → IsKeptOf k p → (x : List ℕ) (t : ℕ) → seen k x t ≡ newest (kept_version p x) t
-seen_is k p kept x t = newest_same (k.version x) (kept_version p x) t (λ i low. kept.versions x i)
+seen_is k p fits x t = newest_same (k.version x) (kept_version p x) t (λ i low. fits.versions x i)
 
 -- what the store finds is what a reader at t is given
 pub seen_value : (k : Kept) (p : List Effect) → IsKeptOf k p → AllAllowed p → (x : List ℕ) (t : ℕ) → horizon_of p ≤ t → (seen k x t).after ≡ (visible p x t).after
-seen_value k p kept all x t high = ap (λ (n : Version). n.after) (seen_is k p kept x t) ∙ (kept_newest p all x t high).value
+seen_value k p fits all x t high = ap (λ (n : Version). n.after) (seen_is k p fits x t) ∙ (kept_newest p all x t high).value
 
 -- and it is blocked exactly where that reader is, by the same transaction
-pub blocked_is : (k : Kept) (p : List Effect) → IsKeptOf k p → AllAllowed p → (x : List ℕ) (t : ℕ) → horizon_of p ≤ t → seen_blocked k x t ≡ is_blocked p x t
-blocked_is k p kept all x t high =
-    let e = seen_is k p kept x t in
+pub blocked_is : (k : Kept) (p : List Effect) → IsKeptOf k p → AllAllowed p → (x : List ℕ) (t : ℕ) → horizon_of p ≤ t → is_seen_blocked k x t ≡ is_blocked p x t
+blocked_is k p fits all x t high =
+    let e = seen_is k p fits x t in
     let s : IsSeen p x t (seen k x t) = subst (IsSeen p x t) (sym e) (kept_newest p all x t high) in
     elim s.same [
       | inl same ↦ elim (newest_is (k.version x) t).has [
         | inl zeroth ↦ both_free (seen k x t).ts (visible p x t).ts zeroth.0 (sym same ∙ zeroth.0)
-        | inr some ↦ ap (λ b. not ((seen k x t).ts == 0) && (not ((seen k x t).ts == t) && not b)) (kept.decided x _ _ some.1) ∙ ap (λ n. not (n == 0) && (not (n == t) && not (is_committed p n))) same
+        | inr some ↦ ap (λ b. not ((seen k x t).ts == 0) && (not ((seen k x t).ts == t) && not b)) (fits.decided x _ _ some.1) ∙ ap (λ n. not (n == 0) && (not (n == t) && not (is_committed p n))) same
       ]
       | inr dropped ↦ unblocked (seen k x t).ts (visible p x t).ts dropped.0 dropped.2
     ]
@@ -113,9 +112,10 @@ blocked_is k p kept all x t high =
         off true false = refl
         off false b = refl
 
+-- where it is blocked, it is by the same transaction
 pub blocker_is : (k : Kept) (p : List Effect) → IsKeptOf k p → AllAllowed p → (x : List ℕ) (t : ℕ) → horizon_of p ≤ t → is_blocked p x t ≡ true → (seen k x t).ts ≡ (visible p x t).ts
-blocker_is k p kept all x t high is =
-    let s : IsSeen p x t (seen k x t) = subst (IsSeen p x t) (sym (seen_is k p kept x t)) (kept_newest p all x t high) in
+blocker_is k p fits all x t high is =
+    let s : IsSeen p x t (seen k x t) = subst (IsSeen p x t) (sym (seen_is k p fits x t)) (kept_newest p all x t high) in
     elim s.same [
       | inl same ↦ same
       | inr dropped ↦ absurd (clash (not ((visible p x t).ts == 0)) (not ((visible p x t).ts == t)) (is_committed p (visible p x t).ts) dropped.2 is)
@@ -129,5 +129,5 @@ blocker_is k p kept all x t high is =
 
 -- between horizon and closed the store finds what stands committed
 pub settled_is : (k : Kept) (p : List Effect) → IsKeptOf k p → AllAllowed p → (x : List ℕ) (t : ℕ) → horizon_of p ≤ t → t ≤ closed_of p → (seen k x t).after ≡ committed_value p x t
-settled_is k p kept all x t high low = seen_value k p kept all x t high
+settled_is k p fits all x t high low = seen_value k p fits all x t high
     ∙ ap (λ (n : Version). n.after) (newest_same (version_of p x) (committed_version_of p x) t (λ i below. closed_version p all x i (omega arith)))

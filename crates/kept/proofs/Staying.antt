@@ -1,22 +1,25 @@
 -- What an effect leaves as it is.
-use Rattle.std.proofs.Common.{cond, false, Some, sym, Option, arith, ap, List, Bool, refl, None, ◌≡◌, ◌<◌, ◌≤◌, ◌==◌, ◌∷◌, ◌∙◌, ℕ}
+use Rattle.std.proofs.Common.{Bool, List, None, Option, Some, ap, arith, cond, false, refl, sym, ℕ, ◌<◌, ◌==◌, ◌∙◌, ◌∷◌, ◌≡◌, ◌≤◌}
 use Rattle.std.proofs.lemmas.Bool.Decides.{nat_tests}
 use Rattle.std.specs.Prelude.{nat_le, ◌↔◌}
 use Rattle.spans.specs.Collection.{horizon_of, is_dead, version_name}
-use Rattle.spans.specs.Effects.{SnapshotReads, NoEffect, Writes, Effect, Commits, After}
-use Rattle.spans.specs.Kept.{Kept, IsKeptOf, IsCrossed, kept_version}
-use Rattle.spans.specs.Transactions.{is_committed, closed_of}
+use Rattle.spans.specs.Effects.{After, Commits, Effect, NoEffect, SnapshotReads, SnapshotScans, Writes}
+use Rattle.spans.specs.Kept.{IsCrossed, IsKeptOf, Kept, kept_version}
+use Rattle.spans.specs.Transactions.{closed_of, is_committed}
 use Rattle.spans.specs.Versions.{committed_version_of, version_of, write_of}
-use Rattle.spans.proofs.Copies.{Allowed, AllAllowed, closed_stays, kept}
+use Rattle.spans.specs.declared.span.Span.{Span}
+use Rattle.spans.proofs.Copies.{AllAllowed, Allowed, closed_stays}
 use Rattle.spans.proofs.Steps.{by_test, newest_same}
-use Rattle.kept.proofs.Dead.{horizon_low, high_live, kept_above}
-use Rattle.kept.proofs.Marking.{MarksAt, marks_kept, crossed_like}
+use Rattle.kept.specs.Changes.{IsAlike}
+use Rattle.kept.proofs.Dead.{high_live, horizon_low, kept_above}
+use Rattle.kept.proofs.Marking.{MarksAt, crossed_like, marks_kept}
 
 -- at or below closed nothing changes
 pub committed_stays : (p : List Effect) (d : Effect) → Allowed p d → (i : ℕ) → i ≤ closed_of p → is_committed (d ∷ p) i ≡ is_committed p i
 committed_stays p (Commits t) allowed i low = let other : (t == i) ≡ false = grind (arith, nat_tests, allowed.above) in rw other refl
 committed_stays p (_) allowed i low = refl
 
+-- nor does what was written there
 pub written_stays : (p : List Effect) (d : Effect) → Allowed p d → (x : List ℕ) (i : ℕ) → i ≤ closed_of p → write_of (d ∷ p) i x ≡ write_of p i x
 written_stays p (Writes t y a) allowed x i low = let other : (t == i) ≡ false = grind (arith, nat_tests, allowed.0.above) in rw other refl
 written_stays p (_) allowed x i low = refl
@@ -25,10 +28,15 @@ written_stays p (_) allowed x i low = refl
 pub dead_stays : (p : List Effect) (d : Effect) → AllAllowed p → Allowed p d → horizon_of (d ∷ p) ≡ horizon_of p → (x : List ℕ) (i : ℕ) → is_dead (d ∷ p) (version_name x i) ≡ is_dead p (version_name x i)
 dead_stays p d all allowed same x i = by_test (nat_le i (horizon_of p))
     (λ is. let low : i ≤ closed_of p = (let h = horizon_low p all in grind (arith, nat_tests)) in
-    rw (same, committed_stays p d allowed i low, written_stays p d allowed x i low,
-    newest_same (committed_version_of (d ∷ p) x) (committed_version_of p x) (horizon_of p) (λ n below. closed_stays p d allowed x n (let h = horizon_low p all in omega arith))) refl)
+    rw (
+      same,
+      committed_stays p d allowed i low,
+      written_stays p d allowed x i low,
+      newest_same (committed_version_of (d ∷ p) x) (committed_version_of p x) (horizon_of p) (λ n below. closed_stays p d allowed x n (let h = horizon_low p all in omega arith)),
+    ) refl)
     (λ isnt. high_live (d ∷ p) x i (rw same isnt) ∙ sym (high_live p x i isnt))
 
+-- so where the horizon stays, what is kept changes by the versions alone
 pub kept_stays : (p : List Effect) (d : Effect) → AllAllowed p → Allowed p d → horizon_of (d ∷ p) ≡ horizon_of p → (x : List ℕ) (i : ℕ) → kept_version (d ∷ p) x i ≡ cond (is_dead p (version_name x i)) None (version_of (d ∷ p) x i)
 kept_stays p d all allowed same x i = ap (λ b. cond b None (version_of (d ∷ p) x i)) (dead_stays p d all allowed same x i)
 
@@ -43,25 +51,84 @@ to_kept p all x m f same i above A h = (
     alike : (n : ℕ) → i < n → kept_version p x n ≡ version_of p x n
     alike n low = kept_above p x n (omega (arith, horizon_low p all))
 
+-- the marks answer by all versions as they do by those that are kept
 pub marks_of : (k : Kept) (p : List Effect) → AllAllowed p → IsKeptOf k p → (x : List ℕ) → MarksAt p x (k.marked x) (version_of p x)
-marks_of k p all kept x = (marks_kept p all x (k.marked x) (k.version x) (kept.versions x)).0 (kept.marks x)
+marks_of k p all fits x = (marks_kept p all x (k.marked x) (k.version x) (fits.versions x)).0 (fits.marks x)
 
 -- nothing happened to what is kept
 pub after_nothing : (k : Kept) (p : List Effect) → IsKeptOf k p → IsKeptOf k (NoEffect ∷ p)
-after_nothing k p kept = record {
-  closed_at = kept.closed_at; horizon_at = kept.horizon_at; versions = kept.versions; decided = kept.decided; marks = kept.marks;
-  transactions = kept.transactions; protected = kept.protected; made = kept.made; feeds = kept.feeds; opened = kept.opened;
+after_nothing k p fits = record {
+  closed_at = fits.closed_at;
+  horizon_at = fits.horizon_at;
+  versions = fits.versions;
+  decided = fits.decided;
+  marks = fits.marks;
+  transactions = fits.transactions;
+  protected = fits.protected;
+  made = fits.made;
+  feeds = fits.feeds;
+  opened = fits.opened;
 }
 
+-- a read at a closed timestamp changes nothing
 pub after_snapshot_reads : (k : Kept) (p : List Effect) (t : ℕ) (x : List ℕ) (v : After) → IsKeptOf k p → IsKeptOf k (SnapshotReads t x v ∷ p)
-after_snapshot_reads k p t x v kept = record {
-  closed_at = kept.closed_at; horizon_at = kept.horizon_at; versions = kept.versions; decided = kept.decided; marks = kept.marks;
-  transactions = kept.transactions; protected = kept.protected; made = kept.made; feeds = kept.feeds; opened = kept.opened;
+after_snapshot_reads k p t x v fits = record {
+  closed_at = fits.closed_at;
+  horizon_at = fits.horizon_at;
+  versions = fits.versions;
+  decided = fits.decided;
+  marks = fits.marks;
+  transactions = fits.transactions;
+  protected = fits.protected;
+  made = fits.made;
+  feeds = fits.feeds;
+  opened = fits.opened;
+}
+
+-- nor does such a scan
+pub after_snapshot_scans : (k : Kept) (p : List Effect) (t : ℕ) (span : Span) (rows : List (List ℕ × List ℕ)) → IsKeptOf k p → IsKeptOf k (SnapshotScans t span rows ∷ p)
+after_snapshot_scans k p t span rows fits = record {
+  closed_at = fits.closed_at;
+  horizon_at = fits.horizon_at;
+  versions = fits.versions;
+  decided = fits.decided;
+  marks = fits.marks;
+  transactions = fits.transactions;
+  protected = fits.protected;
+  made = fits.made;
+  feeds = fits.feeds;
+  opened = fits.opened;
 }
 
 -- the decided flag matters only where a version is
 pub other_decided : (k : Kept) (p : List Effect) → IsKeptOf k p → (d' : List ℕ → ℕ → Bool) → ((x : List ℕ) (t : ℕ) (a : After) → k.version x t ≡ Some a → d' x t ≡ k.decided x t) → IsKeptOf (record k { decided = d' }) p
-other_decided k p kept d' same = record {
-  closed_at = kept.closed_at; horizon_at = kept.horizon_at; versions = kept.versions; decided = λ x t a is. same x t a is ∙ kept.decided x t a is; marks = kept.marks; transactions = kept.transactions;
-  protected = kept.protected; made = kept.made; feeds = kept.feeds; opened = kept.opened;
+other_decided k p fits d' same = record {
+  closed_at = fits.closed_at;
+  horizon_at = fits.horizon_at;
+  versions = fits.versions;
+  decided = λ x t a is. same x t a is ∙ fits.decided x t a is;
+  marks = fits.marks;
+  transactions = fits.transactions;
+  protected = fits.protected;
+  made = fits.made;
+  feeds = fits.feeds;
+  opened = fits.opened;
+}
+
+-- what is alike is kept of the same
+pub alike_kept : (k k' : Kept) (p : List Effect) → IsKeptOf k p → IsAlike k k' → IsKeptOf k' p
+alike_kept k k' p fits c = record {
+  closed_at = c.closed ∙ fits.closed_at;
+  horizon_at = c.horizon ∙ fits.horizon_at;
+  versions = λ x t. c.version x t ∙ fits.versions x t;
+  decided = λ x t a is. let was : k.version x t ≡ Some a = sym (c.version x t) ∙ is in c.decided x t a was ∙ fits.decided x t a was;
+  marks = λ x i above fresh. let b = fits.marks x i above fresh in (
+    λ late. let m = b.0 late in record { reader = m.reader; mark = c.marked x m.reader ∙ m.mark; above = m.above; none = λ n low high. c.version x n ∙ m.none n low high },
+    λ m. b.1 (record { reader = m.reader; mark = sym (c.marked x m.reader) ∙ m.mark; above = m.above; none = λ n low high. sym (c.version x n) ∙ m.none n low high }),
+  );
+  transactions = λ t. c.transaction t ∙ fits.transactions t;
+  protected = c.protections ∙ fits.protected;
+  made = c.protections_made ∙ fits.made;
+  feeds = λ f. c.feed f ∙ fits.feeds f;
+  opened = c.feeds_opened ∙ fits.opened;
 }

@@ -1,57 +1,65 @@
 -- The versions that are kept are counted by those of the history.
-use Rattle.std.proofs.Common.{cond, length, inr, false, Some, sym, inl, Option, map, arith, ap, List, true, Bool, refl, not, subst, None, ◌≡◌, ◌-◌, ◌+◌, ◌∷◌, ◌∙◌, ℕ, []}
-use Rattle.std.specs.Prelude.{flat_map, filter, is_some, ◌↔◌}
-use Rattle.spans.specs.Collection.{is_dead, versions_of, dead_of, VersionName}
-use Rattle.spans.specs.Effects.{Collects, Effect, After}
+use Rattle.std.proofs.Common.{Bool, List, not, inr, refl, None, Option, arith, subst, false, ap, true, Some, inl, sym, length, cond, map, ◌≡◌, ◌-◌, ◌+◌, ◌∷◌, ◌∙◌, ℕ, []}
+use Rattle.std.specs.Prelude.{filter, flat_map, is_some, ◌↔◌}
+use Rattle.spans.specs.Collection.{VersionName, versions_of, version_name, dead_of, is_dead}
+use Rattle.spans.specs.Effects.{Collects, After, Effect}
 use Rattle.spans.specs.Kept.{Kept, IsKeptOf, kept_version}
 use Rattle.spans.specs.Transactions.{is_aborted, begun_of}
-use Rattle.spans.specs.Versions.{write_set, version_of, write_of}
-use Rattle.spans.proofs.Copies.{Allowed, AllAllowed, kept}
+use Rattle.spans.specs.Versions.{version_of, write_of, write_set}
+use Rattle.spans.proofs.Copies.{Allowed, AllAllowed}
 use Rattle.spans.proofs.Open.{begun_among}
-use Rattle.spans.proofs.Steps.{by_test, version_wrote}
-use Rattle.spans.proofs.WriteSets.{has_in, has_written, write_set_rises}
+use Rattle.spans.proofs.Steps.{version_wrote, by_test}
+use Rattle.spans.proofs.WriteSets.{write_set_rises, has_written, has_in}
 use Rattle.kept.specs.Lists.{Has, AreDistinct}
-use Rattle.kept.proofs.Counting.{has_filter, has_is, in_has, distinct_append, among_has, distinct_filter, same_length, has_append, rising_distinct, begun_distinct}
+use Rattle.kept.proofs.Counting.{has_is, distinct_append, in_has, begun_distinct, distinct_filter, among_has, rising_distinct, has_filter, has_append, same_length}
 use Rattle.kept.proofs.Dead.{wrote_begun}
 
-abbrev at : ℕ → List ℕ → List ℕ × ℕ
-at t x = (x, t)
+-- the version of x that t made
+abbrev named : ℕ → List ℕ → VersionName
+named t x = version_name x t
 
-has_at : (t : ℕ) (v : VersionName) (ks : List (List ℕ)) → Has v (map (at t) ks) ↔ ((t ≡ v.ts) × Has v.key ks)
-has_at t v [] = (λ i. absurd i, λ i. absurd i.1)
-has_at t v (x ∷ xs) = let more = has_at t v xs in (
-  λ i. elim i [ inl here ↦ (ap (λ (w : List ℕ × ℕ). w.1) here, inl (ap (λ (w : List ℕ × ℕ). w.0) here)) | inr there ↦ (let m = more.0 there in (m.0, inr m.1)) ],
+-- it is listed for t exactly where its key is among the keys
+has_named : (t : ℕ) (v : VersionName) (ks : List (List ℕ)) → Has v (map (named t) ks) ↔ ((t ≡ v.ts) × Has v.key ks)
+has_named t v [] = (λ i. absurd i, λ i. absurd i.1)
+has_named t v (x ∷ xs) = let more = has_named t v xs in (
+  λ i. elim i [ inl here ↦ (ap (λ (v : VersionName). v.ts) here, inl (ap (λ (v : VersionName). v.key) here)) | inr there ↦ (let m = more.0 there in (m.0, inr m.1)) ],
   λ i. elim i.1 [ inl here ↦ inl (joined t v.ts x v.key i.0 here) | inr there ↦ inr (more.1 (i.0, there)) ],
 )
   where
-    joined : (t n : ℕ) (x y : List ℕ) → t ≡ n → x ≡ y → at t x ≡ at n y
+    joined : (t n : ℕ) (x y : List ℕ) → t ≡ n → x ≡ y → named t x ≡ named n y
     joined t n x y e h = rw (e, h) refl
 
-distinct_at : (t : ℕ) (ks : List (List ℕ)) → AreDistinct ks → AreDistinct (map (at t) ks)
-distinct_at t [] d = tt
-distinct_at t (x ∷ xs) d = (λ i. d.0 ((has_at t (at t x) xs).0 i).1, distinct_at t xs d.1)
+-- distinct keys give distinct versions
+distinct_named : (t : ℕ) (ks : List (List ℕ)) → AreDistinct ks → AreDistinct (map (named t) ks)
+distinct_named t [] d = tt
+distinct_named t (x ∷ xs) d = (λ i. d.0 ((has_named t (named t x) xs).0 i).1, distinct_named t xs d.1)
 
+-- the versions of several transactions
 abbrev names_of : List Effect → List ℕ → List VersionName
-names_of p ts = flat_map (λ t. map (λ x. (x, t)) (write_set p t)) ts
+names_of p ts = flat_map (λ t. map (λ x. version_name x t) (write_set p t)) ts
 
+-- a version is among theirs where its writer and its key are
 has_of : (p : List Effect) (v : VersionName) (ts : List ℕ) → Has v (names_of p ts) ↔ (Has v.ts ts × Has v.key (write_set p v.ts))
 has_of p v [] = (λ i. absurd i, λ i. absurd i.0)
 has_of p v (t ∷ ts) =
-    let join = has_append v (map (at t) (write_set p t)) (names_of p ts) in
-    let here = has_at t v (write_set p t) in
+    let join = has_append v (map (named t) (write_set p t)) (names_of p ts) in
+    let here = has_named t v (write_set p t) in
     let more = has_of p v ts in (
       λ i. elim (join.0 i) [ inl l ↦ (let h = here.0 l in (inl h.0, subst (λ n. Has v.key (write_set p n)) h.0 h.1)) | inr r ↦ (let m = more.0 r in (inr m.0, m.1)) ],
       λ i. join.1 (elim i.0 [ inl e ↦ inl (here.1 (e, subst (λ n. Has v.key (write_set p n)) (sym e) i.1)) | inr k ↦ inr (more.1 (k, i.1)) ]),
     )
 
+-- distinct transactions have distinct versions
 distinct_of : (p : List Effect) (ts : List ℕ) → AreDistinct ts → AreDistinct (names_of p ts)
 distinct_of p [] d = tt
-distinct_of p (t ∷ ts) d = distinct_append (map (at t) (write_set p t)) (names_of p ts) (distinct_at t (write_set p t) (rising_distinct (write_set p t) (write_set_rises p t))) (distinct_of p ts d.1)
-    (λ v i j. let e = ((has_at t v (write_set p t)).0 i).0 in d.0 (subst (λ n. Has n ts) (sym e) ((has_of p v ts).0 j).0))
+distinct_of p (t ∷ ts) d = distinct_append (map (named t) (write_set p t)) (names_of p ts) (distinct_named t (write_set p t) (rising_distinct (write_set p t) (write_set_rises p t))) (distinct_of p ts d.1)
+    (λ v i j. let e = ((has_named t v (write_set p t)).0 i).0 in d.0 (subst (λ n. Has n ts) (sym e) ((has_of p v ts).0 j).0))
 
+-- no version is listed twice
 pub versions_distinct : (p : List Effect) → AllAllowed p → AreDistinct (versions_of p)
 versions_distinct p all = distinct_of p (filter (λ t. not (is_aborted p t)) (begun_of p)) (distinct_filter (λ t. not (is_aborted p t)) (begun_of p) (begun_distinct p all))
 
+-- a version is listed exactly where there is one
 pub has_versions : (p : List Effect) → AllAllowed p → (v : VersionName) → Has v (versions_of p) ↔ (is_some (version_of p v.key v.ts) ≡ true)
 has_versions p all v =
     let m = has_of p v (filter (λ t. not (is_aborted p t)) (begun_of p)) in
@@ -74,6 +82,7 @@ has_versions p all v =
           in_has v.key (write_set p v.ts) ((has_in v.key (write_set p v.ts)).1 (has_written p v.ts v.key ∙ ap is_some wrote.1)),
         )
 
+-- a list is what fails the test and what passes it
 parted : {A : Type 0} (q : A → Bool) (xs : List A) → length xs ≡ length (filter (λ x. not (q x)) xs) + length (filter q xs)
 parted q [] = refl
 parted q (x ∷ xs) = let more = parted q xs in by_test (q x)
@@ -83,12 +92,12 @@ parted q (x ∷ xs) = let more = parted q xs in by_test (q x)
 -- any list that has each version of the store once is as long as the versions less the dead
 pub stored_count : (k : Kept) (p : List Effect) → AllAllowed p → IsKeptOf k p → (vs : List VersionName) → AreDistinct vs → ((v : VersionName) → Has v vs ↔ (is_some (k.version v.key v.ts) ≡ true))
     → length (versions_of p) ≡ length vs + length (dead_of p)
-stored_count k p all kept vs d same =
+stored_count k p all fits vs d same =
     let q : VersionName → Bool = λ v. not (is_dead p v) in
     let e : length vs ≡ length (filter (λ v. not (is_dead p v)) (versions_of p)) = same_length vs (filter (λ v. not (is_dead p v)) (versions_of p)) d (distinct_filter (λ v. not (is_dead p v)) (versions_of p) (versions_distinct p all)) (λ v.
     let f = has_filter (λ w. not (is_dead p w)) v (versions_of p) in let h = has_versions p all v in (
-      λ i. f.1 (let s : is_some (kept_version p v.key v.ts) ≡ true = ap is_some (sym (kept.versions v.key v.ts)) ∙ (same v).0 i in let b = split (is_dead p (v.key, v.ts)) (version_of p v.key v.ts) s in (b.0, h.1 b.1)),
-      λ i. (same v).1 (ap is_some (kept.versions v.key v.ts) ∙ join (is_dead p (v.key, v.ts)) (version_of p v.key v.ts) (f.0 i).0 (h.0 (f.0 i).1)),
+      λ i. f.1 (let s : is_some (kept_version p v.key v.ts) ≡ true = ap is_some (sym (fits.versions v.key v.ts)) ∙ (same v).0 i in let b = split (is_dead p v) (version_of p v.key v.ts) s in (b.0, h.1 b.1)),
+      λ i. (same v).1 (ap is_some (fits.versions v.key v.ts) ∙ join (is_dead p v) (version_of p v.key v.ts) (f.0 i).0 (h.0 (f.0 i).1)),
     )) in
     parted (is_dead p) (versions_of p) ∙ ap (λ n. n + length (dead_of p)) (sym e)
   where
@@ -104,7 +113,7 @@ stored_count k p all kept vs d same =
 pub removed_count : (k k' : Kept) (p : List Effect) (n : ℕ) → AllAllowed p → Allowed p (Collects n) → IsKeptOf k p → IsKeptOf k' (Collects n ∷ p) → (vs vs' : List VersionName) → AreDistinct vs → AreDistinct vs'
     → ((v : VersionName) → Has v vs ↔ (is_some (k.version v.key v.ts) ≡ true)) → ((v : VersionName) → Has v vs' ↔ (is_some (k'.version v.key v.ts) ≡ true))
     → length vs - length vs' ≡ length (dead_of (Collects n ∷ p)) - length (dead_of p)
-removed_count k k' p n all allowed kept kept' vs vs' d d' same same' =
-    let before : length (versions_of p) ≡ length vs + length (dead_of p) = stored_count k p all kept vs d same in
+removed_count k k' p n all allowed fits kept' vs vs' d d' same same' =
+    let before : length (versions_of p) ≡ length vs + length (dead_of p) = stored_count k p all fits vs d same in
     let after : length (versions_of p) ≡ length vs' + length (dead_of (Collects n ∷ p)) = stored_count k' (Collects n ∷ p) (allowed, all) kept' vs' d' same' in
     omega (arith, before, after)

@@ -3,3 +3,10 @@ pub mod Finding
 pub mod Marks
 pub mod Table
 pub mod Places
+pub mod Rings
+pub mod HeldBack
+pub mod StandsFor
+pub mod Collecting
+pub mod Changes
+pub mod Replies
+pub mod WorkedKept

@@ -1,9 +1,9 @@
 -- What marking and forgetting readers of a key has to do, and what is asked of the marks.
-use Rattle.std.specs.Prelude.{Bool, Option, List, Some, None, true, ◌≡◌, ◌<◌, ◌≤◌, ◌⊎◌, ℕ}
-use Rattle.spans.specs.Effects.{Effect}
-use Rattle.spans.specs.Transactions.{closed_of}
-use Rattle.spans.specs.Versions.{visible, version_of}
+use Rattle.std.specs.Prelude.{Bool, List, None, Option, Some, false, true, ℕ, ◌<◌, ◌==◌, ◌↔◌, ◌≡◌, ◌≤◌, ◌⊎◌}
+use Rattle.spans.specs.Kept.{Kept}
+use Rattle.kept.specs.Finding.{IsNextAbove, seen}
 
+-- at most the bound, where there is one
 abbrev pub AtMost : Option ℕ → ℕ → Type 0
 AtMost None j = Unit {0}
 AtMost (Some s) j = j ≤ s
@@ -15,6 +15,7 @@ pub record IsBetween (m : ℕ → Bool) (above : ℕ) (to : Option ℕ) : Type 0
   pub higher : above < reader
   pub low : AtMost to reader
 
+-- the next version above a read, or beyond all timestamps where there is none
 abbrev pub until : Option ℕ → ℕ
 until None = 18446744073709551615
 until (Some s) = s
@@ -35,12 +36,21 @@ pub record IsPiece (m m' : ℕ → Bool) (j above until : ℕ) : Type 0 where
   pub outside : (n : ℕ) → (n ≤ above) ⊎ (until < n) → m' n ≡ m n
   pub inside : (n : ℕ) → above < n → n ≤ until → m' n ≡ true → n ≡ top
 
--- the read of a key by j left its mark, unless it was of an own version
-abbrev pub Marked : List Effect → List ℕ → ℕ → (ℕ → Bool) → (ℕ → Bool) → Type 0
-Marked p x j m m' = (((visible p x j).ts ≡ j) × ((n : ℕ) → m' n ≡ m n))
-    ⊎ (((visible p x j).ts < j) × (above : ℕ) × (until : ℕ) × ((n : ℕ) → closed_of p < n → above < n → n < until → version_of p x n ≡ None) × IsMarkedBy m m' j above until)
+-- the read of x by t is noted in the marks of x: by no mark where it found t's own version, and else by a mark of t,
+-- which may join others between the version that it found and the next above t
+pub record IsNoted (k : Kept) (x : List ℕ) (t : ℕ) (m' : ℕ → Bool) : Type 0 where
+  pub next : Option ℕ
+  pub is_next : IsNextAbove (k.version x) t next
+  pub own : (seen k x t).ts ≡ t → (n : ℕ) → m' n ≡ k.marked x n
+  pub other : ((seen k x t).ts == t) ≡ false → IsMarkedBy (k.marked x) m' t (seen k x t).ts (until next)
 
--- what is left of marks forgotten through n
+-- the marks through n are forgotten, some or all; those above it stand
 pub record IsForgotten (m m' : ℕ → Bool) (n : ℕ) : Type 0 where
   pub above : (j : ℕ) → n < j → m' j ≡ m j
   pub only : (j : ℕ) → m' j ≡ true → m j ≡ true
+
+-- the test of the marks before a write of x at t: whether a reader is marked above t, and not above the next version
+pub record IsLate (k : Kept) (x : List ℕ) (t : ℕ) (late : Bool) : Type 0 where
+  pub next : Option ℕ
+  pub is_next : IsNextAbove (k.version x) t next
+  pub is : (late ≡ true) ↔ IsBetween (k.marked x) t next

@@ -1,16 +1,16 @@
 -- What the place of a live feed answers.
-use Rattle.std.specs.Prelude.{nat_lt, max, min, Bool, Option, List, Some, None, true, ◌≡◌, ◌≤◌, ◌-◌, ◌&&◌, ℕ, ◌↔◌}
+use Rattle.std.specs.Prelude.{Bool, List, None, Option, Some, max, min, nat_lt, take, true, ℕ, ◌&&◌, ◌-◌, ◌↔◌, ◌≡◌, ◌≤◌}
 use Rattle.timestamps.specs.declared.row.Row.{Row}
 use Rattle.spans.specs.Collection.{LiveFeed}
-use Rattle.spans.specs.Consumer.{last_row, is_after}
+use Rattle.spans.specs.Consumer.{is_after, last_row}
 use Rattle.spans.specs.Effects.{After}
 use Rattle.spans.specs.Feeds.{last_resolved}
-use Rattle.spans.specs.Kept.{Place}
+use Rattle.spans.specs.Kept.{Kept, Place}
 use Rattle.spans.specs.Keys.{in_span}
 use Rattle.spans.specs.declared.calls.messages.Message.{Message}
-use Rattle.spans.specs.declared.span.Span.{Span}
-use Rattle.spans.proofs.StreamOrder.{RisingRows, IsRowIn}
+use Rattle.spans.proofs.StreamOrder.{IsRowIn, RisingRows}
 
+-- more rows of the last row's timestamp may follow
 abbrev pub row_floor : Option Row → ℕ
 row_floor None = 0
 row_floor (Some r) = r.ts - 1
@@ -24,6 +24,7 @@ abbrev pub or_min : Option ℕ → ℕ → ℕ
 or_min None n = n
 or_min (Some m) n = min m n
 
+-- the least floor of the live feeds, where there are any
 abbrev pub IsLeastFloor : (ℕ → Option Place) → Option ℕ → Type 0
 IsLeastFloor feed None = (f : ℕ) → feed f ≡ None
 IsLeastFloor feed (Some m) = ((f : ℕ) × (place : Place) × (feed f ≡ Some place) × (place_floor place ≡ m)) × ((f : ℕ) (place : Place) → feed f ≡ Some place → m ≤ place_floor place)
@@ -32,6 +33,7 @@ IsLeastFloor feed (Some m) = ((f : ℕ) × (place : Place) × (feed f ≡ Some p
 abbrev pub moved : List Message → Place → Place
 moved ms place = record place { after = last_resolved place.after ms; row = last_row place.row ms }
 
+-- the feed of this number and cursor, as it is listed
 abbrev pub live_feed : ℕ → ℕ → LiveFeed
 live_feed f c = record { number = f; cursor = c }
 
@@ -52,9 +54,8 @@ pub record AreLeft (version : List ℕ → ℕ → Option After) (decided : List
   pub rising : RisingRows rows
   pub each : (r : Row) → IsRowIn r rows ↔ IsStored version decided place through r
 
-abbrev pub whole : Span
-whole = record { lo = None; hi = None }
-
--- a row that a feed is offered
-abbrev pub wanted : Span → ℕ → Row → Bool
-wanted span c r = in_span span r.key && nat_lt c r.ts
+-- rows begin as those that are left for a feed at the place do: as far as max, or up to their end
+pub record AreNext (k : Kept) (place : Place) (max : ℕ) (rows : List Row) : Type 0 where
+  pub all : List Row
+  pub left : AreLeft k.version k.decided place k.closed all
+  pub first : take max rows ≡ take max all

@@ -1,0 +1,152 @@
+-- The counts of a commit, a hard closing and the statistics, from what is kept.
+use Rattle.std.proofs.Common.{Bool, List, None, Option, Some, [], ap, arith, cond, false, inl, inr, length, map, not, refl, subst, suc, sym, true, ℕ, ◌&&◌, ◌+◌, ◌-◌, ◌==◌, ◌∙◌, ◌∷◌, ◌≡◌}
+use Rattle.std.proofs.lemmas.Bool.{and_from, and_parts, false_from_ne_true}
+use Rattle.std.proofs.lemmas.Cmp.{nat_list_cmp_total}
+use Rattle.std.proofs.lemmas.Map.Lookups.{exact_bytes}
+use Rattle.std.specs.Ordering.{ordering_reverse}
+use Rattle.std.specs.Prelude.{bytes_eq, filter, is_some, nat_le, ◌↔◌}
+use Rattle.std.specs.declared.cmp.Ordering.{Ordering}
+use Rattle.std.specs.declared.cmp.Ordering.TheVariants.{Equal, Greater, Less}
+use Rattle.timestamps.specs.Bytes.{key_cmp}
+use Rattle.spans.specs.Collection.{LiveFeed, VersionName, dead_of, live_feeds, versions_of}
+use Rattle.spans.specs.Effects.{Cancels, Effect, Opens, Writes}
+use Rattle.spans.specs.Feeds.{Feed, feed_of, is_cancelled}
+use Rattle.spans.specs.Kept.{IsKeptOf, Kept, place_of}
+use Rattle.spans.specs.Keys.{insert_key, insert_where}
+use Rattle.spans.specs.Transactions.{begun_of, is_undecided, undecided_timestamps}
+use Rattle.spans.specs.Versions.{write_count, write_of, write_set}
+use Rattle.spans.proofs.Copies.{AllAllowed}
+use Rattle.spans.proofs.Feeding.{unopened}
+use Rattle.spans.proofs.Keyed.{IsIn, RisingKeys}
+use Rattle.spans.proofs.Open.{begun_among}
+use Rattle.spans.proofs.Steps.{by_test, same_key}
+use Rattle.spans.proofs.WriteSets.{has, has_in, has_written, write_set_rises}
+use Rattle.kept.specs.Lists.{AreDistinct, AreThose, Has}
+use Rattle.kept.specs.Places.{live_feed}
+use Rattle.kept.specs.Table.{is_open}
+use Rattle.kept.proofs.AfterCloses.{open_is}
+use Rattle.kept.proofs.Counting.{among_has, distinct_filter, has_filter, open_distinct, same_length}
+use Rattle.kept.proofs.FeedFloors.{is_live}
+use Rattle.kept.proofs.Floors.{live_is, place_at}
+use Rattle.kept.proofs.VersionCounts.{stored_count}
+
+-- a list of those that pass the test is as long as any other
+pub those_length : {A : Type 0} (test : A → Bool) (xs ys : List A) → AreThose test xs → AreDistinct ys → ((x : A) → Has x ys ↔ (test x ≡ true)) → length xs ≡ length ys
+those_length test xs ys those distinct each = same_length xs ys those.distinct distinct (λ x. (λ i. (each x).1 ((those.each x).0 i), λ i. (those.each x).1 ((each x).0 i)))
+
+-- an undecided transaction is among those that the history lists
+pub has_undecided : (p : List Effect) (t : ℕ) → Has t (undecided_timestamps p) ↔ (is_undecided p t ≡ true)
+has_undecided p t = let f = has_filter (is_undecided p) t (begun_of p) in (
+  λ i. (f.0 i).0,
+  λ is. f.1 (is, among_has t (begun_of p) (begun_among p t (and_parts _ _ is).0)),
+)
+
+-- the undecided transactions of the table are as many as those of the history
+pub undecided_count : (k : Kept) (p : List Effect) → AllAllowed p → IsKeptOf k p → (ts : List ℕ) → AreThose (λ t. is_open (k.transaction t)) ts → length ts ≡ length (undecided_timestamps p)
+undecided_count k p all fits ts those = those_length (λ t. is_open (k.transaction t)) ts (undecided_timestamps p) those (open_distinct p all) (λ t. let h = has_undecided p t in (
+  λ i. open_is k p all fits t ∙ h.0 i,
+  λ is. h.1 (sym (open_is k p all fits t) ∙ is),
+))
+
+-- a hard closing aborts as many as the history says
+pub cut_count : (k : Kept) (p : List Effect) → AllAllowed p → IsKeptOf k p → (to : ℕ) (ts : List ℕ) → AreThose (λ t. nat_le t to && is_open (k.transaction t)) ts
+    → length ts ≡ length (filter (λ t. nat_le t to) (undecided_timestamps p))
+cut_count k p all fits to ts those = those_length (λ t. nat_le t to && is_open (k.transaction t)) ts (filter (λ t. nat_le t to) (undecided_timestamps p)) those (distinct_filter (λ t. nat_le t to) (undecided_timestamps p) (open_distinct p all))
+    (λ t. let h = has_undecided p t in let f = has_filter (λ t. nat_le t to) t (undecided_timestamps p) in (
+      λ i. and_from _ _ (f.0 i).0 (open_is k p all fits t ∙ h.0 (f.0 i).1),
+      λ is. let b = and_parts _ _ is in f.1 (b.0, h.1 (sym (open_is k p all fits t) ∙ b.1)),
+    ))
+
+-- a number in a mapped list comes of an element
+has_number : (f : ℕ) (ws : List LiveFeed) → Has f (map (λ (n : LiveFeed). n.number) ws) → (c : ℕ) × Has (live_feed f c) ws
+has_number f [] i = absurd i
+has_number f (w ∷ ws) i = elim i [
+  | inl here ↦ (w.cursor, inl (named_feed here))
+  | inr there ↦ (let m = has_number f ws there in (m.0, inr m.1))
+]
+  where
+    named_feed : w.number ≡ f → w ≡ live_feed f w.cursor
+    named_feed e = ap (λ n. live_feed n w.cursor) e
+
+-- an element's number is in the mapped list
+number_has : (f c : ℕ) (ws : List LiveFeed) → Has (live_feed f c) ws → Has f (map (λ (n : LiveFeed). n.number) ws)
+number_has f c [] i = absurd i
+number_has f c (w ∷ ws) i = elim i [ inl here ↦ inl (ap (λ (n : LiveFeed). n.number) here) | inr there ↦ inr (number_has f c ws there) ]
+
+-- distinct numbers stay so where some go
+numbers_filter : (q : LiveFeed → Bool) (ws : List LiveFeed) → AreDistinct (map (λ (n : LiveFeed). n.number) ws) → AreDistinct (map (λ (n : LiveFeed). n.number) (filter q ws))
+numbers_filter q [] d = tt
+numbers_filter q (w ∷ ws) d = let more = numbers_filter q ws d.1 in by_test (q w)
+    (λ is. rw is (λ i. d.0 (still ws i), more))
+    (λ isnt. rw isnt more)
+  where
+    still : (ws : List LiveFeed) → Has w.number (map (λ (n : LiveFeed). n.number) (filter q ws)) → Has w.number (map (λ (n : LiveFeed). n.number) ws)
+    still ws i = let m = has_number w.number (filter q ws) i in number_has w.number m.0 ws ((has_filter q (live_feed w.number m.0) ws).0 m.1).1
+
+-- no feed is listed twice
+pub numbers_distinct : (p : List Effect) → AllAllowed p → AreDistinct (map (λ (n : LiveFeed). n.number) (live_feeds p))
+numbers_distinct [] all = tt
+numbers_distinct (Opens f seat span cursor ∷ p) all = (
+  λ i. let m = has_number f (live_feeds p) i in let l = live_is p all.1 f m.0 m.1 in
+      let no' : None ≡ Some l.0 = sym (unopened p all.1 f (omega (arith, all.0.0))).0 ∙ l.1 in cc,
+  numbers_distinct p all.1,
+)
+numbers_distinct (Cancels f ∷ p) all = numbers_filter (λ (n : LiveFeed). not (n.number == f)) (live_feeds p) (numbers_distinct p all.1)
+numbers_distinct (_ ∷ p) all = numbers_distinct p all.1
+
+-- the live feeds that are kept are as many as those of the history
+pub feeds_count : (k : Kept) (p : List Effect) → AllAllowed p → IsKeptOf k p → (fs : List ℕ) → AreThose (λ f. is_some (k.feed f)) fs → length fs ≡ length (live_feeds p)
+feeds_count k p all fits fs those =
+    those_length (λ f. is_some (k.feed f)) fs (map (λ (n : LiveFeed). n.number) (live_feeds p)) those (numbers_distinct p all) (λ f. (
+      λ i. let m = has_number f (live_feeds p) i in let l = live_is p all f m.0 m.1 in ap is_some (place_at k p fits f l.0 l.1 l.2),
+      λ is. by_parts f (is_cancelled p f) refl (feed_of p f) refl (ap is_some (sym (fits.feeds f)) ∙ is),
+    )) ∙ as_many (live_feeds p)
+  where
+    as_many : (ws : List LiveFeed) → length (map (λ (n : LiveFeed). n.number) ws) ≡ length ws
+    as_many [] = refl
+    as_many (w ∷ ws) = ap suc (as_many ws)
+
+    by_parts : (f : ℕ) (b : Bool) → is_cancelled p f ≡ b → (o : Option Feed) → feed_of p f ≡ o → is_some (place_of p f) ≡ true → Has f (map (λ (n : LiveFeed). n.number) (live_feeds p))
+    by_parts f true c o e is = absurd (let no' : false ≡ true = rw c at is in cc)
+    by_parts f false c None e is = absurd (let no' : false ≡ true = rw (c, e) at is in cc)
+    by_parts f false c (Some feed) e is = number_has f feed.cursor (live_feeds p) (is_live p f feed e c)
+
+-- the kept versions are as many as those of the history that aren't dead
+pub versions_count : (k : Kept) (p : List Effect) → AllAllowed p → IsKeptOf k p → (vs : List VersionName) → AreThose (λ v. is_some (k.version v.key v.ts)) vs → length vs ≡ length (versions_of p) - length (dead_of p)
+versions_count k p all fits vs those = let e : length (versions_of p) ≡ length vs + length (dead_of p) = stored_count k p all fits vs those.distinct those.each in omega (arith, e)
+
+-- a key that comes before all of rising keys isn't among them
+not_among : (x : List ℕ) (ys : List (List ℕ)) → ((z : List ℕ) → IsIn z ys → key_cmp x z ≡ Less) → has x ys ≡ false
+not_among x ys before = false_from_ne_true _ (λ is. let l : key_cmp x x ≡ Less = before x ((has_in x ys).1 is) in
+    let back : key_cmp x x ≡ ordering_reverse (key_cmp x x) = nat_list_cmp_total.antisymm x x in let no' : Less ≡ Greater = sym l ∙ back ∙ ap ordering_reverse l in cc)
+
+-- a key that is inserted counts where it wasn't there
+inserted_length : (x : List ℕ) (ks : List (List ℕ)) → RisingKeys ks → length (insert_key x ks) ≡ cond (has x ks) (length ks) (suc (length ks))
+inserted_length x [] r = refl
+inserted_length x (y ∷ ys) r = by_order (key_cmp x y) refl (inserted_length x ys r.1)
+  where
+    by_order : (o : Ordering) → key_cmp x y ≡ o → length (insert_key x ys) ≡ cond (has x ys) (length ys) (suc (length ys))
+        → length (insert_where o x y ys (insert_key x ys)) ≡ cond (has x (y ∷ ys)) (suc (length ys)) (suc (suc (length ys)))
+    by_order Less e more = let none : has x (y ∷ ys) ≡ false = not_among x (y ∷ ys) (λ z i. elim i [ inl here ↦ subst (λ w. key_cmp x w ≡ Less) here e | inr there ↦ nat_list_cmp_total.trans x y z e (r.0 z there) ]) in rw none refl
+    by_order Equal e more = let here : has x (y ∷ ys) ≡ true = (has_in x (y ∷ ys)).0 (inl (sym (exact_bytes x y e))) in rw here refl
+    by_order Greater e more = ap suc more ∙ by_test (bytes_eq y x)
+        (λ same. absurd (let at : key_cmp x x ≡ Greater = subst (λ z. key_cmp x z ≡ Greater) (same_key y x same) e in
+        let back : key_cmp x x ≡ ordering_reverse (key_cmp x x) = nat_list_cmp_total.antisymm x x in let no' : Greater ≡ Less = sym at ∙ back ∙ ap ordering_reverse at in cc))
+        (λ other. rw other (step (has x ys) (length ys)))
+      where
+        step : (b : Bool) (n : ℕ) → suc (cond b n (suc n)) ≡ cond b (suc n) (suc (suc n))
+        step true n = refl
+        step false n = refl
+
+-- the keys that a transaction wrote are as many as it has in its write set
+pub write_set_length : (p : List Effect) (t : ℕ) → length (write_set p t) ≡ write_count p t
+write_set_length [] t = refl
+write_set_length (Writes k x a ∷ p) t = by_test (k == t)
+    (λ same. rw same (inserted_length x (write_set p t) (write_set_rises p t) ∙ ap (λ b. cond b (length (write_set p t)) (suc (length (write_set p t)))) (has_written p t x)
+    ∙ step (is_some (write_of p t x)) (write_set_length p t)))
+    (λ other. rw other (write_set_length p t))
+  where
+    step : {n m : ℕ} (b : Bool) → n ≡ m → cond b n (suc n) ≡ cond (not b) (suc m) m
+    step true e = e
+    step false e = ap suc e
+write_set_length (_ ∷ p) t = write_set_length p t

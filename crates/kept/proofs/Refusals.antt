@@ -1,0 +1,88 @@
+-- The tests of a command of a transaction, from the table.
+use Rattle.std.proofs.Common.{Bool, List, None, Option, Some, [], ap, arith, cond, false, not, refl, sym, true, ℕ, ◌++◌, ◌||◌, ◌∙◌, ◌∷◌, ◌≡◌}
+use Rattle.std.proofs.lemmas.Bool.{leb-false, lt-ltb, or_parts}
+use Rattle.std.proofs.lemmas.Bool.Decides.{nat_tests}
+use Rattle.std.specs.Prelude.{is_some, nat_le, nat_lt, option_map}
+use Rattle.spans.specs.Answer.{first_refusal, first_refusal_or, is_owner, transaction_tests}
+use Rattle.spans.specs.Effects.{Effect}
+use Rattle.spans.specs.Kept.{IsKeptOf, Kept, transaction_with}
+use Rattle.spans.specs.Transactions.{closed_of, is_aborted, is_committed, owner_of}
+use Rattle.spans.specs.Versions.{write_set}
+use Rattle.spans.specs.declared.calls.replies.Refusal.{Refusal}
+use Rattle.spans.specs.declared.calls.replies.Refusal.TheVariants.{Ended, NoTxn, NotOwner}
+use Rattle.spans.specs.declared.calls.replies.Reply.{Reply}
+use Rattle.spans.specs.declared.calls.replies.Reply.TheVariants.{Refused}
+use Rattle.spans.proofs.Copies.{IsActive}
+use Rattle.spans.proofs.Legal.{not_false}
+use Rattle.spans.proofs.Steps.{by_test}
+use Rattle.kept.specs.Replies.{unless_refused}
+use Rattle.kept.specs.Table.{keys_of, refusal, transaction_refusal}
+
+-- tests of which none applies are passed
+tests_past : (tests more : List (Bool × Refusal)) (reply : Reply) → first_refusal tests ≡ None → first_refusal_or (tests ++ more) reply ≡ first_refusal_or more reply
+tests_past [] more reply none = refl
+tests_past (test ∷ tests) more reply none = by_test test.0
+    (λ is. let no' : Some test.1 ≡ None = rw is at none in cc)
+    (λ isnt. rw isnt (tests_past tests more reply (rw isnt at none)))
+
+-- tests of which one applies refuse
+tests_met : (tests more : List (Bool × Refusal)) (reply : Reply) (r : Refusal) → first_refusal tests ≡ Some r → first_refusal_or (tests ++ more) reply ≡ Refused r
+tests_met [] more reply r some = cc
+tests_met (test ∷ tests) more reply r some = by_test test.0
+    (λ is. rw is (let e : Some test.1 ≡ Some r = rw is at some in let e' : test.1 ≡ r = cc in ap Refused e'))
+    (λ isnt. rw isnt (tests_met tests more reply r (rw isnt at some)))
+
+-- where none of the tests applies the first does not
+test_past : (test : Bool × Refusal) (tests : List (Bool × Refusal)) → first_refusal (test ∷ tests) ≡ None → (test.0 ≡ false) × (first_refusal tests ≡ None)
+test_past test tests none = by_test test.0
+    (λ is. let no' : Some test.1 ≡ None = rw is at none in cc)
+    (λ isnt. (isnt, rw isnt at none))
+
+-- past its tests a transaction is active
+pub active_of : (p : List Effect) (seat t : ℕ) → first_refusal (transaction_tests p seat t) ≡ None → IsActive p t
+active_of p seat t none =
+    let a = test_past (nat_le t (closed_of p), Ended) ((not (is_some (owner_of p t)), NoTxn) ∷ (not (is_owner (owner_of p t) seat), NotOwner) ∷ (is_committed p t || is_aborted p t, Ended) ∷ []) none in
+    let b = test_past (not (is_some (owner_of p t)), NoTxn) ((not (is_owner (owner_of p t) seat), NotOwner) ∷ (is_committed p t || is_aborted p t, Ended) ∷ []) a.1 in
+    let c = test_past (not (is_owner (owner_of p t) seat), NotOwner) ((is_committed p t || is_aborted p t, Ended) ∷ []) b.1 in
+    let d = test_past (is_committed p t || is_aborted p t, Ended) [] c.1 in
+    let both = or_parts (is_committed p t) (is_aborted p t) d.0 in
+    record { above = leb-false t (closed_of p) a.0; begun = not_false (is_some (owner_of p t)) b.0; uncommitted = both.0; unaborted = both.1 }
+
+-- the table gives the first test that applies
+pub refusal_is : (k : Kept) (p : List Effect) → IsKeptOf k p → (seat t : ℕ) → refusal k seat t ≡ first_refusal (transaction_tests p seat t)
+refusal_is k p fits seat t = rw (fits.closed_at, fits.transactions t) (by_test (nat_le t (closed_of p))
+    (λ low. rw low refl)
+    (λ high. let above : nat_lt (closed_of p) t ≡ true = grind (arith, nat_tests) in rw (high, above) (by_owner (owner_of p t))))
+  where
+    by_owner : (o : Option ℕ) → transaction_refusal seat (option_map (transaction_with p t) o) ≡ first_refusal ((not (is_some o), NoTxn) ∷ (not (is_owner o seat), NotOwner) ∷ (is_committed p t || is_aborted p t, Ended) ∷ [])
+    by_owner None = refl
+    by_owner (Some s) = refl
+
+-- the reply to a command of a transaction is right where it is so past the tests
+pub past_tests : (k : Kept) (p : List Effect) → IsKeptOf k p → (seat t : ℕ) (more : List (Bool × Refusal)) (reply reply' : Reply) → (refusal k seat t ≡ None → IsActive p t → reply ≡ first_refusal_or more reply')
+    → unless_refused (refusal k seat t) reply ≡ first_refusal_or (transaction_tests p seat t ++ more) reply'
+past_tests k p fits seat t more reply reply' here = by_refusal (refusal k seat t) refl
+  where
+    by_refusal : (o : Option Refusal) → refusal k seat t ≡ o → unless_refused o reply ≡ first_refusal_or (transaction_tests p seat t ++ more) reply'
+    by_refusal None e = let past = sym (refusal_is k p fits seat t) ∙ e in here e (active_of p seat t past) ∙ sym (tests_past (transaction_tests p seat t) more reply' past)
+    by_refusal (Some r) e = sym (tests_met (transaction_tests p seat t) more reply' r (sym (refusal_is k p fits seat t) ∙ e))
+
+-- an active transaction's write set is in the table
+pub write_set_kept : (k : Kept) (p : List Effect) → IsKeptOf k p → (t : ℕ) → IsActive p t → keys_of (k.transaction t) ≡ write_set p t
+write_set_kept k p fits t here =
+    let above : nat_lt (closed_of p) t ≡ true = lt-ltb _ _ here.above in
+    ap keys_of (fits.transactions t) ∙ ap (λ b. keys_of (cond b (option_map (transaction_with p t) (owner_of p t)) None)) above ∙ by_owner (owner_of p t) here.begun
+  where
+    by_owner : (o : Option ℕ) → is_some o ≡ true → keys_of (option_map (transaction_with p t) o) ≡ write_set p t
+    by_owner None is = cc
+    by_owner (Some seat) is = refl
+
+-- above closed the table has who began
+pub used_is : (k : Kept) (p : List Effect) → IsKeptOf k p → (t : ℕ) → nat_le t (closed_of p) ≡ false → is_some (k.transaction t) ≡ is_some (owner_of p t)
+used_is k p fits t high =
+    let above : nat_lt (closed_of p) t ≡ true = grind (arith, nat_tests) in
+    ap is_some (fits.transactions t) ∙ ap (λ b. is_some (cond b (option_map (transaction_with p t) (owner_of p t)) None)) above ∙ by_owner (owner_of p t)
+  where
+    by_owner : (o : Option ℕ) → is_some (option_map (transaction_with p t) o) ≡ is_some o
+    by_owner None = refl
+    by_owner (Some seat) = refl

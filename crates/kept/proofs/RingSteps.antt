@@ -1,0 +1,108 @@
+-- Rings and held rows along a legal history.
+use Rattle.std.proofs.Common.{Bool, List, None, Option, Some, [], ap, arith, drop, false, refl, subst, sym, true, ℕ, ◌<◌, ◌∙◌, ◌∷◌, ◌≡◌, ◌≤◌}
+use Rattle.std.specs.Prelude.{filter, max, nat_le}
+use Rattle.timestamps.specs.declared.row.Row.{Row}
+use Rattle.spans.specs.Effects.{Closes, Commits, Effect, HardCloses, Opens, Polls, effect_of, effects_of}
+use Rattle.spans.specs.Feeds.{Feed, feed_of, is_cancelled}
+use Rattle.spans.specs.Kept.{Kept, Place, place_with}
+use Rattle.spans.specs.Legal.{IsLegal, IsRightEvent}
+use Rattle.spans.specs.Streams.{stream_of}
+use Rattle.spans.specs.Transactions.{closed_of}
+use Rattle.spans.specs.declared.calls.events.Event.{Event}
+use Rattle.spans.specs.declared.calls.messages.Message.{Message}
+use Rattle.spans.specs.declared.span.Span.{Span}
+use Rattle.spans.proofs.Copies.{Allowed}
+use Rattle.spans.proofs.Legal.{legal_allowed, right_allowed}
+use Rattle.kept.specs.HeldBack.{AreHeldBack, AreLetGo, IsHeldFor, holds_still}
+use Rattle.kept.specs.Places.{AreLeft}
+use Rattle.kept.specs.Rings.{AreOffered, AreOthersSame, AreRings, is_quiet, whole}
+use Rattle.kept.specs.StandsFor.{StandsFor}
+use Rattle.kept.proofs.Floors.{place_at}
+use Rattle.kept.proofs.HeldBack.{held_after_closes, held_after_commits, held_after_hard_closes, held_stay, released}
+use Rattle.kept.proofs.Polling.{left_are}
+use Rattle.kept.proofs.RingRows.{rings_after_closes, rings_after_opens, rings_after_polls, rings_stay, untold_closes, untold_hard_closes}
+
+-- the ring of a feed that isn't behind has what is left for it
+pub ring_serves : (k : Kept) (h : List Event) (ring : ℕ → List Row) (behind : ℕ → Bool) (f : ℕ) (place : Place) → StandsFor k h → AreRings ring behind (effects_of h) → k.feed f ≡ Some place → behind f ≡ false → AreLeft k.version k.decided place k.closed (ring f)
+ring_serves k h ring behind f place stands rings at up = by_parts (is_cancelled (effects_of h) f) refl (feed_of (effects_of h) f) refl
+  where
+    by_parts : (b : Bool) → is_cancelled (effects_of h) f ≡ b → (o : Option Feed) → feed_of (effects_of h) f ≡ o → AreLeft k.version k.decided place k.closed (ring f)
+    by_parts true c o e = absurd (let no' : None ≡ Some place = sym (rw c refl) ∙ sym (stands.fits.feeds f) ∙ at in cc)
+    by_parts false c None e = absurd (let no' : None ≡ Some place = sym (rw (c, e) refl) ∙ sym (stands.fits.feeds f) ∙ at in cc)
+    by_parts false c (Some feed) e =
+        let here : place_with (effects_of h) f feed ≡ place = (let both : Some (place_with (effects_of h) f feed) ≡ Some place = sym (place_at k (effects_of h) stands.fits f feed e c) ∙ at in cc) in
+        subst (λ w. AreLeft k.version k.decided w k.closed (ring f)) here
+        (subst (λ n. AreLeft k.version k.decided (place_with (effects_of h) f feed) n (ring f)) (sym stands.fits.closed_at)
+        (subst (AreLeft k.version k.decided (place_with (effects_of h) f feed) (closed_of (effects_of h))) (sym (rings f feed e c up)) (left_are k (effects_of h) (legal_allowed h stands.legal) stands.fits f feed e c)))
+
+-- a right event's effect is allowed
+allowed_after : (h : List Event) (e : Event) (d : Effect) → IsRightEvent (effects_of h) e → effect_of e ≡ d → Allowed (effects_of h) d
+allowed_after h e d right is = subst (Allowed (effects_of h)) is (right_allowed (effects_of h) e right)
+
+-- rings after a closing
+pub rings_close : (k : Kept) (h : List Event) (e : Event) (n : ℕ) (ring ring' : ℕ → List Row) (behind behind' : ℕ → Bool) → StandsFor k h → IsRightEvent (effects_of h) e → effect_of e ≡ Closes n → AreRings ring behind (effects_of h)
+    → AreOffered k ring ring' behind behind' (stream_of (effects_of h) whole k.closed n) → AreRings ring' behind' (effects_of (e ∷ h))
+rings_close k h e n ring ring' behind behind' stands right is rings offered = let all = legal_allowed h stands.legal in
+    subst (λ d. AreRings ring' behind' (d ∷ effects_of h)) (sym is)
+    (rings_after_closes k (effects_of h) all stands.fits (Closes n) n ring ring' behind behind' (λ f feed at. untold_closes (effects_of h) all n (allowed_after h e (Closes n) right is) f feed at) (λ f feed at. at) (λ f live. live) rings offered)
+
+-- rings after a hard closing
+pub rings_hard_close : (k : Kept) (h : List Event) (e : Event) (to n : ℕ) (ring ring' : ℕ → List Row) (behind behind' : ℕ → Bool) → StandsFor k h → IsRightEvent (effects_of h) e → effect_of e ≡ HardCloses to n → AreRings ring behind (effects_of h)
+    → AreOffered k ring ring' behind behind' (stream_of (effects_of h) whole k.closed n) → AreRings ring' behind' (effects_of (e ∷ h))
+rings_hard_close k h e to n ring ring' behind behind' stands right is rings offered = let all = legal_allowed h stands.legal in
+    subst (λ d. AreRings ring' behind' (d ∷ effects_of h)) (sym is)
+    (rings_after_closes k (effects_of h) all stands.fits (HardCloses to n) n ring ring' behind behind' (λ f feed at. untold_hard_closes (effects_of h) all to n (allowed_after h e (HardCloses to n) right is) f feed at) (λ f feed at. at) (λ f live. live) rings offered)
+
+-- rings after a poll
+pub rings_poll : (k : Kept) (h : List Event) (e : Event) (f max : ℕ) (ms : List Message) (ring ring' : ℕ → List Row) (behind behind' : ℕ → Bool) (place : Place) (rows : List Row) → StandsFor k h → IsRightEvent (effects_of h) e → effect_of e ≡ Polls f max ms
+    → AreRings ring behind (effects_of h) → k.feed f ≡ Some place → AreLeft k.version k.decided place k.closed rows → (behind' f ≡ false → ring' f ≡ drop max rows) → AreOthersSame f ring ring' behind behind' → AreRings ring' behind' (effects_of (e ∷ h))
+rings_poll k h e f max ms ring ring' behind behind' place rows stands right is rings at left own others =
+    subst (λ d. AreRings ring' behind' (d ∷ effects_of h)) (sym is)
+    (rings_after_polls k (effects_of h) (legal_allowed h stands.legal) stands.fits f max ms (allowed_after h e (Polls f max ms) right is) ring ring' behind behind' place rows at left own others rings)
+
+-- rings after an opening
+pub rings_open : (k : Kept) (h : List Event) (e : Event) (f seat : ℕ) (span : Span) (cursor : ℕ) (ring ring' : ℕ → List Row) (behind behind' : ℕ → Bool) → StandsFor k h → IsRightEvent (effects_of h) e → effect_of e ≡ Opens f seat span cursor
+    → AreRings ring behind (effects_of h) → (behind' f ≡ false → (k.closed ≤ cursor) × (ring' f ≡ [])) → AreOthersSame f ring ring' behind behind' → AreRings ring' behind' (effects_of (e ∷ h))
+rings_open k h e f seat span cursor ring ring' behind behind' stands right is rings own others =
+    subst (λ d. AreRings ring' behind' (d ∷ effects_of h)) (sym is)
+    (rings_after_opens k (effects_of h) (legal_allowed h stands.legal) stands.fits f seat span cursor (allowed_after h e (Opens f seat span cursor) right is) ring ring' behind behind' own others rings)
+
+-- rings after everything else
+pub rings_others : (h : List Event) (e : Event) (ring : ℕ → List Row) (behind : ℕ → Bool) → IsLegal h → IsRightEvent (effects_of h) e → is_quiet (effect_of e) ≡ true → AreRings ring behind (effects_of h) → AreRings ring behind (effects_of (e ∷ h))
+rings_others h e ring behind legal right quiet rings = rings_stay (effects_of h) (effect_of e) (legal_allowed h legal) (right_allowed (effects_of h) e right) quiet ring behind rings
+
+-- what is held through n is what a closing at n releases
+pub held_released : (k : Kept) (h : List Event) (lost : ℕ → Bool) (rows : List Row) (n : ℕ) → StandsFor k h → AreHeldBack (effects_of h) lost rows → ((j : ℕ) → k.closed < j → j ≤ n → lost j ≡ false)
+    → filter (λ r. nat_le r.ts n) rows ≡ stream_of (effects_of h) whole k.closed n
+held_released k h lost rows n stands held through = released (effects_of h) lost rows n held (λ j above low. through j (omega (arith, stands.fits.closed_at)) low)
+    ∙ ap (λ c. stream_of (effects_of h) whole c n) (sym stands.fits.closed_at)
+
+-- held rows after a commit
+pub held_commit : (k : Kept) (h : List Event) (e : Event) (t : ℕ) (lost lost' : ℕ → Bool) (rows rows' : List Row) → StandsFor k h → IsRightEvent (effects_of h) e → effect_of e ≡ Commits t
+    → AreHeldBack (effects_of h) lost rows → IsHeldFor k t lost lost' rows rows' → AreHeldBack (effects_of (e ∷ h)) lost' rows'
+held_commit k h e t lost lost' rows rows' stands right is held c = subst (λ d. AreHeldBack (d ∷ effects_of h) lost' rows') (sym is)
+    (held_after_commits k (effects_of h) stands.fits t (allowed_after h e (Commits t) right is) lost lost' rows rows' held c)
+
+-- held rows after a closing
+pub held_close : (h : List Event) (e : Event) (n : ℕ) (lost lost' : ℕ → Bool) (rows rows' : List Row) → IsRightEvent (effects_of h) e → effect_of e ≡ Closes n
+    → AreHeldBack (effects_of h) lost rows → AreLetGo n lost lost' rows rows' → AreHeldBack (effects_of (e ∷ h)) lost' rows'
+held_close h e n lost lost' rows rows' right is held c = subst (λ d. AreHeldBack (d ∷ effects_of h) lost' rows') (sym is)
+    (held_after_closes (effects_of h) n (allowed_after h e (Closes n) right is) lost lost' rows rows' held c)
+
+-- held rows after a hard closing
+pub held_hard_close : (h : List Event) (e : Event) (to n : ℕ) (lost lost' : ℕ → Bool) (rows rows' : List Row) → IsRightEvent (effects_of h) e → effect_of e ≡ HardCloses to n
+    → AreHeldBack (effects_of h) lost rows → AreLetGo n lost lost' rows rows' → AreHeldBack (effects_of (e ∷ h)) lost' rows'
+held_hard_close h e to n lost lost' rows rows' right is held c = subst (λ d. AreHeldBack (d ∷ effects_of h) lost' rows') (sym is)
+    (held_after_hard_closes (effects_of h) to n (allowed_after h e (HardCloses to n) right is) lost lost' rows rows' held c)
+
+-- held rows after everything else
+pub held_others : (h : List Event) (e : Event) (lost : ℕ → Bool) (rows : List Row) → IsRightEvent (effects_of h) e → holds_still (effect_of e) ≡ true → AreHeldBack (effects_of h) lost rows → AreHeldBack (effects_of (e ∷ h)) lost rows
+held_others h e lost rows right still held = held_stay (effects_of h) (effect_of e) (right_allowed (effects_of h) e right) still lost rows held
+
+-- at first nothing is held
+pub nothing_held : AreHeldBack [] (λ n. false) []
+nothing_held = record {
+  rising = tt;
+  above = λ r i. absurd i;
+  each = λ r there. (λ i. absurd i, λ h. absurd (let no' : false ≡ true = h.done in cc));
+}

@@ -1,0 +1,140 @@
+-- A scan of the kept keys finds what a scan of all written keys finds.
+use Rattle.std.proofs.Common.{Bool, List, None, Option, Some, [], ap, arith, cond, inl, inr, map, not, refl, subst, suc, sym, true, zero, ℕ, ◌&&◌, ◌<◌, ◌==◌, ◌∙◌, ◌∷◌, ◌≡◌, ◌≤◌, ◌⊎◌}
+use Rattle.std.proofs.lemmas.Cmp.{nat_list_cmp_total}
+use Rattle.std.specs.Ordering.{ordering_reverse}
+use Rattle.std.specs.Prelude.{filter, is_some, ◌↔◌}
+use Rattle.std.specs.declared.cmp.Ordering.TheVariants.{Greater, Less}
+use Rattle.timestamps.specs.Bytes.{key_cmp}
+use Rattle.spans.specs.Answer.{first_refusal_or}
+use Rattle.spans.specs.Collection.{horizon_of}
+use Rattle.spans.specs.Effects.{After, Effect}
+use Rattle.spans.specs.Kept.{IsKeptOf, Kept}
+use Rattle.spans.specs.Keys.{in_span, pairs_of, with_value}
+use Rattle.spans.specs.Transactions.{closed_of}
+use Rattle.spans.specs.Versions.{committed_value, is_blocked, visible, written_keys}
+use Rattle.spans.specs.declared.calls.replies.Refusal.{Refusal}
+use Rattle.spans.specs.declared.calls.replies.Refusal.TheVariants.{Blocked}
+use Rattle.spans.specs.declared.calls.replies.Reply.{Reply}
+use Rattle.spans.specs.declared.calls.replies.Reply.TheVariants.{Refused, Rows}
+use Rattle.spans.specs.declared.span.Span.{Span}
+use Rattle.spans.proofs.Copies.{AllAllowed}
+use Rattle.spans.proofs.Keyed.{IsIn, RisingKeys, filter_in, filter_rises}
+use Rattle.spans.proofs.Legal.{blocked_in, keys_rise, settled_in, visible_in}
+use Rattle.spans.proofs.Steps.{by_test, newest_is}
+use Rattle.kept.specs.Finding.{AreKeysOf, is_seen_blocked, seen}
+use Rattle.kept.proofs.Reading.{blocked_is, blocker_is, seen_value, settled_is}
+
+-- no two keys are each before the other
+key_clash : (x y : List ℕ) → key_cmp x y ≡ Less → key_cmp y x ≡ Less → ⊥
+key_clash x y e h = let r : key_cmp y x ≡ ordering_reverse (key_cmp x y) = nat_list_cmp_total.antisymm y x in let no' : Less ≡ Greater = sym h ∙ r ∙ ap ordering_reverse e in cc
+
+-- keys that rise are determined by which they are
+pub only_keys : (xs ys : List (List ℕ)) → RisingKeys xs → RisingKeys ys → ((z : List ℕ) → IsIn z xs ↔ IsIn z ys) → xs ≡ ys
+only_keys [] [] h k same = refl
+only_keys [] (y ∷ ys) h k same = absurd ((same y).1 (inl refl))
+only_keys (x ∷ xs) [] h k same = absurd ((same x).0 (inl refl))
+only_keys (x ∷ xs) (y ∷ ys) h k same =
+    let e : x ≡ y = first in
+    heads e (only_keys xs ys h.1 k.1 (λ z. (
+      λ i. elim ((same z).0 (inr i)) [ inl here ↦ absurd (let b : key_cmp x x ≡ Less = subst (λ n. key_cmp x n ≡ Less) (sym (e ∙ here)) (h.0 z i) in key_clash x x b b) | inr there ↦ there ],
+      λ i. elim ((same z).1 (inr i)) [ inl here ↦ absurd (let b : key_cmp y y ≡ Less = subst (λ n. key_cmp y n ≡ Less) (sym (sym e ∙ here)) (k.0 z i) in key_clash y y b b) | inr there ↦ there ],
+    )))
+  where
+    heads : {x y : List ℕ} {xs ys : List (List ℕ)} → x ≡ y → xs ≡ ys → (x ∷ xs) ≡ (y ∷ ys)
+    heads e h = rw (e, h) refl
+
+    first : x ≡ y
+    first = elim ((same x).0 (inl refl)) [
+      | inl e ↦ sym e
+      | inr later ↦ elim ((same y).1 (inl refl)) [
+        | inl e ↦ e
+        | inr later' ↦ absurd (key_clash x y (h.0 y later') (k.0 x later))
+      ]
+    ]
+
+-- of rising keys those that pass a test are alike where what passes it is in both or in neither
+filtered_same : (q : List ℕ → Bool) (xs ys : List (List ℕ)) → RisingKeys xs → RisingKeys ys → ((z : List ℕ) → q z ≡ true → IsIn z xs ↔ IsIn z ys) → filter q xs ≡ filter q ys
+filtered_same q xs ys h k same = only_keys (filter q xs) (filter q ys) (filter_rises q xs h) (filter_rises q ys k) (λ z. let a = filter_in q z xs in let b = filter_in q z ys in (
+  λ i. let m = a.0 i in b.1 (m.0, (same z m.0).0 m.1),
+  λ i. let m = b.0 i in a.1 (m.0, (same z m.0).1 m.1),
+))
+
+-- tests that don't apply don't matter
+tests_that_apply : (q : List ℕ → Bool) (why : List ℕ → Refusal) (xs : List (List ℕ)) (reply : Reply) → first_refusal_or (map (λ x. (q x, why x)) xs) reply ≡ first_refusal_or (map (λ x. (q x, why x)) (filter q xs)) reply
+tests_that_apply q why [] reply = refl
+tests_that_apply q why (x ∷ xs) reply = by_test (q x)
+    (λ is. rw is (rw is refl))
+    (λ isnt. rw isnt (tests_that_apply q why xs reply))
+
+-- tests that are alike refuse alike
+tests_alike : (q r : List ℕ → Bool) (why as' : List ℕ → Refusal) (xs : List (List ℕ)) (reply : Reply) → ((x : List ℕ) → q x ≡ r x) → ((x : List ℕ) → r x ≡ true → why x ≡ as' x)
+    → first_refusal_or (map (λ x. (q x, why x)) xs) reply ≡ first_refusal_or (map (λ x. (r x, as' x)) xs) reply
+tests_alike q r why as' [] reply same whys = refl
+tests_alike q r why as' (x ∷ xs) reply same whys = ap (λ b. cond b (Refused (why x)) (first_refusal_or (map (λ x. (q x, why x)) xs) reply)) (same x) ∙ by_test (r x)
+    (λ is. rw is (ap Refused (whys x is)))
+    (λ isnt. rw isnt (tests_alike q r why as' xs reply same whys))
+
+-- keys without a value give no row
+pairs_of_some : (m : List ℕ → Option (List ℕ)) (xs : List (List ℕ)) → pairs_of m xs ≡ pairs_of m (filter (λ x. is_some (m x)) xs)
+pairs_of_some m [] = refl
+pairs_of_some m (x ∷ xs) = by_value (m x) refl (pairs_of_some m xs)
+  where
+    by_value : (o : Option (List ℕ)) → m x ≡ o → pairs_of m xs ≡ pairs_of m (filter (λ x. is_some (m x)) xs) → with_value x o (pairs_of m xs) ≡ pairs_of m (cond (is_some o) (x ∷ filter (λ x. is_some (m x)) xs) (filter (λ x. is_some (m x)) xs))
+    by_value None e more = more
+    by_value (Some v) e more = ap (λ l. (x, v) ∷ l) more ∙ sym (ap (λ o. with_value x o (pairs_of m (filter (λ x. is_some (m x)) xs))) e)
+
+-- maps that are alike give the same rows
+pairs_alike : (m n : List ℕ → Option (List ℕ)) (xs : List (List ℕ)) → ((x : List ℕ) → m x ≡ n x) → pairs_of m xs ≡ pairs_of n xs
+pairs_alike m n [] same = refl
+pairs_alike m n (x ∷ xs) same = rw (same x, pairs_alike m n xs same) refl
+
+-- a kept key of the span, where what is found there is kept
+seen_key : (k : Kept) (span : Span) (keys : List (List ℕ)) → AreKeysOf k span keys → (x : List ℕ) (t : ℕ) → in_span span x ≡ true → (0 < (seen k x t).ts) ⊎ ((v : List ℕ) × ((seen k x t).after ≡ Some v)) → IsIn x keys
+seen_key k span keys are x t inside found = elim (newest_is (k.version x) t).has [
+  | inl zeroth ↦ absurd (elim found [ inl some ↦ omega (arith, zeroth.0, some) | inr value ↦ (let no' : None ≡ Some value.0 = sym zeroth.1 ∙ value.1 in cc) ])
+  | inr some ↦ (are.each x).1 (inside, (seen k x t).ts, ap is_some some.1)
+]
+
+-- the rows of a scan of the kept keys
+rows_are : (k : Kept) (p : List Effect) (span : Span) (keys : List (List ℕ)) → AreKeysOf k span keys → (t : ℕ) (m : List ℕ → After) → ((x : List ℕ) → (seen k x t).after ≡ m x) → ((x v : List ℕ) → m x ≡ Some v → IsIn x (written_keys p))
+    → pairs_of (λ x. (seen k x t).after) keys ≡ pairs_of m (filter (in_span span) (written_keys p))
+rows_are k p span keys are t m alike written =
+    pairs_alike (λ x. (seen k x t).after) m keys alike
+    ∙ pairs_of_some m keys
+    ∙ ap (pairs_of m) (filtered_same (λ x. is_some (m x)) keys (filter (in_span span) (written_keys p)) are.rising (filter_rises (in_span span) (written_keys p) (keys_rise p)) (λ x is. let f = filter_in (in_span span) x (written_keys p) in let v = some_of (m x) is in (
+      λ i. f.1 (((are.each x).0 i).0, written x v.0 v.1),
+      λ i. seen_key k span keys are x t (f.0 i).0 (inr (v.0, alike x ∙ v.1)),
+    )))
+    ∙ sym (pairs_of_some m (filter (in_span span) (written_keys p)))
+  where
+    some_of : (o : Option (List ℕ)) → is_some o ≡ true → (v : List ℕ) × (o ≡ Some v)
+    some_of None is = cc
+    some_of (Some v) is = (v, refl)
+
+-- a scan in a transaction
+pub scan_is : (k : Kept) (p : List Effect) → AllAllowed p → IsKeptOf k p → (t : ℕ) → horizon_of p ≤ t → (span : Span) (keys : List (List ℕ)) → AreKeysOf k span keys
+    → first_refusal_or (map (λ x. (is_seen_blocked k x t, Blocked (seen k x t).ts)) keys) (Rows (pairs_of (λ x. (seen k x t).after) keys))
+    ≡ first_refusal_or (map (λ x. (is_blocked p x t, Blocked (visible p x t).ts)) (filter (in_span span) (written_keys p))) (Rows (pairs_of (λ x. (visible p x t).after) (filter (in_span span) (written_keys p))))
+scan_is k p all fits t high span keys are =
+    ap (λ rows. first_refusal_or (map (λ x. (is_seen_blocked k x t, Blocked (seen k x t).ts)) keys) (Rows rows))
+    (rows_are k p span keys are t (λ x. (visible p x t).after) (λ x. seen_value k p fits all x t high) (λ x v is. visible_in p x t v is))
+    ∙ tests_alike (λ x. is_seen_blocked k x t) (λ x. is_blocked p x t) (λ x. Blocked (seen k x t).ts) (λ x. Blocked (visible p x t).ts) keys rows (λ x. blocked_is k p fits all x t high) (λ x is. ap Blocked (blocker_is k p fits all x t high is))
+    ∙ tests_that_apply (λ x. is_blocked p x t) (λ x. Blocked (visible p x t).ts) keys rows
+    ∙ ap (λ ks. first_refusal_or (map (λ x. (is_blocked p x t, Blocked (visible p x t).ts)) ks) rows)
+    (filtered_same (λ x. is_blocked p x t) keys (filter (in_span span) (written_keys p)) are.rising (filter_rises (in_span span) (written_keys p) (keys_rise p)) (λ x is. let f = filter_in (in_span span) x (written_keys p) in (
+      λ i. f.1 (((are.each x).0 i).0, blocked_in p x t is),
+      λ i. seen_key k span keys are x t (f.0 i).0 (inl (positive (seen k x t).ts (not ((seen k x t).ts == t) && not (k.decided x (seen k x t).ts)) (blocked_is k p fits all x t high ∙ is))),
+    )))
+    ∙ sym (tests_that_apply (λ x. is_blocked p x t) (λ x. Blocked (visible p x t).ts) (filter (in_span span) (written_keys p)) rows)
+  where
+    rows : Reply
+    rows = Rows (pairs_of (λ x. (visible p x t).after) (filter (in_span span) (written_keys p)))
+
+    positive : (n : ℕ) (b : Bool) → (not (n == 0) && b) ≡ true → 0 < n
+    positive zero b is = cc
+    positive (suc n) b is = omega arith
+
+-- a scan at a closed timestamp
+pub scan_at_is : (k : Kept) (p : List Effect) → AllAllowed p → IsKeptOf k p → (t : ℕ) → horizon_of p ≤ t → t ≤ closed_of p → (span : Span) (keys : List (List ℕ)) → AreKeysOf k span keys
+    → pairs_of (λ x. (seen k x t).after) keys ≡ pairs_of (λ x. committed_value p x t) (filter (in_span span) (written_keys p))
+scan_at_is k p all fits t high low span keys are = rows_are k p span keys are t (λ x. committed_value p x t) (λ x. settled_is k p fits all x t high low) (λ x v is. settled_in p x t v is)
