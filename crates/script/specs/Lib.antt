@@ -1,8 +1,13 @@
 pub mod Writing
 pub mod Spelling
 pub mod Numbers
+pub mod Words
+pub mod Table
+pub mod Reading
 pub mod Messages
 pub mod Commands
 pub mod Replies
 pub mod Events
 pub mod Faults
+pub mod SpelledBytes
+pub mod Limits

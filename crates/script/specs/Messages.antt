@@ -1,11 +1,15 @@
 -- The JSON line (RFC 8259) of a message of a feed, with bytes as base64 (RFC 4648).
-use Rattle.std.specs.Prelude.{ℕ, List, ◌∷◌, ◌++◌, [], codes, decimal, Option, Some, None}
+use Rattle.std.specs.Prelude.{ℕ, List, ◌++◌, codes, decimal, Option, Some, None}
 use Rattle.base64.specs.Engines.{standard}
-use Rattle.base64.specs.GeneralPurpose.{encode_of}
+use Rattle.base64.specs.GeneralPurpose.{encode_of, engine_symbols}
 use Rattle.spans.specs.declared.calls.messages.Message.{Message}
 use Rattle.spans.specs.declared.calls.messages.Message.TheVariants as message
 
--- the standard alphabet, with padding
+-- the standard alphabet
+abbrev pub symbols : List ℕ
+symbols = engine_symbols standard
+
+-- with padding
 abbrev pub base64 : List ℕ → List ℕ
 base64 bytes = encode_of standard bytes
 

@@ -1,4 +1,5 @@
 //! The words of a command read as what it takes, from left to right.
+ghost use Rattle.script.specs.Reading.{Takes, number_at, key_at, value_at, bound_at, span_at};
 
 use crate::fault::{LineFault, ReadError};
 use crate::numbers::number_of;
@@ -11,14 +12,20 @@ use timestamps::key::{Key, KeyError};
 use timestamps::value::{Value, ValueError};
 
 /// A number.
-pub(crate) fn take_number(words: &mut Words) -> Result<u64, ReadError> {
+#[tactic(auto, unfolding(crate::specs::Reading::number_at))]
+pub(crate) fn take_number(words: &mut Words) -> Result<u64, ReadError>
+    ensures { Takes result words.new (number_at words.old) }
+{
     let word = words.take_word().ok_or(LineFault::WordCount)?;
     let number = number_of(word).ok_or(LineFault::Number)?;
     Ok(number)
 }
 
 /// A key. It is copied once.
-pub(crate) fn take_key(alloc: Global, words: &mut Words) -> Result<Key, ReadError> {
+#[tactic(auto, unfolding(crate::specs::Reading::key_at))]
+pub(crate) fn take_key(alloc: Global, words: &mut Words) -> Result<Key, ReadError>
+    ensures { Takes result words.new (key_at words.old) }
+{
     let word = words.take_word().ok_or(LineFault::WordCount)?;
     let spelled = bytes_of(alloc, word)?;
     match Key::new(alloc, spelled.bytes()) {
@@ -29,7 +36,10 @@ pub(crate) fn take_key(alloc: Global, words: &mut Words) -> Result<Key, ReadErro
 }
 
 /// A value. It is copied once.
-pub(crate) fn take_value(alloc: Global, words: &mut Words) -> Result<Value, ReadError> {
+#[tactic(auto, unfolding(crate::specs::Reading::value_at))]
+pub(crate) fn take_value(alloc: Global, words: &mut Words) -> Result<Value, ReadError>
+    ensures { Takes result words.new (value_at words.old) }
+{
     let word = words.take_word().ok_or(LineFault::WordCount)?;
     let spelled = bytes_of(alloc, word)?;
     match Value::new(alloc, spelled.bytes()) {
@@ -40,9 +50,12 @@ pub(crate) fn take_value(alloc: Global, words: &mut Words) -> Result<Value, Read
 }
 
 /// A bound, or `-` for none.
-fn take_bound(alloc: Global, words: &mut Words) -> Result<Option<Bound>, ReadError> {
+#[tactic(auto, unfolding(crate::specs::Reading::bound_at))]
+fn take_bound(alloc: Global, words: &mut Words) -> Result<Option<Bound>, ReadError>
+    ensures { Takes result words.new (bound_at words.old) }
+{
     let word = words.take_word().ok_or(LineFault::WordCount)?;
-    if let [b'-'] = word {
+    if word == b"-".as_slice() {
         return Ok(None);
     }
     let spelled = bytes_of(alloc, word)?;
@@ -54,7 +67,10 @@ fn take_bound(alloc: Global, words: &mut Words) -> Result<Option<Bound>, ReadErr
 }
 
 /// A span: its lower and its upper bound.
-pub(crate) fn take_span(alloc: Global, words: &mut Words) -> Result<Span, ReadError> {
+#[tactic(auto, unfolding(crate::specs::Reading::span_at))]
+pub(crate) fn take_span(alloc: Global, words: &mut Words) -> Result<Span, ReadError>
+    ensures { Takes result words.new (span_at words.old) }
+{
     let lo = take_bound(alloc, words)?;
     let hi = take_bound(alloc, words)?;
     Ok(Span { lo, hi })

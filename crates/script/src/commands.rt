@@ -1,7 +1,10 @@
 //! Commands as lines: the session's number, the command's name and its arguments.
 
-ghost use Rattle.std.specs.Prelude.{◌≡◌, ◌++◌, ◌∷◌, [], decimal, OnOk, OnErr};
+ghost use Rattle.std.specs.Prelude.{◌≡◌, ◌++◌, ◌∷◌, [], ◌<◌, map, decimal, IfOk, OnOk, OnErr};
+ghost use Rattle.script.specs.Reading.{Gives, Takes, TakesFree, TakesForm, session_at, row_at, arguments_at, command_at};
+ghost use Rattle.script.specs.Table.{row_view, served};
 ghost use Rattle.script.specs.Spelling.{spelling};
+ghost use Rattle.script.specs.Limits.{IsCommand};
 ghost use Rattle.script.specs.Writing.{Keeps};
 ghost use Rattle.script.specs.Commands.{joined, bound_word, words_of, command_line};
 
@@ -11,7 +14,7 @@ use crate::fault::{LineFault, ReadError};
 use crate::numbers::{number_of, put_number};
 use crate::spelling::put_spelling;
 use crate::table::{FORMS, Form, SERVED, Verb, form_of};
-use crate::words::{Words, count_words, text_of};
+use crate::words::{Words, text_of, words_of};
 use spans::bound::Bound;
 use spans::calls::Cmd;
 use spans::span::Span;
@@ -19,26 +22,33 @@ use std::alloc::{AllocError, Global};
 
 /// Reads a command's line, with its newline: the session, below `seats`, and the command. It
 /// allocates for the command's keys, values and bounds alone.
-pub fn read_command(alloc: Global, line: &[u8], seats: u8) -> Result<(u8, Cmd), ReadError> {
+pub fn read_command(alloc: Global, line: &[u8], seats: u8) -> Result<(u8, Cmd), ReadError>
+    // What is read is the text of this command, byte for byte.
+    ensures found { IfOk result (λ x. (line.now ≡ command_line x.0 x.1) × (x.0 < seats) × IsCommand x.1) }
+    // Which fault it is: the first from the left.
+    ensures exact { Gives (λ x. x) result (command_at served seats line.now) }
+{
     read_among(alloc, &FORMS[..SERVED], line, seats)
 }
 
 /// Reads a command of these rows of the table.
+#[tactic(auto, unfolding(crate::specs::Reading::command_at))]
 pub(crate) fn read_among(
     alloc: Global,
     forms: &[Form],
     line: &[u8],
     seats: u8,
-) -> Result<(u8, Cmd), ReadError> {
+) -> Result<(u8, Cmd), ReadError>
+    ensures { Gives (λ x. x) result (command_at (map row_view forms.now) seats line.now) }
+{
     let text = text_of(line)?;
-    let count = count_words(text)?;
-    if count < 2 {
+    let mut words = words_of(text)?;
+    if words.len() < 2 {
         return Err(ReadError::Fault(LineFault::WordCount));
     }
-    let mut words = Words::of(text);
     let seat = take_seat(&mut words, seats)?;
     let form = take_form(&mut words, forms)?;
-    if count - 2 != form.arguments {
+    if words.len() != form.arguments {
         return Err(ReadError::Fault(LineFault::WordCount));
     }
     let cmd = take_arguments(alloc, form.verb, &mut words)?;
@@ -46,7 +56,10 @@ pub(crate) fn read_among(
 }
 
 /// A session's number, below `seats`.
-pub(crate) fn take_seat(words: &mut Words, seats: u8) -> Result<u8, LineFault> {
+#[tactic(auto, unfolding(crate::specs::Reading::session_at))]
+pub(crate) fn take_seat(words: &mut Words, seats: u8) -> Result<u8, LineFault>
+    ensures { TakesFree result words.new (session_at seats words.old) }
+{
     let word = words.take_word().ok_or(LineFault::WordCount)?;
     match number_of(word) {
         Some(seat) if seat < u64::from(seats) => Ok(seat as u8),
@@ -55,17 +68,19 @@ pub(crate) fn take_seat(words: &mut Words, seats: u8) -> Result<u8, LineFault> {
 }
 
 /// The row of a command's name.
-pub(crate) fn take_form(words: &mut Words, forms: &[Form]) -> Result<Form, LineFault> {
+#[tactic(auto, unfolding(crate::specs::Reading::row_at))]
+pub(crate) fn take_form(words: &mut Words, forms: &[Form]) -> Result<Form, LineFault>
+    ensures { TakesForm result words.new (row_at (map row_view forms.now) words.old) }
+{
     let name = words.take_word().ok_or(LineFault::WordCount)?;
     form_of(forms, name).ok_or(LineFault::UnknownCommand)
 }
 
 /// The command, from the words of its arguments.
-pub(crate) fn take_arguments(
-    alloc: Global,
-    verb: Verb,
-    words: &mut Words,
-) -> Result<Cmd, ReadError> {
+#[tactic(auto, unfolding(crate::specs::Reading::arguments_at))]
+pub(crate) fn take_arguments(alloc: Global, verb: Verb, words: &mut Words) -> Result<Cmd, ReadError>
+    ensures { Takes result words.new (arguments_at verb words.old) }
+{
     let cmd = match verb {
         Verb::Begin => Cmd::Begin {
             ts: take_number(words)?,

@@ -35,7 +35,8 @@ fn put_event(out: &mut Vec<u8>, event: &Event) -> Result<(), AllocError>
     put_number(out, u64::from(event.seat))?;
     put_words(out, &event.cmd)?;
     out.extend_from_slice(b" => ")?;
-    put_reply(out, &event.reply)
+    put_reply(out, &event.reply)?;
+    Ok(())
 }
 
 /// Writes the line that names a fault and the line where it stands, counted from 1.

@@ -1,7 +1,7 @@
 //! The JSON line of a message of a feed.
 ghost use Rattle.std.specs.Prelude.{◌≡◌, ◌++◌, OnOk, OnErr};
 ghost use Rattle.script.specs.Writing.{Keeps};
-ghost use Rattle.script.specs.Messages.{message_line};
+ghost use Rattle.script.specs.Messages.{after_text, message_line};
 
 use crate::base64_text::put_base64;
 use crate::buffer::or_undo;
@@ -9,6 +9,7 @@ use crate::numbers::put_number;
 use spans::calls::Message;
 use std::alloc::AllocError;
 use timestamps::row::Row;
+use timestamps::value::Value;
 
 /// Writes a message as one line of JSON, with its newline, at the end. Members stand in byte order
 /// of their names, and there are no spaces.
@@ -43,16 +44,28 @@ fn put_row_line(out: &mut Vec<u8>, row: &Row) -> Result<(), AllocError>
     ensures ok { OnOk result (out.new.items ≡ out.old.items ++ message_line (Message.Row row.now)) }
     ensures err { OnErr result (Keeps out.old.items out.new.items) }
 {
-    match &row.after {
-        None => out.extend_from_slice(b"{\"after\":null,\"key\":\"")?,
-        Some(value) => {
-            out.extend_from_slice(b"{\"after\":\"")?;
-            put_base64(out, value.bytes())?;
-            out.extend_from_slice(b"\",\"key\":\"")?;
-        }
-    }
+    out.extend_from_slice(b"{\"after\":")?;
+    put_after(out, &row.after)?;
+    out.extend_from_slice(b",\"key\":\"")?;
     put_base64(out, row.key.bytes())?;
     out.extend_from_slice(b"\",\"updated\":\"")?;
     put_number(out, row.ts.get())?;
     out.extend_from_slice(b"\"}\n")
+}
+
+/// Writes a value in quotes, or `null` for a delete.
+#[tactic(auto, using(crate::proofs::Writing::keeping))]
+fn put_after(out: &mut Vec<u8>, after: &Option<Value>) -> Result<(), AllocError>
+    ensures ok { OnOk result (out.new.items ≡ out.old.items ++ after_text after.now) }
+    ensures err { OnErr result (Keeps out.old.items out.new.items) }
+{
+    match after {
+        None => out.extend_from_slice(b"null"),
+        Some(value) => {
+            out.push(b'"')?;
+            put_base64(out, value.bytes())?;
+            out.push(b'"')?;
+            Ok(())
+        }
+    }
 }

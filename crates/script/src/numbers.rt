@@ -1,5 +1,9 @@
 //! Number words: decimal digits without a leading zero.
-ghost use Rattle.std.specs.Prelude.{◌≡◌, ◌++◌, decimal, OnOk, OnErr};
+ghost use Rattle.std.specs.Prelude.{◌≡◌, ◌++◌, ◌<◌, ◌^◌, true, decimal, OnOk, OnErr};
+ghost use Rattle.std.specs.Option.{SomeIff};
+ghost use Rattle.std.specs.Str.{all_ascii_digits};
+ghost use Rattle.std.specs.Str.Parse.{digits_value};
+ghost use Rattle.script.specs.Numbers.{number_of};
 ghost use Rattle.script.specs.Writing.{Keeps};
 
 use itoa::Buffer;
@@ -16,7 +20,10 @@ pub(crate) fn put_number(out: &mut Vec<u8>, number: u64) -> Result<(), AllocErro
 }
 
 /// The number that a word is, from 0 to 18446744073709551615, or `None` where it is no number word.
-pub(crate) fn number_of(word: &[u8]) -> Option<u64> {
+#[tactic(auto, unfolding(crate::specs::Numbers::number_of))]
+pub(crate) fn number_of(word: &[u8]) -> Option<u64>
+    ensures { result ≡ number_of word.now }
+{
     match word {
         [] => None,
         [b'0'] => Some(0),
@@ -26,15 +33,21 @@ pub(crate) fn number_of(word: &[u8]) -> Option<u64> {
 }
 
 /// The number that decimal digits write, where it fits.
-fn digits_value(digits: &[u8]) -> Option<u64> {
+fn digits_value(digits: &[u8]) -> Option<u64>
+    ensures { SomeIff result (all_ascii_digits digits.now ≡ true × (digits_value 10 digits.now < 2 ^ 64)) (digits_value 10 digits.now) }
+{
     let mut number: u64 = 0;
     for digit in digits {
         if !digit.is_ascii_digit() {
             return None;
         }
-        number = number
-            .checked_mul(10)?
-            .checked_add(u64::from(*digit - b'0'))?;
+        let Some(tens) = number.checked_mul(10) else {
+            return None;
+        };
+        let Some(more) = tens.checked_add(u64::from(*digit - b'0')) else {
+            return None;
+        };
+        number = more;
     }
     Some(number)
 }

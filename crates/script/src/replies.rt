@@ -3,13 +3,17 @@
 ghost use Rattle.std.specs.Prelude.{◌≡◌, ◌++◌, ◌∷◌, OnOk, OnErr};
 ghost use Rattle.script.specs.Writing.{Keeps};
 ghost use Rattle.script.specs.Commands.{joined};
-ghost use Rattle.script.specs.Replies.{reply_words, refusal_words, following_lines, reply_text};
+ghost use Rattle.script.specs.Messages.{message_line};
+ghost use Rattle.script.specs.Replies.{reply_words, refusal_words, row_line, following_lines, reply_text};
+ghost use Rattle.std.specs.List.{flat_map};
 
 use crate::buffer::or_undo;
 use crate::commands::{put_named, put_word};
 use crate::message_line::put_message;
-use spans::calls::{Refusal, Reply};
+use spans::calls::{Message, Refusal, Reply};
 use std::alloc::AllocError;
+use timestamps::key::Key;
+use timestamps::value::Value;
 
 /// Writes a reply at the end: its words, a newline and the lines that follow.
 /// After an error it is as it was.
@@ -112,21 +116,43 @@ fn put_following(out: &mut Vec<u8>, reply: &Reply) -> Result<(), AllocError>
     ensures err { OnErr result (Keeps out.old.items out.new.items) }
 {
     match reply {
-        Reply::Rows(rows) => {
-            for (key, value) in rows.as_slice() {
-                out.extend_from_slice(b"row")?;
-                put_word(out, key.bytes())?;
-                put_word(out, value.bytes())?;
-                out.push(b'\n')?;
-            }
-            Ok(())
-        }
-        Reply::Messages(messages) => {
-            for message in messages.as_slice() {
-                put_message(out, message)?;
-            }
-            Ok(())
-        }
+        Reply::Rows(rows) => put_rows(out, rows.as_slice()),
+        Reply::Messages(messages) => put_messages(out, messages.as_slice()),
         _ => Ok(()),
     }
+}
+
+#[tactic(auto, using(crate::proofs::Writing::keeping))]
+fn put_rows(out: &mut Vec<u8>, rows: &[(Key, Value)]) -> Result<(), AllocError>
+    ensures ok { OnOk result (out.new.items ≡ out.old.items ++ flat_map row_line rows.now) }
+    ensures err { OnErr result (Keeps out.old.items out.new.items) }
+{
+    for row in rows {
+        put_row(out, row)?;
+    }
+    Ok(())
+}
+
+/// Writes the line of a row.
+#[tactic(auto, using(crate::proofs::Writing::keeping))]
+fn put_row(out: &mut Vec<u8>, row: &(Key, Value)) -> Result<(), AllocError>
+    ensures ok { OnOk result (out.new.items ≡ out.old.items ++ row_line row.now) }
+    ensures err { OnErr result (Keeps out.old.items out.new.items) }
+{
+    out.extend_from_slice(b"row")?;
+    put_word(out, row.0.bytes())?;
+    put_word(out, row.1.bytes())?;
+    out.push(b'\n')?;
+    Ok(())
+}
+
+#[tactic(auto, using(crate::proofs::Writing::keeping))]
+fn put_messages(out: &mut Vec<u8>, messages: &[Message]) -> Result<(), AllocError>
+    ensures ok { OnOk result (out.new.items ≡ out.old.items ++ flat_map message_line messages.now) }
+    ensures err { OnErr result (Keeps out.old.items out.new.items) }
+{
+    for message in messages {
+        put_message(out, message)?;
+    }
+    Ok(())
 }

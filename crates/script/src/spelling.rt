@@ -1,10 +1,12 @@
 //! Bytes spelled as a word: `-` for none, a printable byte as itself, any other as `%` and two
 //! hexadecimal digits. Each list of bytes has one spelling.
 
-ghost use Rattle.std.specs.Prelude.{◌≡◌, ◌++◌, ◌<◌, length, IfSome, OnOk, OnErr};
+ghost use Rattle.std.specs.Prelude.{◌≡◌, ◌++◌, ◌<◌, length, ok_or, IfSome, MatchOption, OnOk, OnErr};
 ghost use Rattle.script.specs.Writing.{Keeps};
-ghost use Rattle.std.specs.List.{flat_map};
-ghost use Rattle.script.specs.Spelling.{is_plain, hex_digit, escape, spelled, spelling};
+ghost use Rattle.script.specs.SpelledBytes.{spelled_bytes};
+ghost use Rattle.script.specs.Reading.{Gives};
+ghost use Rattle.std.specs.List.{flat_map, list_all};
+ghost use Rattle.script.specs.Spelling.{is_plain, hex_digit, hex_value, escaped, first_at, unspelled, bytes_of, escape, spelled, spelling};
 
 use crate::fault::{LineFault, ReadError};
 use std::alloc::{AllocError, Global};
@@ -14,6 +16,13 @@ fn is_plain(byte: u8) -> bool
     ensures { result ≡ is_plain byte }
 {
     b'!' <= byte && byte <= b'~' && byte != b'%'
+}
+
+/// Whether each byte stands for itself.
+fn are_plain(bytes: &[u8]) -> bool
+    ensures { result ≡ list_all is_plain bytes.now }
+{
+    bytes.iter().all(|byte| is_plain(*byte))
 }
 
 /// Writes the spelling of bytes at the end.
@@ -33,12 +42,12 @@ pub(crate) fn put_spelling(out: &mut Vec<u8>, bytes: &[u8]) -> Result<(), AllocE
 }
 
 /// Writes each byte as itself or escaped.
-#[tactic(auto, using(crate::proofs::Writing::keeping))]
+#[tactic(auto, using(crate::proofs::Writing::keeping, crate::proofs::Spellings::plain_stand))]
 fn put_spelled(out: &mut Vec<u8>, bytes: &[u8]) -> Result<(), AllocError>
     ensures ok { OnOk result (out.new.items ≡ out.old.items ++ flat_map spelled bytes.now) }
     ensures err { OnErr result (Keeps out.old.items out.new.items) }
 {
-    if bytes.iter().all(|byte| is_plain(*byte)) {
+    if are_plain(bytes) {
         return out.extend_from_slice(bytes);
     }
     for byte in bytes {
@@ -78,8 +87,12 @@ pub(crate) enum Spelled<'a> {
 }
 
 impl Spelled<'_> {
+    ghost use Rattle.script.specs.SpelledBytes.{spelled_bytes};
+
     /// The bytes, lent.
-    pub(crate) fn bytes(&self) -> &[u8] {
+    pub(crate) fn bytes(&self) -> &[u8]
+        ensures { result.now ≡ spelled_bytes self.now }
+    {
         match self {
             Spelled::Plain(bytes) => bytes,
             Spelled::Escaped(bytes) => bytes.as_slice(),
@@ -89,48 +102,77 @@ impl Spelled<'_> {
 
 /// The bytes that a word spells, or the fault `BadByte` where it is the spelling of none. It
 /// allocates only for a word with an escaped byte.
-pub(crate) fn bytes_of<'a>(alloc: Global, word: &'a [u8]) -> Result<Spelled<'a>, ReadError> {
-    match word {
-        [] => Err(ReadError::Fault(LineFault::BadByte)),
-        [b'-'] => Ok(Spelled::Plain(&[])),
-        b"%2D" => Ok(Spelled::Plain(b"-")),
-        _ if word.iter().all(|byte| is_plain(*byte)) => Ok(Spelled::Plain(word)),
-        _ => Ok(Spelled::Escaped(unescaped(alloc, word)?)),
+#[tactic(auto, using(crate::proofs::Spellings::plain_word), unfolding(crate::specs::Spelling::bytes_of))]
+pub(crate) fn bytes_of<'a>(alloc: Global, word: &'a [u8]) -> Result<Spelled<'a>, ReadError>
+    ensures { Gives spelled_bytes result (ok_or (bytes_of word.now) LineFault.BadByte) }
+{
+    if word.is_empty() {
+        return Err(ReadError::Fault(LineFault::BadByte));
     }
+    if word == b"-".as_slice() {
+        return Ok(Spelled::Plain(&[]));
+    }
+    if word == b"%2D".as_slice() {
+        return Ok(Spelled::Plain(b"-"));
+    }
+    if are_plain(word) {
+        return Ok(Spelled::Plain(word));
+    }
+    Ok(Spelled::Escaped(unescaped(alloc, word)?))
 }
 
 /// The bytes of a word, of which some are escaped.
-fn unescaped(alloc: Global, word: &[u8]) -> Result<Vec<u8>, ReadError> {
+fn unescaped(alloc: Global, word: &[u8]) -> Result<Vec<u8>, ReadError>
+    ensures { Gives (λ bytes. bytes.items) result (ok_or (unspelled word.now) LineFault.BadByte) }
+{
     let mut bytes = Vec::new(alloc);
     let mut rest = word;
     while !rest.is_empty() {
-        let (byte, others) = first_spelled(rest).ok_or(LineFault::BadByte)?;
-        bytes.push(byte)?;
-        rest = others;
+        match first_spelled(rest) {
+            None => return Err(ReadError::Fault(LineFault::BadByte)),
+            Some((byte, others)) => {
+                bytes.push(byte)?;
+                rest = others;
+            }
+        }
     }
     Ok(bytes)
 }
 
 /// The byte that is spelled at the front, and what stands behind it.
 fn first_spelled(word: &[u8]) -> Option<(u8, &[u8])>
-    ensures { IfSome result (λ found. length found.1.now < length word.now) }
+    requires { 0 < length word.now }
+    ensures shorter { IfSome result (λ found. length found.1.now < length word.now) }
+    ensures first { MatchOption result (first_at word.now ≡ None) (λ found. first_at word.now ≡ Some (found.0, found.1.now)) }
 {
-    match word {
-        [b'%', high, low, others @ ..] => {
-            let byte = hex_value(*high)? * 16 + hex_value(*low)?;
-            if is_plain(byte) {
-                return None;
-            }
-            Some((byte, others))
-        }
-        [byte, others @ ..] if is_plain(*byte) => Some((*byte, others)),
-        _ => None,
+    let first = word[0];
+    if is_plain(first) {
+        return Some((first, &word[1..]));
     }
+    if first != b'%' || word.len() < 3 {
+        return None;
+    }
+    let byte = escaped_byte(word[1], word[2])?;
+    Some((byte, &word[3..]))
+}
+
+/// The byte of two digits, unless it stands for itself.
+fn escaped_byte(high: u8, low: u8) -> Option<u8>
+    ensures { result ≡ escaped high low }
+{
+    let high = hex_value(high)?;
+    let low = hex_value(low)?;
+    let byte = high * 16 + low;
+    if is_plain(byte) {
+        return None;
+    }
+    Some(byte)
 }
 
 /// The value of a hexadecimal digit, `0` to `9` or `A` to `F`.
 fn hex_value(digit: u8) -> Option<u8>
-    ensures { IfSome result (λ value. value < 16) }
+    ensures value { result ≡ hex_value digit }
+    ensures small { IfSome result (λ value. value < 16) }
 {
     match digit {
         b'0'..=b'9' => Some(digit - b'0'),

@@ -1,4 +1,6 @@
 //! The table of commands: the name of each, and how many arguments stand behind it.
+ghost use Rattle.std.specs.Prelude.{◌≡◌, map, option_map};
+ghost use Rattle.script.specs.Table.{row_of, row_view};
 
 /// Which command.
 #[derive(Clone, Copy, Debug, PartialEq, Eq)]
@@ -129,7 +131,9 @@ pub(crate) static FORMS: [Form; 18] = [
 ];
 
 /// The row of a name among the rows.
-pub(crate) fn form_of(forms: &[Form], name: &[u8]) -> Option<Form> {
+pub(crate) fn form_of(forms: &[Form], name: &[u8]) -> Option<Form>
+    ensures { option_map row_view result ≡ row_of (map row_view forms.now) name.now }
+{
     for form in forms {
         if form.name == name {
             return Some(*form);

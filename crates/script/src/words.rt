@@ -1,73 +1,128 @@
 //! Lines cut into words.
+ghost use Rattle.std.specs.Prelude.{◌≡◌, ◌⊎◌, ◌∷◌, [], ◌<◌, length, position, IfSome, MatchOption, MatchResult};
+ghost use Rattle.script.specs.Words.{text_at, words, words_at, counted, is_printable, is_space};
 
 use crate::fault::LineFault;
+use std::marker::Model;
 
 /// The most bytes that a line has before its newline.
 pub const MAX_LINE_BYTES: usize = 4096;
 
 /// A line without its newline. It may not be too long, and the newline may not be missing.
-pub(crate) fn text_of(line: &[u8]) -> Result<&[u8], LineFault> {
-    match line {
-        [text @ .., b'\n'] if text.len() <= MAX_LINE_BYTES => Ok(text),
-        [_, .., b'\n'] => Err(LineFault::LineTooLong),
-        _ if line.len() > MAX_LINE_BYTES => Err(LineFault::LineTooLong),
-        _ => Err(LineFault::NoNewline),
+#[tactic(auto, unfolding(crate::specs::Words::text_at))]
+pub(crate) fn text_of(line: &[u8]) -> Result<&[u8], LineFault>
+    ensures { MatchResult result (λ text. text_at line.now ≡ Ok text.now) (λ fault. text_at line.now ≡ Err fault) }
+{
+    let mut text = line;
+    let has_newline = !line.is_empty() && line[line.len() - 1] == b'\n';
+    if has_newline {
+        text = &line[..line.len() - 1];
     }
+    if text.len() > MAX_LINE_BYTES {
+        return Err(LineFault::LineTooLong);
+    }
+    if !has_newline {
+        return Err(LineFault::NoNewline);
+    }
+    Ok(text)
 }
 
-/// How many words a text has, all of its bytes printable and none of its words empty.
-pub(crate) fn count_words(text: &[u8]) -> Result<usize, LineFault> {
+/// The words of a text, all of its bytes printable and none of the words empty.
+#[tactic(auto, unfolding(crate::specs::Words::words_at))]
+pub(crate) fn words_of(text: &[u8]) -> Result<Words<'_>, LineFault>
+    ensures { result ≡ words_at text.now }
+{
+    let count = count_words(text)?;
+    Ok(Words {
+        rest: text,
+        left: count,
+    })
+}
+
+/// How many words a text has, all of its bytes printable and none of the words empty.
+#[tactic(auto, unfolding(crate::specs::Words::words_at))]
+fn count_words(text: &[u8]) -> Result<usize, LineFault>
+    ensures { result ≡ counted (words_at text.now) }
+{
     let mut spaces = 0usize;
     let mut after_space = true;
     let mut has_empty = false;
     for byte in text {
-        if *byte < b' ' || *byte > b'~' {
+        if !is_printable(*byte) {
             return Err(LineFault::BadByte);
         }
         let is_space = *byte == b' ';
-        if is_space {
-            has_empty |= after_space;
-            spaces += 1;
-        }
+        has_empty = has_empty | (after_space & is_space);
         after_space = is_space;
+        spaces += usize::from(is_space);
     }
-    if has_empty || after_space {
+    if has_empty | after_space {
         return Err(LineFault::WordCount);
     }
     Ok(spaces + 1)
 }
 
+/// Whether a byte is the space or printable.
+fn is_printable(byte: u8) -> bool
+    ensures { result ≡ is_printable byte }
+{
+    b' ' <= byte && byte <= b'~'
+}
+
 /// The words of a text that are still to come, lent.
-#[derive(Debug, Clone, Copy)]
+#[derive(Debug, Drop)]
 pub(crate) struct Words<'a> {
     rest: &'a [u8],
-    is_done: bool,
+    left: usize,
+}
+
+impl<'a> Model for Words<'a> {
+    ghost use Rattle.std.specs.Prelude.{List, ℕ, ◌≡◌, length};
+    ghost use Rattle.script.specs.Words.{words_left};
+
+    ghost Value = { List (List ℕ) };
+
+    ghost view = { λ w. words_left w.left w.rest.now };
+
+    ghost invariant = { λ w. length (words_left w.left w.rest.now) ≡ w.left };
 }
 
 impl<'a> Words<'a> {
-    /// All words of a text.
-    pub(crate) fn of(text: &'a [u8]) -> Words<'a> {
-        Words {
-            rest: text,
-            is_done: false,
-        }
+    /// How many words are still to come.
+    pub(crate) fn len(&self) -> usize
+        ensures { result ≡ length self.now }
+    {
+        self.left
     }
 
     /// Takes the next word, if there is one.
-    pub(crate) fn take_word(&mut self) -> Option<&'a [u8]> {
-        if self.is_done {
+    pub(crate) fn take_word(&mut self) -> Option<&'a [u8]>
+        ensures { MatchOption result ((self.old ≡ []) × (self.new ≡ [])) (λ word. self.old ≡ word.now ∷ self.new) }
+    {
+        if self.left == 0 {
             return None;
         }
-        let rest = self.rest;
-        match rest.iter().position(|byte| *byte == b' ') {
-            Some(at) => {
-                self.rest = &rest[at + 1..];
-                Some(&rest[..at])
-            }
-            None => {
-                self.is_done = true;
-                Some(rest)
-            }
-        }
+        let (word, others) = first_word(self.rest);
+        self.rest = others;
+        self.left -= 1;
+        Some(word)
     }
+}
+
+/// The first word of a text, and what stands behind the space after it.
+fn first_word(text: &[u8]) -> (&[u8], &[u8])
+    ensures { (words text.now ≡ result.0.now ∷ words result.1.now) ⊎ ((words text.now ≡ result.0.now ∷ []) × (result.1.now ≡ [])) }
+{
+    match space_at(text) {
+        None => (text, &[]),
+        Some(at) => (&text[..at], &text[at + 1..]),
+    }
+}
+
+/// Where the first space stands.
+fn space_at(text: &[u8]) -> Option<usize>
+    ensures place { result ≡ position is_space text.now }
+    ensures within { IfSome result (λ at. at < length text.now) }
+{
+    text.iter().position(|byte| *byte == b' ')
 }

@@ -5,14 +5,14 @@ use std::alloc::{AllocError, Global};
 use std::io::Read;
 
 /// How many bytes are asked for at once.
-pub const BLOCK: usize = 65536;
+pub(crate) const BLOCK: usize = 65536;
 
 /// A line that grows past this many bytes without a newline is handed out as it is.
-pub const LONGEST: usize = 4096;
+pub(crate) const LONGEST: usize = 4096;
 
 /// What the bytes that were read so far hold next.
 #[derive(Clone, Copy, Debug, PartialEq, Eq)]
-pub enum Next {
+pub(crate) enum Next {
     /// A line of this many bytes, its newline among them. The last line of an input, and one that is
     /// too long, has none.
     Line(usize),
@@ -24,11 +24,11 @@ pub enum Next {
 
 /// A device failed to read. It is not tried again.
 #[derive(Clone, Copy, Debug, PartialEq, Eq)]
-pub struct ReadFailed;
+pub(crate) struct ReadFailed;
 
 /// An input with the bytes of it that wait to be taken, line by line.
 #[derive(Drop)]
-pub struct Lines<R> {
+pub(crate) struct Lines<R> {
     source: R,
     block: Vec<u8>,
     start: usize,
@@ -40,7 +40,7 @@ pub struct Lines<R> {
 
 impl<R: Read + Drop> Lines<R> {
     /// The lines of a source, of which nothing is read yet.
-    pub fn new(alloc: Global, source: R) -> Result<Lines<R>, AllocError> {
+    pub(crate) fn new(alloc: Global, source: R) -> Result<Lines<R>, AllocError> {
         let block = vec![in alloc; 0u8; BLOCK]?;
         Ok(Lines {
             source,
@@ -56,7 +56,7 @@ impl<R: Read + Drop> Lines<R> {
     }
 
     /// What comes next.
-    pub fn next(&self) -> Next {
+    pub(crate) fn next(&self) -> Next {
         let waiting = self.waiting();
         if let Some(at) = waiting.iter().position(|b| *b == b'\n') {
             return Next::Line(at + 1);
@@ -74,19 +74,19 @@ impl<R: Read + Drop> Lines<R> {
     }
 
     /// The first `length` bytes that wait, or as many as there are.
-    pub fn line(&self, length: usize) -> &[u8] {
+    pub(crate) fn line(&self, length: usize) -> &[u8] {
         let waiting = self.waiting();
         &waiting[..length.min(waiting.len())]
     }
 
     /// Takes them away.
-    pub fn advance(&mut self, length: usize) {
+    pub(crate) fn advance(&mut self, length: usize) {
         let waiting = self.end - self.start;
         self.start += length.min(waiting);
     }
 
     /// Reads once. It may wait for the source.
-    pub fn read_more(&mut self) -> Result<(), ReadFailed> {
+    pub(crate) fn read_more(&mut self) -> Result<(), ReadFailed> {
         self.move_to_front();
         match self.source.read(&mut self.block[self.end..]) {
             Err(_) => Err(ReadFailed),

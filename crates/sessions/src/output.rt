@@ -8,28 +8,28 @@ use std::alloc::{AllocError, Global};
 use std::io::Write;
 
 /// How many bytes are kept before they are written.
-pub const BLOCK: usize = 65536;
+pub(crate) const BLOCK: usize = 65536;
 
 /// A device failed to write, or took nothing. It is not tried again.
 #[derive(Clone, Copy, Debug, PartialEq, Eq)]
-pub struct WriteFailed;
+pub(crate) struct WriteFailed;
 
 /// A device with the bytes that wait to be written to it.
 #[derive(Drop)]
-pub struct Output<W> {
+pub(crate) struct Output<W> {
     sink: W,
     pending: Vec<u8>,
 }
 
 impl<W: Write + Drop> Output<W> {
     /// An output to which nothing was written.
-    pub fn new(alloc: Global, sink: W) -> Result<Output<W>, AllocError> {
+    pub(crate) fn new(alloc: Global, sink: W) -> Result<Output<W>, AllocError> {
         let pending = Vec::with_capacity(alloc, BLOCK)?;
         Ok(Output { sink, pending })
     }
 
     /// Keeps the text of an event. Where memory is wanted, none of it.
-    pub fn keep_event(&mut self, event: &Event) -> Result<(), AllocError> {
+    pub(crate) fn keep_event(&mut self, event: &Event) -> Result<(), AllocError> {
         let before = self.pending.len();
         let kept = write_event(&mut self.pending, event);
         if kept.is_err() {
@@ -39,7 +39,7 @@ impl<W: Write + Drop> Output<W> {
     }
 
     /// Keeps the last line of an output whose input has a faulty line.
-    pub fn keep_fault(&mut self, line: u64, fault: LineFault) -> Result<(), AllocError> {
+    pub(crate) fn keep_fault(&mut self, line: u64, fault: LineFault) -> Result<(), AllocError> {
         let before = self.pending.len();
         let kept = write_fault(&mut self.pending, line, fault);
         if kept.is_err() {
@@ -49,7 +49,7 @@ impl<W: Write + Drop> Output<W> {
     }
 
     /// Keeps the last line of an output whose positions are used up.
-    pub fn keep_spent(&mut self, line: u64) -> Result<(), AllocError> {
+    pub(crate) fn keep_spent(&mut self, line: u64) -> Result<(), AllocError> {
         let before = self.pending.len();
         let kept = write_spent(&mut self.pending, line);
         if kept.is_err() {
@@ -59,7 +59,7 @@ impl<W: Write + Drop> Output<W> {
     }
 
     /// Writes what waits where that is a block or more.
-    pub fn write_full(&mut self) -> Result<(), WriteFailed> {
+    pub(crate) fn write_full(&mut self) -> Result<(), WriteFailed> {
         if self.pending.len() < BLOCK {
             return Ok(());
         }
@@ -67,7 +67,7 @@ impl<W: Write + Drop> Output<W> {
     }
 
     /// Writes all that waits.
-    pub fn write_out(&mut self) -> Result<(), WriteFailed> {
+    pub(crate) fn write_out(&mut self) -> Result<(), WriteFailed> {
         write_all(&mut self.sink, self.pending.as_slice())?;
         self.pending.clear();
         Ok(())

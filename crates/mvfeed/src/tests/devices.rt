@@ -4,14 +4,14 @@ use std::io::{Error, ErrorKind, Read, Result, Write};
 
 /// A text that is read in pieces, and may fail at some place.
 #[derive(Drop)]
-pub struct Source<'a> {
+pub(crate) struct Source<'a> {
     rest: &'a [u8],
     piece: usize,
     fails_at_end: bool,
 }
 
 impl<'a> Source<'a> {
-    pub fn new(text: &'a [u8]) -> Source<'a> {
+    pub(crate) fn new(text: &'a [u8]) -> Source<'a> {
         Source {
             rest: text,
             piece: usize::MAX,
@@ -20,14 +20,14 @@ impl<'a> Source<'a> {
     }
 
     /// Gives this many bytes, and then fails.
-    pub fn failing_after(mut self, length: usize) -> Source<'a> {
+    pub(crate) fn failing_after(mut self, length: usize) -> Source<'a> {
         self.rest = &self.rest[..length.min(self.rest.len())];
         self.fails_at_end = true;
         self
     }
 
     /// Gives at most this many bytes at once.
-    pub fn in_pieces_of(mut self, piece: usize) -> Source<'a> {
+    pub(crate) fn in_pieces_of(mut self, piece: usize) -> Source<'a> {
         self.piece = piece;
         self
     }
@@ -48,14 +48,14 @@ impl Read for Source<'_> {
 
 /// The bytes that were written, as far as there is room.
 #[derive(Drop)]
-pub struct Sink {
-    pub taken: Vec<u8>,
+pub(crate) struct Sink {
+    pub(crate) taken: Vec<u8>,
     room: usize,
     stuck: bool,
 }
 
 impl Sink {
-    pub fn new(alloc: Global) -> Sink {
+    pub(crate) fn new(alloc: Global) -> Sink {
         Sink {
             taken: Vec::new(alloc),
             room: usize::MAX,
@@ -64,7 +64,7 @@ impl Sink {
     }
 
     /// Takes this many bytes; then it fails, or takes none where it is stuck.
-    pub fn with_room(mut self, room: usize, stuck: bool) -> Sink {
+    pub(crate) fn with_room(mut self, room: usize, stuck: bool) -> Sink {
         self.room = room;
         self.stuck = stuck;
         self

@@ -1,7 +1,7 @@
 //! Worked transcripts and faulty lines, from the project's demand.
 
 /// Transcripts of runs that end well.
-pub const TRANSCRIPTS: [&str; 8] = [
+pub(crate) const TRANSCRIPTS: [&str; 8] = [
     // nothing
     "",
     // two sessions
@@ -69,7 +69,7 @@ pub const TRANSCRIPTS: [&str; 8] = [
 ];
 
 /// Lines that are faulty, alone in the input, each with the last line of the output.
-pub const FAULTS: [(&str, &str); 15] = [
+pub(crate) const FAULTS: [(&str, &str); 15] = [
     ("0 begin 10", "fault 1 7 nonewline\n"),
     ("64 stats\n", "fault 1 6 session\n"),
     ("0  stats\n", "fault 1 1 wordcount\n"),
@@ -88,7 +88,7 @@ pub const FAULTS: [(&str, &str); 15] = [
 ];
 
 /// Lines by their lengths: a beginning, a letter, how many of it, an end, and the last line of the output.
-pub const LENGTHS: [(&str, u8, usize, &str, &str); 5] = [
+pub(crate) const LENGTHS: [(&str, u8, usize, &str, &str); 5] = [
     ("", b'a', 4096, "", "fault 1 7 nonewline\n"),
     ("", b'a', 4097, "", "fault 1 8 linetoolong\n"),
     ("", b'a', 4097, "\n", "fault 1 8 linetoolong\n"),

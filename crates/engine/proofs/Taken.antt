@@ -1,0 +1,37 @@
+-- What an engine stands for after one more command.
+use Rattle.std.proofs.Common.{◌≡◌, ℕ, ◌+◌, true, List, ◌∷◌, length, refl, sym, ◌∙◌, ap, inl, inr, arith}
+use Rattle.spans.specs.declared.calls.commands.Cmd.{Cmd}
+use Rattle.spans.specs.declared.calls.commands.Cmd.TheVariants.{Begin, Put, Del}
+use Rattle.spans.specs.declared.calls.replies.Reply.{Reply}
+use Rattle.spans.specs.declared.calls.replies.Reply.TheVariants.{Refused}
+use Rattle.spans.specs.declared.calls.replies.Refusal.TheVariants.{NoMemory}
+use Rattle.spans.specs.declared.calls.events.Event.{Event}
+use Rattle.spans.specs.Effects.{NoEffect, effect, effects_of, event}
+use Rattle.spans.specs.Answer.{answer_of}
+use Rattle.spans.specs.Legal.{IsRightEvent, is_accepted, may_lack_memory}
+use Rattle.reference.specs.declared.database.Database.{Database}
+use Rattle.reference.specs.Tied.{Represents}
+use Rattle.reference.proofs.Events.{represents_still}
+use Rattle.engine.specs.declared.Engine.{Engine}
+use Rattle.engine.specs.Engine.{StandsFor}
+
+-- the database took in the answer
+pub stands_taken : (e : Engine) (db : Database) (h : List Event) (n seat : ℕ) (cmd : Cmd) (reply : Reply) → StandsFor e h → reply ≡ answer_of (effects_of h) seat cmd
+    → (Represents e.database h → IsRightEvent (effects_of h) (event n seat cmd reply) → Represents db (event n seat cmd reply ∷ h))
+    → StandsFor (record { database = db; steps = e.steps + 1 }) (event n seat cmd reply ∷ h)
+stands_taken e db h n seat cmd reply stands is takes = record { history = takes stands.history (inl is); counted = omega (arith, stands.counted) }
+
+-- want of memory does nothing
+wanting_does_nothing : (seat : ℕ) (cmd : Cmd) → effect seat cmd (Refused NoMemory) ≡ NoEffect
+wanting_does_nothing seat (Begin t) = refl
+wanting_does_nothing seat (Put t x v) = refl
+wanting_does_nothing seat (Del t x) = refl
+wanting_does_nothing seat (_) = refl
+
+-- the database found no memory
+pub stands_wanting : (e : Engine) (db : Database) (h : List Event) (n seat : ℕ) (cmd : Cmd) → StandsFor e h → db ≡ e.database → is_accepted (answer_of (effects_of h) seat cmd) ≡ true → may_lack_memory cmd ≡ true
+    → StandsFor (record { database = db; steps = e.steps + 1 }) (event n seat cmd (Refused NoMemory) ∷ h)
+stands_wanting e db h n seat cmd stands is accepted may = record {
+  history = rw is (represents_still e.database h n seat cmd (Refused NoMemory) (wanting_does_nothing seat cmd) stands.history (inr (refl, accepted, may)));
+  counted = omega (arith, stands.counted);
+}

@@ -1,0 +1,379 @@
+//! Worked histories, command by command.
+use crate::{Engine, is_served};
+use spans::calls::{Cmd, Refusal, Reply};
+use spans::span::Span;
+use std::alloc::{AllocError, Global};
+use std::process::Abort;
+use std::test::Fail;
+use timestamps::key::Key;
+use timestamps::value::Value;
+
+/// A call: seat, command, number, key, value, and how its reply reads.
+type Call<'a> = (u8, &'a str, u64, &'a str, &'a str, &'a str);
+
+fn command(alloc: Global, word: &str, number: u64, key: &str, value: &str) -> Result<Cmd, Fail> {
+    if word == "begin" {
+        return Ok(Cmd::Begin { ts: number });
+    }
+    if word == "commit" {
+        return Ok(Cmd::Commit { ts: number });
+    }
+    if word == "abort" {
+        return Ok(Cmd::Abort { ts: number });
+    }
+    if word == "close" {
+        return Ok(Cmd::Close { to: number });
+    }
+    if word == "closehard" {
+        return Ok(Cmd::CloseHard { to: number });
+    }
+    held_command(alloc, word, number, key, value)
+}
+
+fn held_command(
+    alloc: Global,
+    word: &str,
+    number: u64,
+    key: &str,
+    value: &str,
+) -> Result<Cmd, Fail> {
+    if word == "protect" {
+        return Ok(Cmd::Protect { t: number });
+    }
+    if word == "release" {
+        return Ok(Cmd::Release { id: number });
+    }
+    if word == "open" {
+        let span = Span { lo: None, hi: None };
+        return Ok(Cmd::Open {
+            span,
+            cursor: number,
+        });
+    }
+    if word == "cancel" {
+        return Ok(Cmd::Cancel { feed: number });
+    }
+    keyed_command(alloc, word, number, key, value)
+}
+
+fn keyed_command(
+    alloc: Global,
+    word: &str,
+    number: u64,
+    key: &str,
+    value: &str,
+) -> Result<Cmd, Fail> {
+    let key = Key::new(alloc, key.as_bytes())?;
+    if word == "get" {
+        return Ok(Cmd::Get { ts: number, key });
+    }
+    if word == "readat" {
+        return Ok(Cmd::ReadAt { t: number, key });
+    }
+    if word == "del" {
+        return Ok(Cmd::Del { ts: number, key });
+    }
+    let value = Value::new(alloc, value.as_bytes())?;
+    Ok(Cmd::Put {
+        ts: number,
+        key,
+        value,
+    })
+}
+
+/// A reply as a few words.
+fn words(alloc: Global, reply: &Reply) -> Result<String, AllocError> {
+    match reply {
+        Reply::Started => String::from_str(alloc, "started"),
+        Reply::Found(None) => String::from_str(alloc, "none"),
+        Reply::Found(Some(value)) => {
+            let bytes = value.bytes();
+            format!(in alloc; "value {bytes:?}")
+        }
+        Reply::Written => String::from_str(alloc, "written"),
+        Reply::Committed { keys } => {
+            let keys = *keys;
+            format!(in alloc; "committed {keys}")
+        }
+        Reply::Aborted => String::from_str(alloc, "aborted"),
+        Reply::Closed { at, aborted } => {
+            let at = *at;
+            let aborted = *aborted;
+            format!(in alloc; "closed {at} {aborted}")
+        }
+        Reply::Protected { id } => {
+            let id = *id;
+            format!(in alloc; "protected {id}")
+        }
+        Reply::Released => String::from_str(alloc, "released"),
+        Reply::Opened { feed } => {
+            let feed = *feed;
+            format!(in alloc; "opened {feed}")
+        }
+        Reply::Cancelled => String::from_str(alloc, "cancelled"),
+        Reply::Refused(refusal) => words_of_refusal(alloc, *refusal),
+        _ => String::from_str(alloc, "another reply"),
+    }
+}
+
+fn words_of_refusal(alloc: Global, refusal: Refusal) -> Result<String, AllocError> {
+    match refusal {
+        Refusal::BelowClosed { closed } => format!(in alloc; "belowclosed {closed}"),
+        Refusal::Blocked { by } => format!(in alloc; "blocked {by}"),
+        Refusal::NotClosed { closed } => format!(in alloc; "notclosed {closed}"),
+        Refusal::BelowHorizon { horizon } => format!(in alloc; "belowhorizon {horizon}"),
+        Refusal::NoProtection => String::from_str(alloc, "noprotection"),
+        Refusal::NoFeed => String::from_str(alloc, "nofeed"),
+        Refusal::FeedCancelled => String::from_str(alloc, "feedcancelled"),
+        Refusal::TsUsed => String::from_str(alloc, "tsused"),
+        Refusal::TsRange => String::from_str(alloc, "tsrange"),
+        Refusal::NoTxn => String::from_str(alloc, "notxn"),
+        Refusal::NotOwner => String::from_str(alloc, "notowner"),
+        Refusal::Ended => String::from_str(alloc, "ended"),
+        Refusal::TooLate => String::from_str(alloc, "toolate"),
+        Refusal::NoMemory => String::from_str(alloc, "nomemory"),
+    }
+}
+
+/// Makes the calls, one after the other.
+fn play(rt: &(impl Abort + AllocGlobal), engine: &mut Engine, calls: &[Call]) -> Result<(), Fail> {
+    for call in calls {
+        step(rt, engine, *call)?;
+    }
+    Ok(())
+}
+
+fn step(rt: &(impl Abort + AllocGlobal), engine: &mut Engine, call: Call) -> Result<(), Fail> {
+    let (seat, word, number, key, value, want) = call;
+    let cmd = command(rt.alloc(), word, number, key, value)?;
+    assert!(rt; is_served(&cmd));
+    assert!(rt; engine.steps() < 18446744073709551615);
+    let reply = engine.step(seat, &cmd);
+    let said = words(rt.alloc(), &reply)?;
+    assert_eq!(rt; said.as_str(), want);
+    Ok(())
+}
+
+#[test]
+fn a_write_is_read_once_it_is_committed(rt: HostRuntime) -> Result<(), Fail> {
+    let mut engine = Engine::new(rt.alloc(), 1);
+    play(
+        &rt,
+        &mut engine,
+        &[
+            (0, "begin", 10, "", "", "started"),
+            (0, "put", 10, "a", "1", "written"),
+            (0, "commit", 10, "", "", "committed 1"),
+            (1, "begin", 20, "", "", "started"),
+            (1, "get", 20, "a", "", "value [49]"),
+        ],
+    )?;
+    assert_eq!(rt; engine.steps(), 5);
+    assert_eq!(rt; engine.closed(), 0);
+    Ok(())
+}
+
+#[test]
+fn a_write_beneath_a_later_read_is_too_late(rt: HostRuntime) -> Result<(), Fail> {
+    let mut engine = Engine::new(rt.alloc(), 1);
+    play(
+        &rt,
+        &mut engine,
+        &[
+            (0, "begin", 10, "", "", "started"),
+            (1, "begin", 20, "", "", "started"),
+            (1, "get", 20, "a", "", "none"),
+            (0, "put", 10, "a", "1", "toolate"),
+            (0, "commit", 10, "", "", "ended"),
+            (1, "commit", 20, "", "", "committed 0"),
+        ],
+    )
+}
+
+#[test]
+fn a_write_between_two_versions_is_taken(rt: HostRuntime) -> Result<(), Fail> {
+    let mut engine = Engine::new(rt.alloc(), 1);
+    play(
+        &rt,
+        &mut engine,
+        &[
+            (0, "begin", 5, "", "", "started"),
+            (0, "put", 5, "a", "1", "written"),
+            (0, "commit", 5, "", "", "committed 1"),
+            (0, "begin", 12, "", "", "started"),
+            (0, "put", 12, "a", "2", "written"),
+            (0, "commit", 12, "", "", "committed 1"),
+            (1, "begin", 15, "", "", "started"),
+            (1, "get", 15, "a", "", "value [50]"),
+            (0, "begin", 11, "", "", "started"),
+            (0, "put", 11, "a", "3", "written"),
+        ],
+    )
+}
+
+#[test]
+fn a_read_counts_after_its_reader_wrote(rt: HostRuntime) -> Result<(), Fail> {
+    let mut engine = Engine::new(rt.alloc(), 1);
+    play(
+        &rt,
+        &mut engine,
+        &[
+            (0, "begin", 20, "", "", "started"),
+            (0, "get", 20, "a", "", "none"),
+            (0, "put", 20, "a", "1", "written"),
+            (1, "begin", 10, "", "", "started"),
+            (1, "put", 10, "a", "2", "toolate"),
+        ],
+    )
+}
+
+#[test]
+fn an_own_read_leaves_no_mark(rt: HostRuntime) -> Result<(), Fail> {
+    let mut engine = Engine::new(rt.alloc(), 1);
+    play(
+        &rt,
+        &mut engine,
+        &[
+            (0, "begin", 20, "", "", "started"),
+            (0, "put", 20, "a", "1", "written"),
+            (0, "get", 20, "a", "", "value [49]"),
+            (1, "begin", 10, "", "", "started"),
+            (1, "put", 10, "a", "2", "written"),
+        ],
+    )
+}
+
+#[test]
+fn a_blocked_read_leaves_no_mark(rt: HostRuntime) -> Result<(), Fail> {
+    let mut engine = Engine::new(rt.alloc(), 1);
+    play(
+        &rt,
+        &mut engine,
+        &[
+            (0, "begin", 10, "", "", "started"),
+            (0, "put", 10, "a", "1", "written"),
+            (1, "begin", 20, "", "", "started"),
+            (2, "begin", 15, "", "", "started"),
+            (1, "get", 20, "a", "", "blocked 10"),
+            (0, "commit", 10, "", "", "committed 1"),
+            (1, "get", 20, "a", "", "value [49]"),
+            (2, "put", 15, "a", "2", "toolate"),
+        ],
+    )
+}
+
+#[test]
+fn closing_stops_below_the_undecided(rt: HostRuntime) -> Result<(), Fail> {
+    let mut engine = Engine::new(rt.alloc(), 1);
+    play(
+        &rt,
+        &mut engine,
+        &[
+            (0, "begin", 10, "", "", "started"),
+            (0, "close", 100, "", "", "closed 9 0"),
+            (0, "commit", 10, "", "", "committed 0"),
+            (0, "close", 100, "", "", "closed 100 0"),
+            (0, "begin", 50, "", "", "belowclosed 100"),
+            (0, "close", 20, "", "", "closed 100 0"),
+            (0, "begin", 100, "", "", "belowclosed 100"),
+            (0, "begin", 101, "", "", "started"),
+            (0, "commit", 50, "", "", "ended"),
+        ],
+    )?;
+    assert_eq!(rt; engine.closed(), 100);
+    Ok(())
+}
+
+#[test]
+fn timestamps_are_in_range(rt: HostRuntime) -> Result<(), Fail> {
+    let mut engine = Engine::new(rt.alloc(), 65536);
+    play(
+        &rt,
+        &mut engine,
+        &[
+            (0, "begin", 0, "", "", "tsrange"),
+            (0, "begin", 9223372036854775808, "", "", "tsrange"),
+            (0, "begin", 9223372036854775807, "", "", "started"),
+            (1, "get", 9223372036854775807, "a", "", "notowner"),
+            (0, "begin", 9223372036854775807, "", "", "tsused"),
+            (0, "get", 7, "a", "", "notxn"),
+            (0, "get", 0, "a", "", "ended"),
+            (0, "close", 9223372036854775808, "", "", "tsrange"),
+            (
+                0,
+                "close",
+                9223372036854775807,
+                "",
+                "",
+                "closed 9223372036854775806 0",
+            ),
+            (0, "commit", 9223372036854775807, "", "", "committed 0"),
+        ],
+    )
+}
+
+#[test]
+fn an_aborted_transaction_leaves_nothing(rt: HostRuntime) -> Result<(), Fail> {
+    let mut engine = Engine::new(rt.alloc(), 1);
+    play(
+        &rt,
+        &mut engine,
+        &[
+            (0, "begin", 10, "", "", "started"),
+            (0, "put", 10, "b", "1", "written"),
+            (0, "put", 10, "a", "2", "written"),
+            (0, "del", 10, "a", "", "written"),
+            (0, "get", 10, "a", "", "none"),
+            (0, "get", 10, "b", "", "value [49]"),
+            (0, "abort", 10, "", "", "aborted"),
+            (1, "begin", 20, "", "", "started"),
+            (1, "get", 20, "b", "", "none"),
+            (0, "abort", 10, "", "", "ended"),
+        ],
+    )
+}
+
+#[test]
+fn a_hard_closing_aborts_what_it_passes(rt: HostRuntime) -> Result<(), Fail> {
+    let mut engine = Engine::new(rt.alloc(), 1);
+    play(
+        &rt,
+        &mut engine,
+        &[
+            (0, "begin", 10, "", "", "started"),
+            (0, "put", 10, "a", "1", "written"),
+            (1, "begin", 50, "", "", "started"),
+            (1, "put", 50, "b", "2", "written"),
+            (2, "closehard", 20, "", "", "closed 20 1"),
+            (0, "commit", 10, "", "", "ended"),
+            (1, "commit", 50, "", "", "committed 1"),
+            (2, "close", 50, "", "", "closed 50 0"),
+            (2, "readat", 50, "a", "", "none"),
+            (2, "readat", 50, "b", "", "value [50]"),
+            (2, "readat", 49, "b", "", "none"),
+            (2, "readat", 51, "b", "", "notclosed 50"),
+            (2, "closehard", 9223372036854775808, "", "", "tsrange"),
+        ],
+    )
+}
+
+#[test]
+fn protections_and_feeds_are_numbered(rt: HostRuntime) -> Result<(), Fail> {
+    let mut engine = Engine::new(rt.alloc(), 1);
+    play(
+        &rt,
+        &mut engine,
+        &[
+            (2, "protect", 20, "", "", "protected 1"),
+            (0, "release", 1, "", "", "released"),
+            (0, "release", 1, "", "", "noprotection"),
+            (2, "protect", 0, "", "", "protected 2"),
+            (2, "protect", 9223372036854775808, "", "", "tsrange"),
+            (0, "open", 0, "", "", "opened 1"),
+            (1, "cancel", 1, "", "", "cancelled"),
+            (1, "cancel", 1, "", "", "feedcancelled"),
+            (0, "cancel", 2, "", "", "nofeed"),
+            (0, "open", 7, "", "", "opened 2"),
+        ],
+    )
+}

@@ -1,0 +1,426 @@
+-- What a database holds after one more event.
+use Rattle.std.proofs.Common.{◌≡◌, ℕ, suc, ◌-◌, ◌<◌, ◌≤◌, ◌==◌, Bool, true, false, cond, not, ◌&&◌, ◌||◌, List, [], ◌∷◌, ◌++◌, length, map, reverse, Option, Some, None, find, refl, sym, ◌∙◌, ap, subst, inl, inr, arith, append_assoc, append-nil}
+use Rattle.std.specs.Prelude.{option_map, is_some, bytes_eq, filter, nat_le, nat_lt}
+use Rattle.std.specs.List.{list_any}
+use Rattle.std.proofs.lemmas.Bool.{eqb-true, eq-eqb, both_ways, false_from_ne_true, ltb-false, or_parts}
+use Rattle.std.proofs.lemmas.List.{reverse-append, map-append}
+use Rattle.std.proofs.lemmas.List.Elements.{filter-append}
+use Rattle.spans.specs.Effects.{After, Effect, Begins, Reads, Writes, Commits, Aborts, Closes, HardCloses, SnapshotReads, Opens, Polls, Cancels, Protects, Releases, NoEffect}
+use Rattle.spans.specs.Transactions.{owner_of, begun_of, closed_of, is_committed, is_aborted, is_undecided, undecided_timestamps}
+use Rattle.spans.specs.Versions.{visible, version_of, write_of, written_keys, write_count}
+use Rattle.spans.specs.Keys.{insert_key}
+use Rattle.spans.specs.Reads.{too_late}
+use Rattle.spans.proofs.Steps.{by_test}
+use Rattle.spans.proofs.Keyed.{RisingKeys}
+use Rattle.spans.proofs.Legal.{none_of, keys_rise}
+use Rattle.spans.proofs.Copies.{IsActive, AllAllowed}
+use Rattle.spans.proofs.Open.{IsAmong, open_above}
+use Rattle.reference.specs.declared.transactions.Transaction.{Transaction}
+use Rattle.reference.specs.declared.transactions.State.{State}
+use Rattle.reference.specs.declared.transactions.State.TheVariants as states
+use Rattle.reference.specs.declared.chains.Chain.{Chain}
+use Rattle.reference.specs.declared.reads.Read.{Read}
+use Rattle.reference.specs.declared.database.Database.{Database}
+use Rattle.reference.specs.Transactions.{transaction_at, begun_by, decided, has_committed, has_aborted, is_open, is_committed_state, is_aborted_state, is_open_state, state_closed, aborted_through, open_in, is_undecided_at}
+use Rattle.reference.specs.Chains.{version_at, wrote, with_write, dropped, cleared}
+use Rattle.reference.specs.Reads.{read_of, goes_across}
+use Rattle.reference.specs.Tied.{owner_in, committed_in, aborted_in, IsTied}
+use Rattle.feed_book.specs.declared.record.FeedRecord.{FeedRecord}
+use Rattle.feed_book.specs.FeedTie.{FeedsTied}
+use Rattle.feed_book.specs.ProtectionTie.{Standing, ProtectionsTied}
+use Rattle.feed_book.proofs.FeedTies.{feeds_kept}
+use Rattle.feed_book.proofs.ProtectionTies.{protections_kept}
+use Rattle.reference.proofs.TransactionSteps.{with_state, transaction_at_push, transaction_at_decided, open_decided, transaction_at_closed, found_at, open_closed}
+use Rattle.reference.proofs.ChainSteps.{keys_in, keys_with_write, version_at_with, count_with, keys_dropped, version_at_dropped, count_dropped, keys_cleared, version_at_cleared, count_cleared}
+
+-- ---- the undecided timestamps
+
+owned : (p : List Effect) (t : ℕ) → IsAmong t (begun_of p) → is_some (owner_of p t) ≡ true
+owned [] t among = absurd among
+owned (Begins k seat ∷ p) t among = by_test (k == t)
+    (λ same. rw same refl)
+    (λ other. rw other (elim among [ inl here ↦ absurd (both_ways _ other (eq-eqb k t here)) | inr there ↦ owned p t there ]))
+owned (_ ∷ p) t among = owned p t among
+
+filter_same : (f g : ℕ → Bool) (ts : List ℕ) → ((t : ℕ) → IsAmong t ts → f t ≡ g t) → filter f ts ≡ filter g ts
+filter_same f g [] same = refl
+filter_same f g (t ∷ ts) same = rw (same t (inl refl)) (by_test (g t)
+    (λ is. rw is (ap (λ (us : List ℕ). t ∷ us) (filter_same f g ts (λ u among. same u (inr among)))))
+    (λ isnt. rw isnt (filter_same f g ts (λ u among. same u (inr among)))))
+
+filter_both : (f g h : ℕ → Bool) → ((t : ℕ) → f t ≡ (g t && h t)) → (ts : List ℕ) → filter f ts ≡ filter h (filter g ts)
+filter_both f g h both [] = refl
+filter_both f g h both (t ∷ ts) = rw (both t) (by_test (g t)
+    (λ is. rw is (by_test (h t) (λ is'. rw is' (ap (λ (us : List ℕ). t ∷ us) (filter_both f g h both ts))) (λ isnt'. rw isnt' (filter_both f g h both ts))))
+    (λ isnt. rw isnt (filter_both f g h both ts)))
+
+pub filter_reverse : (f : ℕ → Bool) (ts : List ℕ) → filter f (reverse ts) ≡ reverse (filter f ts)
+filter_reverse f [] = refl
+filter_reverse f (t ∷ ts) = ap (filter f) (reverse-append (t ∷ []) ts) ∙ filter-append f (reverse ts) (t ∷ []) ∙ by_test (f t)
+    (λ is. rw is (ap (λ (us : List ℕ). us ++ t ∷ []) (filter_reverse f ts) ∙ sym (reverse-append (t ∷ []) (filter f ts))))
+    (λ isnt. rw isnt (append-nil (filter f (reverse ts)) ∙ filter_reverse f ts))
+
+-- one more begins
+undecided_begins : (p : List Effect) (t seat : ℕ) → owner_of p t ≡ None → is_committed p t ≡ false → is_aborted p t ≡ false
+    → undecided_timestamps (Begins t seat ∷ p) ≡ t ∷ undecided_timestamps p
+undecided_begins p t seat none uncommitted unaborted = rw (eq-eqb t t refl, uncommitted, unaborted)
+    (ap (λ (ts : List ℕ). t ∷ ts) (filter_same (is_undecided (Begins t seat ∷ p)) (is_undecided p) (begun_of p) (λ i among.
+    let other : (t == i) ≡ false = false_from_ne_true _ (λ same.
+    let no : is_some (owner_of p t) ≡ true = subst (λ k. is_some (owner_of p k) ≡ true) (sym (eqb-true t i same)) (owned p i among) in
+    let no' : false ≡ true = sym (ap is_some none) ∙ no in cc) in
+    rw other refl)))
+
+-- one ends
+undecided_commits : (p : List Effect) (t : ℕ) → undecided_timestamps (Commits t ∷ p) ≡ filter (λ i. not (t == i)) (undecided_timestamps p)
+undecided_commits p t = filter_both (is_undecided (Commits t ∷ p)) (is_undecided p) (λ i. not (t == i)) (λ i. by_parts (is_some (owner_of p i)) (t == i) (is_committed p i) (is_aborted p i)) (begun_of p)
+  where
+    by_parts : (o e c a : Bool) → (o && (not (e || c) && not a)) ≡ ((o && (not c && not a)) && not e)
+    by_parts false e c a = refl
+    by_parts true true true a = refl
+    by_parts true true false true = refl
+    by_parts true true false false = refl
+    by_parts true false true a = refl
+    by_parts true false false true = refl
+    by_parts true false false false = refl
+
+undecided_aborts : (p : List Effect) (t : ℕ) → undecided_timestamps (Aborts t ∷ p) ≡ filter (λ i. not (t == i)) (undecided_timestamps p)
+undecided_aborts p t = filter_both (is_undecided (Aborts t ∷ p)) (is_undecided p) (λ i. not (t == i)) (λ i. by_parts (is_some (owner_of p i)) (t == i) (is_committed p i) (is_aborted p i)) (begun_of p)
+  where
+    by_parts : (o e c a : Bool) → (o && (not c && not (e || a))) ≡ ((o && (not c && not a)) && not e)
+    by_parts false e c a = refl
+    by_parts true e true a = refl
+    by_parts true true false true = refl
+    by_parts true true false false = refl
+    by_parts true false false true = refl
+    by_parts true false false false = refl
+
+-- ---- the events
+
+abbrev pub IsOfFeed : Effect → Type 0
+IsOfFeed (Opens f seat span cursor) = Unit {0}
+IsOfFeed (Polls f max ms) = Unit {0}
+IsOfFeed (Cancels f) = Unit {0}
+IsOfFeed _ = ⊥
+
+abbrev pub IsOfProtection : Effect → Type 0
+IsOfProtection (Protects id t) = Unit {0}
+IsOfProtection (Releases id) = Unit {0}
+IsOfProtection _ = ⊥
+
+owner_decided : (b : Bool) (s : State) (o : Option Transaction) → owner_in (cond b (option_map (with_state s) o) o) ≡ owner_in o
+owner_decided true s None = refl
+owner_decided true s (Some x) = refl
+owner_decided false s o = refl
+
+owner_some : (db : Database) (p : List Effect) (t : ℕ) → IsTied db p → IsActive p t → (i : ℕ) → (t == i) ≡ true → is_some (owner_in (transaction_at db.transactions i)) ≡ true
+owner_some db p t tied active i same = subst (λ n. is_some (owner_in (transaction_at db.transactions n)) ≡ true) (eqb-true t i same) (ap is_some (tied.owners t) ∙ active.begun)
+
+-- an event that did nothing
+pub tied_still : (db : Database) (p : List Effect) → IsTied db p → IsTied db (NoEffect ∷ p)
+tied_still db p tied = record {
+  closed_at = tied.closed_at;
+  owners = tied.owners;
+  committed = tied.committed;
+  aborted = tied.aborted;
+  undecided = tied.undecided;
+  keys = tied.keys;
+  versions = tied.versions;
+  counts = tied.counts;
+  reads = tied.reads;
+  horizon_at = tied.horizon_at;
+  feeds = feeds_kept db.feeds p (NoEffect) tt tied.feeds;
+  protections = protections_kept db.protections p (NoEffect) tt tied.protections;
+}
+
+-- a transaction that wasn't there begins
+pub tied_begins : (db : Database) (p : List Effect) (t seat : ℕ) → IsTied db p → owner_of p t ≡ None
+    → IsTied (record db { transactions = db.transactions ++ begun_by t seat ∷ [] }) (Begins t seat ∷ p)
+tied_begins db p t seat tied unowned = record {
+  closed_at = tied.closed_at;
+  owners = λ i. rw (transaction_at_push db.transactions (begun_by t seat) i none) (by_test (t == i) (λ same. rw same refl) (λ other. rw other (tied.owners i)));
+  committed = λ i. rw (transaction_at_push db.transactions (begun_by t seat) i none) (by_test (t == i)
+      (λ same. rw same (sym (ap committed_in (gone i same)) ∙ tied.committed i))
+      (λ other. rw other (tied.committed i)));
+  aborted = λ i. rw (transaction_at_push db.transactions (begun_by t seat) i none) (by_test (t == i)
+      (λ same. rw same (sym (ap aborted_in (gone i same)) ∙ tied.aborted i))
+      (λ other. rw other (tied.aborted i)));
+  undecided = rw (filter-append is_open db.transactions (begun_by t seat ∷ []), map-append (λ (x : Transaction). x.ts) (filter is_open db.transactions) (begun_by t seat ∷ []))
+      (ap (λ (ts : List ℕ). ts ++ t ∷ []) tied.undecided ∙ sym (ap reverse (undecided_begins p t seat unowned (sym (tied.committed t) ∙ ap committed_in none) (sym (tied.aborted t) ∙ ap aborted_in none)) ∙ reverse-append (t ∷ []) (undecided_timestamps p)));
+  keys = tied.keys;
+  versions = tied.versions;
+  counts = tied.counts;
+  reads = tied.reads;
+  horizon_at = tied.horizon_at;
+  feeds = feeds_kept db.feeds p (Begins t seat) tt tied.feeds;
+  protections = protections_kept db.protections p (Begins t seat) tt tied.protections;
+}
+  where
+    no_owner : (o : Option Transaction) → owner_in o ≡ None → o ≡ None
+    no_owner None e = refl
+    no_owner (Some x) e = cc
+
+    none : transaction_at db.transactions t ≡ None
+    none = no_owner (transaction_at db.transactions t) (tied.owners t ∙ unowned)
+
+    gone : (i : ℕ) → (t == i) ≡ true → transaction_at db.transactions i ≡ None
+    gone i same = subst (λ n. transaction_at db.transactions n ≡ None) (eqb-true t i same) none
+
+-- a key is read
+pub tied_reads : (db : Database) (p : List Effect) (t : ℕ) (x : List ℕ) (v : After) (k : ℕ) → IsTied db p → k ≡ (visible p x t).ts
+    → IsTied (record db { reads = db.reads ++ read_of t x k ∷ [] }) (Reads t x v ∷ p)
+tied_reads db p t x v k tied is = record {
+  closed_at = tied.closed_at;
+  owners = tied.owners;
+  committed = tied.committed;
+  aborted = tied.aborted;
+  undecided = tied.undecided;
+  keys = tied.keys;
+  versions = tied.versions;
+  counts = tied.counts;
+  reads = λ y i. any_push (goes_across y i) db.reads (read_of t x k) (too_late p y i) (tied.reads y i) ∙ ap (λ n. goes_across y i (read_of t x n) || too_late p y i) is;
+  horizon_at = tied.horizon_at;
+  feeds = feeds_kept db.feeds p (Reads t x v) tt tied.feeds;
+  protections = protections_kept db.protections p (Reads t x v) tt tied.protections;
+}
+  where
+    swap : (a b c : Bool) → (a || (b || c)) ≡ (b || (a || c))
+    swap true true c = refl
+    swap true false c = refl
+    swap false b c = refl
+
+    any_push : (test : Read → Bool) (rs : List Read) (r : Read) (b : Bool) → list_any test rs ≡ b → list_any test (rs ++ r ∷ []) ≡ (test r || b)
+    any_push test [] r b e = ap (λ z. test r || z) e
+    any_push test (n ∷ rs) r b e = ap (λ z. test n || z) (any_push test rs r (list_any test rs) refl) ∙ swap (test n) (test r) (list_any test rs) ∙ ap (λ z. test r || z) e
+
+-- a key is written
+pub tied_writes : (db : Database) (p : List Effect) (t : ℕ) (x : List ℕ) (a : After) → IsTied db p → IsActive p t
+    → IsTied (record db { chains = with_write db.chains x t a }) (Writes t x a ∷ p)
+tied_writes db p t x a tied active = record {
+  closed_at = tied.closed_at;
+  owners = tied.owners;
+  committed = tied.committed;
+  aborted = tied.aborted;
+  undecided = tied.undecided;
+  keys = keys_with_write db.chains x t a ∙ ap (insert_key x) tied.keys;
+  versions = λ y i. version_at_with db.chains x t a rise y i ∙ by_test (t == i)
+      (λ same. by_test (bytes_eq x y)
+      (λ here. let live : is_aborted p i ≡ false = subst (λ n. is_aborted p n ≡ false) (eqb-true t i same) active.unaborted in rw (same, here, live) refl)
+      (λ there. rw (same, there) (tied.versions y i)))
+      (λ other. rw other (tied.versions y i));
+  counts = λ i live. count_with db.chains x t a rise i ∙ by_test (t == i)
+      (λ same. let had : version_at db.chains x t ≡ write_of p i x = tied.versions x t ∙ rw active.unaborted (ap (λ n. write_of p n x) (eqb-true t i same)) in
+      rw (same, had, tied.counts i live) refl)
+      (λ other. rw other (tied.counts i live));
+  reads = tied.reads;
+  horizon_at = tied.horizon_at;
+  feeds = feeds_kept db.feeds p (Writes t x a) tt tied.feeds;
+  protections = protections_kept db.protections p (Writes t x a) tt tied.protections;
+}
+  where
+    rise : RisingKeys (keys_in db.chains)
+    rise = subst RisingKeys (sym tied.keys) (keys_rise p)
+
+-- a transaction commits
+pub tied_commits : (db : Database) (p : List Effect) (t : ℕ) → IsTied db p → IsActive p t
+    → IsTied (record db { transactions = map (decided t states.Committed) db.transactions }) (Commits t ∷ p)
+tied_commits db p t tied active = record {
+  closed_at = tied.closed_at;
+  owners = λ i. rw (transaction_at_decided t states.Committed db.transactions i) (owner_decided (t == i) states.Committed (transaction_at db.transactions i) ∙ tied.owners i);
+  committed = λ i. rw (transaction_at_decided t states.Committed db.transactions i) (by_test (t == i)
+      (λ same. rw same (committed_now (transaction_at db.transactions i) (owner_some db p t tied active i same)))
+      (λ other. rw other (tied.committed i)));
+  aborted = λ i. rw (transaction_at_decided t states.Committed db.transactions i) (by_test (t == i)
+      (λ same. rw same (not_aborted (transaction_at db.transactions i) ∙ sym (subst (λ n. is_aborted p n ≡ false) (eqb-true t i same) active.unaborted)))
+      (λ other. rw other (tied.aborted i)));
+  undecided = open_decided t states.Committed (λ x. refl) db.transactions ∙ ap (filter (λ i. not (t == i))) tied.undecided
+      ∙ filter_reverse (λ i. not (t == i)) (undecided_timestamps p) ∙ ap reverse (sym (undecided_commits p t));
+  keys = tied.keys;
+  versions = tied.versions;
+  counts = tied.counts;
+  reads = tied.reads;
+  horizon_at = tied.horizon_at;
+  feeds = feeds_kept db.feeds p (Commits t) tt tied.feeds;
+  protections = protections_kept db.protections p (Commits t) tt tied.protections;
+}
+  where
+    committed_now : (o : Option Transaction) → is_some (owner_in o) ≡ true → committed_in (option_map (with_state states.Committed) o) ≡ true
+    committed_now None e = e
+    committed_now (Some x) e = refl
+
+    not_aborted : (o : Option Transaction) → aborted_in (option_map (with_state states.Committed) o) ≡ false
+    not_aborted None = refl
+    not_aborted (Some x) = refl
+
+-- a transaction aborts
+pub tied_aborts : (db : Database) (p : List Effect) (t : ℕ) → IsTied db p → IsActive p t
+    → IsTied (record db { transactions = map (decided t states.Aborted) db.transactions; chains = map (dropped t) db.chains }) (Aborts t ∷ p)
+tied_aborts db p t tied active = record {
+  closed_at = tied.closed_at;
+  owners = λ i. rw (transaction_at_decided t states.Aborted db.transactions i) (owner_decided (t == i) states.Aborted (transaction_at db.transactions i) ∙ tied.owners i);
+  committed = λ i. rw (transaction_at_decided t states.Aborted db.transactions i) (by_test (t == i)
+      (λ same. rw same (not_committed (transaction_at db.transactions i) ∙ sym (subst (λ n. is_committed p n ≡ false) (eqb-true t i same) active.uncommitted)))
+      (λ other. rw other (tied.committed i)));
+  aborted = λ i. rw (transaction_at_decided t states.Aborted db.transactions i) (by_test (t == i)
+      (λ same. rw same (aborted_now (transaction_at db.transactions i) (owner_some db p t tied active i same)))
+      (λ other. rw other (tied.aborted i)));
+  undecided = open_decided t states.Aborted (λ x. refl) db.transactions ∙ ap (filter (λ i. not (t == i))) tied.undecided
+      ∙ filter_reverse (λ i. not (t == i)) (undecided_timestamps p) ∙ ap reverse (sym (undecided_aborts p t));
+  keys = keys_dropped t db.chains ∙ tied.keys;
+  versions = λ y i. version_at_dropped t db.chains y i ∙ by_test (t == i) (λ same. rw same refl) (λ other. rw other (tied.versions y i));
+  counts = λ i live. by_test (t == i)
+      (λ same. let no : true ≡ false = rw same at live in cc)
+      (λ other. count_dropped t db.chains i other ∙ tied.counts i (rw other at live));
+  reads = tied.reads;
+  horizon_at = tied.horizon_at;
+  feeds = feeds_kept db.feeds p (Aborts t) tt tied.feeds;
+  protections = protections_kept db.protections p (Aborts t) tt tied.protections;
+}
+  where
+    aborted_now : (o : Option Transaction) → is_some (owner_in o) ≡ true → aborted_in (option_map (with_state states.Aborted) o) ≡ true
+    aborted_now None e = e
+    aborted_now (Some x) e = refl
+
+    not_committed : (o : Option Transaction) → committed_in (option_map (with_state states.Aborted) o) ≡ false
+    not_committed None = refl
+    not_committed (Some x) = refl
+
+-- closed moves
+pub tied_closes : (db : Database) (p : List Effect) (at : ℕ) → IsTied db p → IsTied (record db { closed = at }) (Closes at ∷ p)
+tied_closes db p at tied = record {
+  closed_at = refl;
+  owners = tied.owners;
+  committed = tied.committed;
+  aborted = tied.aborted;
+  undecided = tied.undecided;
+  keys = tied.keys;
+  versions = tied.versions;
+  counts = tied.counts;
+  reads = tied.reads;
+  horizon_at = tied.horizon_at;
+  feeds = feeds_kept db.feeds p (Closes at) tt tied.feeds;
+  protections = protections_kept db.protections p (Closes at) tt tied.protections;
+}
+
+-- a snapshot is read
+pub tied_snapshot : (db : Database) (p : List Effect) (t : ℕ) (x : List ℕ) (v : After) → IsTied db p → IsTied db (SnapshotReads t x v ∷ p)
+tied_snapshot db p t x v tied = record {
+  closed_at = tied.closed_at;
+  owners = tied.owners;
+  committed = tied.committed;
+  aborted = tied.aborted;
+  undecided = tied.undecided;
+  keys = tied.keys;
+  versions = tied.versions;
+  counts = tied.counts;
+  reads = tied.reads;
+  horizon_at = tied.horizon_at;
+  feeds = feeds_kept db.feeds p (SnapshotReads t x v) tt tied.feeds;
+  protections = protections_kept db.protections p (SnapshotReads t x v) tt tied.protections;
+}
+
+-- something of a feed happens
+pub tied_feeds : (db : Database) (p : List Effect) (e : Effect) (feeds : List FeedRecord) → IsOfFeed e → IsTied db p → FeedsTied feeds (e ∷ p) → IsTied (record db { feeds = feeds }) (e ∷ p)
+tied_feeds db p (Opens f seat span cursor) feeds is tied now = record { closed_at = tied.closed_at; owners = tied.owners; committed = tied.committed; aborted = tied.aborted; undecided = tied.undecided; keys = tied.keys; versions = tied.versions; counts = tied.counts; reads = tied.reads; horizon_at = tied.horizon_at; feeds = now; protections = protections_kept db.protections p (Opens f seat span cursor) tt tied.protections }
+tied_feeds db p (Polls f max ms) feeds is tied now = record { closed_at = tied.closed_at; owners = tied.owners; committed = tied.committed; aborted = tied.aborted; undecided = tied.undecided; keys = tied.keys; versions = tied.versions; counts = tied.counts; reads = tied.reads; horizon_at = tied.horizon_at; feeds = now; protections = protections_kept db.protections p (Polls f max ms) tt tied.protections }
+tied_feeds db p (Cancels f) feeds is tied now = record { closed_at = tied.closed_at; owners = tied.owners; committed = tied.committed; aborted = tied.aborted; undecided = tied.undecided; keys = tied.keys; versions = tied.versions; counts = tied.counts; reads = tied.reads; horizon_at = tied.horizon_at; feeds = now; protections = protections_kept db.protections p (Cancels f) tt tied.protections }
+tied_feeds db p _ feeds is tied now = absurd is
+
+-- something of a protection happens
+pub tied_protections : (db : Database) (p : List Effect) (e : Effect) (protections : Standing) → IsOfProtection e → IsTied db p → ProtectionsTied protections (e ∷ p) → IsTied (record db { protections = protections }) (e ∷ p)
+tied_protections db p (Protects id t) protections is tied now = record { closed_at = tied.closed_at; owners = tied.owners; committed = tied.committed; aborted = tied.aborted; undecided = tied.undecided; keys = tied.keys; versions = tied.versions; counts = tied.counts; reads = tied.reads; horizon_at = tied.horizon_at; feeds = feeds_kept db.feeds p (Protects id t) tt tied.feeds; protections = now }
+tied_protections db p (Releases id) protections is tied now = record { closed_at = tied.closed_at; owners = tied.owners; committed = tied.committed; aborted = tied.aborted; undecided = tied.undecided; keys = tied.keys; versions = tied.versions; counts = tied.counts; reads = tied.reads; horizon_at = tied.horizon_at; feeds = feeds_kept db.feeds p (Releases id) tt tied.feeds; protections = now }
+tied_protections db p _ protections is tied now = absurd is
+
+-- closed moves hard
+abbrev pub goes : Database → ℕ → ℕ → Bool
+goes db to = is_undecided_at db.transactions db.closed to
+
+pub tied_hard_closes : (db : Database) (p : List Effect) (to at : ℕ) → IsTied db p → AllAllowed p
+    → IsTied (record db { closed = at; transactions = map (aborted_through to) db.transactions; chains = map (cleared (goes db to)) db.chains }) (HardCloses to at ∷ p)
+tied_hard_closes db p to at tied all = record {
+  closed_at = refl;
+  owners = λ i. rw (transaction_at_closed to db.transactions i) (owner_closed (transaction_at db.transactions i) ∙ tied.owners i);
+  committed = λ i. rw (transaction_at_closed to db.transactions i) (committed_closed (transaction_at db.transactions i) ∙ tied.committed i);
+  aborted = λ i. rw (transaction_at_closed to db.transactions i, sym (tied.owners i), sym (tied.committed i), sym (tied.aborted i)) (aborted_closed i (transaction_at db.transactions i) (found_at db.transactions i));
+  undecided = open_closed to db.transactions ∙ ap (filter (λ i. not (nat_le i to))) tied.undecided
+      ∙ filter_reverse (λ i. not (nat_le i to)) (undecided_timestamps p) ∙ ap reverse (sym undecided_closed);
+  keys = keys_cleared (goes db to) db.chains ∙ tied.keys;
+  versions = λ y i. version_at_cleared (goes db to) db.chains y i ∙ rw (gone i, tied.versions y i) (by_parts (nat_le i to) (is_some (owner_of p i)) (is_committed p i) (is_aborted p i) (write_of p i y));
+  counts = λ i live. let parts = or_parts _ _ live in count_cleared (goes db to) db.chains i (gone i ∙ still (nat_le i to) (is_some (owner_of p i)) (is_committed p i) (is_aborted p i) parts.0) ∙ tied.counts i parts.1;
+  reads = tied.reads;
+  horizon_at = tied.horizon_at;
+  feeds = feeds_kept db.feeds p (HardCloses to at) tt tied.feeds;
+  protections = protections_kept db.protections p (HardCloses to at) tt tied.protections;
+}
+  where
+    owner_closed : (o : Option Transaction) → owner_in (option_map (aborted_through to) o) ≡ owner_in o
+    owner_closed None = refl
+    owner_closed (Some x) = refl
+
+    by_state : (low : Bool) (s : State) → is_committed_state (state_closed low s) ≡ is_committed_state s
+    by_state true states.Undecided = refl
+    by_state false states.Undecided = refl
+    by_state low states.Committed = refl
+    by_state low states.Aborted = refl
+
+    committed_closed : (o : Option Transaction) → committed_in (option_map (aborted_through to) o) ≡ committed_in o
+    committed_closed None = refl
+    committed_closed (Some x) = by_state (nat_le x.ts to) x.state
+
+    by_state' : (low : Bool) (s : State) → is_aborted_state (state_closed low s) ≡ ((low && (true && not (is_committed_state s))) || is_aborted_state s)
+    by_state' true states.Undecided = refl
+    by_state' false states.Undecided = refl
+    by_state' true states.Committed = refl
+    by_state' false states.Committed = refl
+    by_state' true states.Aborted = refl
+    by_state' false states.Aborted = refl
+
+    aborted_closed : (i : ℕ) (o : Option Transaction) → ((x : Transaction) → o ≡ Some x → x.ts ≡ i) → aborted_in (option_map (aborted_through to) o) ≡ ((nat_le i to && (is_some (owner_in o) && not (committed_in o))) || aborted_in o)
+    aborted_closed i None at' = by_test (nat_le i to) (λ low. rw low refl) (λ high. rw high refl)
+    aborted_closed i (Some x) at' = let same : x.ts ≡ i = at' x refl in rw (sym same) (by_state' (nat_le x.ts to) x.state)
+
+    by_decided : (low o c a : Bool) → (o && (not c && not ((low && (o && not c)) || a))) ≡ ((o && (not c && not a)) && not low)
+    by_decided low false c a = refl
+    by_decided low true true a = refl
+    by_decided true true false true = refl
+    by_decided true true false false = refl
+    by_decided false true false true = refl
+    by_decided false true false false = refl
+
+    undecided_closed : undecided_timestamps (HardCloses to at ∷ p) ≡ filter (λ i. not (nat_le i to)) (undecided_timestamps p)
+    undecided_closed = filter_both (is_undecided (HardCloses to at ∷ p)) (is_undecided p) (λ i. not (nat_le i to)) (λ i. by_decided (nat_le i to) (is_some (owner_of p i)) (is_committed p i) (is_aborted p i)) (begun_of p)
+
+    open_state : (s : State) → is_open_state s ≡ (true && (not (is_committed_state s) && not (is_aborted_state s)))
+    open_state states.Undecided = refl
+    open_state states.Committed = refl
+    open_state states.Aborted = refl
+
+    open_is : (o : Option Transaction) → open_in o ≡ (is_some (owner_in o) && (not (committed_in o) && not (aborted_in o)))
+    open_is None = refl
+    open_is (Some x) = open_state x.state
+
+    open_at : (i : ℕ) → open_in (transaction_at db.transactions i) ≡ is_undecided p i
+    open_at i = open_is (transaction_at db.transactions i) ∙ rw (tied.owners i, tied.committed i, tied.aborted i) refl
+
+    gone : (i : ℕ) → goes db to i ≡ (nat_le i to && is_undecided p i)
+    gone i = rw (open_at i) (by_test (nat_lt db.closed i)
+        (λ above. rw above refl)
+        (λ below. let shut : is_undecided p i ≡ false = false_from_ne_true _ (λ is. let above : closed_of p < i = open_above p all i is in
+        let low = ltb-false db.closed i below in omega (arith, tied.closed_at)) in
+        rw (below, shut) (by_test (nat_le i to) (λ low. rw low refl) (λ high. rw high refl))))
+
+    by_parts : (low o c a : Bool) (w : Option After) → cond (low && (o && (not c && not a))) None (cond a None w) ≡ cond ((low && (o && not c)) || a) None w
+    by_parts true true true true w = refl
+    by_parts true true true false w = refl
+    by_parts true true false true w = refl
+    by_parts true true false false w = refl
+    by_parts true false c true w = refl
+    by_parts true false c false w = refl
+    by_parts false o c true w = refl
+    by_parts false o c false w = refl
+
+    still : (low o c a : Bool) → (low && (o && not c)) ≡ false → (low && (o && (not c && not a))) ≡ false
+    still false o c a e = refl
+    still true false c a e = refl
+    still true true true a e = refl
+    still true true false a e = cc

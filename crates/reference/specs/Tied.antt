@@ -1,0 +1,49 @@
+-- What a database holds of a history.
+use Rattle.std.specs.Prelude.{ℕ, List, ◌≡◌, false, map, reverse, option_map, Option, Some, None, Bool, length, filter}
+use Rattle.std.specs.List.{list_any}
+use Rattle.spans.specs.declared.calls.events.Event.{Event}
+use Rattle.spans.specs.Effects.{Effect, effects_of}
+use Rattle.spans.specs.Transactions.{owner_of, closed_of, is_committed, is_aborted, undecided_timestamps}
+use Rattle.spans.specs.Versions.{version_of, written_keys, write_count}
+use Rattle.spans.specs.Reads.{too_late}
+use Rattle.spans.specs.Collection.{horizon_of}
+use Rattle.spans.specs.Legal.{IsLegal}
+use Rattle.feed_book.specs.FeedTie.{FeedsTied}
+use Rattle.feed_book.specs.ProtectionTie.{ProtectionsTied}
+use Rattle.reference.specs.declared.transactions.Transaction.{Transaction}
+use Rattle.reference.specs.declared.chains.Chain.{Chain}
+use Rattle.reference.specs.declared.database.Database.{Database}
+use Rattle.reference.specs.Transactions.{transaction_at, has_committed, has_aborted, is_open}
+use Rattle.reference.specs.Chains.{version_at, wrote}
+use Rattle.reference.specs.Reads.{goes_across}
+
+abbrev pub owner_in : Option Transaction → Option ℕ
+owner_in o = option_map (λ (x : Transaction). x.seat) o
+
+abbrev pub committed_in : Option Transaction → Bool
+committed_in None = false
+committed_in (Some x) = has_committed x
+
+abbrev pub aborted_in : Option Transaction → Bool
+aborted_in None = false
+aborted_in (Some x) = has_aborted x
+
+-- each list says what the definitions say of p
+pub record IsTied (db : Database) (p : List Effect) : Type 0 where
+  pub closed_at : db.closed ≡ closed_of p
+  pub owners : (t : ℕ) → owner_in (transaction_at db.transactions t) ≡ owner_of p t
+  pub committed : (t : ℕ) → committed_in (transaction_at db.transactions t) ≡ is_committed p t
+  pub aborted : (t : ℕ) → aborted_in (transaction_at db.transactions t) ≡ is_aborted p t
+  pub undecided : map (λ (x : Transaction). x.ts) (filter is_open db.transactions) ≡ reverse (undecided_timestamps p)
+  pub keys : map (λ (c : Chain). c.key) db.chains ≡ written_keys p
+  pub versions : (x : List ℕ) (t : ℕ) → version_at db.chains x t ≡ version_of p x t
+  pub counts : (t : ℕ) → is_aborted p t ≡ false → length (filter (wrote t) db.chains) ≡ write_count p t
+  pub reads : (x : List ℕ) (i : ℕ) → list_any (goes_across x i) db.reads ≡ too_late p x i
+  pub horizon_at : db.horizon ≡ horizon_of p
+  pub feeds : FeedsTied db.feeds p
+  pub protections : ProtectionsTied db.protections p
+
+-- the database is what a legal history led to, whose newest event stands first
+pub record Represents (db : Database) (h : List Event) : Type 0 where
+  pub legal : IsLegal h
+  pub tied : IsTied db (effects_of h)

@@ -1,0 +1,46 @@
+//! The database: a list for each thing that a history is asked about.
+ghost use Rattle.std.specs.Prelude.{◌≡◌, []};
+
+use crate::chains::Chains;
+use crate::reads::Reads;
+use crate::transactions::Transactions;
+use feed_book::{FeedBook, Protections};
+use std::alloc::Global;
+
+/// What a history led to, list by list.
+#[derive(Debug, Drop)]
+pub struct Database {
+    pub(crate) closed: u64,
+    pub(crate) transactions: Transactions,
+    pub(crate) chains: Chains,
+    pub(crate) reads: Reads,
+    pub(crate) horizon: u64,
+    pub(crate) feeds: FeedBook,
+    pub(crate) protections: Protections,
+}
+
+impl Database {
+    ghost use Rattle.reference.specs.Tied.{Represents};
+
+    /// The database of the empty history.
+    pub fn new(alloc: Global) -> Database
+        ensures { Represents result [] }
+    {
+        Database {
+            closed: 0,
+            transactions: Transactions::new(alloc),
+            chains: Chains::new(alloc),
+            reads: Reads::new(alloc),
+            horizon: 0,
+            feeds: FeedBook::new(alloc),
+            protections: Protections::new(alloc),
+        }
+    }
+
+    /// The closed timestamp.
+    pub fn closed(&self) -> u64
+        ensures { result ≡ self.now.closed }
+    {
+        self.closed
+    }
+}

@@ -1,0 +1,29 @@
+//! The database as one plain program over lists: what the definitions say, computed.
+//!
+//! A [`Database`](database::Database) has a list for each thing that a history is asked about. `answer`
+//! computes the one right reply to a command and changes nothing; `record` takes in a command with its
+//! right reply, so that a checker of transcripts can ask and compare before it goes on. Each list is a
+//! type of its own: [`transactions`], the [`chains`] of versions by rising key, the [`reads`], each with
+//! the timestamp that it read from, and the protections and feeds of `feed_book`.
+//!
+//! ```text
+//!                    transactions      chains           reads          closed
+//! begin 10 (seat 0)  10 undecided                                      0
+//! put 10 a 1         10 undecided      a: 10 "1"                       0
+//! commit 10          10 committed      a: 10 "1"                       0
+//! begin 20, get a    .., 20 undecided  a: 10 "1"        20 a from 10   0
+//! begin 15, put a    toolate: 20 read across 15, and 15 is aborted
+//! ```
+//!
+//! Cost: each call walks its lists once; a hard closing also looks up the transaction of each version
+//! above closed. Nothing is ever forgotten.
+#![tactic(auto)]
+
+mod answers;
+pub mod chains;
+pub mod database;
+mod holds;
+pub mod reads;
+mod records;
+pub mod transactions;
+pub mod versions;

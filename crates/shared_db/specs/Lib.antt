@@ -1,0 +1,7 @@
+pub mod History
+pub mod Standing
+pub mod Closing
+pub mod Seats
+pub mod Opening
+pub mod Calls
+pub mod Whole

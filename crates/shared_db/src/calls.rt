@@ -1,0 +1,90 @@
+//! Calls: a command of a seat becomes an event of the one history.
+ghost use Rattle.std.specs.Prelude.{◌≡◌, IfOk, IfErr};
+ghost use Rattle.reference.specs.Served.{IsServed};
+ghost use Rattle.ticket_lock.specs.Seats.{IsSame, IsOf as IsOwn};
+ghost use Rattle.ticket_lock.specs.Turns.{IsSpent};
+ghost use Rattle.shared_db.specs.Seats.{IsOf, first_of};
+ghost use Rattle.shared_db.specs.Calls.{IsAnswered, IsDenied, IsReady, IsMade};
+
+use crate::db::{Db, Seat};
+use crate::served::Served;
+use spans::calls::{Cmd, Event};
+use std::sync::Wait;
+use ticket_lock::{Denied, Held};
+
+/// No position is left: the next one would be 18446744073709551615. The command comes back.
+#[derive(Debug, Drop)]
+pub struct Spent {
+    pub cmd: Cmd,
+}
+
+/// Why `Db::try_call` made no call. The command comes back.
+#[derive(Debug, Drop)]
+pub enum CallDenied {
+    /// The call at position `served` had its turn, and the positions from there up to `next` were
+    /// given out. So `served` is below `next`, which was found later in the call.
+    Busy { served: u64, next: u64, cmd: Cmd },
+    /// No position is left.
+    Spent { cmd: Cmd },
+}
+
+impl Db {
+    /// Makes a call, once all calls with older tickets are over.
+    ///
+    /// `Spent` comes exactly where the next position would be 18446744073709551615, and at each
+    /// later call of this seat too. Whether the wait ends is not promised.
+    pub fn call<R: Wait>(&self, rt: &R, seat: &mut Seat, cmd: Cmd) -> Result<Event, Spent>
+        requires own { IsOf self.now seat.old }
+        requires served { IsServed cmd }
+        ensures own { IsOf self.now seat.new }
+        ensures same { IsSame seat.old seat.new }
+        ensures event { IfOk result (λ event. IsAnswered (first_of self.now) seat.old cmd event seat.new) }
+        ensures spent { IfErr result (λ spent. (spent.cmd ≡ cmd) × IsSpent seat.old seat.new) }
+    {
+        match self.lock.turn(rt, seat) {
+            Ok(held) => Ok(self.make(seat, held, cmd)),
+            Err(_) => Err(Spent { cmd }),
+        }
+    }
+
+    /// Makes a call, if no other has a turn or waits for one. It waits for nobody.
+    ///
+    /// `Spent` comes where the next position would be 18446744073709551615, and before `Busy`.
+    pub fn try_call(&self, seat: &mut Seat, cmd: Cmd) -> Result<Event, CallDenied>
+        requires own { IsOf self.now seat.old }
+        requires served { IsServed cmd }
+        ensures own { IsOf self.now seat.new }
+        ensures same { IsSame seat.old seat.new }
+        ensures event { IfOk result (λ event. IsAnswered (first_of self.now) seat.old cmd event seat.new) }
+        ensures denied { IfErr result (λ denied. IsDenied (first_of self.now) seat.old cmd denied seat.new) }
+    {
+        match self.lock.try_turn(seat) {
+            Ok(held) => Ok(self.make(seat, held, cmd)),
+            Err(Denied::Busy { served, next }) => Err(CallDenied::Busy { served, next, cmd }),
+            Err(Denied::Spent) => Err(CallDenied::Spent { cmd }),
+        }
+    }
+
+    // What a call does in its turn.
+    fn make(&self, seat: &mut Seat, mut held: Held<Served>, cmd: Cmd) -> Event
+        requires own { IsOwn self.now.lock seat.old }
+        requires turn { IsReady (first_of self.now) held.value held.ticket seat.old }
+        requires served { IsServed cmd }
+        ensures own { IsOf self.now seat.new }
+        ensures same { IsSame seat.old seat.new }
+        ensures made { IsMade (first_of self.now) seat.old held.ticket cmd result seat.new }
+    {
+        let by = seat.number();
+        let position = held.ticket();
+        let reply = held.value.engine.step(by, &cmd);
+        let event = Event {
+            position,
+            seat: by,
+            cmd,
+            reply,
+        };
+        self.lock.raise_floor(seat, &held);
+        self.lock.end(seat, held, &event);
+        event
+    }
+}

@@ -1,0 +1,23 @@
+//! What a database is opened with.
+
+/// How many callers a database has, how long the ring of a feed is, and where positions begin.
+#[derive(Clone, Copy, Debug, PartialEq, Eq)]
+pub struct Config {
+    /// The number of seats, 1 to 64.
+    pub seats: u32,
+    /// How many rows a feed holds before it is behind, 1 to 65536.
+    pub ring: u32,
+    /// The position of the first event. The last one has position 18446744073709551614.
+    pub first: u64,
+}
+
+/// Why a database was not opened, tested in this order.
+#[derive(Clone, Copy, Debug, PartialEq, Eq)]
+pub enum OpenError {
+    /// There are to be no seats, or more than 64.
+    SeatCount,
+    /// The ring is to have no place, or more than 65536.
+    RingSize,
+    /// A growth of memory was refused.
+    NoMemory,
+}
