@@ -40,8 +40,8 @@ abbrev whole : Span
 whole = record { lo = None; hi = None }
 
 -- a row as a feed tells it
-abbrev row : ℕ → List ℕ → After → Message
-row t x v = messages.Row (record { ts = t; key = x; after = v })
+abbrev told : ℕ → List ℕ → After → Message
+told t x v = messages.Row (record { ts = t; key = x; after = v })
 
 -- two sessions: what one commits, the other reads
 pub two_sessions : replies_to [] ((0, Begin 10) ∷ (0, Put 10 a one) ∷ (0, Commit 10) ∷ (1, Begin 20) ∷ (1, Get 20 a) ∷ [])
@@ -81,15 +81,15 @@ closing = refl
 -- commit order isn't stream order
 pub order : replies_to [] ((0, Open whole 0) ∷ (1, Begin 20) ∷ (1, Put 20 a one) ∷ (1, Commit 20) ∷ (2, Begin 10) ∷ (2, Put 10 b one) ∷ (2, Commit 10) ∷ (0, Poll 1 10) ∷ (0, Close 30) ∷ (0, Poll 1 10) ∷ [])
     ≡ Opened 1 ∷ Started ∷ Written ∷ Committed 1 ∷ Started ∷ Written ∷ Committed 1 ∷ Messages [] ∷ Closed 30 0
-    ∷ Messages (row 10 b (Some one) ∷ row 20 a (Some one) ∷ messages.Resolved 30 ∷ []) ∷ []
+    ∷ Messages (told 10 b (Some one) ∷ told 20 a (Some one) ∷ messages.Resolved 30 ∷ []) ∷ []
 order = refl
 
 -- the floor of a feed that lags
 pub lagging : replies_to [] ((0, Begin 5) ∷ (0, Put 5 a one) ∷ (0, Commit 5) ∷ (0, Begin 10) ∷ (0, Put 10 a two) ∷ (0, Commit 10) ∷ (0, Begin 20) ∷ (0, Put 20 a three) ∷ (0, Commit 20)
     ∷ (0, Open whole 5) ∷ (0, Close 30) ∷ (0, Poll 1 1) ∷ (0, Collect 30) ∷ (0, Poll 1 10) ∷ (0, Collect 30) ∷ (0, Stats) ∷ (0, ReadAt 29 a) ∷ (0, ReadAt 30 a) ∷ (0, ReadAt 31 a) ∷ [])
     ≡ Started ∷ Written ∷ Committed 1 ∷ Started ∷ Written ∷ Committed 1 ∷ Started ∷ Written ∷ Committed 1
-    ∷ Opened 1 ∷ Closed 30 0 ∷ Messages (row 10 a (Some two) ∷ []) ∷ Collected 9 0
-    ∷ Messages (row 20 a (Some three) ∷ messages.Resolved 30 ∷ []) ∷ Collected 30 2 ∷ replies.Stats 1 0 1 30 30
+    ∷ Opened 1 ∷ Closed 30 0 ∷ Messages (told 10 a (Some two) ∷ []) ∷ Collected 9 0
+    ∷ Messages (told 20 a (Some three) ∷ messages.Resolved 30 ∷ []) ∷ Collected 30 2 ∷ replies.Stats 1 0 1 30 30
     ∷ Refused (BelowHorizon 30) ∷ Found (Some three) ∷ Refused (NotClosed 30) ∷ []
 lagging = refl
 
@@ -112,8 +112,8 @@ blocks = refl
 
 -- a transaction split over polls, with a closing between
 pub split_over_polls : replies_to [] ((0, Open whole 0) ∷ (1, Begin 10) ∷ (1, Put 10 a one) ∷ (1, Put 10 b two) ∷ (1, Commit 10) ∷ (0, Close 10) ∷ (0, Poll 1 1) ∷ (0, Close 15) ∷ (0, Poll 1 1) ∷ (0, Poll 1 1) ∷ (0, Poll 1 10) ∷ [])
-    ≡ Opened 1 ∷ Started ∷ Written ∷ Written ∷ Committed 2 ∷ Closed 10 0 ∷ Messages (row 10 a (Some one) ∷ []) ∷ Closed 15 0
-    ∷ Messages (row 10 b (Some two) ∷ []) ∷ Messages (messages.Resolved 15 ∷ []) ∷ Messages [] ∷ []
+    ≡ Opened 1 ∷ Started ∷ Written ∷ Written ∷ Committed 2 ∷ Closed 10 0 ∷ Messages (told 10 a (Some one) ∷ []) ∷ Closed 15 0
+    ∷ Messages (told 10 b (Some two) ∷ []) ∷ Messages (messages.Resolved 15 ∷ []) ∷ Messages [] ∷ []
 split_over_polls = refl
 
 -- cancellation
@@ -157,7 +157,7 @@ blocked_scans = refl
 pub last_write : replies_to [] ((0, Open (record { lo = Some b; hi = Some c }) 0) ∷ (1, Begin 10) ∷ (1, Put 10 a one) ∷ (1, Put 10 b two) ∷ (1, Put 10 b []) ∷ (1, Commit 10) ∷ (1, Begin 20) ∷ (1, Del 20 b) ∷ (1, Commit 20)
     ∷ (0, Close 20) ∷ (0, Poll 1 10) ∷ [])
     ≡ Opened 1 ∷ Started ∷ Written ∷ Written ∷ Written ∷ Committed 2 ∷ Started ∷ Written ∷ Committed 1
-    ∷ Closed 20 0 ∷ Messages (row 10 b (Some []) ∷ row 20 b None ∷ messages.Resolved 20 ∷ []) ∷ []
+    ∷ Closed 20 0 ∷ Messages (told 10 b (Some []) ∷ told 20 b None ∷ messages.Resolved 20 ∷ []) ∷ []
 last_write = refl
 
 -- the horizon stops at `to`, at closed and where it was, and `removed` is by how much the dead versions grew
