@@ -1,5 +1,5 @@
-//! The first example, run: `examples/first.script` is this program's input, and
-//! `examples/first.transcript` is what it has to write.
+//! The first example, run by the gate: its input is the text of `examples/first.script`, and it has to
+//! write the text of `examples/first.transcript`. (`examples/check` compares the files.)
 #![tactic(auto)]
 
 use sessions::{End, serve};
