@@ -112,7 +112,7 @@ fn events_before_a_fault_are_kept(rt: HostRuntime) -> Result<(), Fail> {
     Ok(())
 }
 
-/// The input of the two sessions, cut after the first `length` bytes.
+/// The script of the two sessions.
 const TWO_SESSIONS: &str = "0 begin 10\n0 put 10 a 1\n0 commit 10\n1 begin 20\n1 get 20 a\n";
 
 #[test]

@@ -118,8 +118,11 @@ impl<R: Read + Drop, W: Write + Drop> Run<R, W> {
         }
     }
 
-    /// Writes what is left, whatever the end.
+    /// Writes what is left, but where a write has failed: that is not tried again.
     fn last_written(&mut self, end: End) -> End {
+        if end == End::Output {
+            return end;
+        }
         match self.output.write_out() {
             Ok(()) => end,
             Err(_) => End::Output,

@@ -63,7 +63,7 @@ impl Sink {
         }
     }
 
-    /// Takes this many bytes; then it fails, or takes none where it is stuck.
+    /// Takes this many bytes; then it fails once, or takes none once where it is stuck.
     pub(crate) fn with_room(mut self, room: usize, stuck: bool) -> Sink {
         self.room = room;
         self.stuck = stuck;
@@ -74,7 +74,12 @@ impl Sink {
 impl Write for &mut Sink {
     fn write(&mut self, buf: &[u8]) -> Result<usize> {
         let count = buf.len().min(self.room);
-        if count == 0 && !self.stuck {
+        if count == 0 {
+            // Only this once: what is written after a failure would be seen.
+            self.room = usize::MAX;
+            if self.stuck {
+                return Ok(0);
+            }
             return Err(Error::from(ErrorKind::Interrupted));
         }
         self.taken.extend_from_slice(&buf[..count])?;

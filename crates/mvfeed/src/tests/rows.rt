@@ -1,4 +1,4 @@
-//! Worked transcripts and faulty lines, from the project's demand.
+//! Worked transcripts, and faulty lines with their faults.
 
 /// Transcripts of runs that end well.
 pub(crate) const TRANSCRIPTS: [&str; 8] = [
