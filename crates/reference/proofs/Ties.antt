@@ -31,6 +31,7 @@ use Rattle.feed_book.specs.ProtectionTie.{Standing, ProtectionsTied}
 use Rattle.feed_book.proofs.FeedTies.{feeds_kept}
 use Rattle.feed_book.proofs.ProtectionTies.{protections_kept}
 use Rattle.reference.proofs.TransactionSteps.{with_state, transaction_at_push, transaction_at_decided, open_decided, transaction_at_closed, found_at, open_closed}
+use Rattle.reference.proofs.Once.{once_with_write, once_dropped, once_cleared}
 use Rattle.reference.proofs.ChainSteps.{keys_in, keys_with_write, version_at_with, count_with, keys_dropped, version_at_dropped, count_dropped, keys_cleared, version_at_cleared, count_cleared}
 
 -- ---- the undecided timestamps
@@ -126,6 +127,7 @@ tied_still db p tied = record {
   keys = tied.keys;
   versions = tied.versions;
   counts = tied.counts;
+  once = tied.once;
   reads = tied.reads;
   horizon_at = tied.horizon_at;
   feeds = feeds_kept db.feeds p (NoEffect) tt tied.feeds;
@@ -149,6 +151,7 @@ tied_begins db p t seat tied unowned = record {
   keys = tied.keys;
   versions = tied.versions;
   counts = tied.counts;
+  once = tied.once;
   reads = tied.reads;
   horizon_at = tied.horizon_at;
   feeds = feeds_kept db.feeds p (Begins t seat) tt tied.feeds;
@@ -177,6 +180,7 @@ tied_reads db p t x v k tied is = record {
   keys = tied.keys;
   versions = tied.versions;
   counts = tied.counts;
+  once = tied.once;
   reads = λ y i. any_push (goes_across y i) db.reads (read_of t x k) (too_late p y i) (tied.reads y i) ∙ ap (λ n. goes_across y i (read_of t x n) || too_late p y i) is;
   horizon_at = tied.horizon_at;
   feeds = feeds_kept db.feeds p (Reads t x v) tt tied.feeds;
@@ -211,6 +215,7 @@ tied_writes db p t x a tied active = record {
       (λ same. let had : version_at db.chains x t ≡ write_of p i x = tied.versions x t ∙ rw active.unaborted (ap (λ n. write_of p n x) (eqb-true t i same)) in
       rw (same, had, tied.counts i live) refl)
       (λ other. rw other (tied.counts i live));
+  once = once_with_write db.chains x t a tied.once;
   reads = tied.reads;
   horizon_at = tied.horizon_at;
   feeds = feeds_kept db.feeds p (Writes t x a) tt tied.feeds;
@@ -237,6 +242,7 @@ tied_commits db p t tied active = record {
   keys = tied.keys;
   versions = tied.versions;
   counts = tied.counts;
+  once = tied.once;
   reads = tied.reads;
   horizon_at = tied.horizon_at;
   feeds = feeds_kept db.feeds p (Commits t) tt tied.feeds;
@@ -270,6 +276,7 @@ tied_aborts db p t tied active = record {
   counts = λ i live. by_test (t == i)
       (λ same. let no : true ≡ false = rw same at live in cc)
       (λ other. count_dropped t db.chains i other ∙ tied.counts i (rw other at live));
+  once = once_dropped t db.chains tied.once;
   reads = tied.reads;
   horizon_at = tied.horizon_at;
   feeds = feeds_kept db.feeds p (Aborts t) tt tied.feeds;
@@ -295,6 +302,7 @@ tied_closes db p at tied = record {
   keys = tied.keys;
   versions = tied.versions;
   counts = tied.counts;
+  once = tied.once;
   reads = tied.reads;
   horizon_at = tied.horizon_at;
   feeds = feeds_kept db.feeds p (Closes at) tt tied.feeds;
@@ -312,6 +320,7 @@ tied_snapshot db p t x v tied = record {
   keys = tied.keys;
   versions = tied.versions;
   counts = tied.counts;
+  once = tied.once;
   reads = tied.reads;
   horizon_at = tied.horizon_at;
   feeds = feeds_kept db.feeds p (SnapshotReads t x v) tt tied.feeds;
@@ -320,15 +329,15 @@ tied_snapshot db p t x v tied = record {
 
 -- something of a feed happens
 pub tied_feeds : (db : Database) (p : List Effect) (e : Effect) (feeds : List FeedRecord) → IsOfFeed e → IsTied db p → FeedsTied feeds (e ∷ p) → IsTied (record db { feeds = feeds }) (e ∷ p)
-tied_feeds db p (Opens f seat span cursor) feeds is tied now = record { closed_at = tied.closed_at; owners = tied.owners; committed = tied.committed; aborted = tied.aborted; undecided = tied.undecided; keys = tied.keys; versions = tied.versions; counts = tied.counts; reads = tied.reads; horizon_at = tied.horizon_at; feeds = now; protections = protections_kept db.protections p (Opens f seat span cursor) tt tied.protections }
-tied_feeds db p (Polls f max ms) feeds is tied now = record { closed_at = tied.closed_at; owners = tied.owners; committed = tied.committed; aborted = tied.aborted; undecided = tied.undecided; keys = tied.keys; versions = tied.versions; counts = tied.counts; reads = tied.reads; horizon_at = tied.horizon_at; feeds = now; protections = protections_kept db.protections p (Polls f max ms) tt tied.protections }
-tied_feeds db p (Cancels f) feeds is tied now = record { closed_at = tied.closed_at; owners = tied.owners; committed = tied.committed; aborted = tied.aborted; undecided = tied.undecided; keys = tied.keys; versions = tied.versions; counts = tied.counts; reads = tied.reads; horizon_at = tied.horizon_at; feeds = now; protections = protections_kept db.protections p (Cancels f) tt tied.protections }
+tied_feeds db p (Opens f seat span cursor) feeds is tied now = record { closed_at = tied.closed_at; owners = tied.owners; committed = tied.committed; aborted = tied.aborted; undecided = tied.undecided; keys = tied.keys; versions = tied.versions; counts = tied.counts; once = tied.once; reads = tied.reads; horizon_at = tied.horizon_at; feeds = now; protections = protections_kept db.protections p (Opens f seat span cursor) tt tied.protections }
+tied_feeds db p (Polls f max ms) feeds is tied now = record { closed_at = tied.closed_at; owners = tied.owners; committed = tied.committed; aborted = tied.aborted; undecided = tied.undecided; keys = tied.keys; versions = tied.versions; counts = tied.counts; once = tied.once; reads = tied.reads; horizon_at = tied.horizon_at; feeds = now; protections = protections_kept db.protections p (Polls f max ms) tt tied.protections }
+tied_feeds db p (Cancels f) feeds is tied now = record { closed_at = tied.closed_at; owners = tied.owners; committed = tied.committed; aborted = tied.aborted; undecided = tied.undecided; keys = tied.keys; versions = tied.versions; counts = tied.counts; once = tied.once; reads = tied.reads; horizon_at = tied.horizon_at; feeds = now; protections = protections_kept db.protections p (Cancels f) tt tied.protections }
 tied_feeds db p _ feeds is tied now = absurd is
 
 -- something of a protection happens
 pub tied_protections : (db : Database) (p : List Effect) (e : Effect) (protections : Standing) → IsOfProtection e → IsTied db p → ProtectionsTied protections (e ∷ p) → IsTied (record db { protections = protections }) (e ∷ p)
-tied_protections db p (Protects id t) protections is tied now = record { closed_at = tied.closed_at; owners = tied.owners; committed = tied.committed; aborted = tied.aborted; undecided = tied.undecided; keys = tied.keys; versions = tied.versions; counts = tied.counts; reads = tied.reads; horizon_at = tied.horizon_at; feeds = feeds_kept db.feeds p (Protects id t) tt tied.feeds; protections = now }
-tied_protections db p (Releases id) protections is tied now = record { closed_at = tied.closed_at; owners = tied.owners; committed = tied.committed; aborted = tied.aborted; undecided = tied.undecided; keys = tied.keys; versions = tied.versions; counts = tied.counts; reads = tied.reads; horizon_at = tied.horizon_at; feeds = feeds_kept db.feeds p (Releases id) tt tied.feeds; protections = now }
+tied_protections db p (Protects id t) protections is tied now = record { closed_at = tied.closed_at; owners = tied.owners; committed = tied.committed; aborted = tied.aborted; undecided = tied.undecided; keys = tied.keys; versions = tied.versions; counts = tied.counts; once = tied.once; reads = tied.reads; horizon_at = tied.horizon_at; feeds = feeds_kept db.feeds p (Protects id t) tt tied.feeds; protections = now }
+tied_protections db p (Releases id) protections is tied now = record { closed_at = tied.closed_at; owners = tied.owners; committed = tied.committed; aborted = tied.aborted; undecided = tied.undecided; keys = tied.keys; versions = tied.versions; counts = tied.counts; once = tied.once; reads = tied.reads; horizon_at = tied.horizon_at; feeds = feeds_kept db.feeds p (Releases id) tt tied.feeds; protections = now }
 tied_protections db p _ protections is tied now = absurd is
 
 -- closed moves hard
@@ -347,6 +356,7 @@ tied_hard_closes db p to at tied all = record {
   keys = keys_cleared (goes db to) db.chains ∙ tied.keys;
   versions = λ y i. version_at_cleared (goes db to) db.chains y i ∙ rw (gone i, tied.versions y i) (by_parts (nat_le i to) (is_some (owner_of p i)) (is_committed p i) (is_aborted p i) (write_of p i y));
   counts = λ i live. let parts = or_parts _ _ live in count_cleared (goes db to) db.chains i (gone i ∙ still (nat_le i to) (is_some (owner_of p i)) (is_committed p i) (is_aborted p i) parts.0) ∙ tied.counts i parts.1;
+  once = once_cleared (goes db to) db.chains tied.once;
   reads = tied.reads;
   horizon_at = tied.horizon_at;
   feeds = feeds_kept db.feeds p (HardCloses to at) tt tied.feeds;

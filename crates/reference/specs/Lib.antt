@@ -4,3 +4,7 @@ pub mod Chains
 pub mod Reads
 pub mod Tied
 pub mod Served
+pub mod Scans
+pub mod Counts
+pub mod Once
+pub mod Streams

@@ -15,6 +15,7 @@ use Rattle.reference.specs.declared.chains.Chain.{Chain}
 use Rattle.reference.specs.declared.database.Database.{Database}
 use Rattle.reference.specs.Transactions.{transaction_at, has_committed, has_aborted, is_open}
 use Rattle.reference.specs.Chains.{version_at, wrote}
+use Rattle.reference.specs.Once.{AreOnce}
 use Rattle.reference.specs.Reads.{goes_across}
 
 abbrev pub owner_in : Option Transaction → Option ℕ
@@ -38,6 +39,7 @@ pub record IsTied (db : Database) (p : List Effect) : Type 0 where
   pub keys : map (λ (c : Chain). c.key) db.chains ≡ written_keys p
   pub versions : (x : List ℕ) (t : ℕ) → version_at db.chains x t ≡ version_of p x t
   pub counts : (t : ℕ) → is_aborted p t ≡ false → length (filter (wrote t) db.chains) ≡ write_count p t
+  pub once : AreOnce db.chains
   pub reads : (x : List ℕ) (i : ℕ) → list_any (goes_across x i) db.reads ≡ too_late p x i
   pub horizon_at : db.horizon ≡ horizon_of p
   pub feeds : FeedsTied db.feeds p

@@ -6,6 +6,8 @@ ghost use Rattle.reference.specs.Versions.{IsBest};
 ghost use Rattle.reference.specs.Chains.{place_in, is_chain_of, versions_at, chain_with, with_write, dropped, cleared, wrote};
 ghost use Rattle.reference.specs.Transactions.{is_undecided_at};
 
+mod lent;
+
 use crate::transactions::Transactions;
 use crate::versions::{Version, Versions};
 use std::alloc::{AllocError, Global};

@@ -21,9 +21,12 @@
 
 mod answers;
 pub mod chains;
+mod counts;
 pub mod database;
 mod holds;
 pub mod reads;
 mod records;
+mod scans;
+mod streams;
 pub mod transactions;
 pub mod versions;

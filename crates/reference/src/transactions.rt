@@ -4,6 +4,8 @@ ghost use Rattle.spans.specs.Transactions.{least_of};
 ghost use Rattle.reference.specs.declared.transactions.Transaction.{Transaction};
 ghost use Rattle.reference.specs.Transactions.{transaction_at, begun_by, decided, is_open, below_open, state_closed, aborted_through, is_undecided_at, is_open_through};
 
+mod lent;
+
 use std::alloc::{AllocError, Global};
 use std::marker::Model;
 

@@ -4,6 +4,8 @@ ghost use Rattle.reference.specs.declared.versions.Version.{Version};
 ghost use Rattle.reference.specs.Versions.{IsBest, better, has_version, with_version, without, without_those};
 ghost use Rattle.reference.specs.Transactions.{is_undecided_at};
 
+mod lent;
+
 use crate::transactions::Transactions;
 use std::alloc::{AllocError, Global};
 use std::marker::Model;

@@ -1,0 +1,137 @@
+-- Lists that stand for sets: distinct lists of the same are of one length.
+use Rattle.std.proofs.Common.{Bool, List, refl, arith, inr, subst, false, suc, ap, true, inl, sym, length, ◌≡◌, ◌≤◌, ◌⊎◌, ◌==◌, ◌∷◌, ◌++◌, ◌∙◌, ℕ, []}
+use Rattle.std.proofs.lemmas.Bool.{eq-eqb, both_ways}
+use Rattle.std.proofs.lemmas.Cmp.{nat_list_cmp_total}
+use Rattle.std.specs.Ordering.{ordering_reverse}
+use Rattle.std.specs.Prelude.{filter, is_some, ◌↔◌}
+use Rattle.std.specs.declared.cmp.Ordering.TheVariants.{Greater, Less}
+use Rattle.timestamps.specs.Bytes.{key_cmp}
+use Rattle.spans.specs.Effects.{Begins, Effect}
+use Rattle.spans.specs.Transactions.{owner_of, begun_of}
+use Rattle.spans.proofs.Copies.{AllAllowed}
+use Rattle.spans.proofs.Keyed.{IsIn, RisingKeys}
+use Rattle.spans.proofs.Open.{IsAmong}
+use Rattle.spans.proofs.Steps.{by_test}
+
+-- x is one of the list
+abbrev pub Has : {A : Type 0} → A → List A → Type 0
+Has x [] = ⊥
+Has x (y ∷ ys) = (y ≡ x) ⊎ Has x ys
+
+-- nothing is in the list twice
+abbrev pub AreDistinct : {A : Type 0} → List A → Type 0
+AreDistinct [] = Unit {0}
+AreDistinct (x ∷ xs) = (Has x xs → ⊥) × AreDistinct xs
+
+-- the list without one that it has
+record Without {A : Type 0} (x : A) (ys : List A) : Type 0 where
+  pub rest : List A
+  pub one_less : length ys ≡ suc (length rest)
+  pub split : (y : A) → Has y ys → (x ≡ y) ⊎ Has y rest
+  pub part : (y : A) → Has y rest → Has y ys
+  pub distinct : AreDistinct ys → AreDistinct rest × (Has x rest → ⊥)
+
+without : {A : Type 0} (x : A) (ys : List A) → Has x ys → Without x ys
+without x [] i = absurd i
+without x (y ∷ ys) i = elim i [
+  | inl here ↦ record {
+    rest = ys;
+    one_less = refl;
+    split = λ z j. elim j [ inl e ↦ inl (sym here ∙ e) | inr k ↦ inr k ];
+    part = λ z j. inr j;
+    distinct = λ d. (d.1, λ j. d.0 (subst (λ w. Has w ys) (sym here) j));
+  }
+  | inr there ↦ (let w = without x ys there in record {
+    rest = y ∷ w.rest;
+    one_less = ap suc w.one_less;
+    split = λ z j. elim j [ inl e ↦ inr (inl e) | inr k ↦ (elim (w.split z k) [ inl e ↦ inl e | inr m ↦ inr (inr m) ]) ];
+    part = λ z j. elim j [ inl e ↦ inl e | inr k ↦ inr (w.part z k) ];
+    distinct = λ d. ((λ j. d.0 (w.part y j), (w.distinct d.1).0), λ j. elim j [ inl e ↦ d.0 (subst (λ v. Has v ys) (sym e) there) | inr k ↦ (w.distinct d.1).1 k ]);
+  })
+]
+
+-- distinct lists of the same are of one length
+pub same_length : {A : Type 0} (xs ys : List A) → AreDistinct xs → AreDistinct ys → ((x : A) → Has x xs ↔ Has x ys) → length xs ≡ length ys
+same_length [] [] d e same = refl
+same_length [] (y ∷ ys) d e same = absurd ((same y).1 (inl refl))
+same_length (x ∷ xs) ys d e same =
+    let w = without x ys ((same x).0 (inl refl)) in
+    ap suc (same_length xs w.rest d.1 (w.distinct e).0 (λ y. (
+      λ i. elim (w.split y ((same y).0 (inr i))) [ inl here ↦ absurd (d.0 (subst (λ v. Has v xs) (sym here) i)) | inr there ↦ there ],
+      λ i. elim ((same y).1 (w.part y i)) [ inl here ↦ absurd ((w.distinct e).1 (subst (λ v. Has v w.rest) (sym here) i)) | inr there ↦ there ],
+    ))) ∙ sym w.one_less
+
+-- a distinct list is no longer than one that has each of its members
+pub fits_in : {A : Type 0} (xs ys : List A) → AreDistinct xs → ((x : A) → Has x xs → Has x ys) → length xs ≤ length ys
+fits_in [] ys d all = omega arith
+fits_in (x ∷ xs) ys d all =
+    let w = without x ys (all x (inl refl)) in
+    let more : length xs ≤ length w.rest = fits_in xs w.rest d.1 (λ y i. elim (w.split y (all y (inr i))) [
+      | inl here ↦ absurd (d.0 (subst (λ v. Has v xs) (sym here) i))
+      | inr there ↦ there
+    ]) in
+    omega (arith, w.one_less)
+
+pub has_filter : {A : Type 0} (q : A → Bool) (x : A) (xs : List A) → Has x (filter q xs) ↔ ((q x ≡ true) × Has x xs)
+has_filter q x [] = (λ i. absurd i, λ i. absurd i.1)
+has_filter q x (y ∷ ys) = let more = has_filter q x ys in by_test (q y)
+    (λ is. rw is (
+      λ i. elim i [ inl here ↦ (subst (λ v. q v ≡ true) here is, inl here) | inr there ↦ (let m = more.0 there in (m.0, inr m.1)) ],
+      λ i. elim i.1 [ inl here ↦ inl here | inr there ↦ inr (more.1 (i.0, there)) ],
+    ))
+    (λ isnt. rw isnt (
+      λ i. let m = more.0 i in (m.0, inr m.1),
+      λ i. elim i.1 [ inl here ↦ absurd (both_ways _ isnt (subst (λ v. q v ≡ true) (sym here) i.0)) | inr there ↦ more.1 (i.0, there) ],
+    ))
+
+pub distinct_filter : {A : Type 0} (q : A → Bool) (xs : List A) → AreDistinct xs → AreDistinct (filter q xs)
+distinct_filter q [] d = tt
+distinct_filter q (x ∷ xs) d = by_test (q x)
+    (λ is. rw is (λ i. d.0 ((has_filter q x xs).0 i).1, distinct_filter q xs d.1))
+    (λ isnt. rw isnt (distinct_filter q xs d.1))
+
+pub has_append : {A : Type 0} (v : A) (xs ys : List A) → Has v (xs ++ ys) ↔ (Has v xs ⊎ Has v ys)
+has_append v [] ys = (λ i. inr i, λ i. elim i [ inl l ↦ absurd l | inr k ↦ k ])
+has_append v (x ∷ xs) ys = let more = has_append v xs ys in (
+  λ i. elim i [ inl here ↦ inl (inl here) | inr there ↦ (elim (more.0 there) [ inl l ↦ inl (inr l) | inr k ↦ inr k ]) ],
+  λ i. elim i [ inl l ↦ (elim l [ inl here ↦ inl here | inr there ↦ inr (more.1 (inl there)) ]) | inr k ↦ inr (more.1 (inr k)) ],
+)
+
+pub distinct_append : {A : Type 0} (xs ys : List A) → AreDistinct xs → AreDistinct ys → ((v : A) → Has v xs → Has v ys → ⊥) → AreDistinct (xs ++ ys)
+distinct_append [] ys d e apart = e
+distinct_append (x ∷ xs) ys d e apart = (
+  λ i. elim ((has_append x xs ys).0 i) [ inl l ↦ d.0 l | inr r ↦ apart x (inl refl) r ],
+  distinct_append xs ys d.1 e (λ v i j. apart v (inr i) j),
+)
+
+pub in_has : (x : List ℕ) (ks : List (List ℕ)) → IsIn x ks → Has x ks
+in_has x [] i = i
+in_has x (y ∷ ys) i = elim i [ inl e ↦ inl e | inr k ↦ inr (in_has x ys k) ]
+
+pub has_is : (x : List ℕ) (ks : List (List ℕ)) → Has x ks → IsIn x ks
+has_is x [] i = i
+has_is x (y ∷ ys) i = elim i [ inl e ↦ inl e | inr k ↦ inr (has_is x ys k) ]
+
+pub among_has : (t : ℕ) (ts : List ℕ) → IsAmong t ts → Has t ts
+among_has t [] i = i
+among_has t (k ∷ ks) i = elim i [ inl e ↦ inl e | inr j ↦ inr (among_has t ks j) ]
+
+pub rising_distinct : (ks : List (List ℕ)) → RisingKeys ks → AreDistinct ks
+rising_distinct [] r = tt
+rising_distinct (x ∷ xs) r = (
+  λ i. let e : key_cmp x x ≡ Less = r.0 x (has_is x xs i) in let back : key_cmp x x ≡ ordering_reverse (key_cmp x x) = nat_list_cmp_total.antisymm x x in let no' : Less ≡ Greater = sym e ∙ back ∙ ap ordering_reverse e in cc,
+  rising_distinct xs r.1,
+)
+
+-- who is among the begun has an owner
+pub has_begun : (p : List Effect) (t : ℕ) → Has t (begun_of p) → is_some (owner_of p t) ≡ true
+has_begun [] t i = absurd i
+has_begun (Begins k seat ∷ p) t i = by_test (k == t)
+    (λ same. rw same refl)
+    (λ other. rw other (elim i [ inl here ↦ absurd (both_ways _ other (eq-eqb k t here)) | inr there ↦ has_begun p t there ]))
+has_begun (_ ∷ p) t i = has_begun p t i
+
+pub begun_distinct : (p : List Effect) → AllAllowed p → AreDistinct (begun_of p)
+begun_distinct [] all = tt
+begun_distinct (Begins k seat ∷ p) all = (λ i. let no : false ≡ true = ap is_some (sym all.0.1) ∙ has_begun p k i in cc, begun_distinct p all.1)
+begun_distinct (_ ∷ p) all = begun_distinct p all.1
