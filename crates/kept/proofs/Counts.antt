@@ -21,11 +21,12 @@ use Rattle.spans.proofs.Keyed.{IsIn, RisingKeys}
 use Rattle.spans.proofs.Open.{begun_among}
 use Rattle.spans.proofs.Steps.{by_test, same_key}
 use Rattle.spans.proofs.WriteSets.{has, has_in, has_written, write_set_rises}
-use Rattle.kept.specs.Lists.{AreDistinct, AreThose, Has}
+use Rattle.spans.proofs.Members.{AreDistinct, Has}
+use Rattle.kept.specs.Lists.{AreThose}
 use Rattle.kept.specs.Places.{live_feed}
 use Rattle.kept.specs.Table.{is_open}
 use Rattle.kept.proofs.AfterCloses.{open_is}
-use Rattle.kept.proofs.Counting.{among_has, distinct_filter, has_filter, open_distinct, same_length}
+use Rattle.spans.proofs.Members.{among_has, distinct_filter, has_filter, open_distinct, same_length}
 use Rattle.kept.proofs.FeedFloors.{is_live}
 use Rattle.kept.proofs.Floors.{live_is, place_at}
 use Rattle.kept.proofs.VersionCounts.{stored_count}

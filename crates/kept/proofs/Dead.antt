@@ -1,17 +1,16 @@
 -- What is dead, and what is kept.
-use Rattle.std.proofs.Common.{Bool, List, refl, inr, None, Option, arith, subst, false, true, Some, inl, sym, cond, map, ◌≡◌, ◌<◌, ◌≤◌, ◌⊎◌, ◌==◌, ◌∷◌, ◌++◌, ◌∙◌, ℕ, []}
-use Rattle.std.proofs.lemmas.Bool.{or_cases, and_from, leb-true, lt-ltb, or_right, le-leb, false_from_ne_true, and_parts, eqb-true, ltb-true}
+use Rattle.std.proofs.Common.{Bool, List, refl, inr, None, Option, arith, false, true, Some, inl, cond, map, ◌≡◌, ◌<◌, ◌≤◌, ◌⊎◌, ◌∷◌, ◌++◌, ℕ, []}
+use Rattle.std.proofs.lemmas.Bool.{or_cases, and_from, leb-true, lt-ltb, or_right, le-leb, false_from_ne_true, and_parts, ltb-true}
 use Rattle.std.proofs.lemmas.Bool.Decides.{nat_tests}
-use Rattle.std.specs.Prelude.{nat_le, is_some, min}
+use Rattle.std.specs.Prelude.{nat_le, min}
 use Rattle.spans.specs.Collection.{horizon_of, live_feeds, is_delete, Protection, version_name, is_dead, protections_of, floor_of}
-use Rattle.spans.specs.Effects.{HardCloses, Writes, Closes, Collects, After, Begins, Effect}
+use Rattle.spans.specs.Effects.{HardCloses, Closes, Collects, After, Effect}
 use Rattle.spans.specs.Kept.{kept_version}
 use Rattle.spans.specs.Newest.{newest}
-use Rattle.spans.specs.Transactions.{closed_of, is_committed, owner_of, least_of}
+use Rattle.spans.specs.Transactions.{closed_of, is_committed, least_of}
 use Rattle.spans.specs.Versions.{committed_version_of, version_of, write_of}
 use Rattle.spans.proofs.Copies.{closed_grows, AllAllowed, not_both}
-use Rattle.spans.proofs.Open.{open_above}
-use Rattle.spans.proofs.Steps.{version_wrote, no_version_wrote, by_test}
+use Rattle.spans.proofs.Steps.{by_test}
 
 -- the least is at most the bound
 pub least_low : (n : ℕ) (ms : List ℕ) → least_of n ms ≤ n
@@ -25,34 +24,6 @@ horizon_low (Collects n ∷ p) all = omega (arith, all.0.1, horizon_low p all.1,
 horizon_low (Closes n ∷ p) all = omega (arith, horizon_low p all.1, closed_grows p (Closes n) all.0)
 horizon_low (HardCloses to n ∷ p) all = omega (arith, horizon_low p all.1, closed_grows p (HardCloses to n) all.0)
 horizon_low (_ ∷ p) all = horizon_low p all.1
-
--- who wrote has begun
-pub wrote_begun : (p : List Effect) → AllAllowed p → (t : ℕ) (x : List ℕ) (a : After) → write_of p t x ≡ Some a → is_some (owner_of p t) ≡ true
-wrote_begun [] all t x a is = cc
-wrote_begun (Begins k seat ∷ p) all t x a is = by_test (k == t)
-    (λ same. rw same refl)
-    (λ other. rw other (wrote_begun p all.1 t x a is))
-wrote_begun (Writes k y b ∷ p) all t x a is = by_test (k == t)
-    (λ same. subst (λ n. is_some (owner_of p n) ≡ true) (eqb-true k t same) all.0.0.begun)
-    (λ other. wrote_begun p all.1 t x a (rw other at is))
-wrote_begun (_ ∷ p) all t x a is = wrote_begun p all.1 t x a is
-
--- a version at or below closed is committed
-pub closed_committed : (p : List Effect) → AllAllowed p → (x : List ℕ) (i : ℕ) (a : After) → version_of p x i ≡ Some a → i ≤ closed_of p → is_committed p i ≡ true
-closed_committed p all x i a is low =
-    let wrote = version_wrote p x i a is in
-    by_test (is_committed p i) (λ yes'. yes')
-    (λ isnt. absurd (let above : closed_of p < i = open_above p all i (and_from _ _ (wrote_begun p all i x a wrote.1) (rw (isnt, wrote.0) refl)) in omega arith))
-
--- at or below closed the versions are the committed ones
-pub closed_version : (p : List Effect) → AllAllowed p → (x : List ℕ) (i : ℕ) → i ≤ closed_of p → version_of p x i ≡ committed_version_of p x i
-closed_version p all x i low = by_version (version_of p x i) refl
-  where
-    by_version : (o : Option After) → version_of p x i ≡ o → version_of p x i ≡ committed_version_of p x i
-    by_version (Some a) is = rw (closed_committed p all x i a is low) (is ∙ sym (version_wrote p x i a is).1)
-    by_version None is = by_test (is_committed p i)
-        (λ yes'. rw yes' (is ∙ sym (no_version_wrote p x i is (not_both p all i yes'))))
-        (λ isnt. rw isnt is)
 
 -- a committed version is what a committed transaction wrote
 pub committed_is : (p : List Effect) (x : List ℕ) (i : ℕ) (a : After) → committed_version_of p x i ≡ Some a → (is_committed p i ≡ true) × (write_of p i x ≡ Some a)

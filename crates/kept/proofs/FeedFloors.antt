@@ -14,7 +14,7 @@ use Rattle.spans.proofs.Copies.{AllAllowed}
 use Rattle.spans.proofs.Feeding.{untold_is, unopened, feeding, IsFeeding, due_if}
 use Rattle.spans.proofs.Steps.{by_test}
 use Rattle.spans.proofs.StreamOrder.{RisingRows, IsRowIn, in_append, in_stream, rises_parts, stream_rises, IsStreamed}
-use Rattle.kept.specs.Lists.{Has}
+use Rattle.spans.proofs.Members.{Has}
 use Rattle.kept.specs.Places.{live_feed}
 use Rattle.kept.proofs.Dead.{horizon_low}
 use Rattle.kept.proofs.Untold.{rest_above}

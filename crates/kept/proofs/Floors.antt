@@ -17,7 +17,7 @@ use Rattle.spans.proofs.Feeding.{unopened, fed}
 use Rattle.spans.proofs.Steps.{by_test}
 use Rattle.spans.proofs.StreamOrder.{IsRowIn, in_append, in_stream}
 use Rattle.kept.proofs.Dead.{least_low}
-use Rattle.kept.specs.Lists.{Has}
+use Rattle.spans.proofs.Members.{Has}
 use Rattle.kept.specs.Places.{place_floor, IsLeastFloor, or_min, live_feed, row_floor}
 use Rattle.kept.proofs.AfterFeeds.{uncancelled}
 use Rattle.kept.proofs.FeedFloors.{is_live}

@@ -10,7 +10,6 @@ pub mod AfterCollects
 pub mod AfterFeeds
 pub mod Late
 pub mod Noting
-pub mod Counting
 pub mod VersionCounts
 pub mod Spent
 pub mod Counts

@@ -12,7 +12,8 @@ use Rattle.spans.specs.Versions.{visible, committed_value, committed_version_of,
 use Rattle.spans.proofs.Copies.{AllAllowed}
 use Rattle.spans.proofs.Steps.{version_wrote, newest_only, newest_is, newest_same, by_test}
 use Rattle.kept.specs.Finding.{seen, is_seen_blocked}
-use Rattle.kept.proofs.Dead.{horizon_low, IsDropped, closed_version, no_kept, older_dead, dead_is, closed_committed, committed_stands}
+use Rattle.spans.proofs.Closed.{closed_version, closed_committed}
+use Rattle.kept.proofs.Dead.{horizon_low, IsDropped, no_kept, older_dead, dead_is, committed_stands}
 
 -- the value of the visible version, and the version itself unless it was dropped
 pub record IsSeen (p : List Effect) (x : List ℕ) (t : ℕ) (n : Version) : Type 0 where

@@ -14,9 +14,9 @@ use Rattle.spans.proofs.Steps.{by_test, newest_is, version_wrote}
 use Rattle.kept.specs.Finding.{is_dropped, is_spent, kept_committed}
 use Rattle.kept.specs.Lists.{AreThose}
 use Rattle.kept.proofs.AfterCollects.{after_collects, dead_grows, removed_is}
-use Rattle.kept.proofs.Counting.{distinct_filter, has_filter, same_length}
+use Rattle.spans.proofs.Members.{distinct_filter, has_filter, same_length}
 use Rattle.kept.proofs.Dead.{committed_is, committed_stands, dead_is, kept_is, older_dead}
-use Rattle.kept.proofs.VersionCounts.{has_versions, versions_distinct}
+use Rattle.spans.proofs.VersionNames.{has_versions, versions_distinct}
 
 -- the newest version is at or above each that is in reach
 newest_reaches : (f : ℕ → Option After) (t i : ℕ) (a : After) → i ≤ t → f i ≡ Some a → i ≤ (newest f t).ts

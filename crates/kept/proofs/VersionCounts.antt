@@ -1,86 +1,15 @@
 -- The versions that are kept are counted by those of the history.
-use Rattle.std.proofs.Common.{Bool, List, not, inr, refl, None, Option, arith, subst, false, ap, true, Some, inl, sym, length, cond, map, ◌≡◌, ◌-◌, ◌+◌, ◌∷◌, ◌∙◌, ℕ, []}
-use Rattle.std.specs.Prelude.{filter, flat_map, is_some, ◌↔◌}
-use Rattle.spans.specs.Collection.{VersionName, versions_of, version_name, dead_of, is_dead}
+use Rattle.std.proofs.Common.{Bool, List, not, refl, None, Option, arith, false, ap, true, sym, length, cond, ◌≡◌, ◌-◌, ◌+◌, ◌∷◌, ◌∙◌, ℕ, []}
+use Rattle.std.specs.Prelude.{filter, is_some, ◌↔◌}
+use Rattle.spans.specs.Collection.{VersionName, versions_of, dead_of, is_dead}
 use Rattle.spans.specs.Effects.{Collects, After, Effect}
 use Rattle.spans.specs.Kept.{Kept, IsKeptOf, kept_version}
-use Rattle.spans.specs.Transactions.{is_aborted, begun_of}
-use Rattle.spans.specs.Versions.{version_of, write_of, write_set}
+use Rattle.spans.specs.Versions.{version_of}
 use Rattle.spans.proofs.Copies.{Allowed, AllAllowed}
-use Rattle.spans.proofs.Open.{begun_among}
-use Rattle.spans.proofs.Steps.{version_wrote, by_test}
-use Rattle.spans.proofs.WriteSets.{write_set_rises, has_written, has_in}
-use Rattle.kept.specs.Lists.{Has, AreDistinct}
-use Rattle.kept.proofs.Counting.{has_is, distinct_append, in_has, begun_distinct, distinct_filter, among_has, rising_distinct, has_filter, has_append, same_length}
-use Rattle.kept.proofs.Dead.{wrote_begun}
-
--- the version of x that t made
-abbrev named : ℕ → List ℕ → VersionName
-named t x = version_name x t
-
--- it is listed for t exactly where its key is among the keys
-has_named : (t : ℕ) (v : VersionName) (ks : List (List ℕ)) → Has v (map (named t) ks) ↔ ((t ≡ v.ts) × Has v.key ks)
-has_named t v [] = (λ i. absurd i, λ i. absurd i.1)
-has_named t v (x ∷ xs) = let more = has_named t v xs in (
-  λ i. elim i [ inl here ↦ (ap (λ (v : VersionName). v.ts) here, inl (ap (λ (v : VersionName). v.key) here)) | inr there ↦ (let m = more.0 there in (m.0, inr m.1)) ],
-  λ i. elim i.1 [ inl here ↦ inl (joined t v.ts x v.key i.0 here) | inr there ↦ inr (more.1 (i.0, there)) ],
-)
-  where
-    joined : (t n : ℕ) (x y : List ℕ) → t ≡ n → x ≡ y → named t x ≡ named n y
-    joined t n x y e h = rw (e, h) refl
-
--- distinct keys give distinct versions
-distinct_named : (t : ℕ) (ks : List (List ℕ)) → AreDistinct ks → AreDistinct (map (named t) ks)
-distinct_named t [] d = tt
-distinct_named t (x ∷ xs) d = (λ i. d.0 ((has_named t (named t x) xs).0 i).1, distinct_named t xs d.1)
-
--- the versions of several transactions
-abbrev names_of : List Effect → List ℕ → List VersionName
-names_of p ts = flat_map (λ t. map (λ x. version_name x t) (write_set p t)) ts
-
--- a version is among theirs where its writer and its key are
-has_of : (p : List Effect) (v : VersionName) (ts : List ℕ) → Has v (names_of p ts) ↔ (Has v.ts ts × Has v.key (write_set p v.ts))
-has_of p v [] = (λ i. absurd i, λ i. absurd i.0)
-has_of p v (t ∷ ts) =
-    let join = has_append v (map (named t) (write_set p t)) (names_of p ts) in
-    let here = has_named t v (write_set p t) in
-    let more = has_of p v ts in (
-      λ i. elim (join.0 i) [ inl l ↦ (let h = here.0 l in (inl h.0, subst (λ n. Has v.key (write_set p n)) h.0 h.1)) | inr r ↦ (let m = more.0 r in (inr m.0, m.1)) ],
-      λ i. join.1 (elim i.0 [ inl e ↦ inl (here.1 (e, subst (λ n. Has v.key (write_set p n)) (sym e) i.1)) | inr k ↦ inr (more.1 (k, i.1)) ]),
-    )
-
--- distinct transactions have distinct versions
-distinct_of : (p : List Effect) (ts : List ℕ) → AreDistinct ts → AreDistinct (names_of p ts)
-distinct_of p [] d = tt
-distinct_of p (t ∷ ts) d = distinct_append (map (named t) (write_set p t)) (names_of p ts) (distinct_named t (write_set p t) (rising_distinct (write_set p t) (write_set_rises p t))) (distinct_of p ts d.1)
-    (λ v i j. let e = ((has_named t v (write_set p t)).0 i).0 in d.0 (subst (λ n. Has n ts) (sym e) ((has_of p v ts).0 j).0))
-
--- no version is listed twice
-pub versions_distinct : (p : List Effect) → AllAllowed p → AreDistinct (versions_of p)
-versions_distinct p all = distinct_of p (filter (λ t. not (is_aborted p t)) (begun_of p)) (distinct_filter (λ t. not (is_aborted p t)) (begun_of p) (begun_distinct p all))
-
--- a version is listed exactly where there is one
-pub has_versions : (p : List Effect) → AllAllowed p → (v : VersionName) → Has v (versions_of p) ↔ (is_some (version_of p v.key v.ts) ≡ true)
-has_versions p all v =
-    let m = has_of p v (filter (λ t. not (is_aborted p t)) (begun_of p)) in
-    let f = has_filter (λ t. not (is_aborted p t)) v.ts (begun_of p) in
-    let w = has_written p v.ts v.key in (
-      λ i. let h = m.0 i in step (is_aborted p v.ts) (write_of p v.ts v.key) (f.0 h.0).0 (sym w ∙ (has_in v.key (write_set p v.ts)).0 (has_is v.key (write_set p v.ts) h.1)),
-      λ is. by_version (version_of p v.key v.ts) refl is,
-    )
-  where
-    step : (b : Bool) (o : Option After) → not b ≡ true → is_some o ≡ true → is_some (cond b None o) ≡ true
-    step true o e h = cc
-    step false o e h = h
-
-    by_version : (o : Option After) → version_of p v.key v.ts ≡ o → is_some o ≡ true → Has v (versions_of p)
-    by_version None e is = cc
-    by_version (Some a) e is =
-        let wrote = version_wrote p v.key v.ts a e in
-        (has_of p v (filter (λ t. not (is_aborted p t)) (begun_of p))).1 (
-          (has_filter (λ t. not (is_aborted p t)) v.ts (begun_of p)).1 (ap not wrote.0, among_has v.ts (begun_of p) (begun_among p v.ts (wrote_begun p all v.ts v.key a wrote.1))),
-          in_has v.key (write_set p v.ts) ((has_in v.key (write_set p v.ts)).1 (has_written p v.ts v.key ∙ ap is_some wrote.1)),
-        )
+use Rattle.spans.proofs.Steps.{by_test}
+use Rattle.spans.proofs.Members.{Has, AreDistinct}
+use Rattle.spans.proofs.Members.{distinct_filter, has_filter, same_length}
+use Rattle.spans.proofs.VersionNames.{versions_distinct, has_versions}
 
 -- a list is what fails the test and what passes it
 parted : {A : Type 0} (q : A → Bool) (xs : List A) → length xs ≡ length (filter (λ x. not (q x)) xs) + length (filter q xs)

@@ -1,5 +1,5 @@
 -- How the chains of versions change.
-use Rattle.std.proofs.Common.{◌≡◌, ℕ, zero, suc, ◌+◌, ◌<◌, ◌≤◌, ◌==◌, Bool, true, false, cond, not, ◌&&◌, List, [], ◌∷◌, ◌++◌, length, get_or, take, drop, Option, Some, None, find, map, refl, sym, ◌∙◌, ap, subst, inl, inr, arith}
+use Rattle.std.proofs.Common.{◌≡◌, ℕ, suc, ◌≤◌, ◌==◌, Bool, true, false, cond, not, ◌&&◌, List, [], ◌∷◌, length, get_or, Option, Some, None, find, map, refl, sym, ◌∙◌, ap, subst, inl, inr, arith}
 use Rattle.std.specs.Prelude.{option_map, is_some, bytes_eq, filter, insert, slice_set, slice_get}
 use Rattle.std.specs.declared.cmp.Ordering.{Ordering}
 use Rattle.std.specs.declared.cmp.Ordering.TheVariants.{Less, Equal, Greater}
@@ -13,10 +13,9 @@ use Rattle.spans.specs.Effects.{After}
 use Rattle.spans.specs.Keys.{insert_where, insert_key}
 use Rattle.spans.proofs.Steps.{by_test, same_key, key_itself}
 use Rattle.spans.proofs.Keyed.{IsIn, RisingKeys}
-use Rattle.reference.specs.declared.versions.Version.{Version}
 use Rattle.reference.specs.declared.chains.Chain.{Chain}
-use Rattle.reference.specs.Versions.{version_in, has_version, with_version, without}
-use Rattle.reference.specs.Chains.{versions_in, versions_at, version_at, wrote, chain_with, chain_also_with, write_where, with_write, place_where, place_in, is_chain_of, dropped, cleared}
+use Rattle.reference.specs.Versions.{version_in}
+use Rattle.reference.specs.Chains.{versions_in, version_at, wrote, chain_with, chain_also_with, write_where, with_write, place_where, place_in, is_chain_of, dropped, cleared}
 use Rattle.reference.proofs.VersionSteps.{version_in_with, version_in_without, version_in_without_those}
 
 abbrev pub keys_in : List Chain → List (List ℕ)

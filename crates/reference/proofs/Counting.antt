@@ -27,11 +27,11 @@ use Rattle.reference.specs.Once.{IsOnce, AreOnce}
 use Rattle.reference.specs.Scans.{settled}
 use Rattle.reference.specs.Tied.{IsTied}
 use Rattle.reference.proofs.ChainSteps.{keys_in}
-use Rattle.reference.proofs.Members.{Has, AreDistinct, same_length, distinct_filter, has_filter, has_append, distinct_append, fits_in}
+use Rattle.spans.proofs.Members.{Has, AreDistinct, same_length, distinct_filter, has_filter, has_append, distinct_append, fits_in}
 use Rattle.reference.proofs.Once.{once_in, found_by_ts}
 use Rattle.reference.proofs.Scanning.{IsChainIn, less_differs, chains_rise, chain_has, settled_is}
 use Rattle.reference.proofs.Ties.{filter_reverse}
-use Rattle.reference.proofs.VersionNames.{versions_distinct, has_versions}
+use Rattle.spans.proofs.VersionNames.{versions_distinct, has_versions}
 
 -- a count so far is no more than the elements so far
 pub counted_few : {A : Type 0} (q : A → Bool) (xs : List A) (i n : ℕ) → n ≡ length (filter q (take i xs)) → n ≤ i

@@ -1,12 +1,12 @@
 -- What a database represents after one more event.
-use Rattle.std.proofs.Common.{◌≡◌, ℕ, Bool, true, false, List, [], ◌∷◌, ◌++◌, Option, Some, None, map, refl, sym, subst}
+use Rattle.std.proofs.Common.{◌≡◌, ℕ, true, false, List, [], ◌∷◌, ◌++◌, Some, None, map, refl, sym, subst}
 use Rattle.spans.specs.declared.calls.commands.Cmd.{Cmd}
-use Rattle.spans.specs.declared.calls.commands.Cmd.TheVariants.{Begin, Get, Put, Del, Commit, Abort, Close, CloseHard, ReadAt}
+use Rattle.spans.specs.declared.calls.commands.Cmd.TheVariants.{Begin, Get, Put, Del, Commit, Abort, CloseHard, ReadAt}
 use Rattle.spans.specs.declared.calls.replies.Reply.{Reply}
 use Rattle.spans.specs.declared.calls.replies.Reply.TheVariants.{Started, Found, Written, Committed, Aborted, Closed, Refused}
 use Rattle.spans.specs.declared.calls.replies.Refusal.TheVariants.{TooLate}
 use Rattle.spans.specs.declared.calls.events.Event.{Event}
-use Rattle.spans.specs.Effects.{After, Effect, NoEffect, effect, effects_of, event}
+use Rattle.spans.specs.Effects.{After, NoEffect, effect, effects_of, event}
 use Rattle.spans.specs.Versions.{visible}
 use Rattle.spans.specs.Legal.{IsRightEvent}
 use Rattle.spans.proofs.Legal.{right_allowed, legal_allowed}

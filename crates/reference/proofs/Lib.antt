@@ -1,13 +1,10 @@
 pub mod VersionSteps
 pub mod ChainSteps
 pub mod TransactionSteps
-pub mod Closed
 pub mod Ties
 pub mod Replies
 pub mod Events
 pub mod Scanning
-pub mod Members
-pub mod VersionNames
 pub mod Once
 pub mod Counting
 pub mod Streaming

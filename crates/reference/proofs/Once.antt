@@ -12,7 +12,7 @@ use Rattle.reference.specs.declared.chains.Chain.{Chain}
 use Rattle.reference.specs.Versions.{version_in, with_version, without, without_those}
 use Rattle.reference.specs.Chains.{write_where, with_write, dropped, cleared}
 use Rattle.reference.specs.Once.{IsOnce, AreOnce}
-use Rattle.reference.proofs.Members.{Has}
+use Rattle.spans.proofs.Members.{Has}
 use Rattle.reference.proofs.Scanning.{IsChainIn}
 use Rattle.reference.proofs.VersionSteps.{version_in_with, version_in_without, version_in_without_those}
 

@@ -1,25 +1,25 @@
 -- Why a database's answers are those of the definitions.
-use Rattle.std.proofs.Common.{◌≡◌, ℕ, ◌-◌, ◌<◌, ◌≤◌, ◌==◌, Bool, true, false, not, ◌&&◌, ◌||◌, List, [], ◌∷◌, ◌++◌, map, reverse, length, Option, Some, None, refl, sym, ◌∙◌, ap, subst, arith}
+use Rattle.std.proofs.Common.{◌≡◌, ℕ, ◌-◌, ◌≤◌, ◌==◌, Bool, true, false, not, ◌&&◌, ◌||◌, List, [], ◌∷◌, ◌++◌, map, reverse, length, Option, Some, None, refl, sym, ◌∙◌, ap, arith}
 use Rattle.std.specs.Prelude.{filter, max, min, nat_lt, nat_le, Result, Ok, Err, IfOk, OnErr}
 use Rattle.std.proofs.lemmas.Bool.{ne_eqb, le-ltb, ltb-false}
 use Rattle.std.proofs.lemmas.List.{reverse-append, map-append, length-reverse}
 use denote.Ref.{Bor}
 use Rattle.timestamps.specs.declared.ts.TheConstants.{MAX}
-use Rattle.spans.specs.declared.calls.commands.Cmd.TheVariants.{Get, Commit, Close, CloseHard, ReadAt, Open}
+use Rattle.spans.specs.declared.calls.commands.Cmd.TheVariants.{Get, Close, CloseHard, ReadAt, Open}
 use Rattle.spans.specs.declared.calls.commands.Cmd.{Cmd}
 use Rattle.spans.specs.declared.span.Span.{Span}
 use Rattle.std.specs.declared.alloc.AllocError.{AllocError}
 use Rattle.spans.specs.Legal.{is_accepted, may_lack_memory}
 use Rattle.spans.proofs.Legal.{legal_allowed}
-use Rattle.reference.proofs.Closed.{closed_value}
+use Rattle.spans.proofs.Closed.{closed_value}
 use Rattle.reference.proofs.Ties.{filter_reverse}
 use Rattle.reference.proofs.TransactionSteps.{count_through}
 use Rattle.spans.specs.declared.calls.replies.Reply.{Reply}
-use Rattle.spans.specs.declared.calls.replies.Reply.TheVariants.{Found, Committed, Closed, Refused}
+use Rattle.spans.specs.declared.calls.replies.Reply.TheVariants.{Found, Closed, Refused}
 use Rattle.spans.specs.declared.calls.replies.Refusal.{Refusal}
-use Rattle.spans.specs.declared.calls.replies.Refusal.TheVariants.{Blocked, TsRange, NotClosed}
+use Rattle.spans.specs.declared.calls.replies.Refusal.TheVariants.{Blocked, NotClosed}
 use Rattle.spans.specs.declared.calls.events.Event.{Event}
-use Rattle.spans.specs.Effects.{After, Effect, effects_of}
+use Rattle.spans.specs.Effects.{Effect, effects_of}
 use Rattle.spans.specs.Transactions.{is_committed, undecided_timestamps, least_of, decided_through, closed_of}
 use Rattle.spans.specs.Versions.{visible, is_blocked, committed_value}
 use Rattle.spans.specs.Newest.{Version as Seen, version_at as seen_at}

@@ -1,5 +1,5 @@
 -- What a database holds after one more event.
-use Rattle.std.proofs.Common.{◌≡◌, ℕ, suc, ◌-◌, ◌<◌, ◌≤◌, ◌==◌, Bool, true, false, cond, not, ◌&&◌, ◌||◌, List, [], ◌∷◌, ◌++◌, length, map, reverse, Option, Some, None, find, refl, sym, ◌∙◌, ap, subst, inl, inr, arith, append_assoc, append-nil}
+use Rattle.std.proofs.Common.{◌≡◌, ℕ, ◌<◌, ◌==◌, Bool, true, false, cond, not, ◌&&◌, ◌||◌, List, [], ◌∷◌, ◌++◌, map, reverse, Option, Some, None, refl, sym, ◌∙◌, ap, subst, inl, inr, arith, append-nil}
 use Rattle.std.specs.Prelude.{option_map, is_some, bytes_eq, filter, nat_le, nat_lt}
 use Rattle.std.specs.List.{list_any}
 use Rattle.std.proofs.lemmas.Bool.{eqb-true, eq-eqb, both_ways, false_from_ne_true, ltb-false, or_parts}
@@ -7,22 +7,21 @@ use Rattle.std.proofs.lemmas.List.{reverse-append, map-append}
 use Rattle.std.proofs.lemmas.List.Elements.{filter-append}
 use Rattle.spans.specs.Effects.{After, Effect, Begins, Reads, Writes, Commits, Aborts, Closes, HardCloses, SnapshotReads, Opens, Polls, Cancels, Protects, Releases, NoEffect}
 use Rattle.spans.specs.Transactions.{owner_of, begun_of, closed_of, is_committed, is_aborted, is_undecided, undecided_timestamps}
-use Rattle.spans.specs.Versions.{visible, version_of, write_of, written_keys, write_count}
+use Rattle.spans.specs.Versions.{visible, write_of}
 use Rattle.spans.specs.Keys.{insert_key}
 use Rattle.spans.specs.Reads.{too_late}
 use Rattle.spans.proofs.Steps.{by_test}
 use Rattle.spans.proofs.Keyed.{RisingKeys}
-use Rattle.spans.proofs.Legal.{none_of, keys_rise}
+use Rattle.spans.proofs.Legal.{keys_rise}
 use Rattle.spans.proofs.Copies.{IsActive, AllAllowed}
 use Rattle.spans.proofs.Open.{IsAmong, open_above}
 use Rattle.reference.specs.declared.transactions.Transaction.{Transaction}
 use Rattle.reference.specs.declared.transactions.State.{State}
 use Rattle.reference.specs.declared.transactions.State.TheVariants as states
-use Rattle.reference.specs.declared.chains.Chain.{Chain}
 use Rattle.reference.specs.declared.reads.Read.{Read}
 use Rattle.reference.specs.declared.database.Database.{Database}
-use Rattle.reference.specs.Transactions.{transaction_at, begun_by, decided, has_committed, has_aborted, is_open, is_committed_state, is_aborted_state, is_open_state, state_closed, aborted_through, open_in, is_undecided_at}
-use Rattle.reference.specs.Chains.{version_at, wrote, with_write, dropped, cleared}
+use Rattle.reference.specs.Transactions.{transaction_at, begun_by, decided, is_open, is_committed_state, is_aborted_state, is_open_state, state_closed, aborted_through, open_in, is_undecided_at}
+use Rattle.reference.specs.Chains.{version_at, with_write, dropped, cleared}
 use Rattle.reference.specs.Reads.{read_of, goes_across}
 use Rattle.reference.specs.Tied.{owner_in, committed_in, aborted_in, IsTied}
 use Rattle.feed_book.specs.declared.record.FeedRecord.{FeedRecord}

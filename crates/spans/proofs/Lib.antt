@@ -9,3 +9,6 @@ pub mod StreamOrder
 pub mod Feeding
 pub mod Viewing
 pub mod Taking
+pub mod Closed
+pub mod Members
+pub mod VersionNames

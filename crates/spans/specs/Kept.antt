@@ -1,18 +1,16 @@
 -- What an engine that forgets keeps of a history, and when it is that of a history (this project). Versions that are
 -- dead are gone, and so are transactions at or below closed and marks of readers there; each layer of an engine keeps
 -- its part of the record. The length of the history is kept beside it.
-use Rattle.std.specs.Prelude.{ℕ, List, [], ◌∷◌, Bool, true, false, ◌&&◌, ◌≡◌, ◌<◌, ◌≤◌, ◌↔◌, nat_lt, if◌then◌else◌, Option, Some, None, option_map}
+use Rattle.std.specs.Prelude.{ℕ, List, Bool, true, ◌≡◌, ◌<◌, ◌↔◌, nat_lt, if◌then◌else◌, Option, Some, None, option_map}
 use Rattle.timestamps.specs.declared.row.Row.{Row}
 use Rattle.spans.specs.declared.span.Span.{Span}
 use Rattle.spans.specs.Effects.{After, Effect}
-use Rattle.spans.specs.Keys.{in_span}
 use Rattle.spans.specs.Transactions.{owner_of, closed_of, is_committed, is_aborted}
 use Rattle.spans.specs.Versions.{write_set, version_of, committed_version_of}
 use Rattle.spans.specs.Reads.{too_late}
-use Rattle.spans.specs.Streams.{row_lt}
 use Rattle.spans.specs.Feeds.{Feed, feed_of, feeds_opened, is_cancelled, told_to, last_resolved}
-use Rattle.spans.specs.Collection.{Protection, VersionName, version_name, horizon_of, protections_of, protections_made, is_dead}
-use Rattle.spans.specs.Consumer.{last_row, is_after}
+use Rattle.spans.specs.Collection.{Protection, version_name, horizon_of, protections_of, protections_made, is_dead}
+use Rattle.spans.specs.Consumer.{last_row}
 
 -- a transaction: its owner, how it ended, and the keys that it wrote, rising
 pub record Transaction : Type 0 where

@@ -45,6 +45,7 @@ impl Bound {
         ensures bytes { IfOk result (λ b. b ≡ bytes.now) }
         ensures in_range { OnOk result ((1 ≤ length bytes.now) × (length bytes.now ≤ MAX_BOUND_BYTES)) }
         ensures refused { IfErr result (λ e. e ≡ BoundLength → (length bytes.now ≡ 0) ⊎ (MAX_BOUND_BYTES < length bytes.now)) }
+        ensures limit { MAX_BOUND_BYTES ≡ 65 }
         ensures memory { IfErr result (λ e. e ≡ NoMemory → (1 ≤ length bytes.now) × (length bytes.now ≤ MAX_BOUND_BYTES)) }
     {
         if bytes.is_empty() || bytes.len() > MAX_BOUND_BYTES {

@@ -45,6 +45,7 @@ impl Key {
         ensures bytes { IfOk result (λ k. k ≡ bytes.now) }
         ensures in_range { OnOk result ((1 ≤ length bytes.now) × (length bytes.now ≤ MAX_KEY_BYTES)) }
         ensures refused { IfErr result (λ e. e ≡ KeyLength → (length bytes.now ≡ 0) ⊎ (MAX_KEY_BYTES < length bytes.now)) }
+        ensures limit { MAX_KEY_BYTES ≡ 64 }
         ensures memory { IfErr result (λ e. e ≡ NoMemory → (1 ≤ length bytes.now) × (length bytes.now ≤ MAX_KEY_BYTES)) }
     {
         if bytes.is_empty() || bytes.len() > MAX_KEY_BYTES {

@@ -21,7 +21,7 @@
 ghost use Rattle.std.specs.Prelude.{◌≡◌, ◌<◌, ◌≤◌, ◌++◌, [], ◌∷◌, length, All, IfOk, IfErr, OnOk, OnErr};
 ghost use Rattle.std.specs.List.Sorted.{IsStrictlyIncreasing};
 ghost use Rattle.timestamps.specs.Numbers.{timestamps_of, AreApart};
-ghost use Rattle.timestamps.specs.declared.lease.TheConstants.{BLOCKS};
+ghost use Rattle.timestamps.specs.declared.lease.TheConstants.{BLOCKS, BLOCK_SIZE};
 
 use crate::blocks::{
     Board, Borrow, Compare, Draw, Enter, HandOut, Look, NEXT, Pass, Return, TakeBack,
@@ -67,6 +67,7 @@ impl Oracle {
     ) -> Result<(Oracle, Vec<OraclePass>), AllocError>
         requires { 0 < passes }
         ensures count { IfOk result (λ r. length r.1.items ≡ passes) }
+        ensures limits { (BLOCK_SIZE ≡ 32) × (BLOCKS ≡ 288230376151711743) }
         ensures passes { IfOk result (λ r. All (IsNew r.0 first_block) r.1.items) }
     {
         let (board, source) = Table::of_words(alloc, &[first_block], &first_block)?;

@@ -28,6 +28,7 @@ impl Ts {
     pub fn new(number: u64) -> Option<Ts>
         ensures in_range { IsSome result ↔ ((1 ≤ number) × (number ≤ MAX)) }
         ensures number { IfSome result (λ t. t ≡ number) }
+        ensures limit { MAX ≡ 9223372036854775807 }
     {
         if number == 0 || number > MAX {
             return None;

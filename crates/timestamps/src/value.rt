@@ -42,6 +42,7 @@ impl Value {
         ensures bytes { IfOk result (λ v. v ≡ bytes.now) }
         ensures in_range { OnOk result (length bytes.now ≤ MAX_VALUE_BYTES) }
         ensures refused { IfErr result (λ e. e ≡ ValueLength → MAX_VALUE_BYTES < length bytes.now) }
+        ensures limit { MAX_VALUE_BYTES ≡ 1024 }
         ensures memory { IfErr result (λ e. e ≡ NoMemory → length bytes.now ≤ MAX_VALUE_BYTES) }
     {
         if bytes.len() > MAX_VALUE_BYTES {

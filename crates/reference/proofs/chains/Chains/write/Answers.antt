@@ -1,4 +1,4 @@
-use Rattle.std.proofs.Common.{◌≡◌, arith, sym, ◌∙◌, ap, true, false, get_or}
+use Rattle.std.proofs.Common.{◌≡◌, arith, ◌∙◌, true, false, get_or}
 use Rattle.std.specs.Prelude.{slice_get}
 use Rattle.reference.specs.Chains.{place_in, is_chain_of, chain_with}
 use Rattle.reference.proofs.ChainSteps.{write_there, write_new, place_low}

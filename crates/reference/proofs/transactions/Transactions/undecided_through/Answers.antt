@@ -1,4 +1,4 @@
-use Rattle.std.proofs.Common.{◌≡◌, arith, take, get_or, length-take, true, false, sym, ◌∙◌, ap}
+use Rattle.std.proofs.Common.{◌≡◌, arith, take, get_or, length-take, true, false, sym, ◌∙◌}
 use Rattle.std.proofs.lemmas.List.Filters.{length-filter_more}
 use Rattle.std.proofs.lemmas.List.Sums.{length-filter, count_by-le-length}
 use Rattle.reference.specs.Transactions.{begun_by, is_open_through}

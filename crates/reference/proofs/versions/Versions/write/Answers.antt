@@ -1,4 +1,4 @@
-use Rattle.std.proofs.Common.{sym, ◌∙◌}
+use Rattle.std.proofs.Common.{◌∙◌}
 use Rattle.reference.proofs.VersionSteps.{with_version_at, with_version_last}
 use Rattle.reference.proofs.versions.Versions.write.Goals as goal
 

@@ -1,5 +1,5 @@
 -- At or below closed all is decided.
-use Rattle.std.proofs.Common.{◌≡◌, ℕ, ◌<◌, ◌≤◌, ◌==◌, true, false, List, [], ◌∷◌, Option, Some, None, refl, sym, ◌∙◌, ap, subst, arith}
+use Rattle.std.proofs.Common.{◌≡◌, ℕ, ◌<◌, ◌≤◌, ◌==◌, true, List, [], ◌∷◌, Option, Some, None, refl, sym, ◌∙◌, ap, subst, arith}
 use Rattle.std.specs.Prelude.{is_some}
 use Rattle.std.proofs.lemmas.Bool.{eqb-true, and_from}
 use Rattle.spans.specs.Effects.{After, Effect, Begins, Writes}
@@ -11,7 +11,7 @@ use Rattle.spans.proofs.Copies.{AllAllowed, not_both}
 use Rattle.spans.proofs.Open.{open_above}
 
 -- who wrote has begun
-wrote_begun : (p : List Effect) → AllAllowed p → (t : ℕ) (x : List ℕ) (a : After) → write_of p t x ≡ Some a → is_some (owner_of p t) ≡ true
+pub wrote_begun : (p : List Effect) → AllAllowed p → (t : ℕ) (x : List ℕ) (a : After) → write_of p t x ≡ Some a → is_some (owner_of p t) ≡ true
 wrote_begun [] all t x a is = cc
 wrote_begun (Begins k seat ∷ p) all t x a is = by_test (k == t)
     (λ same. rw same refl)
@@ -21,19 +21,22 @@ wrote_begun (Writes k y b ∷ p) all t x a is = by_test (k == t)
     (λ other. wrote_begun p all.1 t x a (rw other at is))
 wrote_begun (_ ∷ p) all t x a is = wrote_begun p all.1 t x a is
 
--- the versions are the committed ones
-closed_version : (p : List Effect) → AllAllowed p → (x : List ℕ) (i : ℕ) → i ≤ closed_of p → version_of p x i ≡ committed_version_of p x i
+-- a version at or below closed is committed
+pub closed_committed : (p : List Effect) → AllAllowed p → (x : List ℕ) (i : ℕ) (a : After) → version_of p x i ≡ Some a → i ≤ closed_of p → is_committed p i ≡ true
+closed_committed p all x i a is low =
+    let wrote = version_wrote p x i a is in
+    by_test (is_committed p i) (λ yes'. yes')
+    (λ isnt. absurd (let above : closed_of p < i = open_above p all i (and_from _ _ (wrote_begun p all i x a wrote.1) (rw (isnt, wrote.0) refl)) in omega arith))
+
+-- at or below closed the versions are the committed ones
+pub closed_version : (p : List Effect) → AllAllowed p → (x : List ℕ) (i : ℕ) → i ≤ closed_of p → version_of p x i ≡ committed_version_of p x i
 closed_version p all x i low = by_version (version_of p x i) refl
   where
     by_version : (o : Option After) → version_of p x i ≡ o → version_of p x i ≡ committed_version_of p x i
-    by_version (Some a) is =
-        let wrote = version_wrote p x i a is in
-        by_test (is_committed p i)
-        (λ done. rw done (is ∙ sym wrote.1))
-        (λ open'. absurd (let above : closed_of p < i = open_above p all i (and_from _ _ (wrote_begun p all i x a wrote.1) (rw (open', wrote.0) refl)) in omega arith))
+    by_version (Some a) is = rw (closed_committed p all x i a is low) (is ∙ sym (version_wrote p x i a is).1)
     by_version None is = by_test (is_committed p i)
-        (λ done. rw done (is ∙ sym (no_version_wrote p x i is (not_both p all i done))))
-        (λ open'. rw open' is)
+        (λ yes'. rw yes' (is ∙ sym (no_version_wrote p x i is (not_both p all i yes'))))
+        (λ isnt. rw isnt is)
 
 -- what is visible is what is committed
 pub closed_value : (p : List Effect) → AllAllowed p → (x : List ℕ) (t : ℕ) → t ≤ closed_of p → (visible p x t).after ≡ committed_value p x t

@@ -1,31 +1,22 @@
 -- The versions of a history, by their names.
-use Rattle.std.proofs.Common.{Bool, List, not, inr, refl, None, Option, subst, false, ap, true, Some, inl, sym, cond, map, ◌≡◌, ◌==◌, ◌∷◌, ◌∙◌, ℕ, []}
+use Rattle.std.proofs.Common.{Bool, List, not, inr, refl, None, Option, subst, false, ap, true, Some, inl, sym, cond, map, ◌≡◌, ◌∷◌, ◌∙◌, ℕ, []}
 use Rattle.std.specs.Prelude.{filter, flat_map, is_some, ◌↔◌}
-use Rattle.std.proofs.lemmas.Bool.{eqb-true}
 use Rattle.spans.specs.Collection.{VersionName, versions_of, version_name}
-use Rattle.spans.specs.Effects.{After, Effect, Begins, Writes}
-use Rattle.spans.specs.Transactions.{is_aborted, begun_of, owner_of}
+use Rattle.spans.specs.Effects.{After, Effect}
+use Rattle.spans.specs.Transactions.{is_aborted, begun_of}
 use Rattle.spans.specs.Versions.{version_of, write_of, write_set}
 use Rattle.spans.proofs.Copies.{AllAllowed}
 use Rattle.spans.proofs.Open.{begun_among}
-use Rattle.spans.proofs.Steps.{version_wrote, by_test}
+use Rattle.spans.proofs.Steps.{version_wrote}
 use Rattle.spans.proofs.WriteSets.{write_set_rises, has_written, has_in}
-use Rattle.reference.proofs.Members.{Has, AreDistinct, has_is, distinct_append, in_has, begun_distinct, distinct_filter, among_has, rising_distinct, has_filter, has_append}
+use Rattle.spans.proofs.Closed.{wrote_begun}
+use Rattle.spans.proofs.Members.{Has, AreDistinct, has_is, distinct_append, in_has, begun_distinct, distinct_filter, among_has, rising_distinct, has_filter, has_append}
 
--- who wrote has begun
-pub wrote_begun : (p : List Effect) → AllAllowed p → (t : ℕ) (x : List ℕ) (a : After) → write_of p t x ≡ Some a → is_some (owner_of p t) ≡ true
-wrote_begun [] all t x a is = cc
-wrote_begun (Begins k seat ∷ p) all t x a is = by_test (k == t)
-    (λ same. rw same refl)
-    (λ other. rw other (wrote_begun p all.1 t x a is))
-wrote_begun (Writes k y b ∷ p) all t x a is = by_test (k == t)
-    (λ same. subst (λ n. is_some (owner_of p n) ≡ true) (eqb-true k t same) all.0.0.begun)
-    (λ other. wrote_begun p all.1 t x a (rw other at is))
-wrote_begun (_ ∷ p) all t x a is = wrote_begun p all.1 t x a is
-
+-- the version of x that t made
 abbrev named : ℕ → List ℕ → VersionName
 named t x = version_name x t
 
+-- it is listed for t exactly where its key is among the keys
 has_named : (t : ℕ) (v : VersionName) (ks : List (List ℕ)) → Has v (map (named t) ks) ↔ ((t ≡ v.ts) × Has v.key ks)
 has_named t v [] = (λ i. absurd i, λ i. absurd i.1)
 has_named t v (x ∷ xs) = let more = has_named t v xs in (
@@ -36,13 +27,16 @@ has_named t v (x ∷ xs) = let more = has_named t v xs in (
     joined : (t n : ℕ) (x y : List ℕ) → t ≡ n → x ≡ y → named t x ≡ named n y
     joined t n x y e h = rw (e, h) refl
 
+-- distinct keys give distinct versions
 distinct_named : (t : ℕ) (ks : List (List ℕ)) → AreDistinct ks → AreDistinct (map (named t) ks)
 distinct_named t [] d = tt
 distinct_named t (x ∷ xs) d = (λ i. d.0 ((has_named t (named t x) xs).0 i).1, distinct_named t xs d.1)
 
+-- the versions of several transactions
 abbrev names_of : List Effect → List ℕ → List VersionName
 names_of p ts = flat_map (λ t. map (λ x. version_name x t) (write_set p t)) ts
 
+-- a version is among theirs where its writer and its key are
 has_of : (p : List Effect) (v : VersionName) (ts : List ℕ) → Has v (names_of p ts) ↔ (Has v.ts ts × Has v.key (write_set p v.ts))
 has_of p v [] = (λ i. absurd i, λ i. absurd i.0)
 has_of p v (t ∷ ts) =
@@ -53,14 +47,17 @@ has_of p v (t ∷ ts) =
       λ i. join.1 (elim i.0 [ inl e ↦ inl (here.1 (e, subst (λ n. Has v.key (write_set p n)) (sym e) i.1)) | inr k ↦ inr (more.1 (k, i.1)) ]),
     )
 
+-- distinct transactions have distinct versions
 distinct_of : (p : List Effect) (ts : List ℕ) → AreDistinct ts → AreDistinct (names_of p ts)
 distinct_of p [] d = tt
 distinct_of p (t ∷ ts) d = distinct_append (map (named t) (write_set p t)) (names_of p ts) (distinct_named t (write_set p t) (rising_distinct (write_set p t) (write_set_rises p t))) (distinct_of p ts d.1)
     (λ v i j. let e = ((has_named t v (write_set p t)).0 i).0 in d.0 (subst (λ n. Has n ts) (sym e) ((has_of p v ts).0 j).0))
 
+-- no version is listed twice
 pub versions_distinct : (p : List Effect) → AllAllowed p → AreDistinct (versions_of p)
 versions_distinct p all = distinct_of p (filter (λ t. not (is_aborted p t)) (begun_of p)) (distinct_filter (λ t. not (is_aborted p t)) (begun_of p) (begun_distinct p all))
 
+-- a version is listed exactly where there is one
 pub has_versions : (p : List Effect) → AllAllowed p → (v : VersionName) → Has v (versions_of p) ↔ (is_some (version_of p v.key v.ts) ≡ true)
 has_versions p all v =
     let m = has_of p v (filter (λ t. not (is_aborted p t)) (begun_of p)) in
@@ -82,3 +79,4 @@ has_versions p all v =
           (has_filter (λ t. not (is_aborted p t)) v.ts (begun_of p)).1 (ap not wrote.0, among_has v.ts (begun_of p) (begun_among p v.ts (wrote_begun p all v.ts v.key a wrote.1))),
           in_has v.key (write_set p v.ts) ((has_in v.key (write_set p v.ts)).1 (has_written p v.ts v.key ∙ ap is_some wrote.1)),
         )
+

@@ -7,7 +7,7 @@ use Rattle.std.specs.Prelude.{filter, is_some, ◌↔◌}
 use Rattle.std.specs.declared.cmp.Ordering.TheVariants.{Greater, Less}
 use Rattle.timestamps.specs.Bytes.{key_cmp}
 use Rattle.spans.specs.Effects.{Begins, Effect}
-use Rattle.spans.specs.Transactions.{owner_of, begun_of}
+use Rattle.spans.specs.Transactions.{is_undecided, owner_of, begun_of, undecided_timestamps}
 use Rattle.spans.proofs.Copies.{AllAllowed}
 use Rattle.spans.proofs.Keyed.{IsIn, RisingKeys}
 use Rattle.spans.proofs.Open.{IsAmong}
@@ -31,6 +31,7 @@ record Without {A : Type 0} (x : A) (ys : List A) : Type 0 where
   pub part : (y : A) → Has y rest → Has y ys
   pub distinct : AreDistinct ys → AreDistinct rest × (Has x rest → ⊥)
 
+-- a list that has x is one longer than without it
 without : {A : Type 0} (x : A) (ys : List A) → Has x ys → Without x ys
 without x [] i = absurd i
 without x (y ∷ ys) i = elim i [
@@ -72,6 +73,7 @@ fits_in (x ∷ xs) ys d all =
     ]) in
     omega (arith, w.one_less)
 
+-- what a filter leaves is what passes the test
 pub has_filter : {A : Type 0} (q : A → Bool) (x : A) (xs : List A) → Has x (filter q xs) ↔ ((q x ≡ true) × Has x xs)
 has_filter q x [] = (λ i. absurd i, λ i. absurd i.1)
 has_filter q x (y ∷ ys) = let more = has_filter q x ys in by_test (q y)
@@ -84,12 +86,14 @@ has_filter q x (y ∷ ys) = let more = has_filter q x ys in by_test (q y)
       λ i. elim i.1 [ inl here ↦ absurd (both_ways _ isnt (subst (λ v. q v ≡ true) (sym here) i.0)) | inr there ↦ more.1 (i.0, there) ],
     ))
 
+-- a distinct list stays so under a filter
 pub distinct_filter : {A : Type 0} (q : A → Bool) (xs : List A) → AreDistinct xs → AreDistinct (filter q xs)
 distinct_filter q [] d = tt
 distinct_filter q (x ∷ xs) d = by_test (q x)
     (λ is. rw is (λ i. d.0 ((has_filter q x xs).0 i).1, distinct_filter q xs d.1))
     (λ isnt. rw isnt (distinct_filter q xs d.1))
 
+-- what is in two lists joined is in one of them
 pub has_append : {A : Type 0} (v : A) (xs ys : List A) → Has v (xs ++ ys) ↔ (Has v xs ⊎ Has v ys)
 has_append v [] ys = (λ i. inr i, λ i. elim i [ inl l ↦ absurd l | inr k ↦ k ])
 has_append v (x ∷ xs) ys = let more = has_append v xs ys in (
@@ -97,6 +101,7 @@ has_append v (x ∷ xs) ys = let more = has_append v xs ys in (
   λ i. elim i [ inl l ↦ (elim l [ inl here ↦ inl here | inr there ↦ inr (more.1 (inl there)) ]) | inr k ↦ inr (more.1 (inr k)) ],
 )
 
+-- distinct lists that have nothing in common are distinct together
 pub distinct_append : {A : Type 0} (xs ys : List A) → AreDistinct xs → AreDistinct ys → ((v : A) → Has v xs → Has v ys → ⊥) → AreDistinct (xs ++ ys)
 distinct_append [] ys d e apart = e
 distinct_append (x ∷ xs) ys d e apart = (
@@ -104,18 +109,22 @@ distinct_append (x ∷ xs) ys d e apart = (
   distinct_append xs ys d.1 e (λ v i j. apart v (inr i) j),
 )
 
+-- a key among keys is one of the list
 pub in_has : (x : List ℕ) (ks : List (List ℕ)) → IsIn x ks → Has x ks
 in_has x [] i = i
 in_has x (y ∷ ys) i = elim i [ inl e ↦ inl e | inr k ↦ inr (in_has x ys k) ]
 
+-- and the other way round
 pub has_is : (x : List ℕ) (ks : List (List ℕ)) → Has x ks → IsIn x ks
 has_is x [] i = i
 has_is x (y ∷ ys) i = elim i [ inl e ↦ inl e | inr k ↦ inr (has_is x ys k) ]
 
+-- a timestamp among timestamps is one of the list
 pub among_has : (t : ℕ) (ts : List ℕ) → IsAmong t ts → Has t ts
 among_has t [] i = i
 among_has t (k ∷ ks) i = elim i [ inl e ↦ inl e | inr j ↦ inr (among_has t ks j) ]
 
+-- rising keys are distinct
 pub rising_distinct : (ks : List (List ℕ)) → RisingKeys ks → AreDistinct ks
 rising_distinct [] r = tt
 rising_distinct (x ∷ xs) r = (
@@ -131,7 +140,12 @@ has_begun (Begins k seat ∷ p) t i = by_test (k == t)
     (λ other. rw other (elim i [ inl here ↦ absurd (both_ways _ other (eq-eqb k t here)) | inr there ↦ has_begun p t there ]))
 has_begun (_ ∷ p) t i = has_begun p t i
 
+-- no transaction begins twice
 pub begun_distinct : (p : List Effect) → AllAllowed p → AreDistinct (begun_of p)
 begun_distinct [] all = tt
 begun_distinct (Begins k seat ∷ p) all = (λ i. let no : false ≡ true = ap is_some (sym all.0.1) ∙ has_begun p k i in cc, begun_distinct p all.1)
 begun_distinct (_ ∷ p) all = begun_distinct p all.1
+
+-- the undecided ones are distinct, so any distinct list of them counts them
+pub open_distinct : (p : List Effect) → AllAllowed p → AreDistinct (undecided_timestamps p)
+open_distinct p all = distinct_filter (is_undecided p) (begun_of p) (begun_distinct p all)
