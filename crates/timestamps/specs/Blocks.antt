@@ -1,5 +1,5 @@
 -- The rule of an oracle's word, and what each step tells its pass.
-use Rattle.std.specs.Prelude.{◌≡◌, ◌≢◌, ℕ, ◌<◌, ◌≤◌, ◌==◌, List, [], ◌∷◌, ◌++◌}
+use Rattle.std.specs.Prelude.{◌≡◌, ◌≢◌, ℕ, ◌<◌, ◌≤◌, ◌==◌, ◌+◌, List, [], ◌∷◌, ◌++◌}
 use Rattle.std.specs.List.{sum_by, count_by, All}
 use mathlib.Core.Option.{some}
 use lib.ListN.{get_elem?}
@@ -34,7 +34,7 @@ pub record IsDrawnOnce (first : ℕ) (s : State NoSlot Draws) : Type 0 where
   pub later : (block : ℕ) → next ≤ block → times_drawn block s.views ≡ 0
 
 abbrev pub opener : ℕ → Draws
-opener first = record { drawn = []; lent = []; loaded = first; earlier = first }
+opener first = record { drawn = []; lent = []; loaded = first; earlier = first; looks = 0 }
 
 abbrev pub nobody : Draws
 nobody = opener 0
@@ -64,10 +64,10 @@ abbrev pub taking_back : Draws → Draws → Draws
 taking_back v w = record v { drawn = w.drawn }
 
 abbrev pub loads : Draws → ℕ → Draws
-loads v n = record v { loaded = n; earlier = v.loaded }
+loads v n = record v { loaded = n; earlier = v.loaded; looks = v.looks + 1 }
 
 abbrev pub draws : Draws → ℕ → Draws
-draws v n = record v { drawn = v.drawn ++ n ∷ []; loaded = n; earlier = v.loaded }
+draws v n = record v { drawn = v.drawn ++ n ∷ []; loaded = n; earlier = v.loaded; looks = v.looks + 1 }
 
 -- the number was loaded, and is no lower than before
 abbrev pub Looks : Step NoSlot → Sat → ℕ → Sat → Type 0

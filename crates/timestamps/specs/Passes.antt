@@ -24,6 +24,10 @@ loaded p = p.seat.me.0.loaded
 abbrev pub earlier : OraclePass → ℕ
 earlier p = p.seat.me.0.earlier
 
+-- how often it looked at the word, by a load or by a compare-exchange
+abbrev pub looks : OraclePass → ℕ
+looks p = p.seat.me.0.looks
+
 -- the pass is of this oracle
 abbrev pub IsOf : Oracle → OraclePass → Type 0
 IsOf oracle p = p.seat.table_id ≡ oracle.board.shared.table_id

@@ -31,6 +31,8 @@ pub struct Draws {
     /// The number that it loaded last, and the one before that.
     pub loaded: u64,
     pub earlier: u64,
+    /// How often it looked at the word.
+    pub looks: u64,
 }
 
 /// The rule, which is told the first block.

@@ -18,7 +18,7 @@
 //!
 //! Cost: `new` takes memory for the word and the passes; `draw` is a load and a compare-exchange;
 //! `meet` is five loads. Neither takes memory or waits.
-ghost use Rattle.std.specs.Prelude.{◌≡◌, ◌<◌, ◌≤◌, ◌++◌, [], ◌∷◌, length, All, IfOk, IfErr, OnOk, OnErr};
+ghost use Rattle.std.specs.Prelude.{◌≡◌, ◌<◌, ◌≤◌, ◌+◌, ◌++◌, [], ◌∷◌, length, All, IfOk, IfErr, OnOk, OnErr};
 ghost use Rattle.std.specs.List.Sorted.{IsStrictlyIncreasing};
 ghost use Rattle.timestamps.specs.Numbers.{timestamps_of, AreApart};
 ghost use Rattle.timestamps.specs.declared.lease.TheConstants.{BLOCKS, BLOCK_SIZE};
@@ -55,8 +55,8 @@ pub enum DrawError {
 }
 
 impl Oracle {
-    ghost use Rattle.timestamps.specs.Passes.{drawn, loaded, earlier, leased, IsOf, IsSame, IsSource, IsNew};
-    ghost use Rattle.timestamps.specs.Reasons.{IsReason};
+    ghost use Rattle.timestamps.specs.Passes.{drawn, loaded, earlier, looks, leased, IsOf, IsSame, IsSource, IsNew};
+    ghost use Rattle.timestamps.specs.Reasons.{IsReason, steps_of};
 
     /// An oracle whose first lease is of block `first_block`, and as many passes as asked. One that
     /// begins at [`BLOCKS`] or above has no lease to give.
@@ -101,6 +101,8 @@ impl Oracle {
         requires own { IsOf self.now pass.old }
         ensures same { IsSame pass.old pass.new }
         ensures rises { loaded pass.old ≤ loaded pass.new }
+        // So what it compares was loaded in this call.
+        ensures steps { looks pass.new ≡ looks pass.old + steps_of result }
 
         // The block is the one that the load found, and none of the pass before had its timestamps.
         ensures lease { IfOk result (λ lease. lease ≡ timestamps_of (loaded pass.new)) }
