@@ -1,5 +1,5 @@
 -- What an engine stands for after one more command.
-use Rattle.std.proofs.Common.{◌≡◌, ℕ, ◌+◌, true, List, ◌∷◌, length, refl, sym, ◌∙◌, ap, inl, inr, arith}
+use Rattle.std.proofs.Common.{◌≡◌, ℕ, ◌+◌, true, List, ◌∷◌, refl, inl, inr, arith}
 use Rattle.spans.specs.declared.calls.commands.Cmd.{Cmd}
 use Rattle.spans.specs.declared.calls.commands.Cmd.TheVariants.{Begin, Put, Del}
 use Rattle.spans.specs.declared.calls.replies.Reply.{Reply}

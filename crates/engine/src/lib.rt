@@ -94,6 +94,7 @@ pub fn is_served(cmd: &Cmd) -> bool
     match cmd {
         Cmd::Begin { ts: _ } => true,
         Cmd::Get { ts: _, key: _ } => true,
+        Cmd::Scan { ts: _, span: _ } => true,
         Cmd::Put {
             ts: _,
             key: _,
@@ -105,6 +106,7 @@ pub fn is_served(cmd: &Cmd) -> bool
         Cmd::Close { to: _ } => true,
         Cmd::CloseHard { to: _ } => true,
         Cmd::ReadAt { t: _, key: _ } => true,
+        Cmd::ScanAt { t: _, span: _ } => true,
         Cmd::Protect { t: _ } => true,
         Cmd::Release { id: _ } => true,
         Cmd::Open { span: _, cursor: _ } => true,

@@ -1,6 +1,7 @@
 //! Worked histories, command by command.
 use crate::{Engine, is_served};
-use spans::calls::{Cmd, Refusal, Reply};
+use spans::bound::Bound;
+use spans::calls::{Cmd, Refusal, Reply, Rows};
 use spans::span::Span;
 use std::alloc::{AllocError, Global};
 use std::process::Abort;
@@ -8,7 +9,7 @@ use std::test::Fail;
 use timestamps::key::Key;
 use timestamps::value::Value;
 
-/// A call: seat, command, number, key, value, and how its reply reads.
+/// A call: seat, command, number, key, value, and how its reply reads. A scan has its bounds for key and value.
 type Call<'a> = (u8, &'a str, u64, &'a str, &'a str, &'a str);
 
 fn command(alloc: Global, word: &str, number: u64, key: &str, value: &str) -> Result<Cmd, Fail> {
@@ -53,7 +54,22 @@ fn held_command(
     if word == "cancel" {
         return Ok(Cmd::Cancel { feed: number });
     }
+    if word == "scan" {
+        let span = span_of(alloc, key, value);
+        return Ok(Cmd::Scan { ts: number, span });
+    }
+    if word == "scanat" {
+        let span = span_of(alloc, key, value);
+        return Ok(Cmd::ScanAt { t: number, span });
+    }
     keyed_command(alloc, word, number, key, value)
+}
+
+/// The keys from `lo` to below `hi`, where nothing means no bound.
+fn span_of(alloc: Global, lo: &str, hi: &str) -> Span {
+    let lo = Bound::new(alloc, lo.as_bytes()).ok();
+    let hi = Bound::new(alloc, hi.as_bytes()).ok();
+    Span { lo, hi }
 }
 
 fn keyed_command(
@@ -90,6 +106,7 @@ fn words(alloc: Global, reply: &Reply) -> Result<String, AllocError> {
             let bytes = value.bytes();
             format!(in alloc; "value {bytes:?}")
         }
+        Reply::Rows(rows) => words_of_rows(alloc, rows),
         Reply::Written => String::from_str(alloc, "written"),
         Reply::Committed { keys } => {
             let keys = *keys;
@@ -114,6 +131,17 @@ fn words(alloc: Global, reply: &Reply) -> Result<String, AllocError> {
         Reply::Refused(refusal) => words_of_refusal(alloc, *refusal),
         _ => String::from_str(alloc, "another reply"),
     }
+}
+
+fn words_of_rows(alloc: Global, rows: &Rows) -> Result<String, AllocError> {
+    let mut said = String::from_str(alloc, "rows")?;
+    for (key, value) in rows.as_slice() {
+        let key = key.bytes();
+        let value = value.bytes();
+        let row = format!(in alloc; " {key:?} {value:?}")?;
+        said.push_str(row.as_str())?;
+    }
+    Ok(said)
 }
 
 fn words_of_refusal(alloc: Global, refusal: Refusal) -> Result<String, AllocError> {
@@ -258,6 +286,94 @@ fn a_blocked_read_leaves_no_mark(rt: HostRuntime) -> Result<(), Fail> {
             (0, "commit", 10, "", "", "committed 1"),
             (1, "get", 20, "a", "", "value [49]"),
             (2, "put", 15, "a", "2", "toolate"),
+        ],
+    )
+}
+
+#[test]
+fn a_scan_reads_keys_that_are_not_there(rt: HostRuntime) -> Result<(), Fail> {
+    let mut engine = Engine::new(rt.alloc(), 1);
+    play(
+        &rt,
+        &mut engine,
+        &[
+            (0, "begin", 10, "", "", "started"),
+            (1, "begin", 20, "", "", "started"),
+            (1, "scan", 20, "b", "d", "rows"),
+            (0, "put", 10, "a", "1", "written"),
+            (0, "put", 10, "d", "1", "written"),
+            (0, "put", 10, "b", "1", "toolate"),
+            (0, "commit", 10, "", "", "ended"),
+            (1, "scan", 20, "", "", "rows"),
+        ],
+    )
+}
+
+#[test]
+fn an_own_version_leaves_no_mark_in_a_scan(rt: HostRuntime) -> Result<(), Fail> {
+    let mut engine = Engine::new(rt.alloc(), 1);
+    play(
+        &rt,
+        &mut engine,
+        &[
+            (0, "begin", 20, "", "", "started"),
+            (0, "put", 20, "a", "1", "written"),
+            (0, "scan", 20, "", "", "rows [97] [49]"),
+            (1, "begin", 10, "", "", "started"),
+            (1, "put", 10, "a", "2", "written"),
+            (1, "put", 10, "b", "2", "toolate"),
+        ],
+    )
+}
+
+#[test]
+fn a_scan_is_blocked_at_its_least_key(rt: HostRuntime) -> Result<(), Fail> {
+    let mut engine = Engine::new(rt.alloc(), 1);
+    play(
+        &rt,
+        &mut engine,
+        &[
+            (0, "begin", 10, "", "", "started"),
+            (0, "put", 10, "b", "1", "written"),
+            (0, "begin", 15, "", "", "started"),
+            (0, "put", 15, "a", "2", "written"),
+            (1, "begin", 20, "", "", "started"),
+            (1, "scan", 20, "", "", "blocked 15"),
+            (0, "commit", 15, "", "", "committed 1"),
+            (1, "scan", 20, "", "", "blocked 10"),
+            (1, "scan", 20, "", "b", "rows [97] [50]"),
+            (2, "begin", 17, "", "", "started"),
+            (2, "put", 17, "b", "3", "written"),
+            (2, "abort", 17, "", "", "aborted"),
+            (0, "commit", 10, "", "", "committed 1"),
+            (1, "scan", 20, "", "", "rows [97] [50] [98] [49]"),
+            (2, "begin", 18, "", "", "started"),
+            (2, "put", 18, "b", "3", "toolate"),
+        ],
+    )
+}
+
+#[test]
+fn a_scan_at_a_closed_timestamp_shows_what_is_committed(rt: HostRuntime) -> Result<(), Fail> {
+    let mut engine = Engine::new(rt.alloc(), 1);
+    play(
+        &rt,
+        &mut engine,
+        &[
+            (0, "begin", 10, "", "", "started"),
+            (0, "put", 10, "a", "1", "written"),
+            (0, "put", 10, "b", "2", "written"),
+            (0, "commit", 10, "", "", "committed 2"),
+            (0, "begin", 15, "", "", "started"),
+            (0, "del", 15, "a", "", "written"),
+            (0, "commit", 15, "", "", "committed 1"),
+            (1, "begin", 30, "", "", "started"),
+            (1, "put", 30, "a", "3", "written"),
+            (2, "close", 20, "", "", "closed 20 0"),
+            (2, "scanat", 9, "", "", "rows"),
+            (2, "scanat", 14, "", "", "rows [97] [49] [98] [50]"),
+            (2, "scanat", 20, "", "", "rows [98] [50]"),
+            (2, "scanat", 30, "", "", "notclosed 20"),
         ],
     )
 }

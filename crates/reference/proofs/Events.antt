@@ -1,9 +1,10 @@
 -- What a database represents after one more event.
 use Rattle.std.proofs.Common.{◌≡◌, ℕ, true, false, List, [], ◌∷◌, ◌++◌, Some, None, map, refl, sym, subst}
 use Rattle.spans.specs.declared.calls.commands.Cmd.{Cmd}
-use Rattle.spans.specs.declared.calls.commands.Cmd.TheVariants.{Begin, Get, Put, Del, Commit, Abort, CloseHard, ReadAt}
+use Rattle.spans.specs.declared.span.Span.{Span}
+use Rattle.spans.specs.declared.calls.commands.Cmd.TheVariants.{Begin, Get, Scan, Put, Del, Commit, Abort, CloseHard, ReadAt, ScanAt}
 use Rattle.spans.specs.declared.calls.replies.Reply.{Reply}
-use Rattle.spans.specs.declared.calls.replies.Reply.TheVariants.{Started, Found, Written, Committed, Aborted, Closed, Refused}
+use Rattle.spans.specs.declared.calls.replies.Reply.TheVariants.{Started, Found, Rows, Written, Committed, Aborted, Closed, Refused}
 use Rattle.spans.specs.declared.calls.replies.Refusal.TheVariants.{TooLate}
 use Rattle.spans.specs.declared.calls.events.Event.{Event}
 use Rattle.spans.specs.Effects.{After, NoEffect, effect, effects_of, event}
@@ -14,13 +15,15 @@ use Rattle.reference.specs.declared.transactions.Transaction.{Transaction}
 use Rattle.reference.specs.declared.transactions.State.TheVariants as states
 use Rattle.reference.specs.declared.chains.Chain.{Chain}
 use Rattle.reference.specs.declared.reads.Read.{Read}
+use Rattle.reference.specs.declared.span_reads.Scan.{Scan as SpanRead}
 use Rattle.reference.specs.declared.database.Database.{Database}
 use Rattle.reference.specs.Transactions.{begun_by, decided, aborted_through}
 use Rattle.reference.specs.Chains.{with_write, dropped, cleared}
 use Rattle.reference.specs.Reads.{read_of}
+use Rattle.reference.specs.SpanReads.{scan_of, sources_in}
 use Rattle.reference.specs.Served.{is_late}
 use Rattle.reference.specs.Tied.{IsTied, Represents}
-use Rattle.reference.proofs.Ties.{tied_still, tied_begins, tied_reads, tied_writes, tied_commits, tied_aborts, tied_snapshot, tied_hard_closes, goes}
+use Rattle.reference.proofs.Ties.{tied_still, tied_begins, tied_reads, tied_scans, tied_writes, tied_commits, tied_aborts, tied_snapshot, tied_snapshot_scan, tied_hard_closes, goes}
 
 -- an event that did nothing
 pub represents_still : (db : Database) (h : List Event) (n seat : ℕ) (cmd : Cmd) (reply : Reply) → effect seat cmd reply ≡ NoEffect → Represents db h → IsRightEvent (effects_of h) (event n seat cmd reply)
@@ -42,6 +45,14 @@ pub represents_reads : (db : Database) (reads : List Read) (h : List Event) (n s
 represents_reads db reads h n seat t x v k is at stands right = record {
   legal = (right, stands.legal);
   tied = rw is (tied_reads db (effects_of h) t x v k stands.tied at);
+}
+
+-- a span was scanned
+pub represents_scans : (db : Database) (scans : List SpanRead) (h : List Event) (n seat t : ℕ) (span : Span) (rows : List (List ℕ × List ℕ)) → scans ≡ db.scans ++ scan_of t span (sources_in span t db.chains) ∷ []
+    → Represents db h → IsRightEvent (effects_of h) (event n seat (Scan t span) (Rows rows)) → Represents (record db { scans = scans }) (event n seat (Scan t span) (Rows rows) ∷ h)
+represents_scans db scans h n seat t span rows is stands right = record {
+  legal = (right, stands.legal);
+  tied = rw is (tied_scans db (effects_of h) t span rows stands.tied);
 }
 
 pub represents_puts : (db : Database) (chains : List Chain) (h : List Event) (n seat t : ℕ) (x v : List ℕ) → chains ≡ with_write db.chains x t (Some v)
@@ -94,6 +105,11 @@ pub get_does_nothing : (seat t : ℕ) (x : List ℕ) (reply : Reply) → ((v : A
 get_does_nothing seat t x (Found v) other = absurd (other v refl)
 get_does_nothing seat t x _ other = refl
 
+-- a scan that found no rows did nothing
+pub scan_does_nothing : (seat t : ℕ) (span : Span) (reply : Reply) → ((rows : List (List ℕ × List ℕ)) → reply ≡ Rows rows → ⊥) → effect seat (Scan t span) reply ≡ NoEffect
+scan_does_nothing seat t span (Rows rows) other = absurd (other rows refl)
+scan_does_nothing seat t span _ other = refl
+
 pub late_is : (reply : Reply) → is_late reply ≡ true → reply ≡ Refused TooLate
 late_is (Refused TooLate) is = refl
 late_is _ is = cc
@@ -111,6 +127,11 @@ del_does_nothing seat t x _ isnt other = refl
 pub represents_read_at : (db : Database) (h : List Event) (n seat t : ℕ) (x : List ℕ) (reply : Reply) → Represents db h → IsRightEvent (effects_of h) (event n seat (ReadAt t x) reply) → Represents db (event n seat (ReadAt t x) reply ∷ h)
 represents_read_at db h n seat t x (Found v) stands right = record { legal = (right, stands.legal); tied = tied_snapshot db (effects_of h) t x v stands.tied }
 represents_read_at db h n seat t x _ stands right = record { legal = (right, stands.legal); tied = tied_still db (effects_of h) stands.tied }
+
+-- a snapshot was scanned, or not
+pub represents_scan_at : (db : Database) (h : List Event) (n seat t : ℕ) (span : Span) (reply : Reply) → Represents db h → IsRightEvent (effects_of h) (event n seat (ScanAt t span) reply) → Represents db (event n seat (ScanAt t span) reply ∷ h)
+represents_scan_at db h n seat t span (Rows rows) stands right = record { legal = (right, stands.legal); tied = tied_snapshot_scan db (effects_of h) t span rows stands.tied }
+represents_scan_at db h n seat t span _ stands right = record { legal = (right, stands.legal); tied = tied_still db (effects_of h) stands.tied }
 
 pub represents_hard_closes : (db : Database) (txns : List Transaction) (chains : List Chain) (h : List Event) (n seat to at aborted : ℕ)
     → txns ≡ map (aborted_through to) db.transactions → chains ≡ map (cleared (goes db to)) db.chains

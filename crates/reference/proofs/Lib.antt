@@ -1,8 +1,10 @@
 pub mod VersionSteps
 pub mod ChainSteps
 pub mod TransactionSteps
+pub mod SpanReads
 pub mod Ties
 pub mod Replies
+pub mod ScanReplies
 pub mod Events
 pub mod Scanning
 pub mod Once

@@ -5,10 +5,12 @@ use Rattle.std.specs.List.{list_any}
 use Rattle.std.proofs.lemmas.Bool.{eqb-true, eq-eqb, both_ways, false_from_ne_true, ltb-false, or_parts}
 use Rattle.std.proofs.lemmas.List.{reverse-append, map-append}
 use Rattle.std.proofs.lemmas.List.Elements.{filter-append}
-use Rattle.spans.specs.Effects.{After, Effect, Begins, Reads, Writes, Commits, Aborts, Closes, HardCloses, SnapshotReads, Opens, Polls, Cancels, Protects, Releases, NoEffect}
+use Rattle.std.proofs.lemmas.List.Folds.{list_any-append}
+use Rattle.spans.specs.Effects.{After, Effect, Begins, Reads, Scans, Writes, Commits, Aborts, Closes, HardCloses, SnapshotReads, SnapshotScans, Opens, Polls, Cancels, Protects, Releases, NoEffect}
 use Rattle.spans.specs.Transactions.{owner_of, begun_of, closed_of, is_committed, is_aborted, is_undecided, undecided_timestamps}
 use Rattle.spans.specs.Versions.{visible, write_of}
-use Rattle.spans.specs.Keys.{insert_key}
+use Rattle.spans.specs.declared.span.Span.{Span}
+use Rattle.spans.specs.Keys.{in_span, insert_key}
 use Rattle.spans.specs.Reads.{too_late}
 use Rattle.spans.proofs.Steps.{by_test}
 use Rattle.spans.proofs.Keyed.{RisingKeys}
@@ -18,11 +20,11 @@ use Rattle.spans.proofs.Open.{IsAmong, open_above}
 use Rattle.reference.specs.declared.transactions.Transaction.{Transaction}
 use Rattle.reference.specs.declared.transactions.State.{State}
 use Rattle.reference.specs.declared.transactions.State.TheVariants as states
-use Rattle.reference.specs.declared.reads.Read.{Read}
 use Rattle.reference.specs.declared.database.Database.{Database}
 use Rattle.reference.specs.Transactions.{transaction_at, begun_by, decided, is_open, is_committed_state, is_aborted_state, is_open_state, state_closed, aborted_through, open_in, is_undecided_at}
 use Rattle.reference.specs.Chains.{version_at, with_write, dropped, cleared}
 use Rattle.reference.specs.Reads.{read_of, goes_across}
+use Rattle.reference.specs.SpanReads.{sources_in, scan_of, scan_goes_across}
 use Rattle.reference.specs.Tied.{owner_in, committed_in, aborted_in, IsTied}
 use Rattle.feed_book.specs.declared.record.FeedRecord.{FeedRecord}
 use Rattle.feed_book.specs.FeedTie.{FeedsTied}
@@ -30,6 +32,7 @@ use Rattle.feed_book.specs.ProtectionTie.{Standing, ProtectionsTied}
 use Rattle.feed_book.proofs.FeedTies.{feeds_kept}
 use Rattle.feed_book.proofs.ProtectionTies.{protections_kept}
 use Rattle.reference.proofs.TransactionSteps.{with_state, transaction_at_push, transaction_at_decided, open_decided, transaction_at_closed, found_at, open_closed}
+use Rattle.reference.proofs.SpanReads.{source_visible}
 use Rattle.reference.proofs.Once.{once_with_write, once_dropped, once_cleared}
 use Rattle.reference.proofs.ChainSteps.{keys_in, keys_with_write, version_at_with, count_with, keys_dropped, version_at_dropped, count_dropped, keys_cleared, version_at_cleared, count_cleared}
 
@@ -167,6 +170,22 @@ tied_begins db p t seat tied unowned = record {
     gone : (i : ℕ) → (t == i) ≡ true → transaction_at db.transactions i ≡ None
     gone i same = subst (λ n. transaction_at db.transactions n ≡ None) (eqb-true t i same) none
 
+-- the last read passes the test, or an earlier one, or a scan
+last_read : (a r b : Bool) → ((a || (r || false)) || b) ≡ (r || (a || b))
+last_read true true b = refl
+last_read true false b = refl
+last_read false true b = refl
+last_read false false b = refl
+
+-- the last scan passes the test, or a read, or an earlier one
+last_scan : (a b s : Bool) → (a || (b || (s || false))) ≡ (s || (a || b))
+last_scan true b true = refl
+last_scan true b false = refl
+last_scan false true true = refl
+last_scan false true false = refl
+last_scan false false true = refl
+last_scan false false false = refl
+
 -- a key is read
 pub tied_reads : (db : Database) (p : List Effect) (t : ℕ) (x : List ℕ) (v : After) (k : ℕ) → IsTied db p → k ≡ (visible p x t).ts
     → IsTied (record db { reads = db.reads ++ read_of t x k ∷ [] }) (Reads t x v ∷ p)
@@ -180,20 +199,39 @@ tied_reads db p t x v k tied is = record {
   versions = tied.versions;
   counts = tied.counts;
   once = tied.once;
-  reads = λ y i. any_push (goes_across y i) db.reads (read_of t x k) (too_late p y i) (tied.reads y i) ∙ ap (λ n. goes_across y i (read_of t x n) || too_late p y i) is;
+  reads = λ y i. ap (λ b. b || list_any (scan_goes_across y i) db.scans) (list_any-append (goes_across y i) db.reads (read_of t x k ∷ []))
+      ∙ last_read (list_any (goes_across y i) db.reads) (goes_across y i (read_of t x k)) (list_any (scan_goes_across y i) db.scans)
+      ∙ ap (λ b. goes_across y i (read_of t x k) || b) (tied.reads y i) ∙ ap (λ n. goes_across y i (read_of t x n) || too_late p y i) is;
   horizon_at = tied.horizon_at;
   feeds = feeds_kept db.feeds p (Reads t x v) tt tied.feeds;
   protections = protections_kept db.protections p (Reads t x v) tt tied.protections;
 }
-  where
-    swap : (a b c : Bool) → (a || (b || c)) ≡ (b || (a || c))
-    swap true true c = refl
-    swap true false c = refl
-    swap false b c = refl
 
-    any_push : (test : Read → Bool) (rs : List Read) (r : Read) (b : Bool) → list_any test rs ≡ b → list_any test (rs ++ r ∷ []) ≡ (test r || b)
-    any_push test [] r b e = ap (λ z. test r || z) e
-    any_push test (n ∷ rs) r b e = ap (λ z. test n || z) (any_push test rs r (list_any test rs) refl) ∙ swap (test n) (test r) (list_any test rs) ∙ ap (λ z. test r || z) e
+-- a span is scanned
+pub tied_scans : (db : Database) (p : List Effect) (t : ℕ) (span : Span) (rows : List (List ℕ × List ℕ)) → IsTied db p
+    → IsTied (record db { scans = db.scans ++ scan_of t span (sources_in span t db.chains) ∷ [] }) (Scans t span rows ∷ p)
+tied_scans db p t span rows tied = record {
+  closed_at = tied.closed_at;
+  owners = tied.owners;
+  committed = tied.committed;
+  aborted = tied.aborted;
+  undecided = tied.undecided;
+  keys = tied.keys;
+  versions = tied.versions;
+  counts = tied.counts;
+  once = tied.once;
+  reads = λ y i. ap (λ b. list_any (goes_across y i) db.reads || b) (list_any-append (scan_goes_across y i) db.scans (scan_of t span (sources_in span t db.chains) ∷ []))
+      ∙ last_scan (list_any (goes_across y i) db.reads) (list_any (scan_goes_across y i) db.scans) (scan_goes_across y i (scan_of t span (sources_in span t db.chains)))
+      ∙ ap (λ b. scan_goes_across y i (scan_of t span (sources_in span t db.chains)) || b) (tied.reads y i) ∙ ap (λ b. b || too_late p y i) (across y i);
+  horizon_at = tied.horizon_at;
+  feeds = feeds_kept db.feeds p (Scans t span rows) tt tied.feeds;
+  protections = protections_kept db.protections p (Scans t span rows) tt tied.protections;
+}
+  where
+    across : (y : List ℕ) (i : ℕ) → scan_goes_across y i (scan_of t span (sources_in span t db.chains)) ≡ (in_span span y && (nat_lt (visible p y t).ts i && nat_lt i t))
+    across y i = by_test (in_span span y)
+        (λ inside. rw inside (ap (λ k. nat_lt k i && nat_lt i t) (source_visible db p tied span t y inside)))
+        (λ outside. rw outside refl)
 
 -- a key is written
 pub tied_writes : (db : Database) (p : List Effect) (t : ℕ) (x : List ℕ) (a : After) → IsTied db p → IsActive p t
@@ -324,6 +362,24 @@ tied_snapshot db p t x v tied = record {
   horizon_at = tied.horizon_at;
   feeds = feeds_kept db.feeds p (SnapshotReads t x v) tt tied.feeds;
   protections = protections_kept db.protections p (SnapshotReads t x v) tt tied.protections;
+}
+
+-- a snapshot is scanned
+pub tied_snapshot_scan : (db : Database) (p : List Effect) (t : ℕ) (span : Span) (rows : List (List ℕ × List ℕ)) → IsTied db p → IsTied db (SnapshotScans t span rows ∷ p)
+tied_snapshot_scan db p t span rows tied = record {
+  closed_at = tied.closed_at;
+  owners = tied.owners;
+  committed = tied.committed;
+  aborted = tied.aborted;
+  undecided = tied.undecided;
+  keys = tied.keys;
+  versions = tied.versions;
+  counts = tied.counts;
+  once = tied.once;
+  reads = tied.reads;
+  horizon_at = tied.horizon_at;
+  feeds = feeds_kept db.feeds p (SnapshotScans t span rows) tt tied.feeds;
+  protections = protections_kept db.protections p (SnapshotScans t span rows) tt tied.protections;
 }
 
 -- something of a feed happens

@@ -2,6 +2,7 @@ pub mod Transactions
 pub mod Versions
 pub mod Chains
 pub mod Reads
+pub mod SpanReads
 pub mod Tied
 pub mod Served
 pub mod Scans

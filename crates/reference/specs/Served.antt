@@ -1,7 +1,7 @@
 -- The commands that are served, and the refusal that ends a transaction.
 use Rattle.std.specs.Prelude.{Bool, true, false}
 use Rattle.spans.specs.declared.calls.commands.Cmd.{Cmd}
-use Rattle.spans.specs.declared.calls.commands.Cmd.TheVariants.{Begin, Get, Put, Del, Commit, Abort, Close, CloseHard, ReadAt, Protect, Release, Open, Cancel}
+use Rattle.spans.specs.declared.calls.commands.Cmd.TheVariants.{Begin, Get, Scan, Put, Del, Commit, Abort, Close, CloseHard, ReadAt, ScanAt, Protect, Release, Open, Cancel}
 use Rattle.spans.specs.declared.calls.replies.Reply.{Reply}
 use Rattle.spans.specs.declared.calls.replies.Reply.TheVariants.{Refused}
 use Rattle.spans.specs.declared.calls.replies.Refusal.TheVariants.{TooLate}
@@ -13,6 +13,7 @@ is_late _ = false
 abbrev pub IsServed : Cmd → Type 0
 IsServed (Begin t) = Unit {0}
 IsServed (Get t x) = Unit {0}
+IsServed (Scan t span) = Unit {0}
 IsServed (Put t x v) = Unit {0}
 IsServed (Del t x) = Unit {0}
 IsServed (Commit t) = Unit {0}
@@ -20,6 +21,7 @@ IsServed (Abort t) = Unit {0}
 IsServed (Close to) = Unit {0}
 IsServed (CloseHard to) = Unit {0}
 IsServed (ReadAt t x) = Unit {0}
+IsServed (ScanAt t span) = Unit {0}
 IsServed (Protect t) = Unit {0}
 IsServed (Release id) = Unit {0}
 IsServed (Open span cursor) = Unit {0}

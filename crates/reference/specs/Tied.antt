@@ -1,5 +1,5 @@
 -- What a database holds of a history.
-use Rattle.std.specs.Prelude.{ℕ, List, ◌≡◌, false, map, reverse, option_map, Option, Some, None, Bool, length, filter}
+use Rattle.std.specs.Prelude.{ℕ, List, ◌≡◌, ◌||◌, false, map, reverse, option_map, Option, Some, None, Bool, length, filter}
 use Rattle.std.specs.List.{list_any}
 use Rattle.spans.specs.declared.calls.events.Event.{Event}
 use Rattle.spans.specs.Effects.{Effect, effects_of}
@@ -17,6 +17,7 @@ use Rattle.reference.specs.Transactions.{transaction_at, has_committed, has_abor
 use Rattle.reference.specs.Chains.{version_at, wrote}
 use Rattle.reference.specs.Once.{AreOnce}
 use Rattle.reference.specs.Reads.{goes_across}
+use Rattle.reference.specs.SpanReads.{scan_goes_across}
 
 abbrev pub owner_in : Option Transaction → Option ℕ
 owner_in o = option_map (λ (x : Transaction). x.seat) o
@@ -40,7 +41,7 @@ pub record IsTied (db : Database) (p : List Effect) : Type 0 where
   pub versions : (x : List ℕ) (t : ℕ) → version_at db.chains x t ≡ version_of p x t
   pub counts : (t : ℕ) → is_aborted p t ≡ false → length (filter (wrote t) db.chains) ≡ write_count p t
   pub once : AreOnce db.chains
-  pub reads : (x : List ℕ) (i : ℕ) → list_any (goes_across x i) db.reads ≡ too_late p x i
+  pub reads : (x : List ℕ) (i : ℕ) → (list_any (goes_across x i) db.reads || list_any (scan_goes_across x i) db.scans) ≡ too_late p x i
   pub horizon_at : db.horizon ≡ horizon_of p
   pub feeds : FeedsTied db.feeds p
   pub protections : ProtectionsTied db.protections p

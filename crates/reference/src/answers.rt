@@ -30,6 +30,7 @@ impl Database {
         match cmd {
             Cmd::Begin { ts } => Ok(self.answer_begin(*ts)),
             Cmd::Get { ts, key } => self.answer_get(seat, *ts, key),
+            Cmd::Scan { ts, span } => self.answer_scan(seat, *ts, span),
             Cmd::Put { ts, key, value: _ } => Ok(self.answer_write(seat, *ts, key)),
             Cmd::Del { ts, key } => Ok(self.answer_write(seat, *ts, key)),
             Cmd::Commit { ts } => Ok(self.answer_commit(seat, *ts)),
@@ -37,6 +38,7 @@ impl Database {
             Cmd::Close { to } => Ok(self.answer_close(*to)),
             Cmd::CloseHard { to } => Ok(self.answer_close_hard(*to)),
             Cmd::ReadAt { t, key } => self.answer_read_at(*t, key),
+            Cmd::ScanAt { t, span } => self.answer_scan_at(*t, span),
             Cmd::Protect { t } => self.answer_protect(*t),
             Cmd::Release { id } => Ok(self.answer_release(*id)),
             Cmd::Open { span: _, cursor } => self.answer_open(*cursor),
@@ -87,7 +89,7 @@ impl Database {
         if let Some(refusal) = self.refusal(seat, ts) {
             return Reply::Refused(refusal);
         }
-        if self.reads.any_across(key, ts) {
+        if self.reads.any_across(key, ts) || self.scans.any_across(key, ts) {
             return Reply::Refused(Refusal::TooLate);
         }
         Reply::Written
@@ -126,7 +128,7 @@ impl Database {
     }
 
     /// The first of a transaction's tests that applies.
-    fn refusal(&self, seat: u8, ts: u64) -> Option<Refusal>
+    pub(crate) fn refusal(&self, seat: u8, ts: u64) -> Option<Refusal>
         ensures { (h : List Event) → Represents self.now h → result ≡ first_refusal (transaction_tests (effects_of h) seat ts) }
     {
         if ts <= self.closed {

@@ -3,6 +3,7 @@ ghost use Rattle.std.specs.Prelude.{◌≡◌, []};
 
 use crate::chains::Chains;
 use crate::reads::Reads;
+use crate::span_reads::Scans;
 use crate::transactions::Transactions;
 use feed_book::{FeedBook, Protections};
 use std::alloc::Global;
@@ -10,10 +11,12 @@ use std::alloc::Global;
 /// What a history led to, list by list.
 #[derive(Debug, Drop)]
 pub struct Database {
+    pub(crate) alloc: Global,
     pub(crate) closed: u64,
     pub(crate) transactions: Transactions,
     pub(crate) chains: Chains,
     pub(crate) reads: Reads,
+    pub(crate) scans: Scans,
     pub(crate) horizon: u64,
     pub(crate) feeds: FeedBook,
     pub(crate) protections: Protections,
@@ -27,10 +30,12 @@ impl Database {
         ensures { Represents result [] }
     {
         Database {
+            alloc,
             closed: 0,
             transactions: Transactions::new(alloc),
             chains: Chains::new(alloc),
             reads: Reads::new(alloc),
+            scans: Scans::new(alloc),
             horizon: 0,
             feeds: FeedBook::new(alloc),
             protections: Protections::new(alloc),

@@ -34,7 +34,7 @@ impl Database {
     }
 
     /// The first of the tests of a read at a closed timestamp that applies.
-    fn snapshot_refusal(&self, t: u64) -> Option<Refusal>
+    pub(crate) fn snapshot_refusal(&self, t: u64) -> Option<Refusal>
         ensures { (h : List Event) → Represents self.now h → result ≡ first_refusal (snapshot_tests (effects_of h) t) }
     {
         if t > self.closed {

@@ -3,8 +3,9 @@
 //! A [`Database`](database::Database) has a list for each thing that a history is asked about. `answer`
 //! computes the one right reply to a command and changes nothing; `record` takes in a command with its
 //! right reply, so that a checker of transcripts can ask and compare before it goes on. Each list is a
-//! type of its own: [`transactions`], the [`chains`] of versions by rising key, the [`reads`], each with
-//! the timestamp that it read from, and the protections and feeds of `feed_book`.
+//! type of its own: [`transactions`], the [`chains`] of versions by rising key, the [`reads`] of keys
+//! and of spans ([`span_reads`]), each with the timestamps that it read from, and the protections and
+//! feeds of `feed_book`.
 //!
 //! ```text
 //!                    transactions      chains           reads          closed
@@ -13,10 +14,12 @@
 //! commit 10          10 committed      a: 10 "1"                       0
 //! begin 20, get a    .., 20 undecided  a: 10 "1"        20 a from 10   0
 //! begin 15, put a    toolate: 20 read across 15, and 15 is aborted
+//! begin 30, scan     .., 30 undecided  a: 10 "1"        .., 30 all: a from 10
+//! begin 25, put b    toolate: 30 read across 25, since it read every key and found no b
 //! ```
 //!
 //! Cost: each call walks its lists once; a hard closing also looks up the transaction of each version
-//! above closed. Nothing is ever forgotten.
+//! above closed, and a write looks at the keys that the scans found. Nothing is ever forgotten.
 #![tactic(auto)]
 
 mod answers;
@@ -27,6 +30,9 @@ mod holds;
 pub mod reads;
 mod records;
 mod scans;
+pub mod sources;
+mod span_commands;
+pub mod span_reads;
 mod streams;
 pub mod transactions;
 pub mod versions;

@@ -30,6 +30,7 @@ impl Database {
         match cmd {
             Cmd::Begin { ts } => self.record_begin(seat, *ts, reply),
             Cmd::Get { ts, key } => self.record_get(*ts, key, reply),
+            Cmd::Scan { ts, span } => self.record_scan(*ts, span, reply),
             Cmd::Put { ts, key, value } => self.record_put(*ts, key, value, reply),
             Cmd::Del { ts, key } => self.record_del(*ts, key, reply),
             Cmd::Commit { ts } => {
@@ -49,6 +50,7 @@ impl Database {
                 Ok(())
             }
             Cmd::ReadAt { t: _, key: _ } => Ok(()),
+            Cmd::ScanAt { t: _, span: _ } => Ok(()),
             Cmd::Protect { t } => self.record_protect(*t, reply),
             Cmd::Release { id } => {
                 self.record_release(*id, reply);

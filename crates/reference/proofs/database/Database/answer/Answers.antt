@@ -1,5 +1,5 @@
 use Rattle.std.proofs.Common.{refl}
-use Rattle.spans.specs.declared.calls.commands.Cmd.TheVariants.{ReadAt, Protect}
+use Rattle.spans.specs.declared.calls.commands.Cmd.TheVariants.{ReadAt, ScanAt, Protect}
 use Rattle.reference.proofs.Replies.{answer_at, failure_at, open_answer_at, open_failure_at}
 use Rattle.reference.proofs.database.Database.answer.Goals as goal
 
@@ -17,6 +17,12 @@ returns-in-ReadAt-clause-answer c = rw c.in-ReadAt.is (answer_at c.answer_read_a
 
 pub returns-in-ReadAt-clause-memory : goal.returns-in-ReadAt-clause-memory
 returns-in-ReadAt-clause-memory c = rw c.in-ReadAt.is (failure_at c.answer_read_at.result c.args.self.now c.args.seat (ReadAt c.in-ReadAt.t c.in-ReadAt.key) refl c.answer_read_at.ensures.memory)
+
+pub returns-in-ScanAt-clause-answer : goal.returns-in-ScanAt-clause-answer
+returns-in-ScanAt-clause-answer c = rw c.in-ScanAt.is (answer_at c.answer_scan_at.result c.args.self.now c.args.seat (ScanAt c.in-ScanAt.t c.in-ScanAt.span) c.answer_scan_at.ensures.answer)
+
+pub returns-in-ScanAt-clause-memory : goal.returns-in-ScanAt-clause-memory
+returns-in-ScanAt-clause-memory c = rw c.in-ScanAt.is (failure_at c.answer_scan_at.result c.args.self.now c.args.seat (ScanAt c.in-ScanAt.t c.in-ScanAt.span) refl c.answer_scan_at.ensures.memory)
 
 pub returns-in-Protect-clause-answer : goal.returns-in-Protect-clause-answer
 returns-in-Protect-clause-answer c = rw c.in-Protect.is (answer_at c.answer_protect.result c.args.self.now c.args.seat (Protect c.in-Protect.t) c.answer_protect.ensures.answer)

@@ -1,4 +1,4 @@
-use Rattle.reference.proofs.Events.{represents_read_at}
+use Rattle.reference.proofs.Events.{represents_read_at, represents_scan_at}
 use Rattle.std.proofs.lemmas.Result.{on_ok_weaker}
 use Rattle.reference.proofs.database.Database.record.Goals as goal
 
@@ -7,6 +7,9 @@ returns-in-Begin-clause-ok c = rw c.in-Begin.is c.record_begin.ensures.ok
 
 pub returns-in-Get-clause-ok : goal.returns-in-Get-clause-ok
 returns-in-Get-clause-ok c = rw c.in-Get.is (on_ok_weaker c.record_get.result (λ takes. λ h n. takes h n c.args.seat) c.record_get.ensures.ok)
+
+pub returns-in-Scan-clause-ok : goal.returns-in-Scan-clause-ok
+returns-in-Scan-clause-ok c = rw c.in-Scan.is (on_ok_weaker c.record_scan.result (λ takes. λ h n. takes h n c.args.seat) c.record_scan.ensures.ok)
 
 pub returns-in-Put-clause-ok : goal.returns-in-Put-clause-ok
 returns-in-Put-clause-ok c = rw c.in-Put.is (on_ok_weaker c.record_put.result (λ takes. λ h n. takes h n c.args.seat) c.record_put.ensures.ok)
@@ -28,6 +31,9 @@ returns-in-CloseHard-clause-ok c = λ h n. rw c.in-CloseHard.is (c.record_close_
 
 pub returns-in-ReadAt-clause-ok : goal.returns-in-ReadAt-clause-ok
 returns-in-ReadAt-clause-ok c = λ h n stands. rw c.in-ReadAt.is (represents_read_at c.args.self.now h n c.args.seat _ _ c.args.reply.now stands)
+
+pub returns-in-ScanAt-clause-ok : goal.returns-in-ScanAt-clause-ok
+returns-in-ScanAt-clause-ok c = λ h n stands. rw c.in-ScanAt.is (represents_scan_at c.args.self.now h n c.args.seat _ _ c.args.reply.now stands)
 
 pub returns-in-Protect-clause-ok : goal.returns-in-Protect-clause-ok
 returns-in-Protect-clause-ok c = rw c.in-Protect.is (on_ok_weaker c.record_protect.result (λ takes. λ h n. takes h n c.args.seat) c.record_protect.ensures.ok)
