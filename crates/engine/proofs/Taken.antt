@@ -1,5 +1,5 @@
 -- What an engine stands for after one more command.
-use Rattle.std.proofs.Common.{◌≡◌, ℕ, ◌+◌, true, List, ◌∷◌, refl, inl, inr, arith}
+use Rattle.std.proofs.Common.{◌≡◌, ℕ, ◌+◌, ◌<◌, true, List, ◌∷◌, length, refl, inl, inr, arith}
 use Rattle.spans.specs.declared.calls.commands.Cmd.{Cmd}
 use Rattle.spans.specs.declared.calls.commands.Cmd.TheVariants.{Begin, Put, Del}
 use Rattle.spans.specs.declared.calls.replies.Reply.{Reply}
@@ -14,6 +14,10 @@ use Rattle.reference.specs.Tied.{Represents}
 use Rattle.reference.proofs.Events.{represents_still}
 use Rattle.engine.specs.declared.Engine.{Engine}
 use Rattle.engine.specs.Engine.{StandsFor}
+
+-- an engine with room for a step has counted fewer events than the greatest number
+pub counted_below : (e : Engine) (h : List Event) → StandsFor e h → e.steps < 18446744073709551615 → length h < 18446744073709551615
+counted_below e h stands room = omega (arith, stands.counted)
 
 -- the database took in the answer
 pub stands_taken : (e : Engine) (db : Database) (h : List Event) (n seat : ℕ) (cmd : Cmd) (reply : Reply) → StandsFor e h → reply ≡ answer_of (effects_of h) seat cmd

@@ -15,15 +15,16 @@
 //! close 30 by seat 1                 10: 1             30
 //! ```
 //!
-//! Cost: a step walks what the database holds once; `steps` and `closed` look at one number.
+//! Cost: a step asks the database and then tells it, each a walk of what it holds; `steps` and `closed`
+//! look at one number.
 #![tactic(auto)]
 
-ghost use Rattle.std.specs.Prelude.{◌≡◌, ℕ, List, ◌∷◌, [], ◌+◌, ◌<◌, ◌≤◌, ◌↔◌, length, IsTrue};
+ghost use Rattle.std.specs.Prelude.{◌≡◌, ℕ, List, ◌∷◌, [], ◌+◌, ◌<◌, ◌≤◌, length};
 ghost use Rattle.spans.specs.declared.calls.events.Event.{Event};
 ghost use Rattle.spans.specs.Effects.{event, effects_of};
 ghost use Rattle.spans.specs.Transactions.{closed_of};
-ghost use Rattle.reference.specs.Served.{IsServed};
 
+mod running;
 #[cfg(test)]
 mod tests;
 
@@ -56,7 +57,6 @@ impl Engine {
     /// Answers a seat's command.
     pub fn step(&mut self, seat: u8, cmd: &Cmd) -> Reply
         requires room { steps_of self.old < 18446744073709551615 }
-        requires served { IsServed cmd.now }
         ensures history { (h : List Event) (n : ℕ) → StandsFor self.old h → StandsFor self.new (event n seat cmd.now result ∷ h) }
         ensures steps { steps_of self.new ≡ steps_of self.old + 1 }
     {
@@ -84,33 +84,5 @@ impl Engine {
         ensures history { (h : List Event) → StandsFor self.now h → result ≡ closed_of (effects_of h) }
     {
         self.database.closed()
-    }
-}
-
-/// Whether the engine answers such commands.
-pub fn is_served(cmd: &Cmd) -> bool
-    ensures { IsTrue result ↔ IsServed cmd.now }
-{
-    match cmd {
-        Cmd::Begin { ts: _ } => true,
-        Cmd::Get { ts: _, key: _ } => true,
-        Cmd::Scan { ts: _, span: _ } => true,
-        Cmd::Put {
-            ts: _,
-            key: _,
-            value: _,
-        } => true,
-        Cmd::Del { ts: _, key: _ } => true,
-        Cmd::Commit { ts: _ } => true,
-        Cmd::Abort { ts: _ } => true,
-        Cmd::Close { to: _ } => true,
-        Cmd::CloseHard { to: _ } => true,
-        Cmd::ReadAt { t: _, key: _ } => true,
-        Cmd::ScanAt { t: _, span: _ } => true,
-        Cmd::Protect { t: _ } => true,
-        Cmd::Release { id: _ } => true,
-        Cmd::Open { span: _, cursor: _ } => true,
-        Cmd::Cancel { feed: _ } => true,
-        _ => false,
     }
 }

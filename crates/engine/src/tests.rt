@@ -1,7 +1,7 @@
 //! Worked histories, command by command.
-use crate::{Engine, is_served};
+use crate::Engine;
 use spans::bound::Bound;
-use spans::calls::{Cmd, Refusal, Reply, Rows};
+use spans::calls::{Cmd, Message, Messages, Refusal, Reply, Rows};
 use spans::span::Span;
 use std::alloc::{AllocError, Global};
 use std::process::Abort;
@@ -61,6 +61,24 @@ fn held_command(
     if word == "scanat" {
         let span = span_of(alloc, key, value);
         return Ok(Cmd::ScanAt { t: number, span });
+    }
+    if word == "collect" {
+        return Ok(Cmd::Collect { to: number });
+    }
+    if word == "stats" {
+        return Ok(Cmd::Stats);
+    }
+    if word == "poll" {
+        return Ok(Cmd::Poll {
+            feed: number,
+            max: 10,
+        });
+    }
+    if word == "pollone" {
+        return Ok(Cmd::Poll {
+            feed: number,
+            max: 1,
+        });
     }
     keyed_command(alloc, word, number, key, value)
 }
@@ -128,6 +146,26 @@ fn words(alloc: Global, reply: &Reply) -> Result<String, AllocError> {
             format!(in alloc; "opened {feed}")
         }
         Reply::Cancelled => String::from_str(alloc, "cancelled"),
+        Reply::Messages(messages) => words_of_messages(alloc, messages),
+        Reply::Collected { horizon, removed } => {
+            let horizon = *horizon;
+            let removed = *removed;
+            format!(in alloc; "collected {horizon} {removed}")
+        }
+        Reply::Stats {
+            versions,
+            undecided,
+            feeds,
+            closed,
+            horizon,
+        } => {
+            let versions = *versions;
+            let undecided = *undecided;
+            let feeds = *feeds;
+            let closed = *closed;
+            let horizon = *horizon;
+            format!(in alloc; "stats {versions} {undecided} {feeds} {closed} {horizon}")
+        }
         Reply::Refused(refusal) => words_of_refusal(alloc, *refusal),
         _ => String::from_str(alloc, "another reply"),
     }
@@ -142,6 +180,35 @@ fn words_of_rows(alloc: Global, rows: &Rows) -> Result<String, AllocError> {
         said.push_str(row.as_str())?;
     }
     Ok(said)
+}
+
+fn words_of_messages(alloc: Global, messages: &Messages) -> Result<String, AllocError> {
+    let mut words = String::from_str(alloc, "told")?;
+    for message in messages.as_slice() {
+        let more = words_of_message(alloc, message)?;
+        words.push_str(more.as_str())?;
+    }
+    Ok(words)
+}
+
+fn words_of_message(alloc: Global, message: &Message) -> Result<String, AllocError> {
+    match message {
+        Message::Resolved(t) => {
+            let t = t.get();
+            format!(in alloc; ", to {t}")
+        }
+        Message::Row(row) => {
+            let ts = row.ts.get();
+            let key = row.key.bytes();
+            match &row.after {
+                None => format!(in alloc; ", {ts} {key:?} deleted"),
+                Some(value) => {
+                    let value = value.bytes();
+                    format!(in alloc; ", {ts} {key:?} {value:?}")
+                }
+            }
+        }
+    }
 }
 
 fn words_of_refusal(alloc: Global, refusal: Refusal) -> Result<String, AllocError> {
@@ -174,7 +241,6 @@ fn play(rt: &(impl Abort + AllocGlobal), engine: &mut Engine, calls: &[Call]) ->
 fn step(rt: &(impl Abort + AllocGlobal), engine: &mut Engine, call: Call) -> Result<(), Fail> {
     let (seat, word, number, key, value, want) = call;
     let cmd = command(rt.alloc(), word, number, key, value)?;
-    assert!(rt; is_served(&cmd));
     assert!(rt; engine.steps() < 18446744073709551615);
     let reply = engine.step(seat, &cmd);
     let said = words(rt.alloc(), &reply)?;
@@ -492,4 +558,103 @@ fn protections_and_feeds_are_numbered(rt: HostRuntime) -> Result<(), Fail> {
             (0, "open", 7, "", "", "opened 2"),
         ],
     )
+}
+
+#[test]
+fn a_feed_tells_rows_in_their_order_once_they_are_closed(rt: HostRuntime) -> Result<(), Fail> {
+    let mut engine = Engine::new(rt.alloc(), 1);
+    play(
+        &rt,
+        &mut engine,
+        &[
+            (0, "open", 0, "", "", "opened 1"),
+            (0, "poll", 1, "", "", "told"),
+            (1, "begin", 20, "", "", "started"),
+            (1, "put", 20, "a", "1", "written"),
+            (1, "commit", 20, "", "", "committed 1"),
+            (2, "begin", 10, "", "", "started"),
+            (2, "del", 10, "b", "", "written"),
+            (0, "close", 15, "", "", "closed 9 0"),
+            (0, "poll", 1, "", "", "told, to 9"),
+            (2, "commit", 10, "", "", "committed 1"),
+            (0, "close", 30, "", "", "closed 30 0"),
+            (0, "pollone", 1, "", "", "told, 10 [98] deleted"),
+            (0, "poll", 1, "", "", "told, 20 [97] [49], to 30"),
+            (0, "poll", 1, "", "", "told"),
+        ],
+    )
+}
+
+#[test]
+fn a_feed_is_polled_by_its_owner_until_it_is_cancelled(rt: HostRuntime) -> Result<(), Fail> {
+    let mut engine = Engine::new(rt.alloc(), 1);
+    play(
+        &rt,
+        &mut engine,
+        &[
+            (0, "open", 0, "", "", "opened 1"),
+            (1, "poll", 1, "", "", "notowner"),
+            (1, "cancel", 1, "", "", "cancelled"),
+            (0, "poll", 1, "", "", "feedcancelled"),
+            (1, "poll", 1, "", "", "feedcancelled"),
+            (0, "poll", 2, "", "", "nofeed"),
+            (0, "poll", 0, "", "", "nofeed"),
+        ],
+    )
+}
+
+#[test]
+fn a_feed_that_lags_holds_the_horizon_back(rt: HostRuntime) -> Result<(), Fail> {
+    let mut engine = Engine::new(rt.alloc(), 1);
+    play(
+        &rt,
+        &mut engine,
+        &[
+            (0, "begin", 10, "", "", "started"),
+            (0, "put", 10, "a", "2", "written"),
+            (0, "commit", 10, "", "", "committed 1"),
+            (0, "begin", 20, "", "", "started"),
+            (0, "put", 20, "a", "3", "written"),
+            (0, "commit", 20, "", "", "committed 1"),
+            (0, "open", 5, "", "", "opened 1"),
+            (0, "close", 30, "", "", "closed 30 0"),
+            (0, "pollone", 1, "", "", "told, 10 [97] [50]"),
+            (0, "collect", 30, "", "", "collected 9 0"),
+            (0, "poll", 1, "", "", "told, 20 [97] [51], to 30"),
+            (0, "stats", 0, "", "", "stats 2 0 1 30 9"),
+            (0, "collect", 30, "", "", "collected 30 1"),
+            (0, "collect", 30, "", "", "collected 30 0"),
+            (0, "stats", 0, "", "", "stats 1 0 1 30 30"),
+            (0, "readat", 29, "a", "", "belowhorizon 30"),
+            (0, "readat", 30, "a", "", "value [51]"),
+            (0, "collect", 9223372036854775808, "", "", "tsrange"),
+        ],
+    )
+}
+
+#[test]
+fn a_run_makes_all_calls_in_their_order(rt: HostRuntime) -> Result<(), Fail> {
+    let mut calls = Vec::new(rt.alloc());
+    let mut wanted = Vec::new(rt.alloc());
+    for call in [
+        (0, "begin", 10, "", "", "started"),
+        (0, "put", 10, "a", "1", "written"),
+        (0, "commit", 10, "", "", "committed 1"),
+        (1, "begin", 20, "", "", "started"),
+        (1, "get", 20, "a", "", "value [49]"),
+    ] {
+        let (seat, word, number, key, value, want) = call;
+        let cmd = command(rt.alloc(), word, number, key, value)?;
+        calls.push((seat, cmd))?;
+        wanted.push(want)?;
+    }
+    let (engine, events) = Engine::run(rt.alloc(), calls, 1024)?;
+    assert_eq!(rt; engine.steps(), 5);
+    for (index, event) in events.iter().enumerate() {
+        let said = words(rt.alloc(), &event.reply)?;
+        assert_eq!(rt; event.position, index as u64);
+        assert_eq!(rt; said.as_str(), *wanted.get(index).unwrap_or(&""));
+    }
+    assert_eq!(rt; events.len(), 5);
+    Ok(())
 }

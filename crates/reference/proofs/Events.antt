@@ -21,7 +21,7 @@ use Rattle.reference.specs.Transactions.{begun_by, decided, aborted_through}
 use Rattle.reference.specs.Chains.{with_write, dropped, cleared}
 use Rattle.reference.specs.Reads.{read_of}
 use Rattle.reference.specs.SpanReads.{scan_of, sources_in}
-use Rattle.reference.specs.Served.{is_late}
+use Rattle.reference.specs.Late.{is_late}
 use Rattle.reference.specs.Tied.{IsTied, Represents}
 use Rattle.reference.proofs.Ties.{tied_still, tied_begins, tied_reads, tied_scans, tied_writes, tied_commits, tied_aborts, tied_snapshot, tied_snapshot_scan, tied_hard_closes, goes}
 

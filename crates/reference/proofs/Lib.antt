@@ -10,3 +10,6 @@ pub mod Scanning
 pub mod Once
 pub mod Counting
 pub mod Streaming
+pub mod ClosedRange
+pub mod Room
+pub mod PollSteps

@@ -1,13 +1,12 @@
 -- Why a database's answers are those of the definitions.
-use Rattle.std.proofs.Common.{◌≡◌, ℕ, ◌-◌, ◌≤◌, ◌==◌, Bool, true, false, not, ◌&&◌, ◌||◌, List, [], ◌∷◌, ◌++◌, map, reverse, length, Option, Some, None, refl, sym, ◌∙◌, ap, arith}
+use Rattle.std.proofs.Common.{◌≡◌, ℕ, ◌-◌, ◌<◌, ◌≤◌, ◌==◌, Bool, true, false, not, ◌&&◌, ◌||◌, List, [], ◌∷◌, ◌++◌, map, reverse, length, Option, Some, None, refl, sym, ◌∙◌, ap, arith}
 use Rattle.std.specs.Prelude.{filter, max, min, nat_lt, nat_le, Result, Ok, Err, IfOk, OnErr}
 use Rattle.std.proofs.lemmas.Bool.{ne_eqb, le-ltb, ltb-false}
 use Rattle.std.proofs.lemmas.List.{reverse-append, map-append, length-reverse}
 use denote.Ref.{Bor}
 use Rattle.timestamps.specs.declared.ts.TheConstants.{MAX}
-use Rattle.spans.specs.declared.calls.commands.Cmd.TheVariants.{Get, Close, CloseHard, ReadAt, Open}
+use Rattle.spans.specs.declared.calls.commands.Cmd.TheVariants.{Get, Close, CloseHard, ReadAt}
 use Rattle.spans.specs.declared.calls.commands.Cmd.{Cmd}
-use Rattle.spans.specs.declared.span.Span.{Span}
 use Rattle.std.specs.declared.alloc.AllocError.{AllocError}
 use Rattle.spans.specs.Legal.{is_accepted, may_lack_memory}
 use Rattle.spans.proofs.Legal.{legal_allowed}
@@ -151,8 +150,8 @@ close_hard_answers db h seat to at n stands low is is' = rw (not_above) (rw (is,
 
 pub answer_at : (r : Result Reply AllocError) (db : Database) (seat : ℕ) (cmd : Cmd)
     → IfOk r (λ reply. (h : List Event) (s : ℕ) → Represents db h → reply ≡ answer_of (effects_of h) s cmd)
-    → IfOk r (λ reply. (h : List Event) → Represents db h → reply ≡ answer_of (effects_of h) seat cmd)
-answer_at (Ok reply) db seat cmd answers = λ h stands. answers h seat stands
+    → IfOk r (λ reply. (h : List Event) → Represents db h → length h < 18446744073709551615 → reply ≡ answer_of (effects_of h) seat cmd)
+answer_at (Ok reply) db seat cmd answers = λ h stands few. answers h seat stands
 answer_at (Err e) db seat cmd answers = tt
 
 pub failure_at : (r : Result Reply AllocError) (db : Database) (seat : ℕ) (cmd : Cmd) → may_lack_memory cmd ≡ true
@@ -160,15 +159,3 @@ pub failure_at : (r : Result Reply AllocError) (db : Database) (seat : ℕ) (cmd
     → OnErr r ((h : List Event) → Represents db h → (is_accepted (answer_of (effects_of h) seat cmd) ≡ true) × (may_lack_memory cmd ≡ true))
 failure_at (Ok reply) db seat cmd may fails = tt
 failure_at (Err e) db seat cmd may fails = λ h stands. (fails h seat stands, may)
-
-pub open_answer_at : (r : Result Reply AllocError) (db : Database) (seat : ℕ) (span : Span) (cursor : ℕ)
-    → IfOk r (λ reply. (h : List Event) (s : ℕ) (k : Span) → Represents db h → reply ≡ answer_of (effects_of h) s (Open k cursor))
-    → IfOk r (λ reply. (h : List Event) → Represents db h → reply ≡ answer_of (effects_of h) seat (Open span cursor))
-open_answer_at (Ok reply) db seat span cursor answers = λ h stands. answers h seat span stands
-open_answer_at (Err e) db seat span cursor answers = tt
-
-pub open_failure_at : (r : Result Reply AllocError) (db : Database) (seat : ℕ) (span : Span) (cursor : ℕ)
-    → OnErr r ((h : List Event) (s : ℕ) (k : Span) → Represents db h → is_accepted (answer_of (effects_of h) s (Open k cursor)) ≡ true)
-    → OnErr r ((h : List Event) → Represents db h → (is_accepted (answer_of (effects_of h) seat (Open span cursor)) ≡ true) × (true ≡ true))
-open_failure_at (Ok reply) db seat span cursor fails = tt
-open_failure_at (Err e) db seat span cursor fails = λ h stands. (fails h seat span stands, refl)

@@ -4,7 +4,7 @@ pub mod Chains
 pub mod Reads
 pub mod SpanReads
 pub mod Tied
-pub mod Served
+pub mod Late
 pub mod Scans
 pub mod Counts
 pub mod Once

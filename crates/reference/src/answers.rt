@@ -1,5 +1,5 @@
 //! What the database answers.
-ghost use Rattle.std.specs.Prelude.{◌≡◌, ◌==◌, ◌||◌, ℕ, List, ◌∷◌, [], ◌++◌, true, IfOk, OnErr};
+ghost use Rattle.std.specs.Prelude.{◌≡◌, ◌<◌, ◌==◌, ◌||◌, ℕ, List, ◌∷◌, [], ◌++◌, length, true, IfOk, OnErr};
 ghost use Rattle.spans.specs.declared.calls.events.Event.{Event};
 ghost use Rattle.spans.specs.declared.calls.commands.Cmd.TheVariants.{Begin, Get, Commit, Abort, Close};
 ghost use Rattle.spans.specs.declared.calls.replies.Reply.TheVariants.{Written};
@@ -8,7 +8,6 @@ ghost use Rattle.spans.specs.Effects.{effects_of};
 ghost use Rattle.spans.specs.Reads.{too_late};
 ghost use Rattle.spans.specs.Answer.{first_refusal, first_refusal_or, transaction_tests, answer_of};
 ghost use Rattle.spans.specs.Legal.{is_accepted, may_lack_memory};
-ghost use Rattle.reference.specs.Served.{IsServed};
 ghost use Rattle.reference.specs.Tied.{Represents, committed_in};
 ghost use Rattle.reference.specs.Transactions.{transaction_at};
 
@@ -21,10 +20,9 @@ use timestamps::row::copy_after;
 use timestamps::ts::MAX;
 
 impl Database {
-    /// What a seat's command is answered.
+    /// What a seat's command is answered, after a history whose events a `u64` can count.
     pub fn answer(&self, seat: u8, cmd: &Cmd) -> Result<Reply, AllocError>
-        requires { IsServed cmd.now }
-        ensures answer { IfOk result (λ reply. (h : List Event) → Represents self.now h → reply ≡ answer_of (effects_of h) seat cmd.now) }
+        ensures answer { IfOk result (λ reply. (h : List Event) → Represents self.now h → length h < 18446744073709551615 → reply ≡ answer_of (effects_of h) seat cmd.now) }
         ensures memory { OnErr result ((h : List Event) → Represents self.now h → (is_accepted (answer_of (effects_of h) seat cmd.now) ≡ true) × (may_lack_memory cmd.now ≡ true)) }
     {
         match cmd {
@@ -39,11 +37,13 @@ impl Database {
             Cmd::CloseHard { to } => Ok(self.answer_close_hard(*to)),
             Cmd::ReadAt { t, key } => self.answer_read_at(*t, key),
             Cmd::ScanAt { t, span } => self.answer_scan_at(*t, span),
-            Cmd::Protect { t } => self.answer_protect(*t),
+            Cmd::Protect { t } => Ok(self.answer_protect(*t)),
             Cmd::Release { id } => Ok(self.answer_release(*id)),
-            Cmd::Open { span: _, cursor } => self.answer_open(*cursor),
+            Cmd::Open { span: _, cursor } => Ok(self.answer_open(*cursor)),
             Cmd::Cancel { feed } => Ok(self.answer_cancel(*feed)),
-            _ => unreachable!(),
+            Cmd::Collect { to } => Ok(self.answer_collect(*to)),
+            Cmd::Poll { feed, max } => self.answer_poll(seat, *feed, *max),
+            Cmd::Stats => Ok(self.answer_stats()),
         }
     }
 

@@ -1,6 +1,8 @@
-//! How many transactions are undecided, and how many versions there are and are dead.
-ghost use Rattle.std.specs.Prelude.{◌≡◌, List, ◌∷◌, ◌&&◌, ◌||◌, ◌^◌, ◌-◌, nat_le, nat_lt, min, length, filter, is_none};
+//! Statistics: how many transactions are undecided, and how many versions there are and are dead.
+ghost use Rattle.std.specs.Prelude.{◌≡◌, ◌<◌, ℕ, List, ◌∷◌, ◌&&◌, ◌||◌, ◌^◌, ◌-◌, nat_le, nat_lt, min, length, filter, is_none};
 ghost use Rattle.spans.specs.declared.calls.events.Event.{Event};
+ghost use Rattle.spans.specs.declared.calls.commands.Cmd.TheVariants.{Stats};
+ghost use Rattle.spans.specs.Answer.{answer_of};
 ghost use Rattle.spans.specs.Collection.{versions_of, dead_of};
 ghost use Rattle.spans.specs.Effects.{effects_of, Collects};
 ghost use Rattle.spans.specs.Newest.{newest};
@@ -13,8 +15,23 @@ ghost use Rattle.reference.specs.Transactions.{transaction_at, is_open};
 use crate::database::Database;
 use crate::transactions::{State, Transaction};
 use crate::versions::{Version, Versions};
+use spans::calls::Reply;
 
 impl Database {
+    /// What is counted, without the dead versions.
+    pub(crate) fn answer_stats(&self) -> Reply
+        ensures { (h : List Event) (seat : ℕ) → Represents self.now h → length h < 18446744073709551615 → result ≡ answer_of (effects_of h) seat Stats }
+    {
+        let dead = self.dead_count(self.horizon);
+        Reply::Stats {
+            versions: self.version_count().saturating_sub(dead),
+            undecided: self.undecided_count(),
+            feeds: self.feeds.live_count(),
+            closed: self.closed,
+            horizon: self.horizon,
+        }
+    }
+
     /// How many transactions are undecided.
     pub(crate) fn undecided_count(&self) -> u64
         ensures { (h : List Event) → Represents self.now h → result ≡ length (undecided_timestamps (effects_of h)) }

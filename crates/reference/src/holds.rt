@@ -1,5 +1,5 @@
 //! Snapshots, hard closings, and what holds the horizon back: protections and feeds.
-ghost use Rattle.std.specs.Prelude.{◌≡◌, ℕ, List, ◌∷◌, true, Option, IfOk, OnErr, OnOk};
+ghost use Rattle.std.specs.Prelude.{◌≡◌, ◌<◌, ℕ, List, ◌∷◌, length, true, Option, IfOk, OnErr, OnOk};
 ghost use Rattle.spans.specs.declared.calls.events.Event.{Event};
 ghost use Rattle.spans.specs.declared.span.Span.{Span};
 ghost use Rattle.spans.specs.declared.calls.commands.Cmd.TheVariants.{ReadAt, CloseHard, Protect, Release, Open, Cancel};
@@ -76,18 +76,16 @@ impl Database {
         }
     }
 
-    pub(crate) fn answer_protect(&self, t: u64) -> Result<Reply, AllocError>
-        ensures answer { IfOk result (λ reply. (h : List Event) (seat : ℕ) → Represents self.now h → reply ≡ answer_of (effects_of h) seat (Protect t)) }
-        ensures memory { OnErr result ((h : List Event) (seat : ℕ) → Represents self.now h → is_accepted (answer_of (effects_of h) seat (Protect t)) ≡ true) }
+    pub(crate) fn answer_protect(&self, t: u64) -> Reply
+        ensures { (h : List Event) (seat : ℕ) → Represents self.now h → length h < 18446744073709551615 → result ≡ answer_of (effects_of h) seat (Protect t) }
     {
         if let Some(refusal) = self.horizon_refusal(t) {
-            return Ok(Reply::Refused(refusal));
+            return Reply::Refused(refusal);
         }
-        let made = self.protections.made();
-        if made == u64::MAX {
-            return Err(AllocError);
+        // no more were made than there were commands, so a number is left
+        Reply::Protected {
+            id: self.protections.made().saturating_add(1),
         }
-        Ok(Reply::Protected { id: made + 1 })
     }
 
     /// The first of the tests of what looks back to a timestamp that applies.
@@ -140,18 +138,16 @@ impl Database {
         }
     }
 
-    pub(crate) fn answer_open(&self, cursor: u64) -> Result<Reply, AllocError>
-        ensures answer { IfOk result (λ reply. (h : List Event) (seat : ℕ) (span : Span) → Represents self.now h → reply ≡ answer_of (effects_of h) seat (Open span cursor)) }
-        ensures memory { OnErr result ((h : List Event) (seat : ℕ) (span : Span) → Represents self.now h → is_accepted (answer_of (effects_of h) seat (Open span cursor)) ≡ true) }
+    pub(crate) fn answer_open(&self, cursor: u64) -> Reply
+        ensures { (h : List Event) (seat : ℕ) (span : Span) → Represents self.now h → length h < 18446744073709551615 → result ≡ answer_of (effects_of h) seat (Open span cursor) }
     {
         if let Some(refusal) = self.horizon_refusal(cursor) {
-            return Ok(Reply::Refused(refusal));
+            return Reply::Refused(refusal);
         }
-        let opened = self.feeds.opened();
-        if opened == u64::MAX {
-            return Err(AllocError);
+        // no more were opened than there were commands, so a number is left
+        Reply::Opened {
+            feed: self.feeds.opened().saturating_add(1),
         }
-        Ok(Reply::Opened { feed: opened + 1 })
     }
 
     pub(crate) fn record_open(

@@ -18,15 +18,18 @@
 //! begin 25, put b    toolate: 30 read across 25, since it read every key and found no b
 //! ```
 //!
-//! Cost: each call walks its lists once; a hard closing also looks up the transaction of each version
-//! above closed, and a write looks at the keys that the scans found. Nothing is ever forgotten.
+//! Cost: each call walks its lists once. A hard closing also looks up the transaction of each version
+//! above closed, a collection and the statistics that of each version; a write looks at the keys that
+//! the scans found, and a poll gathers the whole stream of its feed. Nothing is ever forgotten.
 #![tactic(auto)]
 
 mod answers;
 pub mod chains;
+mod collecting;
 mod counts;
 pub mod database;
 mod holds;
+mod polling;
 pub mod reads;
 mod records;
 mod scans;

@@ -5,7 +5,7 @@ ghost use Rattle.spans.specs.declared.calls.commands.Cmd.TheVariants.{Begin, Get
 ghost use Rattle.spans.specs.declared.calls.replies.Reply.TheVariants.{Started, Found, Written, Committed, Aborted, Closed};
 ghost use Rattle.spans.specs.Effects.{effects_of, event};
 ghost use Rattle.spans.specs.Legal.{IsRightEvent, is_accepted, may_lack_memory};
-ghost use Rattle.reference.specs.Served.{IsServed, is_late};
+ghost use Rattle.reference.specs.Late.{is_late};
 ghost use Rattle.spans.specs.Versions.{visible};
 ghost use Rattle.reference.specs.Tied.{Represents};
 ghost use Rattle.reference.specs.Transactions.{decided};
@@ -22,7 +22,6 @@ use timestamps::value::Value;
 impl Database {
     /// Takes in an answered command.
     pub fn record(&mut self, seat: u8, cmd: &Cmd, reply: &Reply) -> Result<(), AllocError>
-        requires { IsServed cmd.now }
         ensures ok { OnOk result ((h : List Event) (n : ℕ) → Represents self.old h → IsRightEvent (effects_of h) (event n seat cmd.now reply.now) → Represents self.new (event n seat cmd.now reply.now ∷ h)) }
         ensures err { OnErr result (self.new ≡ self.old) }
         ensures memory { OnErr result ((is_accepted reply.now ≡ true) × (may_lack_memory cmd.now ≡ true)) }
@@ -61,7 +60,12 @@ impl Database {
                 self.record_cancel(*feed, reply);
                 Ok(())
             }
-            _ => unreachable!(),
+            Cmd::Collect { to } => {
+                self.record_collect(*to, reply);
+                Ok(())
+            }
+            Cmd::Poll { feed, max: _ } => self.record_poll(seat, *feed, reply),
+            Cmd::Stats => Ok(()),
         }
     }
 

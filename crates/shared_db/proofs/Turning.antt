@@ -9,17 +9,10 @@ use Rattle.spans.specs.declared.calls.events.Event.{Event}
 use Rattle.spans.specs.Legal.{IsGapless}
 use Rattle.engine.specs.declared.Engine.{Engine}
 use Rattle.engine.specs.Engine.{StandsFor}
+use Rattle.engine.proofs.Runs.{gapless_more, turned_more}
 use Rattle.ticket_lock.specs.Lists.{of_seat}
 use Rattle.ticket_lock.proofs.ListFacts.{of_more}
 use Rattle.shared_db.specs.History.{Stands}
-
--- the list turned round, with one more
-pub turned_more : (h : List Event) (e : Event) → reverse (h ++ e ∷ []) ≡ e ∷ reverse h
-turned_more h e = reverse-append h (e ∷ [])
-
-pub gapless_more : (n : ℕ) (h : List Event) (e : Event) → IsGapless n h → e.position ≡ n + length h → IsGapless n (h ++ e ∷ [])
-gapless_more n [] e g at = (omega arith, tt)
-gapless_more n (x ∷ xs) e g at = (g.0, gapless_more (suc n) xs e g.1 (omega arith))
 
 -- after its step the engine stands for the history with the event
 pub stands_more : (x y : Engine) (first : ℕ) (h : List Event) (e : Event) → Stands x first h → (StandsFor x (reverse h) → StandsFor y (e ∷ reverse h)) → e.position ≡ first + length h → Stands y first (h ++ e ∷ [])

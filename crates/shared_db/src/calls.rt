@@ -1,6 +1,5 @@
 //! Calls: a command of a seat becomes an event of the one history.
 ghost use Rattle.std.specs.Prelude.{◌≡◌, IfOk, IfErr};
-ghost use Rattle.reference.specs.Served.{IsServed};
 ghost use Rattle.ticket_lock.specs.Seats.{IsSame, IsOf as IsOwn};
 ghost use Rattle.ticket_lock.specs.Turns.{IsSpent};
 ghost use Rattle.shared_db.specs.Seats.{IsOf, first_of};
@@ -35,7 +34,6 @@ impl Db {
     /// later call of this seat too. Whether the wait ends is not promised.
     pub fn call<R: Wait>(&self, rt: &R, seat: &mut Seat, cmd: Cmd) -> Result<Event, Spent>
         requires own { IsOf self.now seat.old }
-        requires served { IsServed cmd }
         ensures own { IsOf self.now seat.new }
         ensures same { IsSame seat.old seat.new }
         ensures event { IfOk result (λ event. IsAnswered (first_of self.now) seat.old cmd event seat.new) }
@@ -52,7 +50,6 @@ impl Db {
     /// `Spent` comes where the next position would be 18446744073709551615, and before `Busy`.
     pub fn try_call(&self, seat: &mut Seat, cmd: Cmd) -> Result<Event, CallDenied>
         requires own { IsOf self.now seat.old }
-        requires served { IsServed cmd }
         ensures own { IsOf self.now seat.new }
         ensures same { IsSame seat.old seat.new }
         ensures event { IfOk result (λ event. IsAnswered (first_of self.now) seat.old cmd event seat.new) }
@@ -69,7 +66,6 @@ impl Db {
     fn make(&self, seat: &mut Seat, mut held: Held<Served>, cmd: Cmd) -> Event
         requires own { IsOwn self.now.lock seat.old }
         requires turn { IsReady (first_of self.now) held.value held.ticket seat.old }
-        requires served { IsServed cmd }
         ensures own { IsOf self.now seat.new }
         ensures same { IsSame seat.old seat.new }
         ensures made { IsMade (first_of self.now) seat.old held.ticket cmd result seat.new }

@@ -1,16 +1,16 @@
 use Rattle.std.proofs.Common.{refl}
-use Rattle.spans.specs.declared.calls.commands.Cmd.TheVariants.{ReadAt, ScanAt, Protect}
-use Rattle.reference.proofs.Replies.{answer_at, failure_at, open_answer_at, open_failure_at}
+use Rattle.spans.specs.declared.calls.commands.Cmd.TheVariants.{ReadAt, ScanAt}
+use Rattle.reference.proofs.Replies.{answer_at, failure_at}
 use Rattle.reference.proofs.database.Database.answer.Goals as goal
 
 pub returns-in-Begin-clause-answer : goal.returns-in-Begin-clause-answer
-returns-in-Begin-clause-answer c = λ h stands. rw c.in-Begin.is (c.answer_begin.ensures h c.args.seat stands)
+returns-in-Begin-clause-answer c = λ h stands few. rw c.in-Begin.is (c.answer_begin.ensures h c.args.seat stands)
 
 pub returns-in-Close-clause-answer : goal.returns-in-Close-clause-answer
-returns-in-Close-clause-answer c = λ h stands. rw c.in-Close.is (c.answer_close.ensures h c.args.seat stands)
+returns-in-Close-clause-answer c = λ h stands few. rw c.in-Close.is (c.answer_close.ensures h c.args.seat stands)
 
 pub returns-in-CloseHard-clause-answer : goal.returns-in-CloseHard-clause-answer
-returns-in-CloseHard-clause-answer c = λ h stands. rw c.in-CloseHard.is (c.answer_close_hard.ensures h c.args.seat stands)
+returns-in-CloseHard-clause-answer c = λ h stands few. rw c.in-CloseHard.is (c.answer_close_hard.ensures h c.args.seat stands)
 
 pub returns-in-ReadAt-clause-answer : goal.returns-in-ReadAt-clause-answer
 returns-in-ReadAt-clause-answer c = rw c.in-ReadAt.is (answer_at c.answer_read_at.result c.args.self.now c.args.seat (ReadAt c.in-ReadAt.t c.in-ReadAt.key) c.answer_read_at.ensures.answer)
@@ -25,19 +25,19 @@ pub returns-in-ScanAt-clause-memory : goal.returns-in-ScanAt-clause-memory
 returns-in-ScanAt-clause-memory c = rw c.in-ScanAt.is (failure_at c.answer_scan_at.result c.args.self.now c.args.seat (ScanAt c.in-ScanAt.t c.in-ScanAt.span) refl c.answer_scan_at.ensures.memory)
 
 pub returns-in-Protect-clause-answer : goal.returns-in-Protect-clause-answer
-returns-in-Protect-clause-answer c = rw c.in-Protect.is (answer_at c.answer_protect.result c.args.self.now c.args.seat (Protect c.in-Protect.t) c.answer_protect.ensures.answer)
-
-pub returns-in-Protect-clause-memory : goal.returns-in-Protect-clause-memory
-returns-in-Protect-clause-memory c = rw c.in-Protect.is (failure_at c.answer_protect.result c.args.self.now c.args.seat (Protect c.in-Protect.t) refl c.answer_protect.ensures.memory)
+returns-in-Protect-clause-answer c = λ h stands few. rw c.in-Protect.is (c.answer_protect.ensures h c.args.seat stands few)
 
 pub returns-in-Release-clause-answer : goal.returns-in-Release-clause-answer
-returns-in-Release-clause-answer c = λ h stands. rw c.in-Release.is (c.answer_release.ensures h c.args.seat stands)
+returns-in-Release-clause-answer c = λ h stands few. rw c.in-Release.is (c.answer_release.ensures h c.args.seat stands)
 
 pub returns-in-Open-clause-answer : goal.returns-in-Open-clause-answer
-returns-in-Open-clause-answer c = rw c.in-Open.is (open_answer_at c.answer_open.result c.args.self.now c.args.seat c.in-Open.span c.in-Open.cursor c.answer_open.ensures.answer)
-
-pub returns-in-Open-clause-memory : goal.returns-in-Open-clause-memory
-returns-in-Open-clause-memory c = rw c.in-Open.is (open_failure_at c.answer_open.result c.args.self.now c.args.seat c.in-Open.span c.in-Open.cursor c.answer_open.ensures.memory)
+returns-in-Open-clause-answer c = λ h stands few. rw c.in-Open.is (c.answer_open.ensures h c.args.seat c.in-Open.span stands few)
 
 pub returns-in-Cancel-clause-answer : goal.returns-in-Cancel-clause-answer
-returns-in-Cancel-clause-answer c = λ h stands. rw c.in-Cancel.is (c.answer_cancel.ensures h c.args.seat stands)
+returns-in-Cancel-clause-answer c = λ h stands few. rw c.in-Cancel.is (c.answer_cancel.ensures h c.args.seat stands)
+
+pub returns-in-Collect-clause-answer : goal.returns-in-Collect-clause-answer
+returns-in-Collect-clause-answer c = λ h stands few. rw c.in-Collect.is (c.answer_collect.ensures h c.args.seat stands few)
+
+pub returns-in-Stats-clause-answer : goal.returns-in-Stats-clause-answer
+returns-in-Stats-clause-answer c = λ h stands few. rw c.in-Stats.is (c.answer_stats.ensures h c.args.seat stands few)

@@ -46,3 +46,9 @@ returns-in-Open-clause-ok c = rw c.in-Open.is c.record_open.ensures.ok
 
 pub returns-in-Cancel-clause-ok : goal.returns-in-Cancel-clause-ok
 returns-in-Cancel-clause-ok c = λ h n. rw c.in-Cancel.is (c.record_cancel.ensures h n c.args.seat)
+
+pub returns-in-Collect-clause-ok : goal.returns-in-Collect-clause-ok
+returns-in-Collect-clause-ok c = λ h n. rw c.in-Collect.is (c.record_collect.ensures h n c.args.seat)
+
+pub returns-in-Poll-clause-ok : goal.returns-in-Poll-clause-ok
+returns-in-Poll-clause-ok c = rw c.in-Poll.is (on_ok_weaker c.record_poll.result (λ takes. λ h n. takes h n c.in-Poll.max) c.record_poll.ensures.ok)
