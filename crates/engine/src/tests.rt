@@ -167,7 +167,6 @@ fn words(alloc: Global, reply: &Reply) -> Result<String, AllocError> {
             format!(in alloc; "stats {versions} {undecided} {feeds} {closed} {horizon}")
         }
         Reply::Refused(refusal) => words_of_refusal(alloc, *refusal),
-        _ => String::from_str(alloc, "another reply"),
     }
 }
 
