@@ -7,46 +7,45 @@
 //! 2 0 commit 10 => committed 1
 //! ```
 //!
-//! Each command is a function over a reader and a writer that answers an `End`; `main` makes the exit
-//! status of it, and the word on standard error.
+//! Each command is a function over its options, a reader and a writer that answers an `End`; `main`
+//! makes the exit status of it, and the word on standard error.
 #![tactic(auto)]
 
+mod command_line;
 mod run;
 mod status;
 #[cfg(test)]
 mod tests;
 
-use clap::Command;
+use command_line::{command, options_of};
 use run::run_io;
-use std::alloc::{AllocError, Global};
+use std::env::Env;
 use std::io;
 use std::process::ExitCode;
 
-/// The status of a command line that is refused.
-const REFUSED: u8 = 1;
-
-fn main(rt: HostRuntime) -> io::Result<ExitCode> {
-    let words: Vec<String> = std::env::args(&rt)?.collect(rt.alloc())?;
-    match command(rt.alloc())?.try_get_matches_from(words.as_slice()) {
-        Ok(_run) => {
-            let end = run_io(rt.alloc(), rt.reader(), io::writer(&rt));
-            Ok(status::told(&rt, end))
+fn main(rt: HostRuntime) -> ExitCode {
+    let words = match words(&rt) {
+        Ok(words) => words,
+        Err(word) => return status::failed(&rt, word),
+    };
+    let Ok(command) = command(rt.alloc()) else {
+        return status::failed(&rt, status::MEMORY);
+    };
+    match command.try_get_matches_from(words.as_slice()) {
+        Ok(matches) => {
+            let options = options_of(&matches);
+            let end = run_io(&rt, rt.alloc(), options, rt.reader(), io::writer(&rt));
+            status::told(&rt, end)
         }
-        Err(error) => {
-            error.print(&rt)?;
-            let status = if error.exit_code() == 0 { 0 } else { REFUSED };
-            Ok(ExitCode::from(status))
-        }
+        Err(refused) => status::refused(&rt, &refused),
     }
 }
 
-/// What the program's command line may be.
-fn command<'a>(alloc: Global) -> Result<Command<'a>, AllocError> {
-    let run = Command::new(alloc, "run").about(
-        "Make the calls of a script, and write what happened",
-    );
-    Command::new(alloc, "mvfeed")
-        .about("A multiversion timestamp database whose changes leave it as ordered streams")
-        .subcommand_required(true)
-        .subcommand(run)
+/// The words of the command line, or what to say where they can't be had.
+fn words<R: Env + AllocGlobal>(rt: &R) -> Result<Vec<String>, &'static str> {
+    let words = std::env::args(rt).map_err(|error| match error.kind() {
+        io::ErrorKind::InvalidData => status::NO_TEXT,
+        _ => status::MEMORY,
+    })?;
+    words.collect(rt.alloc()).map_err(|_| status::MEMORY)
 }

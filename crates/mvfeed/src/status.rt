@@ -1,14 +1,27 @@
 //! What the program leaves its caller: an exit status, and a word where it failed.
 
-use sessions::End;
+use clap::Error;
+use sessions::{End, OpenError};
 use std::process::ExitCode;
+
+/// The word where a growth of memory was refused.
+pub(crate) const MEMORY: &str = "memory";
+
+/// The word where standard output took no more.
+const OUTPUT: &str = "output";
+
+/// The words where an argument of the command line is other bytes than text.
+pub(crate) const NO_TEXT: &str = "an argument is not UTF-8";
+
+/// The exit status where the program failed.
+const FAILED: u8 = 1;
 
 /// The exit status of an end: 0 where all was done, 2 for a faulty line, else 1.
 pub(crate) fn status_of(end: End) -> u8 {
     match end {
         End::Done => 0,
         End::Faulty => 2,
-        End::Input | End::Output | End::Memory | End::Spent => 1,
+        End::Open(_) | End::Input | End::Output | End::Memory | End::Spent => FAILED,
     }
 }
 
@@ -16,9 +29,11 @@ pub(crate) fn status_of(end: End) -> u8 {
 pub(crate) fn word_of(end: End) -> Option<&'static str> {
     match end {
         End::Done | End::Faulty => None,
+        End::Open(OpenError::SeatCount) => Some("seats"),
+        End::Open(OpenError::RingSize) => Some("ring"),
+        End::Open(OpenError::NoMemory) | End::Memory => Some(MEMORY),
         End::Input => Some("input"),
-        End::Output => Some("output"),
-        End::Memory => Some("memory"),
+        End::Output => Some(OUTPUT),
         End::Spent => Some("spent"),
     }
 }
@@ -26,8 +41,31 @@ pub(crate) fn word_of(end: End) -> Option<&'static str> {
 /// The exit status of an end, of which standard error is told where it is a failure.
 pub(crate) fn told(rt: &impl Eprint, end: End) -> ExitCode {
     if let Some(word) = word_of(end) {
-        // A status of 1 stands also where standard error can't be told why.
-        let _ = eprintln!(rt; "mvfeed: {word}");
+        tell(rt, word);
     }
     ExitCode::from(status_of(end))
+}
+
+/// The exit status of a failure, of which standard error is told.
+pub(crate) fn failed(rt: &impl Eprint, word: &str) -> ExitCode {
+    tell(rt, word);
+    ExitCode::from(FAILED)
+}
+
+/// The exit status of a command line that asks for no run: for help, which is printed, or for what
+/// the program doesn't do.
+pub(crate) fn refused<R: Print + Eprint>(rt: &R, error: &Error) -> ExitCode {
+    let printed = error.print(rt);
+    if error.exit_code() != 0 {
+        return ExitCode::from(FAILED);
+    }
+    if printed.is_err() {
+        return failed(rt, OUTPUT);
+    }
+    ExitCode::SUCCESS
+}
+
+fn tell(rt: &impl Eprint, word: &str) {
+    // The status stands also where standard error can't be told why.
+    let _ = eprintln!(rt; "mvfeed: {word}");
 }

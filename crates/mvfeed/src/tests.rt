@@ -3,11 +3,13 @@
 mod devices;
 mod rows;
 
-use crate::run::run_io;
+use crate::command_line::{command, options_of};
+use crate::run::{DEFAULTS, run_io};
 use crate::status::{status_of, word_of};
 use devices::{Sink, Source};
-use sessions::End;
+use sessions::{Config, End, OpenError};
 use std::alloc::{AllocError, Global};
+use std::sync::Wait;
 use std::test::Fail;
 
 /// What a run of the program wrote, and how it ended.
@@ -17,9 +19,13 @@ struct Ran {
     output: Vec<u8>,
 }
 
-fn run_of(alloc: Global, input: &[u8]) -> Ran {
+fn run_of<R: Wait>(rt: &R, alloc: Global, input: &[u8]) -> Ran {
+    run_with(rt, alloc, DEFAULTS, input)
+}
+
+fn run_with<R: Wait>(rt: &R, alloc: Global, options: Config, input: &[u8]) -> Ran {
     let mut sink = Sink::new(alloc);
-    let end = run_io(alloc, Source::new(input), &mut sink);
+    let end = run_io(rt, alloc, options, Source::new(input), &mut sink);
     Ran {
         end,
         output: sink.taken,
@@ -42,7 +48,7 @@ fn script_of(alloc: Global, transcript: &str) -> Result<Vec<u8>, AllocError> {
 fn transcripts(rt: HostRuntime) -> Result<(), Fail> {
     for transcript in rows::TRANSCRIPTS {
         let script = script_of(rt.alloc(), transcript)?;
-        let ran = run_of(rt.alloc(), script.as_slice());
+        let ran = run_of(&rt, rt.alloc(), script.as_slice());
         assert_eq!(rt; ran.end, End::Done, "{transcript}");
         assert_eq!(rt;
             ran.output.as_slice(),
@@ -56,7 +62,7 @@ fn transcripts(rt: HostRuntime) -> Result<(), Fail> {
 #[test]
 fn faulty_lines(rt: HostRuntime) {
     for (line, last) in rows::FAULTS {
-        let ran = run_of(rt.alloc(), line.as_bytes());
+        let ran = run_of(&rt, rt.alloc(), line.as_bytes());
         assert_eq!(rt; ran.end, End::Faulty, "{line:?}");
         assert_eq!(rt; ran.output.as_slice(), last.as_bytes(), "{line:?}");
     }
@@ -82,7 +88,7 @@ fn padded(
 fn lengths(rt: HostRuntime) -> Result<(), Fail> {
     for (before, letter, count, after, last) in rows::LENGTHS {
         let line = padded(rt.alloc(), before, letter, count, after)?;
-        let ran = run_of(rt.alloc(), line.as_slice());
+        let ran = run_of(&rt, rt.alloc(), line.as_slice());
         assert_eq!(rt; ran.end, End::Faulty, "{before} and {count} letters");
         assert_eq!(rt;
             ran.output.as_slice(),
@@ -98,7 +104,7 @@ fn events_before_a_fault_are_kept(rt: HostRuntime) -> Result<(), Fail> {
     let mut script = padded(rt.alloc(), "0 begin 10\n0 put 10 ", b'a', 64, " 1\n")?;
     let more = padded(rt.alloc(), "0 put 10 ", b'a', 65, " 1\n")?;
     script.extend_from_slice(more.as_slice())?;
-    let ran = run_of(rt.alloc(), script.as_slice());
+    let ran = run_of(&rt, rt.alloc(), script.as_slice());
     let mut wanted = padded(
         rt.alloc(),
         "0 0 begin 10 => started\n1 0 put 10 ",
@@ -120,7 +126,7 @@ fn a_read_fails(rt: HostRuntime) {
     let mut sink = Sink::new(rt.alloc());
     // Two lines and five bytes of the third.
     let source = Source::new(TWO_SESSIONS.as_bytes()).failing_after(29);
-    let end = run_io(rt.alloc(), source, &mut sink);
+    let end = run_io(&rt, rt.alloc(), DEFAULTS, source, &mut sink);
     assert_eq!(rt; end, End::Input);
     assert_eq!(rt;
         sink.taken.as_slice(),
@@ -132,7 +138,13 @@ fn a_read_fails(rt: HostRuntime) {
 fn a_write_fails(rt: HostRuntime) {
     for stuck in [false, true] {
         let mut sink = Sink::new(rt.alloc()).with_room(30, stuck);
-        let end = run_io(rt.alloc(), Source::new(TWO_SESSIONS.as_bytes()), &mut sink);
+        let end = run_io(
+            &rt,
+            rt.alloc(),
+            DEFAULTS,
+            Source::new(TWO_SESSIONS.as_bytes()),
+            &mut sink,
+        );
         assert_eq!(rt; end, End::Output);
         assert_eq!(rt;
             sink.taken.as_slice(),
@@ -143,11 +155,11 @@ fn a_write_fails(rt: HostRuntime) {
 
 #[test]
 fn any_cut_of_the_reads_gives_the_same_output(rt: HostRuntime) {
-    let whole = run_of(rt.alloc(), TWO_SESSIONS.as_bytes());
+    let whole = run_of(&rt, rt.alloc(), TWO_SESSIONS.as_bytes());
     for piece in 1..TWO_SESSIONS.len() {
         let mut sink = Sink::new(rt.alloc());
         let source = Source::new(TWO_SESSIONS.as_bytes()).in_pieces_of(piece);
-        let end = run_io(rt.alloc(), source, &mut sink);
+        let end = run_io(&rt, rt.alloc(), DEFAULTS, source, &mut sink);
         assert_eq!(rt; end, End::Done);
         assert_eq!(rt;
             sink.taken.as_slice(),
@@ -163,7 +175,7 @@ fn many_lines_pass_many_blocks(rt: HostRuntime) -> Result<(), Fail> {
     for _ in 0..20000 {
         script.extend_from_slice(b"0 get 7 a\n")?;
     }
-    let ran = run_of(rt.alloc(), script.as_slice());
+    let ran = run_of(&rt, rt.alloc(), script.as_slice());
     assert_eq!(rt; ran.end, End::Done);
     assert!(rt;
         ran.output
@@ -180,6 +192,9 @@ fn statuses(rt: HostRuntime) {
     for (end, status, word) in [
         (End::Done, 0, None),
         (End::Faulty, 2, None),
+        (End::Open(OpenError::SeatCount), 1, Some("seats")),
+        (End::Open(OpenError::RingSize), 1, Some("ring")),
+        (End::Open(OpenError::NoMemory), 1, Some("memory")),
         (End::Input, 1, Some("input")),
         (End::Output, 1, Some("output")),
         (End::Memory, 1, Some("memory")),
@@ -188,4 +203,77 @@ fn statuses(rt: HostRuntime) {
         assert_eq!(rt; status_of(end), status);
         assert_eq!(rt; word_of(end), word);
     }
+}
+
+#[test]
+fn positions_run_from_the_first(rt: HostRuntime) {
+    let options = Config {
+        first: 7,
+        ..DEFAULTS
+    };
+    let ran = run_with(&rt, rt.alloc(), options, b"0 begin 10\n1 close 5\n");
+    assert_eq!(rt; ran.end, End::Done);
+    assert_eq!(rt;
+        ran.output.as_slice(),
+        b"7 0 begin 10 => started\n8 1 close 5 => closed 5 0\n".as_slice()
+    );
+}
+
+#[test]
+fn the_last_positions_are_used_up(rt: HostRuntime) {
+    for (first, output) in rows::SPENT {
+        let options = Config { first, ..DEFAULTS };
+        let script = b"0 begin 10\n0 commit 10\n0 close 5\n".as_slice();
+        let ran = run_with(&rt, rt.alloc(), options, script);
+        assert_eq!(rt; ran.end, End::Spent, "from {first}");
+        assert_eq!(rt; ran.output.as_slice(), output.as_bytes(), "from {first}");
+    }
+}
+
+#[test]
+fn sessions_are_below_the_seats(rt: HostRuntime) {
+    for (seats, line, output) in rows::SEATED {
+        let options = Config { seats, ..DEFAULTS };
+        let ran = run_with(&rt, rt.alloc(), options, line.as_bytes());
+        assert_eq!(rt; ran.output.as_slice(), output.as_bytes(), "{line:?}");
+    }
+}
+
+#[test]
+fn a_database_that_is_not_opened_reads_nothing(rt: HostRuntime) {
+    for (seats, ring, refused) in [
+        (0, 1, OpenError::SeatCount),
+        (65, 1, OpenError::SeatCount),
+        (1, 0, OpenError::RingSize),
+        (1, 65537, OpenError::RingSize),
+    ] {
+        let options = Config {
+            seats,
+            ring,
+            first: 0,
+        };
+        let ran = run_with(&rt, rt.alloc(), options, b"0 begin 10\n");
+        assert_eq!(rt; ran.end, End::Open(refused));
+        assert!(rt; ran.output.is_empty());
+    }
+}
+
+/// The options that a command line asks for, if it is taken.
+fn options_in(alloc: Global, words: &[&str]) -> Result<Option<Config>, AllocError> {
+    match command(alloc)?.try_get_matches_from(words) {
+        Ok(matches) => Ok(Some(options_of(&matches))),
+        Err(_) => Ok(None),
+    }
+}
+
+#[test]
+fn options_are_read(rt: HostRuntime) -> Result<(), Fail> {
+    for (words, seats, ring, first) in rows::OPTIONS {
+        let wanted = Config { seats, ring, first };
+        assert_eq!(rt; options_in(rt.alloc(), words)?, Some(wanted), "{words:?}");
+    }
+    for words in rows::REFUSED {
+        assert_eq!(rt; options_in(rt.alloc(), words)?, None, "{words:?}");
+    }
+    Ok(())
 }

@@ -1,4 +1,5 @@
 //! How a run ends.
+use shared_db::OpenError;
 
 /// Why a run came to its end.
 #[derive(Clone, Copy, Debug, PartialEq, Eq)]
@@ -7,12 +8,14 @@ pub enum End {
     Done,
     /// A line of the input is faulty. The output says which, as its last line.
     Faulty,
+    /// No position is left for another call. The output says at which line, as its last line.
+    Spent,
+    /// The database was not opened. Nothing was read or written.
+    Open(OpenError),
     /// The input could not be read to its end.
     Input,
     /// The output could not be written.
     Output,
     /// A growth of memory was refused.
     Memory,
-    /// No position is left for another call. The output says at which line, as its last line.
-    Spent,
 }

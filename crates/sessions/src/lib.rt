@@ -13,6 +13,7 @@
 //! costs, and what the database's call does.
 #![tactic(auto)]
 
+mod callers;
 mod ending;
 mod lines;
 mod output;
@@ -20,3 +21,4 @@ mod serving;
 
 pub use ending::End;
 pub use serving::serve;
+pub use shared_db::{Config, OpenError};

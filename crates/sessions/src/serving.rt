@@ -1,38 +1,37 @@
 //! Serving a script: its calls are made in their order, and what happened is written.
+ghost use Rattle.std.specs.Prelude.{◌<◌, vec_len};
 
+use crate::callers::Callers;
 use crate::ending::End;
 use crate::lines::{Lines, Next, ReadFailed};
 use crate::output::{Output, WriteFailed};
-use engine::{Engine, is_served};
 use script::commands::read_command;
 use script::fault::{LineFault, ReadError};
-use spans::calls::{Cmd, Event};
+use shared_db::{Config, OpenError};
+use spans::calls::Cmd;
 use std::alloc::{AllocError, Global};
 use std::io::{Read, Write};
+use std::sync::Wait;
 
-/// How many sessions a script may have.
-const SEATS: u8 = 64;
-
-/// How many rows a feed keeps at hand.
-const RING: u32 = 1024;
-
-/// Reads a script to its end, makes its calls in order on one database, and writes the transcript.
+/// Opens a database, makes the calls of a script in their order, and writes the transcript.
 ///
-/// A faulty line ends the transcript with its fault; what was answered before it stands. The output
-/// is written in large blocks, at the end, and before each read, since a read may wait.
-pub fn serve<R: Read + Drop, W: Write + Drop>(alloc: Global, input: R, output: W) -> End {
-    let (Ok(lines), Ok(output)) = (Lines::new(alloc, input), Output::new(alloc, output)) else {
-        return End::Memory;
-    };
-    let mut run = Run {
-        alloc,
-        lines,
-        output,
-        engine: Engine::new(alloc, RING),
-        line: 0,
-    };
-    let end = run.calls();
-    run.last_written(end)
+/// A line is the call of the seat that it names. A faulty line ends the transcript with its fault,
+/// and so does one for which no position is left; what was answered before it stands. The output is
+/// written in large blocks, at the end, and before each read, since a read may wait.
+pub fn serve<R: Read + Drop, W: Write + Drop, T: Wait>(
+    rt: &T,
+    alloc: Global,
+    config: Config,
+    input: R,
+    output: W,
+) -> End {
+    match Run::begin(alloc, config, input, output) {
+        Ok(mut run) => {
+            let end = run.calls(rt);
+            run.finish(end)
+        }
+        Err(end) => end,
+    }
 }
 
 /// A run with what it has read, answered and not yet written.
@@ -41,14 +40,24 @@ struct Run<R, W> {
     alloc: Global,
     lines: Lines<R>,
     output: Output<W>,
-    engine: Engine,
+    callers: Callers,
     /// The number of the line that is read, from 1.
     line: u64,
 }
 
 impl<R: Read + Drop, W: Write + Drop> Run<R, W> {
+    fn begin(alloc: Global, config: Config, input: R, output: W) -> Result<Run<R, W>, End> {
+        Ok(Run {
+            alloc,
+            lines: Lines::new(alloc, input)?,
+            output: Output::new(alloc, output)?,
+            callers: Callers::open(alloc, config)?,
+            line: 0,
+        })
+    }
+
     /// Makes the calls of all lines, or of those before one that ends the run.
-    fn calls(&mut self) -> End {
+    fn calls<T: Wait>(&mut self, rt: &T) -> End {
         for _ in 0..u64::MAX {
             match self.lines.next() {
                 Next::End => return End::Done,
@@ -59,7 +68,7 @@ impl<R: Read + Drop, W: Write + Drop> Run<R, W> {
                 }
                 Next::Line(length) => {
                     self.line = self.line.saturating_add(1);
-                    if let Err(end) = self.line(length) {
+                    if let Err(end) = self.line(rt, length) {
                         return end;
                     }
                 }
@@ -75,9 +84,9 @@ impl<R: Read + Drop, W: Write + Drop> Run<R, W> {
     }
 
     /// Makes the call of one line, and keeps its event to be written.
-    fn line(&mut self, length: usize) -> Result<(), End> {
-        match read_command(self.alloc, self.lines.line(length), SEATS) {
-            Ok((seat, cmd)) => self.call(seat, cmd)?,
+    fn line<T: Wait>(&mut self, rt: &T, length: usize) -> Result<(), End> {
+        match read_command(self.alloc, self.lines.line(length), self.callers.count()) {
+            Ok((seat, cmd)) => self.call(rt, seat, cmd)?,
             Err(ReadError::NoMemory) => return Err(End::Memory),
             Err(ReadError::Fault(fault)) => return Err(self.fault(fault)),
         }
@@ -86,22 +95,13 @@ impl<R: Read + Drop, W: Write + Drop> Run<R, W> {
         Ok(())
     }
 
-    fn call(&mut self, seat: u8, cmd: Cmd) -> Result<(), End> {
-        if !is_served(&cmd) {
-            return Err(self.fault(LineFault::UnknownCommand));
+    fn call<T: Wait>(&mut self, rt: &T, seat: u8, cmd: Cmd) -> Result<(), End>
+        requires there { seat < vec_len self.old.callers.seats }
+    {
+        match self.callers.call(rt, seat, cmd) {
+            Ok(event) => Ok(self.output.keep_event(&event)?),
+            Err(_) => Err(self.spent()),
         }
-        let position = self.engine.steps();
-        if position == u64::MAX {
-            return Err(self.spent());
-        }
-        let reply = self.engine.step(seat, &cmd);
-        self.output.keep_event(&Event {
-            position,
-            seat,
-            cmd,
-            reply,
-        })?;
-        Ok(())
     }
 
     fn fault(&mut self, fault: LineFault) -> End {
@@ -118,12 +118,19 @@ impl<R: Read + Drop, W: Write + Drop> Run<R, W> {
         }
     }
 
-    /// Writes what is left, but where a write has failed: that is not tried again.
-    fn last_written(&mut self, end: End) -> End {
+    /// Ends the database, and writes what is left, but where a write has failed: that is not tried
+    /// again.
+    fn finish(self, end: End) -> End {
+        let Run {
+            callers,
+            mut output,
+            ..
+        } = self;
+        callers.finish();
         if end == End::Output {
             return end;
         }
-        match self.output.write_out() {
+        match output.write_out() {
             Ok(()) => end,
             Err(_) => End::Output,
         }
@@ -145,5 +152,11 @@ impl From<WriteFailed> for End {
 impl From<AllocError> for End {
     fn from(_failed: AllocError) -> End {
         End::Memory
+    }
+}
+
+impl From<OpenError> for End {
+    fn from(refused: OpenError) -> End {
+        End::Open(refused)
     }
 }

@@ -1,4 +1,5 @@
--- What an engine that stands for a history says of it.
+-- What an engine that stands for a history says of it. This file alone looks into what `StandsFor` is
+-- made of: all other specs and proofs of this crate go through these three facts.
 use Rattle.std.specs.Prelude.{◌≡◌, List, length}
 use Rattle.spans.specs.declared.calls.events.Event.{Event}
 use Rattle.spans.specs.Effects.{effects_of}
@@ -7,11 +8,14 @@ use Rattle.spans.specs.Legal.{IsLegal}
 use Rattle.engine.specs.declared.Engine.{Engine}
 use Rattle.engine.specs.Engine.{StandsFor, closed_timestamp, steps_of, closed_timestamp_is}
 
+-- the history is legal
 pub legal_of : (engine : Engine) (h : List Event) → StandsFor engine h → IsLegal h
 legal_of engine h stands = stands.history.legal
 
+-- each event was a step
 pub steps_are : (engine : Engine) (h : List Event) → StandsFor engine h → steps_of engine ≡ length h
 steps_are engine h stands = stands.counted
 
+-- the engine's closed timestamp is that of the history
 pub closed_is : (engine : Engine) (h : List Event) → StandsFor engine h → closed_timestamp engine ≡ closed_of (effects_of h)
 closed_is engine h stands = closed_timestamp_is engine h stands

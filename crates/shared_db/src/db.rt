@@ -59,6 +59,7 @@ impl Db {
 
     /// The engine, once all seats are back, in any order. It is refused exactly where a seat is
     /// missing. It waits for nobody, and passes may be dropped before or after.
+    #[tactic(auto, using(crate::specs::Standing::legal_of, crate::specs::Standing::steps_are))]
     pub fn finish(self, seats: Vec<Seat>) -> Result<Engine, SeatsMissing>
         requires own { AllOf self seats.items }
         ensures ok { IfOk result (λ engine. IsWhole self seats.items engine × (length seats.items ≡ seat_count self)) }

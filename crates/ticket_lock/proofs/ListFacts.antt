@@ -8,8 +8,8 @@ use Rattle.std.proofs.lemmas.List.{nil_from_length}
 use mathlib.Core.Option.{some, some-injective, some-ne-none}
 use mathlib.Core.Logic.{dite}
 use native.Mathlib.Decide.{ℕ_discrete}
-use lib.ListN.{get_elem?}
-use Rattle.atomic_table.proofs.Lists.{at_set, set_else, at_longer}
+use lib.ListN.{get_elem?, get_or}
+use Rattle.atomic_table.proofs.Lists.{at_set, at_index, set_else, at_longer}
 use Rattle.ticket_lock.specs.Lists.{StartsWith, of_seat, span, longer}
 
 pub either_way : (b : Bool) → (b ≡ true → ⊥) → b ≡ false
@@ -23,6 +23,10 @@ module _ {A : Type 0} where
   pub each_set : (K : ℕ → A → Type 0) (vs : List A) (me : ℕ) (w : A) → K me w → ((j : ℕ) (d : A) → j ≢ me → get_elem? vs j ≡ some d → K j d) → (j : ℕ) (d : A) → get_elem? (set vs me w) j ≡ some d → K j d
   each_set K vs me w mine others j d e = ⊎_elim (λ (t : (j ≡ me) × (w ≡ d)). subst (λ (x : ℕ × A). K x.0 x.1) (λ i. (sym t.0 i, t.1 i)) mine)
       (λ (t : (j ≢ me) × (get_elem? vs j ≡ some d)). others j d t.0 t.1) (at_set vs me j w d e)
+
+  -- what each at its place has, the one that is read there has
+  pub each_read : (K : ℕ → A → Type 0) (l : List A) (i : ℕ) (a : A) → ((j : ℕ) (d : A) → get_elem? l j ≡ some d → K j d) → i < length l → a ≡ get_or l i a → K i a
+  each_read K l i a each there at = each i a (at_index l i a there at)
 
   pub set_there : (l : List A) (i : ℕ) (a b : A) → get_elem? l i ≡ some a → get_elem? (set l i b) i ≡ some b
   set_there [] i a b e = absurd (some-ne-none a (sym e))

@@ -1,5 +1,5 @@
 -- What each step tells the seat that makes it.
-use Rattle.std.specs.Prelude.{◌≡◌, ◌≢◌, ℕ, ◌+◌, ◌<◌, ◌≤◌, List, [], ◌∷◌, length, max, Option, Some, true}
+use Rattle.std.specs.Prelude.{◌≡◌, ◌≢◌, ℕ, ◌+◌, ◌<◌, ◌≤◌, List, [], ◌∷◌, length, max, Option, Some, true, false}
 use Rattle.atomic_table.specs.Table.{Step, rest}
 use Rattle.ticket_lock.specs.Lists.{most, StartsWith, of_seat, longer}
 use Rattle.ticket_lock.specs.Views.{SeatState, nobody, caught_up, met_spent, drawn, looked, holding, ended, raises, knows_floor}
@@ -52,5 +52,5 @@ module _ {T E : Type 0} where
 
 -- what a refused turn tells
 abbrev pub DeniedAt : {T E : Type 0} → SeatState T E → Denied → SeatState T E → Type 0
-DeniedAt m (Busy served next) m' = (served < next) × (m.0.kept.first + length m.0.kept.seen ≤ served) × (m' ≡ (looked m.0 served, m.1))
+DeniedAt m (Busy served next) m' = (served < next) × (m.0.kept.first + length m.0.kept.seen ≤ served) × (m.0.kept.spent ≡ false) × (m' ≡ (looked m.0 served, m.1))
 DeniedAt m Spent m' = (n : ℕ) × (m' ≡ (met_spent (looked m.0 n), m.1))

@@ -27,10 +27,11 @@ module _ {T E : Type 0} {C : Ghosts T E} where
     pub free : ticket new ≡ None
     pub met : seats.met_spent new ≡ true
 
-  -- the turn that was served was no older than what the seat had seen, and a later one was to be drawn
+  -- the turn that was served was no older than what the seat had seen, and a later one was to be drawn: the seat never met `Spent`
   pub record IsBusy (first : ℕ) (old : Seat T E C) (served next : ℕ) (new : Seat T E C) : Type 0 where
     pub keeps : Keeps old new
     pub free : ticket new ≡ None
+    pub unspent : seats.met_spent old ≡ false
     pub met : seats.met_spent new ≡ seats.met_spent old
     pub ahead : served < next
     pub reached : first + length (seen old) ≤ served

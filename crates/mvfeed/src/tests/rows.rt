@@ -95,3 +95,65 @@ pub(crate) const LENGTHS: [(&str, u8, usize, &str, &str); 5] = [
     ("0 put 10 a ", b'b', 1025, "\n", "fault 1 5 valuelength\n"),
     ("0 get 10 ", b'a', 65, "\n", "fault 1 4 keylength\n"),
 ];
+
+/// First positions that leave too few for a script of three lines, each with the output.
+pub(crate) const SPENT: [(u64, &str); 3] = [
+    (
+        18446744073709551613,
+        "18446744073709551613 0 begin 10 => started
+18446744073709551614 0 commit 10 => committed 0
+spent 3
+",
+    ),
+    (
+        18446744073709551614,
+        "18446744073709551614 0 begin 10 => started
+spent 2
+",
+    ),
+    (18446744073709551615, "spent 1\n"),
+];
+
+/// Numbers of seats, each with a line and its output.
+pub(crate) const SEATED: [(u32, &str, &str); 5] = [
+    (1, "0 begin 10\n", "0 0 begin 10 => started\n"),
+    (1, "1 begin 10\n", "fault 1 6 session\n"),
+    (3, "2 begin 10\n", "0 2 begin 10 => started\n"),
+    (3, "3 begin 10\n", "fault 1 6 session\n"),
+    (64, "63 begin 10\n", "0 63 begin 10 => started\n"),
+];
+
+/// Command lines, each with its seats, its ring and its first position.
+pub(crate) const OPTIONS: [(&[&str], u32, u32, u64); 5] = [
+    (&["mvfeed", "run"], 64, 1024, 0),
+    (&["mvfeed", "run", "--seats", "1"], 1, 1024, 0),
+    (&["mvfeed", "run", "--ring", "65536"], 64, 65536, 0),
+    (
+        &["mvfeed", "run", "--first", "18446744073709551615"],
+        64,
+        1024,
+        18446744073709551615,
+    ),
+    (
+        &["mvfeed", "run", "--first=7", "--ring=1", "--seats=64"],
+        64,
+        1,
+        7,
+    ),
+];
+
+/// Command lines that are refused.
+pub(crate) const REFUSED: [&[&str]; 12] = [
+    &["mvfeed"],
+    &["mvfeed", "walk"],
+    &["mvfeed", "run", "it"],
+    &["mvfeed", "run", "--seats"],
+    &["mvfeed", "run", "--seats", "0"],
+    &["mvfeed", "run", "--seats", "65"],
+    &["mvfeed", "run", "--ring", "0"],
+    &["mvfeed", "run", "--ring", "65537"],
+    &["mvfeed", "run", "--first", "-1"],
+    &["mvfeed", "run", "--first", "18446744073709551616"],
+    &["mvfeed", "run", "--first", "ten"],
+    &["mvfeed", "run", "--seats", "1", "--seats", "2"],
+];

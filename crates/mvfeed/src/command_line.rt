@@ -1,0 +1,47 @@
+//! The command line: which words the program takes, and what they ask for.
+
+use crate::run::DEFAULTS;
+use clap::{Arg, ArgMatches, Command, value_parser};
+use sessions::Config;
+use std::alloc::{AllocError, Global};
+
+/// What the program's command line may be.
+pub(crate) fn command<'a>(alloc: Global) -> Result<Command<'a>, AllocError> {
+    Command::new(alloc, "mvfeed")
+        .about("A multiversion timestamp database whose changes leave it as ordered streams")
+        .subcommand_required(true)
+        .subcommand(run_command(alloc)?)
+}
+
+fn run_command<'a>(alloc: Global) -> Result<Command<'a>, AllocError> {
+    let seats = option(alloc, "seats")
+        .help("How many sessions a script may have, 1 to 64 [default: 64]")
+        .value_parser(value_parser!(u32).range(1..=64));
+    let ring = option(alloc, "ring")
+        .help("How many rows a feed holds before it is behind, 1 to 65536 [default: 1024]")
+        .value_parser(value_parser!(u32).range(1..=65536));
+    let first = option(alloc, "first")
+        .help("The position of the first event [default: 0]")
+        .value_parser(value_parser!(u64));
+    Command::new(alloc, "run")
+        .about("Make the calls of a script, and write what happened")
+        .arg(seats)?
+        .arg(ring)?
+        .arg(first)
+}
+
+fn option<'a>(alloc: Global, name: &'a str) -> Arg<'a> {
+    Arg::new(alloc, name).long(name).value_name("N")
+}
+
+/// The options of `mvfeed run`.
+pub(crate) fn options_of(matches: &ArgMatches) -> Config {
+    let Some(run) = matches.subcommand_matches("run") else {
+        return DEFAULTS;
+    };
+    Config {
+        seats: run.get_one("seats").unwrap_or(DEFAULTS.seats),
+        ring: run.get_one("ring").unwrap_or(DEFAULTS.ring),
+        first: run.get_one("first").unwrap_or(DEFAULTS.first),
+    }
+}

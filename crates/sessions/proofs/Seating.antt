@@ -1,0 +1,21 @@
+-- Callers before and after a call.
+use Rattle.std.proofs.Common.{◌≡◌, ℕ, ◌<◌, List, length, set, ◌∙◌}
+use lib.ListN.{get_or}
+use Rattle.spans.specs.declared.calls.events.Event.{Event}
+use Rattle.ticket_lock.specs.declared.chronicle.Chronicle.{Ghosts}
+use Rattle.ticket_lock.specs.declared.lock.Seat.{Seat}
+use Rattle.ticket_lock.specs.Seats.{IsSame}
+use Rattle.ticket_lock.proofs.ListFacts.{each_read, each_set}
+use Rattle.shared_db.specs.declared.served.Served.{Served}
+use Rattle.shared_db.specs.declared.db.Db.{Db}
+use Rattle.shared_db.specs.Seats.{IsOf}
+use Rattle.sessions.specs.Seating.{IsSeated, AreSeated}
+
+module _ {C : Ghosts Served Event} where
+  -- the seat that is lent out from its place
+  pub lent : (db : Db) (seats : List (Seat Served Event C)) (k : ℕ) (s : Seat Served Event C) → AreSeated db seats → k < length seats → s ≡ get_or seats k s → IsSeated db k s
+  lent db seats k s seated there at = each_read (IsSeated db) seats k s seated there at
+
+  -- a seat comes back from its call to its place
+  pub back : (db : Db) (seats : List (Seat Served Event C)) (k : ℕ) (old new : Seat Served Event C) → AreSeated db seats → IsSeated db k old → IsOf db new → IsSame old new → AreSeated db (set seats k new)
+  back db seats k old new seated was own same = each_set (IsSeated db) seats k new (record { own = own; numbered = same.number ∙ was.numbered }) (λ j d _ e. seated j d e)

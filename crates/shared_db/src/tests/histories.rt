@@ -1,0 +1,233 @@
+//! Threads whose calls make one history, of which each sees what the others left.
+ghost use Rattle.shared_db.specs.Seats.{IsOf};
+
+use super::{closes, last};
+use crate::{Config, Db, Seat};
+use spans::calls::{Cmd, Event, Reply};
+use std::alloc::{AllocError, Global};
+use std::sync::Wait;
+use std::sync::atomic::AtomicBool;
+use std::sync::atomic::Ordering::SeqCst;
+use std::test::Fail;
+use std::thread::{join, yield_now};
+use timestamps::key::Key;
+use timestamps::value::Value;
+
+/// How often a thread looks for another's flag, giving way between two looks.
+const PATIENCE: u64 = 1_000_000;
+
+fn saw(flag: &AtomicBool) -> bool {
+    for _ in 0..PATIENCE {
+        if flag.load(SeqCst) {
+            return true;
+        }
+        yield_now();
+    }
+    false
+}
+
+/// Whether the call was answered so.
+fn answers<R: Wait>(rt: &R, db: &Db, seat: &mut Seat, ts: u64) -> bool
+    requires own { IsOf db.now seat.old }
+    ensures own { IsOf db.now seat.new }
+{
+    match db.call(rt, seat, Cmd::Begin { ts }) {
+        Ok(event) => matches!(event.reply, Reply::Started),
+        Err(_) => false,
+    }
+}
+
+/// A hundred calls. After the first the thread says so, and before the second it waits for the other
+/// thread to say so. How many were answered, and whether the other was seen.
+fn begins<R: Wait>(
+    rt: &R,
+    db: &Db,
+    mut seat: Seat,
+    from: u64,
+    begun: &AtomicBool,
+    other: &AtomicBool,
+) -> (Seat, u64, bool)
+    requires own { IsOf db.now seat }
+    ensures own { IsOf db.now result.0 }
+{
+    let mut started = u64::from(answers(rt, db, &mut seat, from));
+    begun.store(true, SeqCst);
+    let both = saw(other);
+    for place in 1..100 {
+        if answers(rt, db, &mut seat, from.saturating_add(place)) {
+            started += 1;
+        }
+    }
+    (seat, started, both)
+}
+
+#[test]
+fn two_threads_make_one_history(rt: HostRuntime) -> Result<(), Fail> {
+    let config = Config {
+        seats: 2,
+        ring: 16,
+        first: 0,
+    };
+    let (db, mut seats, _passes) = Db::open(rt.alloc(), config)?;
+    let two = last(&rt, &db, &mut seats);
+    let one = last(&rt, &db, &mut seats);
+    let (flag_of_one, flag_of_two) = (AtomicBool::new(false), AtomicBool::new(false));
+    let (shared, host, first, second) = (&db, &rt, &flag_of_one, &flag_of_two);
+    let ((mut one, by_one, one_saw), (mut two, by_two, two_saw)) = join(
+        &rt,
+        || -> (Seat, u64, bool)
+            requires { IsOf shared.now one }
+            ensures { IsOf shared.entry.now result.0 }
+        { begins(host, shared, one, 1, first, second) },
+        || -> (Seat, u64, bool)
+            requires { IsOf shared.now two }
+            ensures { IsOf shared.entry.now result.0 }
+        { begins(host, shared, two, 1001, second, first) },
+    );
+    assert!(rt; one_saw && two_saw, "both ran at once");
+    assert_eq!(rt; (by_one, by_two), (100, 100));
+    db.meet(&mut one, &mut two);
+    let mut back = Vec::new(rt.alloc());
+    back.push(two)?;
+    let Err(missing) = db.finish(back) else {
+        panic!(rt; "a seat was missing");
+    };
+    let mut back = missing.seats;
+    back.push(one)?;
+    let Ok(engine) = missing.db.finish(back) else {
+        panic!(rt; "all seats were there");
+    };
+    assert_eq!(rt; engine.steps(), 200);
+    Ok(())
+}
+
+/// Begins a transaction, writes 1 at `a` and commits. How many calls were answered as they should be.
+fn commits<R: Wait>(
+    rt: &R,
+    alloc: Global,
+    db: &Db,
+    mut seat: Seat,
+) -> (Seat, Result<u64, AllocError>)
+    requires own { IsOf db.now seat }
+    ensures own { IsOf db.now result.0 }
+{
+    let (Ok(key), Ok(value)) = (Key::new(alloc, b"a"), Value::new(alloc, b"1")) else {
+        return (seat, Err(AllocError));
+    };
+    let mut right = u64::from(answers(rt, db, &mut seat, 10));
+    let put = Cmd::Put { ts: 10, key, value };
+    if let Ok(event) = db.call(rt, &mut seat, put) {
+        right += u64::from(matches!(event.reply, Reply::Written));
+    }
+    if let Ok(event) = db.call(rt, &mut seat, Cmd::Commit { ts: 10 }) {
+        right += u64::from(matches!(event.reply, Reply::Committed { keys: 1 }));
+    }
+    (seat, Ok(right))
+}
+
+/// Whether a later transaction reads that 1.
+fn reads_back<R: Wait>(
+    rt: &R,
+    alloc: Global,
+    db: &Db,
+    mut seat: Seat,
+) -> (Seat, Result<bool, AllocError>)
+    requires own { IsOf db.now seat }
+    ensures own { IsOf db.now result.0 }
+{
+    let Ok(key) = Key::new(alloc, b"a") else {
+        return (seat, Err(AllocError));
+    };
+    let begun = answers(rt, db, &mut seat, 20);
+    let Ok(event) = db.call(rt, &mut seat, Cmd::Get { ts: 20, key }) else {
+        return (seat, Ok(false));
+    };
+    let Event {
+        position: _,
+        seat: _,
+        cmd: _,
+        reply,
+    } = event;
+    let Reply::Found(Some(value)) = reply else {
+        return (seat, Ok(false));
+    };
+    let same = value.bytes() == b"1".as_slice();
+    (seat, Ok(begun && same))
+}
+
+#[test]
+fn another_thread_reads_what_was_committed(rt: HostRuntime) -> Result<(), Fail> {
+    let config = Config {
+        seats: 2,
+        ring: 16,
+        first: 0,
+    };
+    let (db, mut seats, _passes) = Db::open(rt.alloc(), config)?;
+    let two = last(&rt, &db, &mut seats);
+    let one = last(&rt, &db, &mut seats);
+    let (shared, host, alloc) = (&db, &rt, rt.alloc());
+    let ((_one, right), ()) = join(
+        &rt,
+        || -> (Seat, Result<u64, AllocError>)
+            requires { IsOf shared.now one }
+            ensures { IsOf shared.entry.now result.0 }
+        { commits(host, alloc, shared, one) },
+        || (),
+    );
+    assert_eq!(rt; right?, 3);
+    let ((_two, read), ()) = join(
+        &rt,
+        || -> (Seat, Result<bool, AllocError>)
+            requires { IsOf shared.now two }
+            ensures { IsOf shared.entry.now result.0 }
+        { reads_back(host, alloc, shared, two) },
+        || (),
+    );
+    assert!(rt; read?);
+    Ok(())
+}
+
+fn closes_to_ten<R: Wait>(rt: &R, db: &Db, mut seat: Seat) -> (Seat, bool)
+    requires own { IsOf db.now seat }
+    ensures own { IsOf db.now result.0 }
+{
+    let closed = closes(rt, db, &mut seat, 10);
+    (seat, closed)
+}
+
+fn floor_of(db: &Db, mut seat: Seat) -> u64
+    requires own { IsOf db.now seat }
+{
+    db.floor(&mut seat)
+}
+
+#[test]
+fn a_closing_is_seen_without_a_call(rt: HostRuntime) -> Result<(), Fail> {
+    let config = Config {
+        seats: 2,
+        ring: 16,
+        first: 0,
+    };
+    let (db, mut seats, _passes) = Db::open(rt.alloc(), config)?;
+    let two = last(&rt, &db, &mut seats);
+    let one = last(&rt, &db, &mut seats);
+    let (shared, host) = (&db, &rt);
+    let ((_one, closed), ()) = join(
+        &rt,
+        || -> (Seat, bool)
+            requires { IsOf shared.now one }
+            ensures { IsOf shared.entry.now result.0 }
+        { closes_to_ten(host, shared, one) },
+        || (),
+    );
+    assert!(rt; closed);
+    let (floor, ()) = join(
+        &rt,
+        || -> u64
+            requires { IsOf shared.now two }
+        { floor_of(shared, two) },
+        || (),
+    );
+    assert_eq!(rt; floor, 10);
+    Ok(())
+}

@@ -1,0 +1,169 @@
+//! How a database is opened, and what its calls and draws use up.
+ghost use Rattle.shared_db.specs.Seats.{IsOf};
+ghost use Rattle.timestamps.specs.Passes.{IsOf as IsPassOf};
+
+use super::{closes, last};
+use crate::{CallDenied, Config, Db, OpenError, Seat};
+use spans::calls::{Cmd, Reply};
+use std::process::Abort;
+use std::sync::Wait;
+use std::test::Fail;
+use std::thread::{Threads, join};
+use timestamps::oracle::OraclePass;
+
+/// More calls than any test has positions for.
+const MANY: u64 = 1_000_000;
+
+#[test]
+fn limits(rt: HostRuntime) -> Result<(), Fail> {
+    for (seats, ring, opened) in [
+        (0, 0, Err(OpenError::SeatCount)),
+        (65, 1, Err(OpenError::SeatCount)),
+        (64, 0, Err(OpenError::RingSize)),
+        (1, 65537, Err(OpenError::RingSize)),
+        (64, 65536, Ok(64)),
+        (1, 1, Ok(1)),
+    ] {
+        let config = Config {
+            seats,
+            ring,
+            first: 0,
+        };
+        let made = Db::open(rt.alloc(), config).map(|(_, seats, passes)| {
+            assert_eq!(rt; seats.len(), passes.len());
+            seats.len()
+        });
+        assert_eq!(rt; made, opened, "{seats} seats and a ring of {ring}");
+    }
+    Ok(())
+}
+
+#[test]
+fn a_lone_seat_waits_for_nobody(rt: HostRuntime) -> Result<(), Fail> {
+    let config = Config {
+        seats: 1,
+        ring: 1,
+        first: 7,
+    };
+    let (db, mut seats, _passes) = Db::open(rt.alloc(), config)?;
+    let mut seat = last(&rt, &db, &mut seats);
+    let Ok(event) = db.try_call(&mut seat, Cmd::Begin { ts: 10 }) else {
+        panic!(rt; "nobody else has a seat");
+    };
+    assert_eq!(rt; (event.position, event.seat), (7, 0));
+    assert!(rt; matches!(event.reply, Reply::Started));
+    Ok(())
+}
+
+/// Calls until no position is left, and then twice more. How many calls were answered.
+fn spends<R: Wait + Abort>(rt: &R, db: &Db, mut seat: Seat) -> (Seat, u64)
+    requires own { IsOf db.now seat }
+    ensures own { IsOf db.now result.0 }
+{
+    for made in 0..MANY {
+        if !closes(rt, db, &mut seat, 0) {
+            assert!(rt; !closes(rt, db, &mut seat, 0));
+            let again = db.try_call(&mut seat, Cmd::Close { to: 0 });
+            assert!(rt;
+                matches!(
+                    again,
+                    Err(CallDenied::Spent {
+                        cmd: Cmd::Close { to: 0 }
+                    })
+                )
+            );
+            return (seat, made);
+        }
+    }
+    (seat, MANY)
+}
+
+/// Two seats do so, each in a thread.
+fn spend_both<R: Threads + Wait + Abort + Sync>(
+    rt: &R,
+    db: &Db,
+    one: Seat,
+    two: Seat,
+) -> ((Seat, u64), (Seat, u64))
+    requires own { IsOf db.now one × IsOf db.now two }
+    ensures own { IsOf db.now result.0.0 × IsOf db.now result.1.0 }
+{
+    join(
+        rt,
+        || -> (Seat, u64)
+            requires { IsOf db.now one }
+            ensures { IsOf db.entry.now result.0 }
+        { spends(rt, db, one) },
+        || -> (Seat, u64)
+            requires { IsOf db.now two }
+            ensures { IsOf db.entry.now result.0 }
+        { spends(rt, db, two) },
+    )
+}
+
+#[test]
+fn four_threads_use_up_the_positions(rt: HostRuntime) -> Result<(), Fail> {
+    let config = Config {
+        seats: 4,
+        ring: 16,
+        first: 18446744073709551605,
+    };
+    let (db, mut seats, _passes) = Db::open(rt.alloc(), config)?;
+    let d = last(&rt, &db, &mut seats);
+    let c = last(&rt, &db, &mut seats);
+    let b = last(&rt, &db, &mut seats);
+    let a = last(&rt, &db, &mut seats);
+    let (shared, host) = (&db, &rt);
+    let (((a, by_a), (b, by_b)), ((c, by_c), (d, by_d))) = join(
+        &rt,
+        || -> ((Seat, u64), (Seat, u64))
+            requires { IsOf shared.now a × IsOf shared.now b }
+            ensures { IsOf shared.entry.now result.0.0 × IsOf shared.entry.now result.1.0 }
+        { spend_both(host, shared, a, b) },
+        || -> ((Seat, u64), (Seat, u64))
+            requires { IsOf shared.now c × IsOf shared.now d }
+            ensures { IsOf shared.entry.now result.0.0 × IsOf shared.entry.now result.1.0 }
+        { spend_both(host, shared, c, d) },
+    );
+    let made = by_a
+        .saturating_add(by_b)
+        .saturating_add(by_c)
+        .saturating_add(by_d);
+    assert_eq!(rt; made, 10);
+    let mut back = Vec::new(rt.alloc());
+    back.push(a)?;
+    back.push(b)?;
+    back.push(c)?;
+    back.push(d)?;
+    let Ok(engine) = db.finish(back) else {
+        panic!(rt; "all seats were there");
+    };
+    assert_eq!(rt; engine.steps(), 10);
+    Ok(())
+}
+
+/// The first timestamp of the next lease.
+fn draws(db: &Db, pass: &mut OraclePass) -> Option<u64>
+    requires own { IsPassOf db.now.oracle pass.old }
+    ensures own { IsPassOf db.now.oracle pass.new }
+{
+    let mut lease = db.draw(pass).ok()?;
+    lease.next().map(|ts| ts.get())
+}
+
+#[test]
+fn passes_draw_from_the_first_block(rt: HostRuntime) -> Result<(), Fail> {
+    let config = Config {
+        seats: 2,
+        ring: 1,
+        first: 0,
+    };
+    let (db, _seats, mut passes) = Db::open(rt.alloc(), config)?;
+    let mut two = passes.pop().ok_or("two passes")?;
+    let mut one = passes.pop().ok_or("two passes")?;
+    let low = draws(&db, &mut one);
+    let high = draws(&db, &mut two);
+    db.meet_passes(&mut one, &mut two);
+    assert_eq!(rt; (low, high), (Some(1), Some(33)));
+    Ok(())
+}
