@@ -6,15 +6,6 @@ use Rattle.spans.specs.declared.calls.events.Event.{Event}
 use Rattle.spans.specs.Legal.{IsGapless}
 use Rattle.engine.specs.Runs.{call_of}
 
--- an event in its place leaves no gap
-pub gapless_more : (n : ℕ) (es : List Event) (e : Event) → IsGapless n es → e.position ≡ n + length es → IsGapless n (es ++ e ∷ [])
-gapless_more n [] e gapless at = (omega arith, tt)
-gapless_more n (x ∷ xs) e gapless at = (gapless.0, gapless_more (suc n) xs e gapless.1 (omega arith))
-
--- the newest event stands first in a history, and last in a list of events
-pub turned_more : (es : List Event) (e : Event) → reverse (es ++ e ∷ []) ≡ e ∷ reverse es
-turned_more es e = reverse-append es (e ∷ [])
-
 -- one more event is counted
 pub counted_more : (es : List Event) (e : Event) → length (es ++ e ∷ []) ≡ length es + 1
 counted_more [] e = refl

@@ -14,6 +14,7 @@ use Rattle.reference.specs.Tied.{Represents}
 use Rattle.reference.proofs.Events.{represents_still}
 use Rattle.engine.specs.declared.Engine.{Engine}
 use Rattle.engine.specs.Engine.{StandsFor}
+use Rattle.spans.proofs.Histories.{wanting_does_nothing}
 
 -- an engine with room for a step has counted fewer events than the greatest number
 pub counted_below : (e : Engine) (h : List Event) → StandsFor e h → e.steps < 18446744073709551615 → length h < 18446744073709551615
@@ -24,13 +25,6 @@ pub stands_taken : (e : Engine) (db : Database) (h : List Event) (n seat : ℕ) 
     → (Represents e.database h → IsRightEvent (effects_of h) (event n seat cmd reply) → Represents db (event n seat cmd reply ∷ h))
     → StandsFor (record { database = db; steps = e.steps + 1 }) (event n seat cmd reply ∷ h)
 stands_taken e db h n seat cmd reply stands is takes = record { history = takes stands.history (inl is); counted = omega (arith, stands.counted) }
-
--- want of memory does nothing
-wanting_does_nothing : (seat : ℕ) (cmd : Cmd) → effect seat cmd (Refused NoMemory) ≡ NoEffect
-wanting_does_nothing seat (Begin t) = refl
-wanting_does_nothing seat (Put t x v) = refl
-wanting_does_nothing seat (Del t x) = refl
-wanting_does_nothing seat (_) = refl
 
 -- the database found no memory
 pub stands_wanting : (e : Engine) (db : Database) (h : List Event) (n seat : ℕ) (cmd : Cmd) → StandsFor e h → db ≡ e.database → is_accepted (answer_of (effects_of h) seat cmd) ≡ true → may_lack_memory cmd ≡ true

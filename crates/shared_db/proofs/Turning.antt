@@ -9,7 +9,7 @@ use Rattle.spans.specs.declared.calls.events.Event.{Event}
 use Rattle.spans.specs.Legal.{IsGapless}
 use Rattle.engine.specs.declared.Engine.{Engine}
 use Rattle.engine.specs.Engine.{StandsFor}
-use Rattle.engine.proofs.Runs.{gapless_more, turned_more}
+use Rattle.spans.proofs.Histories.{gapless_more, turned_more}
 use Rattle.ticket_lock.specs.Lists.{of_seat}
 use Rattle.ticket_lock.proofs.ListFacts.{of_more}
 use Rattle.shared_db.specs.History.{Stands}

@@ -12,3 +12,4 @@ pub mod Taking
 pub mod Closed
 pub mod Members
 pub mod VersionNames
+pub mod Histories

@@ -3,7 +3,8 @@ use Rattle.std.proofs.lemmas.Grind.{common_steps}
 use Rattle.spans.specs.Legal.{IsGapless}
 use Rattle.engine.specs.Runs.{call_of}
 use Rattle.engine.specs.Engine.{StandsFor}
-use Rattle.engine.proofs.Runs.{gapless_more, turned_more, counted_more, calls_more}
+use Rattle.spans.proofs.Histories.{gapless_more, turned_more}
+use Rattle.engine.proofs.Runs.{counted_more, calls_more}
 use Rattle.engine.proofs.Engine.run.Goals as goal
 
 pub event-event-requires : goal.event-event-requires

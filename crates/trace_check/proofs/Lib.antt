@@ -1,0 +1,3 @@
+pub mod Sameness
+pub mod Wanting
+pub mod TraceSteps

@@ -1,0 +1,17 @@
+-- Want of memory leaves a database as it was.
+use Rattle.std.proofs.Common.{◌≡◌, true, List, ◌∷◌, ap, ◌∙◌, inr}
+use Rattle.spans.specs.declared.calls.replies.Reply.TheVariants.{Refused}
+use Rattle.spans.specs.declared.calls.replies.Refusal.TheVariants.{NoMemory}
+use Rattle.spans.specs.declared.calls.events.Event.{Event}
+use Rattle.spans.specs.Effects.{effect, effects_of}
+use Rattle.spans.specs.Answer.{answer_of}
+use Rattle.spans.specs.Legal.{is_accepted, may_lack_memory}
+use Rattle.reference.specs.declared.database.Database.{Database}
+use Rattle.reference.specs.Tied.{Represents}
+use Rattle.reference.proofs.Events.{represents_still}
+use Rattle.spans.proofs.Histories.{wanting_does_nothing}
+
+-- where a command may want memory, the database represents that it found none
+pub represents_wanting : (db : Database) (h : List Event) (e : Event) → Represents db h → e.reply ≡ Refused NoMemory → is_accepted (answer_of (effects_of h) e.seat e.cmd) ≡ true → may_lack_memory e.cmd ≡ true → Represents db (e ∷ h)
+represents_wanting db h e stands wants accepted may =
+    represents_still db h e.position e.seat e.cmd e.reply (ap (effect e.seat e.cmd) wants ∙ wanting_does_nothing e.seat e.cmd) stands (inr (wants, accepted, may))
