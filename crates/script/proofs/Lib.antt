@@ -1,11 +1,9 @@
+pub use Rattle.json_lines.proofs.NumberWords
+pub mod Writing
 pub mod ReadCommands
 pub mod ReadWords
 pub mod SpelledWords
-pub mod NumberWords
 pub mod Splitting
-pub mod Digits
 pub mod Unescaping
 pub mod Joining
 pub mod Spellings
-pub mod Base64
-pub mod Writing

@@ -1,10 +1,10 @@
-pub mod Writing
+pub use Rattle.json_lines.specs.Writing
+pub use Rattle.json_lines.specs.Numbers
+pub use Rattle.json_lines.specs.Messages
 pub mod Spelling
-pub mod Numbers
 pub mod Words
 pub mod Table
 pub mod Reading
-pub mod Messages
 pub mod Commands
 pub mod Replies
 pub mod Events

@@ -18,17 +18,15 @@
 #![tactic(auto)]
 
 mod arguments;
-mod base64_text;
-mod buffer;
 pub mod commands;
 pub mod events;
 pub mod fault;
 pub mod laws;
-pub mod message_line;
-mod numbers;
 pub mod replies;
 mod spelling;
 mod table;
 #[cfg(test)]
 mod tests;
 pub mod words;
+
+use json_lines::{buffer, numbers};

@@ -9,7 +9,7 @@ ghost use Rattle.std.specs.List.{flat_map};
 
 use crate::buffer::or_undo;
 use crate::commands::{put_named, put_word};
-use crate::message_line::put_message;
+use json_lines::write_message_line;
 use spans::calls::{Message, Refusal, Reply};
 use std::alloc::AllocError;
 use timestamps::key::Key;
@@ -152,7 +152,7 @@ fn put_messages(out: &mut Vec<u8>, messages: &[Message]) -> Result<(), AllocErro
     ensures err { OnErr result (Keeps out.old.items out.new.items) }
 {
     for message in messages {
-        put_message(out, message)?;
+        write_message_line(out, message)?;
     }
     Ok(())
 }

@@ -2,7 +2,6 @@
 use crate::commands::{read_among, read_command, write_command};
 use crate::events::{write_event, write_fault, write_spent};
 use crate::fault::{LineFault, ReadError};
-use crate::message_line::write_message_line;
 use crate::replies::write_reply;
 use crate::spelling::{bytes_of, put_spelling};
 use crate::table::FORMS;
@@ -297,33 +296,6 @@ fn following_lines(rt: HostRuntime) -> Result<(), Fail> {
 {\"resolved\":\"30\"}
 ";
     assert_eq!(rt; out.as_slice(), text.as_slice());
-    Ok(())
-}
-
-#[test]
-fn base64_of_any_length(rt: HostRuntime) -> Result<(), Fail> {
-    // the test vectors of RFC 4648, section 10, and the last symbols of the alphabet
-    for (bytes, text) in [
-        (b"f".as_slice(), b"Zg==".as_slice()),
-        (b"fo", b"Zm8="),
-        (b"foo", b"Zm9v"),
-        (b"foob", b"Zm9vYg=="),
-        (b"fooba", b"Zm9vYmE="),
-        (b"foobar", b"Zm9vYmFy"),
-        (b"\xfb\xff\xbf", b"+/+/"),
-    ] {
-        let message = Message::Row(Row {
-            ts: Ts::new(7).ok_or("in range")?,
-            key: Key::new(rt.alloc(), bytes)?,
-            after: None,
-        });
-        let mut out = Vec::new(rt.alloc());
-        write_message_line(&mut out, &message)?;
-        let mut line = Vec::from_slice(rt.alloc(), b"{\"after\":null,\"key\":\"")?;
-        line.extend_from_slice(text)?;
-        line.extend_from_slice(b"\",\"updated\":\"7\"}\n")?;
-        assert_eq!(rt; out.as_slice(), line.as_slice());
-    }
     Ok(())
 }
 

@@ -1,0 +1,10 @@
+pub mod Writing
+pub mod Digits
+pub mod NumberWords
+pub mod Base64
+pub mod Steps
+pub mod Quotes
+pub mod Meanings
+pub mod Trees
+pub mod WrittenLines
+pub mod Readings

@@ -1,0 +1,76 @@
+-- What is written of a number or of bytes means them again.
+use Rattle.std.proofs.Common.{◌≡◌, ℕ, zero, suc, ◌<◌, Bool, true, false, cond, List, [], ◌∷◌, length, get_or, Option, Some, None, Result, Ok, Err, refl, ap, ◌∙◌, arith}
+use Rattle.std.specs.Prelude.{decimal, nat_le, ◌&&◌, ok_or, option_map}
+use Rattle.std.specs.Result.{result_ok}
+use Rattle.std.proofs.lemmas.Bool.{le-leb}
+use Rattle.base64.specs.declared.decode.DecodeError.{DecodeError}
+use Rattle.base64.specs.Engines.{standard}
+use Rattle.base64.specs.GeneralPurpose.{decode_of, decoded_of}
+use Rattle.base64.proofs.EngineFacts.{decode_of-encode_of}
+use Rattle.spans.specs.declared.calls.messages.Message.{Message}
+use Rattle.spans.specs.declared.calls.messages.Message.TheVariants as message
+use Rattle.json_lines.specs.declared.fault.MessageFault.{MessageFault}
+use Rattle.json_lines.specs.declared.fault.MessageFault.TheVariants.{Number, Base64, Length}
+use Rattle.json_lines.specs.Messages.{base64, AreBytes, IsTimestamp, IsKey, IsAfter, IsMessage}
+use Rattle.json_lines.specs.Texts.{texts_of}
+use Rattle.json_lines.specs.Steps.{◌>>=◌}
+use Rattle.json_lines.specs.Meaning.{timestamp_of, bytes_of, after_of, key_of, value_of, row_of, message_of}
+use Rattle.json_lines.proofs.NumberWords.{number_only}
+
+-- ---- bytes by place and by recursion
+
+pub bytes_from_each : (bytes : List ℕ) → ((i : ℕ) → get_or bytes i 0 < 256) → AreBytes bytes
+bytes_from_each [] each = tt
+bytes_from_each (b ∷ bytes) each = (each 0, bytes_from_each bytes (λ i. each (suc i)))
+
+pub each_of_bytes : (bytes : List ℕ) → AreBytes bytes → (i : ℕ) → get_or bytes i 0 < 256
+each_of_bytes [] h i = omega arith
+each_of_bytes (b ∷ bytes) h zero = h.0
+each_of_bytes (b ∷ bytes) h (suc i) = each_of_bytes bytes h.1 i
+
+-- ---- base64
+
+pub bytes_good : (text bytes : List ℕ) → decode_of standard text ≡ Ok bytes → bytes_of text ≡ Ok bytes
+unfolding bytes_of decoded_of
+bytes_good text bytes e = ap (λ (r : Result (List ℕ) DecodeError). ok_or (result_ok r) Base64) e
+
+pub bytes_bad : (text : List ℕ) (d : DecodeError) → decode_of standard text ≡ Err d → bytes_of text ≡ Err Base64
+unfolding bytes_of decoded_of
+bytes_bad text d e = ap (λ (r : Result (List ℕ) DecodeError). ok_or (result_ok r) Base64) e
+
+pub bytes_again : (bytes : List ℕ) → AreBytes bytes → bytes_of (base64 bytes) ≡ Ok bytes
+bytes_again bytes h = bytes_good (base64 bytes) bytes (decode_of-encode_of standard bytes refl (each_of_bytes bytes h))
+
+-- ---- the parts of a message
+
+within : {A : Type 0} (a b : Bool) (x y : A) → a ≡ true → b ≡ true → cond (a && b) x y ≡ x
+within true true x y p q = refl
+within true false x y p q = absurd cc
+within false b x y p q = absurd cc
+
+timestamp_again : (ts : ℕ) → IsTimestamp ts → timestamp_of (decimal ts) ≡ Ok ts
+unfolding timestamp_of
+timestamp_again ts h =
+    ap (λ (o : Option ℕ). ok_or o Number >>= λ n. cond (nat_le 1 n && nat_le n 9223372036854775807) (Ok n) (Err Number)) (number_only ts (omega arith))
+    ∙ within (nat_le 1 ts) (nat_le ts 9223372036854775807) (Ok ts) (Err Number) (le-leb _ _ h.0) (le-leb _ _ h.1)
+
+key_again : (key : List ℕ) → IsKey key → key_of key ≡ Ok key
+unfolding key_of
+key_again key h = within (nat_le 1 (length key)) (nat_le (length key) 64) (Ok key) (Err Length) (le-leb _ _ h.0) (le-leb _ _ h.1)
+
+value_again : (after : Option (List ℕ)) → IsAfter after → value_of after ≡ Ok after
+unfolding value_of
+value_again None h = refl
+value_again (Some value) h = ap (λ (b : Bool). cond b (Ok (Some value)) (Err Length)) (le-leb _ _ h.0)
+
+after_again : (after : Option (List ℕ)) → IsAfter after → after_of (option_map base64 after) ≡ Ok after
+unfolding after_of
+after_again None h = refl
+after_again (Some value) h = ap (λ (r : Result (List ℕ) MessageFault). r >>= λ bytes. Ok (Some bytes)) (bytes_again value h.1)
+
+-- what a message's texts mean is the message
+pub message_again : (m : Message) → IsMessage m → message_of (texts_of m) ≡ Ok m
+unfolding message_of row_of
+message_again (message.Resolved ts) h = rw (timestamp_again ts h) refl
+message_again (message.Row r) h =
+    rw (timestamp_again r.ts h.0, bytes_again r.key h.1.2, after_again r.after h.2, key_again r.key h.1, value_again r.after h.2) refl

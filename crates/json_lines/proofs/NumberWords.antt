@@ -1,0 +1,74 @@
+-- Number words and numbers, one to one.
+use Rattle.std.proofs.Common.{◌≡◌, ℕ, ◌^◌, ◌<◌, Bool, true, false, cond, List, length, get_or, Some, None, refl, sym, ap, subst, ◌∙◌, ◌⊎◌, inl, inr, arith, rules}
+use Rattle.std.specs.Prelude.{decimal, ◌&&◌, ◌||◌, ◌==◌, not, nat_lt}
+use Rattle.std.specs.Str.{all_ascii_digits}
+use Rattle.std.specs.Str.Parse.{digits_value, digits_value_after}
+use Rattle.std.proofs.lemmas.Bool.{cases_lt, eq-eqb, ltb-true, lt-ltb, eqb-true, ne_eqb}
+use Rattle.std.proofs.lemmas.Str.Parse.{IsNumeralModel, numerals_by_fold}
+use Rattle.std.proofs.lemmas.Fmt.{digits_decimal, digits_value-decimal, decimal-digits_value, decimal_nonempty, first_decimal, decimal_digit}
+use Rattle.json_lines.specs.Numbers.{is_number_word, number_of}
+
+own : IsNumeralModel (λ ds. all_ascii_digits ds ≡ true) (digits_value 10)
+own = numerals_by_fold _ (search rules) (digits_value_after 10) (search rules)
+
+both : (a b : Bool) → (a && b) ≡ true → (a ≡ true) × (b ≡ true)
+both true b e = (refl, e)
+both false b e = absurd cc
+
+chosen : {A : Type 0} (b : Bool) (x y : A) → cond b (Some x) None ≡ Some y → (b ≡ true) × (x ≡ y)
+chosen true x y e = (refl, cc)
+chosen false x y e = absurd cc
+
+first_zero : (a : Bool) (b : Bool) → (a || not b) ≡ true → b ≡ true → a ≡ true
+first_zero true b e z = refl
+first_zero false true e z = absurd cc
+first_zero false false e z = absurd cc
+
+-- what is read as a number is written so
+pub number_found : (word : List ℕ) (n : ℕ) → number_of word ≡ Some n → (word ≡ decimal n) × (n < 2 ^ 64)
+unfolding number_of
+number_found word n e =
+    let h = chosen (is_number_word word && nat_lt (digits_value 10 word) (2 ^ 64)) (digits_value 10 word) n e in
+    let parts = both (is_number_word word) (nat_lt (digits_value 10 word) (2 ^ 64)) h.0 in
+    let front = both (nat_lt 0 (length word) && all_ascii_digits word) (length word == 1 || not (get_or word 0 0 == 48)) parts.0 in
+    let digits = both (nat_lt 0 (length word)) (all_ascii_digits word) front.0 in
+    let small : digits_value 10 word < 2 ^ 64 = ltb-true _ _ parts.1 in
+    let zero : get_or word 0 0 ≡ 48 → length word ≡ 1 = λ z. eqb-true _ _ (first_zero (length word == 1) (get_or word 0 0 == 48) front.1 (eq-eqb _ _ z)) in
+    let same = decimal-digits_value own word digits.1 (ltb-true _ _ digits.0) zero small in
+    (sym same ∙ ap decimal h.1, subst (λ (k : ℕ). k < 2 ^ 64) h.1 small)
+
+zero_or_more : (n : ℕ) → (n ≡ 0) ⊎ (0 < n)
+zero_or_more n = elim (cases_lt 0 n) [ inl lt ↦ inr lt | inr le ↦ inl (omega arith) ]
+
+all_three : (a b c d : Bool) → a ≡ true → b ≡ true → c ≡ true → d ≡ true → (((a && b) && c) && d) ≡ true
+all_three true true true true p q r s = refl
+all_three false b c d p q r s = absurd cc
+all_three true false c d p q r s = absurd cc
+all_three true true false d p q r s = absurd cc
+all_three true true true false p q r s = absurd cc
+
+or_not : (a b : Bool) → b ≡ false → (a || not b) ≡ true
+or_not true b e = refl
+or_not false true e = absurd cc
+or_not false false e = refl
+
+no_leading_zero : (n : ℕ) → n < 2 ^ 64 → (length (decimal n) == 1 || not (get_or (decimal n) 0 0 == 48)) ≡ true
+no_leading_zero n lt =
+    elim (zero_or_more n) [
+      | inl none ↦ ap (λ (x : List ℕ). length x == 1 || not (get_or x 0 0 == 48)) (decimal_digit n (omega arith))
+      | inr some ↦ or_not (length (decimal n) == 1) (get_or (decimal n) 0 0 == 48) (ne_eqb _ _ (λ e. absurd (omega (arith, first_decimal n some lt, e))))
+    ]
+
+-- what is written of a number is read so
+pub number_only : (n : ℕ) → n < 2 ^ 64 → number_of (decimal n) ≡ Some n
+unfolding number_of
+number_only n lt =
+    let value : digits_value 10 (decimal n) ≡ n = digits_value-decimal own n lt in
+    let test : (is_number_word (decimal n) && nat_lt (digits_value 10 (decimal n)) (2 ^ 64)) ≡ true =
+    all_three (nat_lt 0 (length (decimal n))) (all_ascii_digits (decimal n)) (length (decimal n) == 1 || not (get_or (decimal n) 0 0 == 48)) (nat_lt (digits_value 10 (decimal n)) (2 ^ 64))
+    (lt-ltb _ _ (decimal_nonempty n lt)) (digits_decimal own n lt) (no_leading_zero n lt) (lt-ltb _ _ (subst (λ (k : ℕ). k < 2 ^ 64) (sym value) lt)) in
+    ap (λ (b : Bool). cond b (Some (digits_value 10 (decimal n))) None) test ∙ ap (λ (k : ℕ). Some k) value
+
+-- what is written of a number is digits
+pub decimal_digits : (n : ℕ) → n < 2 ^ 64 → all_ascii_digits (decimal n) ≡ true
+decimal_digits n lt = digits_decimal own n lt

@@ -1,0 +1,41 @@
+-- A message is read of its line, and of no other line.
+use Rattle.std.proofs.Common.{◌≡◌, ◌≢◌, ℕ, List, Result, Ok, Err, refl, sym, ap, ◌∙◌}
+use Rattle.std.specs.Prelude.{IfOk, IfErr}
+use Rattle.spans.specs.declared.calls.messages.Message.{Message}
+use Rattle.json_lines.specs.declared.fault.MessageFault.{MessageFault}
+use Rattle.json_lines.specs.declared.fault.MessageFault.TheVariants as fault
+use Rattle.json_lines.specs.Messages.{IsMessage, message_line}
+use Rattle.json_lines.specs.Texts.{Texts, texts_of}
+use Rattle.json_lines.specs.Written.{texts_written}
+use Rattle.json_lines.specs.Meaning.{message_of}
+use Rattle.json_lines.specs.Steps.{Gives}
+use Rattle.json_lines.proofs.Steps.{ok_is}
+use Rattle.json_lines.proofs.Meanings.{message_again}
+use Rattle.json_lines.proofs.WrittenLines.{texts_line, line_of_texts, written_found, written_again}
+
+pub only_memory : (e : MessageFault) → (e ≢ fault.NoMemory → ⊥) → e ≡ fault.NoMemory
+only_memory fault.NotJson h = absurd (h (λ e. absurd cc))
+only_memory fault.Shape h = absurd (h (λ e. absurd cc))
+only_memory fault.Number h = absurd (h (λ e. absurd cc))
+only_memory fault.Base64 h = absurd (h (λ e. absurd cc))
+only_memory fault.Length h = absurd (h (λ e. absurd cc))
+only_memory fault.NoMemory h = refl
+
+-- what is read is the line of the message
+pub read_found : (line : List ℕ) (t : Texts) (r : Result Message MessageFault) → texts_written line ≡ Ok t → IfOk r (λ m. IsMessage m) → IfOk r (λ m. t ≡ texts_of m)
+    → IfOk r (λ m. (line ≡ message_line m) × IsMessage m)
+read_found line t (Ok m) e lawful same = (written_found line t e ∙ ap texts_line same ∙ sym (line_of_texts m), lawful)
+read_found line t (Err f) e lawful same = tt
+
+-- a message's line isn't refused but for want of memory
+pub read_whole : (line : List ℕ) (t : Texts) (r : Result Message MessageFault) → texts_written line ≡ Ok t → Gives (λ m. m) r (message_of t)
+    → IfErr r (λ e. (m : Message) → IsMessage m → line ≡ message_line m → e ≡ fault.NoMemory)
+read_whole line t (Ok x) e gives = tt
+read_whole line t (Err f) e gives = λ m lawful is.
+    let same : t ≡ texts_of m = ok_is t (texts_of m) (sym e ∙ ap texts_written is ∙ written_again m lawful) in
+    let read : message_of t ≡ Ok m = ap message_of same ∙ message_again m lawful in
+    only_memory f (λ other. let refused = gives other in absurd (cc (refused, read)))
+
+-- what can't be taken apart is no message's line
+pub unwritten : (line : List ℕ) (f : MessageFault) → texts_written line ≡ Err f → (m : Message) → IsMessage m → line ≡ message_line m → f ≡ fault.NoMemory
+unwritten line f e m lawful is = let again = sym e ∙ ap texts_written is ∙ written_again m lawful in absurd cc

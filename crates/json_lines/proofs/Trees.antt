@@ -1,0 +1,46 @@
+-- Trees, test by test.
+use Rattle.std.proofs.Common.{◌≡◌, ◌≢◌, ℕ, Bool, true, false, cond, List, Option, Some, None, Result, Ok, Err, refl, ap, ◌∙◌}
+use Rattle.std.specs.Prelude.{ok_or, ◌==◌}
+use Rattle.std.specs.Str.{IsUtf8, is_utf8}
+use Rattle.std.proofs.lemmas.Str.{IsUtf8-from_is_utf8, is_utf8-from_IsUtf8}
+use Rattle.std.proofs.lemmas.Bool.{ne_eqb}
+use Rattle.serde_json.specs.Data.{Data, Members}
+use Rattle.serde_json.specs.Read.{read}
+use Rattle.serde_json.specs.Find.{as_object}
+use Rattle.serde_json.specs.Events.{members_len}
+use Rattle.json_lines.specs.declared.fault.MessageFault.{MessageFault}
+use Rattle.json_lines.specs.declared.fault.MessageFault.TheVariants.{NotJson, Shape}
+use Rattle.json_lines.specs.Texts.{Texts}
+use Rattle.json_lines.specs.Steps.{◌>>=◌}
+use Rattle.json_lines.specs.Tests.{tree_of, texts_in, resolved_in, row_in}
+
+-- UTF-8 that is read
+pub tree_good : (line : List ℕ) (d : Data) → IsUtf8 line → read line ≡ Some d → tree_of line ≡ Ok d
+unfolding tree_of
+tree_good line d utf8 e = ap (λ (b : Bool). cond b (ok_or (read line) NotJson) (Err NotJson)) (is_utf8-from_IsUtf8 line utf8) ∙ ap (λ (o : Option Data). ok_or o NotJson) e
+
+refused_by : (b : Bool) (o : Option Data) → (b ≡ true → o ≡ None) → cond b (ok_or o NotJson) (Err NotJson) ≡ Err NotJson
+refused_by true o none = ap (λ (o : Option Data). ok_or o NotJson) (none refl)
+refused_by false o none = refl
+
+-- no UTF-8, or none that is read
+pub tree_bad : (line : List ℕ) → (IsUtf8 line → read line ≡ None) → tree_of line ≡ Err NotJson
+unfolding tree_of
+tree_bad line none = refused_by (is_utf8 line) (read line) (λ t. none (IsUtf8-from_is_utf8 line t))
+
+abbrev by_count : Data → ℕ → Result Texts MessageFault
+by_count tree n = cond (n == 1) (resolved_in tree) (cond (n == 3) (row_in tree) (Err Shape))
+
+-- an object goes by how many members it has
+pub texts_by_count : (tree : Data) (ms : Members) (n : ℕ) → as_object tree ≡ Some ms → members_len ms ≡ n → texts_in tree ≡ by_count tree n
+unfolding texts_in
+texts_by_count tree ms n e count =
+    ap (λ (o : Option Members). ok_or o Shape >>= λ m. by_count tree (members_len m)) e ∙ ap (by_count tree) count
+
+pub texts_none : (tree : Data) → as_object tree ≡ None → texts_in tree ≡ Err Shape
+unfolding texts_in
+texts_none tree e = ap (λ (o : Option Members). ok_or o Shape >>= λ m. by_count tree (members_len m)) e
+
+pub texts_other : (tree : Data) (ms : Members) (n : ℕ) → as_object tree ≡ Some ms → members_len ms ≡ n → n ≢ 1 → n ≢ 3 → texts_in tree ≡ Err Shape
+texts_other tree ms n e count one three =
+    texts_by_count tree ms n e count ∙ ap (λ (b : Bool). cond b (resolved_in tree) (cond (n == 3) (row_in tree) (Err Shape))) (ne_eqb n 1 one) ∙ ap (λ (b : Bool). cond b (row_in tree) (Err Shape)) (ne_eqb n 3 three)

@@ -1,0 +1,189 @@
+-- A written line is taken apart into the texts that it was made of.
+use Rattle.std.proofs.Common.{◌≡◌, ℕ, ◌+◌, ◌/◌, ◌%◌, ◌*◌, ◌⊎◌, inl, inr, zero, suc, Bool, true, false, cond, List, [], ◌∷◌, ◌++◌, get_or, Option, Some, None, Result, Ok, Err, refl, sym, ap, subst, ◌∙◌, append_assoc, arith}
+use Rattle.std.specs.Prelude.{codes, decimal, bytes_eq, option_map, not, ◌&&◌}
+use Rattle.std.specs.List.{list_all}
+use Rattle.std.specs.Str.{all_ascii_digits}
+use Rattle.std.specs.Char.{is_ascii_digit}
+use Rattle.std.proofs.lemmas.Bool.{ne_eqb}
+use Rattle.std.proofs.lemmas.Slice.Eq.{bytes_eq-Decides}
+use Rattle.base64.specs.Rfc4648.{encode_group}
+use Rattle.spans.specs.declared.calls.messages.Message.{Message}
+use Rattle.spans.specs.declared.calls.messages.Message.TheVariants as message
+use Rattle.json_lines.specs.declared.fault.MessageFault.{MessageFault}
+use Rattle.json_lines.specs.declared.fault.MessageFault.TheVariants.{Shape}
+use Rattle.json_lines.specs.Messages.{base64, symbols, after_text, message_line, IsMessage}
+use Rattle.json_lines.specs.Texts.{Texts, resolved, row, texts_of}
+use Rattle.json_lines.specs.Steps.{◌>>=◌}
+use Rattle.json_lines.specs.Written.{is_quote, behind, quoted, otherwise, last_text, text_at_front, null_at_front, after_at_front, resolved_written, row_written, texts_written}
+use Rattle.json_lines.proofs.Base64.{base64_three, base64_two, base64_one, base64_none}
+use Rattle.json_lines.proofs.NumberWords.{decimal_digits}
+use Rattle.json_lines.proofs.Steps.{bind_ok, guarded, ok_is}
+use Rattle.json_lines.proofs.Quotes.{behind_found, quoted_found, quoted_again, HasNoQuote}
+
+-- ---- the line of texts
+
+-- a text in quotes, or `null`
+abbrev pub after_line : Option (List ℕ) → List ℕ
+after_line None = codes "null"
+after_line (Some text) = codes "\"" ++ text ++ codes "\""
+
+-- the texts between what stands round them
+abbrev pub texts_line : Texts → List ℕ
+texts_line (resolved ts) = codes "{\"resolved\":\"" ++ (ts ++ codes "\"}\n")
+texts_line (row after key updated) = codes "{\"after\":" ++ (after_line after ++ (codes ",\"key\":\"" ++ (key ++ (codes "\",\"updated\":\"" ++ (updated ++ codes "\"}\n")))))
+
+regroup : (a b c d e f g : List ℕ) → ((((((a ++ b) ++ c) ++ d) ++ e) ++ f) ++ g) ≡ a ++ (b ++ (c ++ (d ++ (e ++ (f ++ g)))))
+regroup a b c d e f g = simp append_assoc
+
+after_same : (after : Option (List ℕ)) → after_text after ≡ after_line (option_map base64 after)
+after_same None = refl
+after_same (Some value) = refl
+
+-- a message's line is that of its texts
+pub line_of_texts : (m : Message) → message_line m ≡ texts_line (texts_of m)
+unfolding message_line
+line_of_texts (message.Resolved ts) = append_assoc (codes "{\"resolved\":\"") (decimal ts) (codes "\"}\n")
+line_of_texts (message.Row r) =
+    regroup (codes "{\"after\":") (after_text r.after) (codes ",\"key\":\"") (base64 r.key) (codes "\",\"updated\":\"") (decimal r.ts) (codes "\"}\n")
+    ∙ ap (λ (x : List ℕ). codes "{\"after\":" ++ (x ++ (codes ",\"key\":\"" ++ (base64 r.key ++ (codes "\",\"updated\":\"" ++ (decimal r.ts ++ codes "\"}\n")))))) (after_same r.after)
+
+-- ---- what is taken apart was put together so
+
+last_found : (bytes text : List ℕ) → last_text bytes ≡ Ok text → bytes ≡ text ++ codes "\"}\n"
+unfolding last_text
+last_found bytes text e =
+    let p = bind_ok (quoted bytes) _ text e in
+    let g = guarded (bytes_eq p.0.1 (codes "}\n")) Shape (Ok p.0.0) text p.2 in
+    let end : p.0.1 ≡ codes "}\n" = (bytes_eq-Decides p.0.1 (codes "}\n")).0 g.0 in
+    quoted_found bytes p.0 p.1 ∙ ap (λ (x : List ℕ). p.0.0 ++ 34 ∷ x) end ∙ ap (λ (x : List ℕ). x ++ codes "\"}\n") (ok_is p.0.0 text g.1)
+
+null_found : (bytes : List ℕ) (x : Option (List ℕ) × List ℕ) → null_at_front bytes ≡ Ok x → bytes ≡ after_line x.0 ++ x.1
+unfolding null_at_front
+null_found bytes x e =
+    let rest = bind_ok (behind (codes "null") bytes) _ x e in
+    subst (λ (y : Option (List ℕ) × List ℕ). bytes ≡ after_line y.0 ++ y.1) (ok_is (None, rest.0) x rest.2) (behind_found (codes "null") bytes rest.0 rest.1)
+
+text_found : (bytes : List ℕ) (x : Option (List ℕ) × List ℕ) → text_at_front bytes ≡ Ok x → bytes ≡ after_line x.0 ++ x.1
+unfolding text_at_front
+text_found bytes x e =
+    let rest = bind_ok (behind (codes "\"") bytes) _ x e in
+    let p = bind_ok (quoted rest.0) _ x rest.2 in
+    subst (λ (y : Option (List ℕ) × List ℕ). bytes ≡ after_line y.0 ++ y.1) (ok_is (Some p.0.0, p.0.1) x p.2)
+    (behind_found (codes "\"") bytes rest.0 rest.1 ∙ ap (λ (t : List ℕ). 34 ∷ t) (quoted_found rest.0 p.0 p.1 ∙ sym (append_assoc p.0.0 (34 ∷ []) p.0.1)))
+
+-- which of two ways did not fail
+either : {A : Type 0} (first second : Result A MessageFault) (x : A) → otherwise first second ≡ Ok x → (first ≡ Ok x) ⊎ (second ≡ Ok x)
+either (Ok y) second x e = inl e
+either (Err d) second x e = inr e
+
+after_found : (bytes : List ℕ) (x : Option (List ℕ) × List ℕ) → after_at_front bytes ≡ Ok x → bytes ≡ after_line x.0 ++ x.1
+unfolding after_at_front
+after_found bytes x e =
+    elim (either (null_at_front bytes) (text_at_front bytes) x e) [ inl null ↦ null_found bytes x null | inr text ↦ text_found bytes x text ]
+
+resolved_found : (line : List ℕ) (t : Texts) → resolved_written line ≡ Ok t → line ≡ texts_line t
+unfolding resolved_written
+resolved_found line t e =
+    let rest = bind_ok (behind (codes "{\"resolved\":\"") line) _ t e in
+    let ts = bind_ok (last_text rest.0) _ t rest.2 in
+    behind_found (codes "{\"resolved\":\"") line rest.0 rest.1 ∙ ap (λ (x : List ℕ). codes "{\"resolved\":\"" ++ x) (last_found rest.0 ts.0 ts.1) ∙ ap texts_line (ok_is (resolved ts.0) t ts.2)
+
+row_found : (line : List ℕ) (t : Texts) → row_written line ≡ Ok t → line ≡ texts_line t
+unfolding row_written
+row_found line t e =
+    let front = bind_ok (behind (codes "{\"after\":") line) _ t e in
+    let after = bind_ok (after_at_front front.0) _ t front.2 in
+    let middle = bind_ok (behind (codes ",\"key\":\"") after.0.1) _ t after.2 in
+    let key = bind_ok (quoted middle.0) _ t middle.2 in
+    let back = bind_ok (behind (codes ",\"updated\":\"") key.0.1) _ t key.2 in
+    let updated = bind_ok (last_text back.0) _ t back.2 in
+    behind_found (codes "{\"after\":") line front.0 front.1
+    ∙ ap (λ (x : List ℕ). codes "{\"after\":" ++ x) (after_found front.0 after.0 after.1)
+    ∙ ap (λ (x : List ℕ). codes "{\"after\":" ++ (after_line after.0.0 ++ x)) (behind_found (codes ",\"key\":\"") after.0.1 middle.0 middle.1)
+    ∙ ap (λ (x : List ℕ). codes "{\"after\":" ++ (after_line after.0.0 ++ (codes ",\"key\":\"" ++ x))) (quoted_found middle.0 key.0 key.1)
+    ∙ ap (λ (x : List ℕ). codes "{\"after\":" ++ (after_line after.0.0 ++ (codes ",\"key\":\"" ++ (key.0.0 ++ 34 ∷ x)))) (behind_found (codes ",\"updated\":\"") key.0.1 back.0 back.1)
+    ∙ ap (λ (x : List ℕ). codes "{\"after\":" ++ (after_line after.0.0 ++ (codes ",\"key\":\"" ++ (key.0.0 ++ (codes "\",\"updated\":\"" ++ x))))) (last_found back.0 updated.0 updated.1)
+    ∙ ap texts_line (ok_is (row after.0.0 key.0.0 updated.0) t updated.2)
+
+-- what is taken apart is the line of its texts
+pub written_found : (line : List ℕ) (t : Texts) → texts_written line ≡ Ok t → line ≡ texts_line t
+unfolding texts_written
+written_found line t e =
+    elim (either (resolved_written line) (row_written line) t e) [ inl is ↦ resolved_found line t is | inr is ↦ row_found line t is ]
+
+-- ---- no written text has a quote
+
+no_quotes_join : (a b : List ℕ) → HasNoQuote a → HasNoQuote b → HasNoQuote (a ++ b)
+no_quotes_join [] b p q = q
+no_quotes_join (x ∷ a) b p q = (p.0, no_quotes_join a b p.1 q)
+
+not_quote_of : (b : Bool) → not b ≡ true → b ≡ false
+not_quote_of true e = absurd cc
+not_quote_of false e = refl
+
+both : (a b : Bool) → (a && b) ≡ true → (a ≡ true) × (b ≡ true)
+both true b e = (refl, e)
+both false b e = absurd cc
+
+no_quote_at : (table : List ℕ) (k : ℕ) → list_all (λ s. not (is_quote s)) table ≡ true → is_quote (get_or table k 0) ≡ false
+no_quote_at [] k all = refl
+no_quote_at (s ∷ table) zero all = not_quote_of (is_quote s) (both (not (is_quote s)) (list_all (λ s. not (is_quote s)) table) all).0
+no_quote_at (s ∷ table) (suc k) all = no_quote_at table k (both (not (is_quote s)) (list_all (λ s. not (is_quote s)) table) all).1
+
+symbol_no_quote : (k : ℕ) → is_quote (get_or symbols k 0) ≡ false
+symbol_no_quote k = no_quote_at symbols k refl
+
+base64_no_quote : (bytes : List ℕ) → HasNoQuote (base64 bytes)
+base64_no_quote [] = rw base64_none tt
+base64_no_quote (a ∷ []) = rw base64_one (symbol_no_quote (a / 4), (symbol_no_quote (a % 4 * 16), (refl, (refl, tt))))
+base64_no_quote (a ∷ b ∷ []) = rw base64_two (symbol_no_quote (a / 4), (symbol_no_quote (a % 4 * 16 + b / 16), (symbol_no_quote (b % 16 * 4), (refl, tt))))
+base64_no_quote (a ∷ b ∷ c ∷ rest) =
+    rw base64_three (no_quotes_join (encode_group symbols a b c) (base64 rest) (symbol_no_quote (a / 4), (symbol_no_quote (a % 4 * 16 + b / 16), (symbol_no_quote (b % 16 * 4 + c / 64), (symbol_no_quote (c % 64), tt)))) (base64_no_quote rest))
+
+digit_no_quote : (c : ℕ) → is_ascii_digit c ≡ true → is_quote c ≡ false
+digit_no_quote c digit = ne_eqb c 34 (λ e. let h : is_ascii_digit 34 ≡ true = subst (λ (x : ℕ). is_ascii_digit x ≡ true) e digit in absurd cc)
+
+digits_no_quote : (digits : List ℕ) → all_ascii_digits digits ≡ true → HasNoQuote digits
+digits_no_quote [] all = tt
+digits_no_quote (d ∷ digits) all = let h = both (is_ascii_digit d) (all_ascii_digits digits) all in (digit_no_quote d h.0, digits_no_quote digits h.1)
+
+abbrev AfterHasNoQuote : Option (List ℕ) → Type 0
+AfterHasNoQuote None = Unit {0}
+AfterHasNoQuote (Some text) = HasNoQuote text
+
+value_no_quote : (after : Option (List ℕ)) → AfterHasNoQuote (option_map base64 after)
+value_no_quote None = tt
+value_no_quote (Some value) = base64_no_quote value
+
+-- ---- what was put together is taken apart again
+
+last_again : (text : List ℕ) → HasNoQuote text → last_text (text ++ codes "\"}\n") ≡ Ok text
+unfolding last_text
+last_again text none = ap (λ (r : Result (List ℕ × List ℕ) MessageFault). r >>= λ p. cond (bytes_eq p.1 (codes "}\n")) (Ok p.0) (Err Shape)) (quoted_again text (codes "}\n") none)
+
+after_again : (after : Option (List ℕ)) (rest : List ℕ) → AfterHasNoQuote after → after_at_front (after_line after ++ rest) ≡ Ok (after, rest)
+unfolding after_at_front null_at_front text_at_front
+after_again None rest none = refl
+after_again (Some text) rest none =
+    ap (λ (x : List ℕ). after_at_front (34 ∷ x)) (append_assoc text (34 ∷ []) rest)
+    ∙ ap (λ (r : Result (List ℕ × List ℕ) MessageFault). r >>= λ p. Ok (Some p.0, p.1)) (quoted_again text rest none)
+
+resolved_again : (ts : List ℕ) → HasNoQuote ts → texts_written (texts_line (resolved ts)) ≡ Ok (resolved ts)
+unfolding texts_written resolved_written
+resolved_again ts none = ap (λ (r : Result (List ℕ) MessageFault). otherwise (r >>= λ t. Ok (resolved t)) (row_written (texts_line (resolved ts)))) (last_again ts none)
+
+row_again : (after : Option (List ℕ)) (key updated : List ℕ) → AfterHasNoQuote after → HasNoQuote key → HasNoQuote updated → texts_written (texts_line (row after key updated)) ≡ Ok (row after key updated)
+unfolding texts_written resolved_written row_written
+row_again after key updated a k u =
+    let back : List ℕ = updated ++ codes "\"}\n" in
+    let middle : List ℕ = key ++ (codes "\",\"updated\":\"" ++ back) in
+    ap (λ (r : Result (Option (List ℕ) × List ℕ) MessageFault). r >>= λ x. behind (codes ",\"key\":\"") x.1 >>= λ m. quoted m >>= λ y. behind (codes ",\"updated\":\"") y.1 >>= λ b. last_text b >>= λ z. Ok (row x.0 y.0 z)) (after_again after (codes ",\"key\":\"" ++ middle) a)
+    ∙ ap (λ (r : Result (List ℕ × List ℕ) MessageFault). r >>= λ y. behind (codes ",\"updated\":\"") y.1 >>= λ b. last_text b >>= λ z. Ok (row after y.0 z)) (quoted_again key (codes ",\"updated\":\"" ++ back) k)
+    ∙ ap (λ (r : Result (List ℕ) MessageFault). r >>= λ z. Ok (row after key z)) (last_again updated u)
+
+-- a message's line is taken apart into its texts
+pub written_again : (m : Message) → IsMessage m → texts_written (message_line m) ≡ Ok (texts_of m)
+written_again (message.Resolved ts) lawful =
+    ap texts_written (line_of_texts (message.Resolved ts)) ∙ resolved_again (decimal ts) (digits_no_quote (decimal ts) (decimal_digits ts (omega arith)))
+written_again (message.Row r) lawful =
+    ap texts_written (line_of_texts (message.Row r)) ∙ row_again (option_map base64 r.after) (base64 r.key) (decimal r.ts) (value_no_quote r.after) (base64_no_quote r.key) (digits_no_quote (decimal r.ts) (decimal_digits r.ts (omega arith)))

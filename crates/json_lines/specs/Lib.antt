@@ -1,0 +1,9 @@
+pub mod Writing
+pub mod Numbers
+pub mod Messages
+pub mod Steps
+pub mod Texts
+pub mod TextsView
+pub mod Written
+pub mod Meaning
+pub mod Tests

@@ -1,0 +1,44 @@
+-- The JSON line (RFC 8259) of a message of a feed, with bytes as base64 (RFC 4648).
+use Rattle.std.specs.Prelude.{ℕ, ◌<◌, ◌≤◌, List, ◌++◌, length, codes, decimal, Option, Some, None}
+use Rattle.std.specs.List.{AllByRecursion}
+use Rattle.base64.specs.Engines.{standard}
+use Rattle.base64.specs.GeneralPurpose.{encode_of, engine_symbols}
+use Rattle.spans.specs.declared.calls.messages.Message.{Message}
+use Rattle.spans.specs.declared.calls.messages.Message.TheVariants as message
+
+-- the standard alphabet
+abbrev pub symbols : List ℕ
+symbols = engine_symbols standard
+
+-- with padding
+abbrev pub base64 : List ℕ → List ℕ
+base64 bytes = encode_of standard bytes
+
+-- the value in quotes, or `null` for a delete
+abbrev pub after_text : Option (List ℕ) → List ℕ
+after_text None = codes "null"
+after_text (Some value) = codes "\"" ++ base64 value ++ codes "\""
+
+-- members in byte order of their names, no spaces
+unfoldable pub message_line : Message → List ℕ
+message_line (message.Row row) = codes "{\"after\":" ++ after_text row.after ++ codes ",\"key\":\"" ++ base64 row.key ++ codes "\",\"updated\":\"" ++ decimal row.ts ++ codes "\"}\n"
+message_line (message.Resolved ts) = codes "{\"resolved\":\"" ++ decimal ts ++ codes "\"}\n"
+
+abbrev pub AreBytes : List ℕ → Type 0
+AreBytes bytes = AllByRecursion (λ b. b < 256) bytes
+
+abbrev pub IsTimestamp : ℕ → Type 0
+IsTimestamp ts = (1 ≤ ts) × (ts ≤ 9223372036854775807)
+
+abbrev pub IsKey : List ℕ → Type 0
+IsKey key = (1 ≤ length key) × (length key ≤ 64) × AreBytes key
+
+-- a value, or none for a delete
+abbrev pub IsAfter : Option (List ℕ) → Type 0
+IsAfter None = Unit {0}
+IsAfter (Some value) = (length value ≤ 1024) × AreBytes value
+
+-- the messages that have a line
+abbrev pub IsMessage : Message → Type 0
+IsMessage (message.Row row) = IsTimestamp row.ts × IsKey row.key × IsAfter row.after
+IsMessage (message.Resolved ts) = IsTimestamp ts

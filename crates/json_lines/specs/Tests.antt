@@ -1,0 +1,61 @@
+-- The tests of a line in their order, over what `serde_json` reads of it.
+use Rattle.std.specs.Prelude.{ℕ, ◌==◌, if◌then◌else◌, is_some, List, codes, bytes_eq, Option, Some, None, option_and_then, Result, Ok, Err, ok_or}
+use Rattle.std.specs.Str.{is_utf8}
+use Rattle.serde_json.specs.Data.{Data}
+use Rattle.serde_json.specs.Read.{read}
+use Rattle.serde_json.specs.Find.{get, as_null, as_str, as_object}
+use Rattle.serde_json.specs.Events.{members_len}
+use Rattle.spans.specs.declared.calls.messages.Message.{Message}
+use Rattle.json_lines.specs.declared.fault.MessageFault.{MessageFault}
+use Rattle.json_lines.specs.declared.fault.MessageFault.TheVariants.{NotJson, Shape}
+use Rattle.json_lines.specs.Messages.{message_line}
+use Rattle.json_lines.specs.Meaning.{message_of}
+use Rattle.json_lines.specs.Texts.{Texts, resolved, row}
+use Rattle.json_lines.specs.Steps.{◌>>=◌}
+
+-- a member that is a string
+unfoldable pub text_at : List ℕ → Data → Result (List ℕ) MessageFault
+text_at name tree = ok_or (option_and_then as_str (get name tree)) Shape
+
+-- the member `after`: a string, or null
+unfoldable pub after_at : Data → Result (Option (List ℕ)) MessageFault
+after_at tree = do
+  after ← ok_or (get (codes "after") tree) Shape
+  if is_some (as_null after) then Ok None else (do
+    text ← ok_or (as_str after) Shape
+    Ok (Some text))
+
+unfoldable pub resolved_in : Data → Result Texts MessageFault
+resolved_in tree = do
+  ts ← text_at (codes "resolved") tree
+  Ok (resolved ts)
+
+unfoldable pub row_in : Data → Result Texts MessageFault
+row_in tree = do
+  after ← after_at tree
+  key ← text_at (codes "key") tree
+  updated ← text_at (codes "updated") tree
+  Ok (row after key updated)
+
+-- no other members: one in a resolved message, three in a row
+unfoldable pub texts_in : Data → Result Texts MessageFault
+texts_in tree = do
+  members ← ok_or (as_object tree) Shape
+  if members_len members == 1 then resolved_in tree else (if members_len members == 3 then row_in tree else Err Shape)
+
+-- the value that the line is in JSON
+unfoldable pub tree_of : List ℕ → Result Data MessageFault
+tree_of line = if is_utf8 line then ok_or (read line) NotJson else Err NotJson
+
+-- the message that the line has, however it is written
+unfoldable pub meant_by : List ℕ → Result Message MessageFault
+meant_by line = do
+  tree ← tree_of line
+  texts ← texts_in tree
+  message_of texts
+
+-- the message of the line, which has to be written as a message's line is
+unfoldable pub message_at : List ℕ → Result Message MessageFault
+message_at line = do
+  m ← meant_by line
+  if bytes_eq line (message_line m) then Ok m else Err Shape

@@ -1,0 +1,53 @@
+//! Number words: decimal digits without a leading zero.
+ghost use Rattle.std.specs.Prelude.{◌≡◌, ◌++◌, ◌<◌, ◌^◌, true, decimal, OnOk, OnErr};
+ghost use Rattle.std.specs.Option.{SomeIff};
+ghost use Rattle.std.specs.Str.{all_ascii_digits};
+ghost use Rattle.std.specs.Str.Parse.{digits_value};
+ghost use Rattle.json_lines.specs.Numbers.{number_of};
+ghost use Rattle.json_lines.specs.Writing.{Keeps};
+
+use itoa::Buffer;
+use std::alloc::AllocError;
+
+/// Writes a number word at the end.
+#[tactic(auto, using(crate::proofs::Writing::keeping))]
+pub fn put_number(out: &mut Vec<u8>, number: u64) -> Result<(), AllocError>
+    ensures ok { OnOk result (out.new.items ≡ out.old.items ++ decimal number) }
+    ensures err { OnErr result (Keeps out.old.items out.new.items) }
+{
+    let mut buffer = Buffer::new();
+    out.extend_from_slice(buffer.format(number).as_bytes())
+}
+
+/// The number that a word is, from 0 to 18446744073709551615, or `None` where it is no number word.
+#[tactic(auto, unfolding(crate::specs::Numbers::number_of))]
+pub fn number_of(word: &[u8]) -> Option<u64>
+    ensures { result ≡ number_of word.now }
+{
+    match word {
+        [] => None,
+        [b'0'] => Some(0),
+        [b'0', ..] => None,
+        _ => digits_value(word),
+    }
+}
+
+/// The number that decimal digits write, where it fits.
+fn digits_value(digits: &[u8]) -> Option<u64>
+    ensures { SomeIff result (all_ascii_digits digits.now ≡ true × (digits_value 10 digits.now < 2 ^ 64)) (digits_value 10 digits.now) }
+{
+    let mut number: u64 = 0;
+    for digit in digits {
+        if !digit.is_ascii_digit() {
+            return None;
+        }
+        let Some(tens) = number.checked_mul(10) else {
+            return None;
+        };
+        let Some(more) = tens.checked_add(u64::from(*digit - b'0')) else {
+            return None;
+        };
+        number = more;
+    }
+    Some(number)
+}

@@ -1,0 +1,51 @@
+//! A line of JSON as a message.
+ghost use Rattle.std.specs.Prelude.{◌≡◌, ◌≢◌, IfOk, IfErr, Err};
+ghost use Rattle.spans.specs.declared.calls.messages.Message.{Message};
+ghost use Rattle.json_lines.specs.declared.fault.MessageFault.TheVariants.{NoMemory};
+ghost use Rattle.json_lines.specs.Messages.{IsMessage, message_line};
+ghost use Rattle.json_lines.specs.Tests.{message_at};
+
+use crate::fault::MessageFault;
+use crate::texts::message_of;
+use crate::tree::meant_by;
+use crate::written::texts_written;
+use spans::calls::Message;
+use std::alloc::Global;
+
+/// The message whose line it is, with its newline.
+pub fn read_message(alloc: Global, line: &[u8]) -> Result<Message, MessageFault>
+    // What is read is the line of this message, byte for byte.
+    ensures found { IfOk result (λ m. (line.now ≡ message_line m) × IsMessage m) }
+    // A message's line is read, unless memory runs out.
+    ensures whole { IfErr result (λ e. (m : Message) → IsMessage m → line.now ≡ message_line m → e ≡ NoMemory) }
+    // Another line doesn't pass one of the tests, and this is the first.
+    ensures first { IfErr result (λ e. e ≢ NoMemory → message_at line.now ≡ Err e) }
+{
+    match read_written(alloc, line) {
+        Ok(message) => Ok(message),
+        Err(MessageFault::NoMemory) => Err(MessageFault::NoMemory),
+        Err(_) => Err(first_fault(alloc, line)),
+    }
+}
+
+/// The message of a line that is spelled as a message's line is. No tree is built for it.
+fn read_written(alloc: Global, line: &[u8]) -> Result<Message, MessageFault>
+    ensures found { IfOk result (λ m. (line.now ≡ message_line m) × IsMessage m) }
+    ensures whole { IfErr result (λ e. (m : Message) → IsMessage m → line.now ≡ message_line m → e ≡ NoMemory) }
+{
+    let texts = texts_written(line)?;
+    message_of(alloc, texts)
+}
+
+/// The first test that a line doesn't pass which no message has.
+#[tactic(auto, unfolding(crate::specs::Tests::message_at))]
+fn first_fault(alloc: Global, line: &[u8]) -> MessageFault
+    requires { (m : Message) → IsMessage m → line.now ≢ message_line m }
+    ensures { result ≢ NoMemory → message_at line.now ≡ Err result }
+{
+    match meant_by(alloc, line) {
+        // it says what a message says, in another spelling
+        Ok(_) => MessageFault::Shape,
+        Err(fault) => fault,
+    }
+}

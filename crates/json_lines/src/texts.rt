@@ -1,0 +1,150 @@
+//! The texts of a message's members, and the message that they mean.
+ghost use Rattle.std.specs.Prelude.{◌≡◌, ◌≤◌, length, decimal, option_map, IfSome, IfOk};
+ghost use Rattle.json_lines.specs.Messages.{AreBytes, IsMessage, base64};
+ghost use Rattle.json_lines.specs.Texts.{row, texts_of};
+ghost use Rattle.json_lines.specs.TextsView.{texts_view};
+ghost use Rattle.json_lines.specs.Steps.{Gives, Reads};
+ghost use Rattle.json_lines.specs.Meaning.{timestamp_of, bytes_of, after_of, key_of, value_of, row_of, message_of};
+
+use crate::fault::MessageFault;
+use crate::numbers::number_of;
+use base64::DecodeAllocError;
+use base64::engine::general_purpose::STANDARD;
+use spans::calls::Message;
+use std::alloc::Global;
+use timestamps::key::{Key, KeyError};
+use timestamps::row::Row;
+use timestamps::ts::Ts;
+use timestamps::value::{Value, ValueError};
+
+/// The texts of the members, by name, as they stand in the line or in the tree that was read of it.
+#[derive(Clone, Copy)]
+pub(crate) enum Texts<'a> {
+    Resolved {
+        resolved: &'a [u8],
+    },
+    Row {
+        after: Option<&'a [u8]>,
+        key: &'a [u8],
+        updated: &'a [u8],
+    },
+}
+
+/// The message that the texts mean.
+#[tactic(auto, unfolding(crate::specs::Meaning::message_of))]
+pub(crate) fn message_of(alloc: Global, texts: Texts) -> Result<Message, MessageFault>
+    ensures exact { Gives (λ m. m) result (message_of (texts_view texts.entry)) }
+    ensures lawful { IfOk result (λ m. IsMessage m) }
+    // They are the texts of that message.
+    ensures found { IfOk result (λ m. texts_view texts.entry ≡ texts_of m) }
+{
+    match texts {
+        Texts::Resolved { resolved } => {
+            let ts = timestamp_of(resolved)?;
+            Ok(Message::Resolved(ts))
+        }
+        Texts::Row {
+            after,
+            key,
+            updated,
+        } => {
+            let row = row_of(alloc, after, key, updated)?;
+            Ok(Message::Row(row))
+        }
+    }
+}
+
+#[tactic(auto, unfolding(crate::specs::Meaning::row_of))]
+fn row_of(
+    alloc: Global,
+    after: Option<&[u8]>,
+    key: &[u8],
+    updated: &[u8],
+) -> Result<Row, MessageFault>
+    ensures exact { Gives (λ r. r) result (row_of (option_map (λ t. t.now) after.entry) key.now updated.now) }
+    ensures lawful { IfOk result (λ r. IsMessage (Message.Row r)) }
+    ensures found { IfOk result (λ r. row (option_map (λ t. t.now) after.entry) key.now updated.now ≡ texts_of (Message.Row r)) }
+{
+    let ts = timestamp_of(updated)?;
+    let key = bytes_of(alloc, key)?;
+    let after = after_of(alloc, after)?;
+    let key = key_of(alloc, &key)?;
+    let after = value_of(alloc, &after)?;
+    Ok(Row { ts, key, after })
+}
+
+/// The timestamp of a number word.
+#[tactic(auto, unfolding(crate::specs::Meaning::timestamp_of))]
+fn timestamp_of(text: &[u8]) -> Result<Ts, MessageFault>
+    ensures exact { Reads (λ ts. ts) result (timestamp_of text.now) }
+    ensures found { IfOk result (λ ts. text.now ≡ decimal ts) }
+{
+    let Some(number) = number_of(text) else {
+        return Err(MessageFault::Number);
+    };
+    match Ts::new(number) {
+        Some(ts) => Ok(ts),
+        None => Err(MessageFault::Number),
+    }
+}
+
+/// The bytes whose base64 it is.
+#[tactic(auto, unfolding(crate::specs::Meaning::bytes_of))]
+fn bytes_of(alloc: Global, text: &[u8]) -> Result<Vec<u8>, MessageFault>
+    ensures exact { Gives (λ v. v.items) result (bytes_of text.now) }
+    ensures found { IfOk result (λ v. text.now ≡ base64 v.items) }
+    ensures bytes { IfOk result (λ v. AreBytes v.items) }
+{
+    match STANDARD.decode(alloc, text) {
+        Ok(bytes) => Ok(bytes),
+        Err(DecodeAllocError::OutOfMemory) => Err(MessageFault::NoMemory),
+        Err(DecodeAllocError::DecodeError(_)) => Err(MessageFault::Base64),
+    }
+}
+
+/// The same of a value, where there is one.
+#[tactic(auto, unfolding(crate::specs::Meaning::after_of))]
+fn after_of(alloc: Global, text: Option<&[u8]>) -> Result<Option<Vec<u8>>, MessageFault>
+    ensures exact { Gives (λ o. option_map (λ v. v.items) o) result (after_of (option_map (λ t. t.now) text.entry)) }
+    ensures found { IfOk result (λ o. option_map (λ t. t.now) text.entry ≡ option_map (λ v. base64 v.items) o) }
+    ensures bytes { IfOk result (λ o. IfSome o (λ v. AreBytes v.items)) }
+{
+    match text {
+        None => Ok(None),
+        Some(text) => {
+            let bytes = bytes_of(alloc, text)?;
+            Ok(Some(bytes))
+        }
+    }
+}
+
+/// The key of bytes, which may be too few or too many.
+#[tactic(auto, unfolding(crate::specs::Meaning::key_of))]
+fn key_of(alloc: Global, bytes: &[u8]) -> Result<Key, MessageFault>
+    ensures exact { Gives (λ k. k) result (key_of bytes.now) }
+    ensures found { IfOk result (λ k. k ≡ bytes.now) }
+    ensures in_range { IfOk result (λ k. (1 ≤ length k) × (length k ≤ 64)) }
+{
+    match Key::new(alloc, bytes) {
+        Ok(key) => Ok(key),
+        Err(KeyError::KeyLength) => Err(MessageFault::Length),
+        Err(KeyError::NoMemory) => Err(MessageFault::NoMemory),
+    }
+}
+
+/// The value of bytes, which may be too many.
+#[tactic(auto, unfolding(crate::specs::Meaning::value_of))]
+fn value_of(alloc: Global, bytes: &Option<Vec<u8>>) -> Result<Option<Value>, MessageFault>
+    ensures exact { Gives (λ v. v) result (value_of (option_map (λ b. b.items) bytes.now)) }
+    ensures found { IfOk result (λ v. v ≡ option_map (λ b. b.items) bytes.now) }
+    ensures in_range { IfOk result (λ o. IfSome o (λ v. length v ≤ 1024)) }
+{
+    let Some(bytes) = bytes else {
+        return Ok(None);
+    };
+    match Value::new(alloc, bytes.as_slice()) {
+        Ok(value) => Ok(Some(value)),
+        Err(ValueError::ValueLength) => Err(MessageFault::Length),
+        Err(ValueError::NoMemory) => Err(MessageFault::NoMemory),
+    }
+}

@@ -1,0 +1,101 @@
+//! The tests of a line in their order, over the tree that `serde_json` reads of it.
+ghost use Rattle.std.specs.Prelude.{◌≡◌, option_map, IfOk};
+ghost use Rattle.serde_json.specs.View.{view};
+ghost use Rattle.json_lines.specs.Messages.{IsMessage};
+ghost use Rattle.json_lines.specs.Steps.{Gives, Reads};
+ghost use Rattle.json_lines.specs.TextsView.{texts_view};
+ghost use Rattle.json_lines.specs.Tests.{text_at, after_at, resolved_in, row_in, texts_in, tree_of, meant_by};
+
+use crate::fault::MessageFault;
+use crate::texts::{Texts, message_of};
+use serde_json::Value;
+use spans::calls::Message;
+use std::alloc::Global;
+
+/// The message that a line has, however it is written, or the first test that it doesn't pass.
+#[tactic(auto, unfolding(crate::specs::Tests::meant_by))]
+pub(crate) fn meant_by(alloc: Global, line: &[u8]) -> Result<Message, MessageFault>
+    ensures exact { Gives (λ m. m) result (meant_by line.now) }
+    ensures lawful { IfOk result (λ m. IsMessage m) }
+{
+    let tree = tree_of(alloc, line)?;
+    let texts = texts_in(&tree)?;
+    message_of(alloc, texts)
+}
+
+#[tactic(auto, unfolding(crate::specs::Tests::tree_of))]
+fn tree_of(alloc: Global, line: &[u8]) -> Result<Value, MessageFault>
+    ensures { Gives view result (tree_of line.now) }
+{
+    match Value::from_slice(alloc, line) {
+        Ok(tree) => Ok(tree),
+        Err(error) => {
+            if error.is_memory() {
+                return Err(MessageFault::NoMemory);
+            }
+            Err(MessageFault::NotJson)
+        }
+    }
+}
+
+#[tactic(auto, unfolding(crate::specs::Tests::texts_in))]
+fn texts_in(tree: &Value) -> Result<Texts<'_>, MessageFault>
+    ensures { Reads texts_view result (texts_in (view tree.now)) }
+{
+    let Some(members) = tree.as_object() else {
+        return Err(MessageFault::Shape);
+    };
+    let count = members.len();
+    if count == 1 {
+        return resolved_in(tree);
+    }
+    if count == 3 {
+        return row_in(tree);
+    }
+    Err(MessageFault::Shape)
+}
+
+#[tactic(auto, unfolding(crate::specs::Tests::resolved_in))]
+fn resolved_in(tree: &Value) -> Result<Texts<'_>, MessageFault>
+    ensures { Reads texts_view result (resolved_in (view tree.now)) }
+{
+    let resolved = text_at("resolved", tree)?;
+    Ok(Texts::Resolved { resolved })
+}
+
+#[tactic(auto, unfolding(crate::specs::Tests::row_in))]
+fn row_in(tree: &Value) -> Result<Texts<'_>, MessageFault>
+    ensures { Reads texts_view result (row_in (view tree.now)) }
+{
+    let after = after_at(tree)?;
+    let key = text_at("key", tree)?;
+    let updated = text_at("updated", tree)?;
+    Ok(Texts::Row {
+        after,
+        key,
+        updated,
+    })
+}
+
+/// The member `after`: a string, or null.
+#[tactic(auto, unfolding(crate::specs::Tests::after_at))]
+fn after_at(tree: &Value) -> Result<Option<&[u8]>, MessageFault>
+    ensures { Reads (λ o. option_map (λ t. t.now) o) result (after_at (view tree.now)) }
+{
+    let after = tree.get("after").ok_or(MessageFault::Shape)?;
+    if after.is_null() {
+        return Ok(None);
+    }
+    let text = after.as_str().ok_or(MessageFault::Shape)?;
+    Ok(Some(text.as_bytes()))
+}
+
+/// A member that is a string.
+#[tactic(auto, unfolding(crate::specs::Tests::text_at))]
+fn text_at<'a>(name: &str, tree: &'a Value) -> Result<&'a [u8], MessageFault>
+    ensures { Reads (λ t. t.now) result (text_at name.now (view tree.now)) }
+{
+    let member = tree.get(name).ok_or(MessageFault::Shape)?;
+    let text = member.as_str().ok_or(MessageFault::Shape)?;
+    Ok(text.as_bytes())
+}
