@@ -7,3 +7,13 @@ pub mod Splitting
 pub mod Unescaping
 pub mod Joining
 pub mod Spellings
+pub mod CutLines
+pub mod TakeLines
+pub mod JoinedParts
+pub mod MessageLines
+pub mod Arrows
+pub mod ReadReplies
+pub mod ReadEvents
+pub mod WrittenWords
+pub mod CommandsAgain
+pub mod EventsAgain

@@ -19,7 +19,8 @@ use Rattle.script.specs.Spelling.{spelling}
 use Rattle.script.specs.Words.{has_newline, without_newline, text_at, is_printable, is_empty, words, words_at}
 use Rattle.script.specs.Table.{Row, row_of, served}
 use Rattle.script.specs.Commands.{joined, bound_word, words_of, command_line}
-use Rattle.script.specs.Limits.{IsNumber, IsKey, IsSpan, IsCommand}
+use Rattle.json_lines.specs.Messages.{IsKey}
+use Rattle.script.specs.Limits.{IsNumber, IsSpan, IsCommand}
 use Rattle.script.specs.Reading.{◌>>=◌, Gives, word_at, number_at, session_at, key_at, value_at, span_at, row_at, arguments_at, command_at}
 use Rattle.script.proofs.ReadWords.{bind_ok, refused, some_ok, ok_is, pure, number_word, session_word, key_word, value_word, span_words, word_found}
 
@@ -66,10 +67,10 @@ arity_of verb.Cancel = 1
 arity_of verb.Stats = 0
 
 -- behind this name these words begin with this command's arguments
-record Begins (name : List ℕ) (arity : ℕ) (words : List (List ℕ)) (x : Cmd × List (List ℕ)) : Type 0 where
-  text : name ∷ words ≡ words_of x.0 ++ x.1
-  count : length (words_of x.0) ≡ arity + 1
-  lawful : IsCommand x.0
+pub record Begins (name : List ℕ) (arity : ℕ) (words : List (List ℕ)) (x : Cmd × List (List ℕ)) : Type 0 where
+  pub text : name ∷ words ≡ words_of x.0 ++ x.1
+  pub count : length (words_of x.0) ≡ arity + 1
+  pub lawful : IsCommand x.0
 
 with_number : (name : List ℕ) (make : ℕ → Cmd) (words : List (List ℕ)) (x : Cmd × List (List ℕ)) → ((n : ℕ) → words_of (make n) ≡ name ∷ decimal n ∷ []) → ((n : ℕ) → IsNumber n → IsCommand (make n))
     → (number_at words >>= λ n. Ok (make n.0, n.1)) ≡ Ok x → Begins name 1 words x
@@ -99,7 +100,7 @@ with_span name make words x text lawful e =
     subst (λ (y : Cmd × List (List ℕ)). Begins name 3 words y) (ok_is (make n.0.0 k.0.0, k.0.1) x k.2)
     (record { text = ap (λ (z : List (List ℕ)). name ∷ z) (w.0 ∙ ap (λ (z : List (List ℕ)). decimal n.0.0 ∷ z) v.0) ∙ ap (λ (z : List (List ℕ)). z ++ k.0.1) (sym (text n.0.0 k.0.0)); count = ap length (text n.0.0 k.0.0) ∙ omega arith; lawful = lawful n.0.0 k.0.0 w.1 v.1 })
 
-arguments_found : (v : Verb) (ws : List (List ℕ)) (x : Cmd × List (List ℕ)) → arguments_at v ws ≡ Ok x → Begins (name_of v) (arity_of v) ws x
+pub arguments_found : (v : Verb) (ws : List (List ℕ)) (x : Cmd × List (List ℕ)) → arguments_at v ws ≡ Ok x → Begins (name_of v) (arity_of v) ws x
 unfolding arguments_at words_of IsCommand
 arguments_found verb.Begin ws x e = with_number (codes "begin") cmd.Begin ws x (λ n. refl) (λ n h. h) e
 arguments_found verb.Get ws x e = with_key (codes "get") cmd.Get ws x (λ n k. refl) (λ n k h i. (h, i)) e
@@ -178,7 +179,7 @@ not_false : (b : Bool) → not b ≡ false → b ≡ true
 not_false true e = refl
 not_false false e = absurd cc
 
-text_found : (line text : List ℕ) → text_at line ≡ Ok text → line ≡ text ++ 10 ∷ []
+pub text_found : (line text : List ℕ) → text_at line ≡ Ok text → line ≡ text ++ 10 ∷ []
 unfolding text_at
 text_found line text e =
     let long = refused (nat_lt MAX_LINE_BYTES (length (without_newline line))) LineTooLong (cond (not (has_newline line)) (Err NoNewline) (Ok (without_newline line))) text e in
@@ -187,14 +188,14 @@ text_found line text e =
     let is : without_newline line ≡ take (length line - 1) line = ap (λ (b : Bool). cond b (take (length line - 1) line) line) newline in
     with_newline line newline ∙ ap (λ (x : List ℕ). x ++ 10 ∷ []) (sym is ∙ ok_is (without_newline line) text ends.1)
 
-words_found : (text : List ℕ) (ws : List (List ℕ)) → words_at text ≡ Ok ws → text ≡ joined ws
+pub words_found : (text : List ℕ) (ws : List (List ℕ)) → words_at text ≡ Ok ws → text ≡ joined ws
 unfolding words_at
 words_found text ws e =
     let bad = refused (not (list_all is_printable text)) BadByte (cond (list_any is_empty (words text)) (Err WordCount) (Ok (words text))) ws e in
     let some = refused (list_any is_empty (words text)) WordCount (pure (words text)) ws bad.1 in
     sym (join_with_byte-slice_split 32 text) ∙ ap joined (ok_is (words text) ws some.1)
 
-row_word : (rows : List Row) (ws : List (List ℕ)) (x : Row × List (List ℕ)) → AllByRecursion IsRight rows → row_at rows ws ≡ Ok x → (ws ≡ name_of x.0.verb ∷ x.1) × (x.0.arguments ≡ arity_of x.0.verb)
+pub row_word : (rows : List Row) (ws : List (List ℕ)) (x : Row × List (List ℕ)) → AllByRecursion IsRight rows → row_at rows ws ≡ Ok x → (ws ≡ name_of x.0.verb ∷ x.1) × (x.0.arguments ≡ arity_of x.0.verb)
 unfolding row_at
 row_word rows ws x right e =
     let w = bind_ok (word_at ws) (λ w. ok_or (row_of rows w.0) UnknownCommand >>= λ r. Ok (r, w.1)) x e in

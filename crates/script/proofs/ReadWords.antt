@@ -9,14 +9,15 @@ use Rattle.script.specs.declared.fault.LineFault.TheVariants.{Number, KeyLength,
 use Rattle.script.specs.Numbers.{number_of}
 use Rattle.script.specs.Spelling.{spelling, bytes_of, AreBytes}
 use Rattle.script.specs.Commands.{bound_word}
-use Rattle.script.specs.Limits.{IsNumber, IsKey, IsValue, IsBound, IsSpan}
+use Rattle.json_lines.specs.Messages.{IsKey}
+use Rattle.script.specs.Limits.{IsNumber, IsValue, IsBound, IsSpan}
 use Rattle.script.specs.Reading.{◌>>=◌, word_at, number_at, session_at, bytes_at, key_at, value_at, bound_at, span_at}
 use Rattle.script.proofs.NumberWords.{number_found}
 use Rattle.script.proofs.SpelledWords.{spelled_found}
 use Rattle.script.proofs.Spellings.{both}
 
 -- the value of a step that did not fail
-pub bind_ok : {A B : Type 0} (r : Result A LineFault) (f : A → Result B LineFault) (y : B) → (r >>= f) ≡ Ok y → (x : A) × (r ≡ Ok x) × (f x ≡ Ok y)
+pub bind_ok : {A B E : Type 0} (r : Result A E) (f : A → Result B E) (y : B) → (r >>= f) ≡ Ok y → (x : A) × (r ≡ Ok x) × (f x ≡ Ok y)
 bind_ok (Ok x) f y e = (x, refl, e)
 bind_ok (Err d) f y e = absurd cc
 
@@ -33,10 +34,10 @@ pub some_ok : {A : Type 0} (o : Option A) (d : LineFault) (x : A) → ok_or o d 
 some_ok None d x e = absurd cc
 some_ok (Some y) d x e = cc
 
-abbrev pub pure : {A : Type 0} → A → Result A LineFault
+abbrev pub pure : {A E : Type 0} → A → Result A E
 pure x = Ok x
 
-pub ok_is : {A : Type 0} (x y : A) → pure x ≡ pure y → x ≡ y
+pub ok_is : {A E : Type 0} (x y : A) → pure {E = E} x ≡ pure {E = E} y → x ≡ y
 ok_is x y e = cc
 
 pub word_found : (words : List (List ℕ)) (w : List ℕ × List (List ℕ)) → word_at words ≡ Ok w → words ≡ w.0 ∷ w.1

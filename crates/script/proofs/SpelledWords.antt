@@ -24,13 +24,14 @@ hex_found c v e =
       | inr h ↦ (let r = in_range 65 70 c h.0 in (ap (λ (b : Bool). cond b (48 + v) (55 + v)) (le-ltb v 10 (omega arith)) ∙ omega arith, omega arith))
     ]
 
-abbrev some_of : {A : Type 0} → A → Option A
+abbrev pub some_of : {A : Type 0} → A → Option A
 some_of x = Some x
 
-some_is : {A : Type 0} (x y : A) → some_of x ≡ some_of y → x ≡ y
+pub some_is : {A : Type 0} (x y : A) → some_of x ≡ some_of y → x ≡ y
 some_is x y e = cc
 
-chosen : {A : Type 0} (b : Bool) (x y : A) → cond b (some_of x) None ≡ some_of y → (b ≡ true) × (x ≡ y)
+-- a test that held
+pub chosen : {A : Type 0} (b : Bool) (x y : A) → cond b (some_of x) None ≡ some_of y → (b ≡ true) × (x ≡ y)
 chosen true x y e = (refl, cc)
 chosen false x y e = absurd cc
 
@@ -184,7 +185,8 @@ pub spelled_found : (word bytes : List ℕ) → bytes_of word ≡ Some bytes →
 unfolding bytes_of
 spelled_found word bytes e = found_by (length word == 0) (bytes_eq word (codes "-")) (bytes_eq word (codes "%2D")) word bytes refl refl refl e
 
-not_true : (b : Bool) → (b ≡ true → ⊥) → b ≡ false
+-- what isn't true is false
+pub not_true : (b : Bool) → (b ≡ true → ⊥) → b ≡ false
 not_true true never = absurd (never refl)
 not_true false never = refl
 

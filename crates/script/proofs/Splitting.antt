@@ -27,7 +27,8 @@ pub alone : (text : List ℕ) → length text ≤ first_space text → words tex
 alone [] long = refl
 alone (b ∷ text) long = alone_step (is_space b) b text refl (alone text) long
 
-place_cases : (p n : ℕ) (s : Bool) (at : Option ℕ) → nat_lt p n ≡ s → at ≡ cond s (Some p) None → ((at ≡ Some p) × (p < n)) ⊎ ((at ≡ None) × (n ≤ p))
+-- whether it is found, and where
+pub place_cases : (p n : ℕ) (s : Bool) (at : Option ℕ) → nat_lt p n ≡ s → at ≡ cond s (Some p) None → ((at ≡ Some p) × (p < n)) ⊎ ((at ≡ None) × (n ≤ p))
 place_cases p n true at t e = inl (e, ltb-true p n t)
 place_cases p n false at t e = inr (e, ltb-false p n t)
 

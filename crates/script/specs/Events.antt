@@ -1,14 +1,23 @@
 -- The text of an event, and the lines that can end the output of a run.
 use Rattle.std.specs.Prelude.{ℕ, List, [], ◌∷◌, ◌++◌, codes, decimal}
+use Rattle.std.specs.List.{flat_map}
 use Rattle.spans.specs.declared.calls.events.Event.{Event}
 use Rattle.script.specs.declared.fault.LineFault.{LineFault}
 use Rattle.script.specs.Commands.{joined, words_of}
 use Rattle.script.specs.Replies.{reply_words, following_lines}
 use Rattle.script.specs.Faults.{code_of, name_of}
 
--- its position, its session, its command, `=>`, its reply, and the lines that follow
+-- its position, its session, its command, `=>` and its reply's words
+abbrev pub heading_text : Event → List ℕ
+heading_text e = joined (decimal e.position ∷ decimal e.seat ∷ (words_of e.cmd ++ codes "=>" ∷ reply_words e.reply))
+
+-- this line, and the lines that follow
 abbrev pub event_text : Event → List ℕ
-event_text e = joined (decimal e.position ∷ decimal e.seat ∷ (words_of e.cmd ++ codes "=>" ∷ reply_words e.reply)) ++ 10 ∷ following_lines e.reply
+event_text e = heading_text e ++ 10 ∷ following_lines e.reply
+
+-- the texts of events, one after the other
+abbrev pub transcript_text : List Event → List ℕ
+transcript_text events = flat_map event_text events
 
 abbrev pub fault_line : ℕ → LineFault → List ℕ
 fault_line line fault = joined (codes "fault" ∷ decimal line ∷ decimal (code_of fault) ∷ name_of fault ∷ []) ++ 10 ∷ []

@@ -11,3 +11,9 @@ pub mod Events
 pub mod Faults
 pub mod SpelledBytes
 pub mod Limits
+pub mod ReplyTable
+pub mod ReplyReading
+pub mod Lines
+pub mod MessageReading
+pub mod EventLines
+pub mod Transcripts

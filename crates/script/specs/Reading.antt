@@ -16,7 +16,7 @@ use Rattle.script.specs.Words.{text_at, words_at}
 use Rattle.script.specs.Table.{Row, row_of, row_view}
 
 infixl 10 ◌>>=◌
-abbrev pub ◌>>=◌ : {A B : Type 0} → Result A LineFault → (A → Result B LineFault) → Result B LineFault
+abbrev pub ◌>>=◌ : {A B E : Type 0} → Result A E → (A → Result B E) → Result B E
 (Ok x) >>= f = f x
 (Err e) >>= f = Err e
 

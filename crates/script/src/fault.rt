@@ -107,3 +107,48 @@ impl<T: Drop> From<AllocFailed<T>> for ReadError {
         ReadError::NoMemory
     }
 }
+
+impl ReadError {
+    ghost use Rattle.script.specs.Transcripts.{error_at_line};
+
+    /// The same of a line of a transcript.
+    pub(crate) fn at_line(self, line: u64) -> TranscriptError
+        ensures { result ≡ error_at_line line self }
+    {
+        match self {
+            ReadError::Fault(fault) => TranscriptError::Fault { line, fault },
+            ReadError::NoMemory => TranscriptError::NoMemory,
+        }
+    }
+}
+
+/// Why a transcript was not read.
+#[derive(Clone, Copy, Debug, PartialEq, Eq, Error)]
+pub enum TranscriptError {
+    /// A line is faulty. Lines are counted from 1.
+    #[error("{line}: {fault}")]
+    Fault { line: u64, fault: LineFault },
+    /// A growth of memory was refused.
+    #[error("nomemory")]
+    NoMemory,
+}
+
+impl From<AllocError> for TranscriptError {
+    ghost use Rattle.script.specs.declared.fault.TranscriptError.TheVariants as errors;
+
+    ghost from_gives = { λ _ e. e ≡ errors.NoMemory };
+
+    fn from(_e: AllocError) -> TranscriptError {
+        TranscriptError::NoMemory
+    }
+}
+
+impl<T: Drop> From<AllocFailed<T>> for TranscriptError {
+    ghost use Rattle.script.specs.declared.fault.TranscriptError.TheVariants as errors;
+
+    ghost from_gives = { λ _ e. e ≡ errors.NoMemory };
+
+    fn from(_e: AllocFailed<T>) -> TranscriptError {
+        TranscriptError::NoMemory
+    }
+}

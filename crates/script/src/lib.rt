@@ -12,21 +12,31 @@
 //! ```
 //!
 //! A writer pushes into the caller's buffer, and where memory runs out leaves it as it was. A reader
-//! takes the words of a line that it is lent, and allocates for keys, values and bounds alone.
+//! takes the words of a line that it is lent, and allocates for keys, values and bounds alone. A
+//! transcript is read line by line, and a fault in it is told with the number of its line.
 //!
-//! Cost: each byte of a line is looked at three times to read it, and once to write it.
+//! Cost: each byte of a line is looked at three times to read it, and once to write it; of a
+//! transcript's line once more, to find where it ends.
 #![tactic(auto)]
 
 mod arguments;
 pub mod commands;
 pub mod events;
 pub mod fault;
+mod following;
+mod headings;
 pub mod laws;
+mod lines;
 pub mod replies;
+mod reply_reading;
+mod reply_table;
 mod spelling;
 mod table;
 #[cfg(test)]
 mod tests;
+#[cfg(test)]
+mod transcript_tests;
+pub mod transcripts;
 pub mod words;
 
 use json_lines::{buffer, numbers};

@@ -95,6 +95,16 @@ impl<'a> Words<'a> {
         self.left
     }
 
+    /// The same words once more, to look ahead.
+    pub(crate) fn fork(&self) -> Words<'a>
+        ensures { result ≡ self.now }
+    {
+        Words {
+            rest: self.rest,
+            left: self.left,
+        }
+    }
+
     /// Takes the next word, if there is one.
     pub(crate) fn take_word(&mut self) -> Option<&'a [u8]>
         ensures { MatchOption result ((self.old ≡ []) × (self.new ≡ [])) (λ word. self.old ≡ word.now ∷ self.new) }

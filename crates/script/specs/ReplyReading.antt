@@ -1,0 +1,99 @@
+-- Reading the words of a reply.
+use Rattle.std.specs.Prelude.{ℕ, ◌==◌, if◌then◌else◌, List, length, Some, None, Result, Ok, Err, ok_or}
+use Rattle.spans.specs.declared.calls.replies.Reply.{Reply}
+use Rattle.spans.specs.declared.calls.replies.Reply.TheVariants as reply
+use Rattle.spans.specs.declared.calls.replies.Refusal.{Refusal}
+use Rattle.spans.specs.declared.calls.replies.Refusal.TheVariants as refusal
+use Rattle.script.specs.declared.fault.LineFault.{LineFault}
+use Rattle.script.specs.declared.fault.LineFault.TheVariants as fault
+use Rattle.script.specs.declared.reply_table.Kind.{Kind}
+use Rattle.script.specs.declared.reply_table.Kind.TheVariants as kind
+use Rattle.script.specs.declared.reply_table.Reason.{Reason}
+use Rattle.script.specs.declared.reply_table.Reason.TheVariants as reason
+use Rattle.script.specs.declared.reply_reading.Shape.{Shape}
+use Rattle.script.specs.declared.reply_reading.Shape.TheVariants as shape
+use Rattle.script.specs.Reading.{◌>>=◌, word_at, number_at, value_at}
+use Rattle.script.specs.ReplyTable.{replies, kind_of}
+
+-- any fault told as this one
+abbrev pub told_as : {A : Type 0} → LineFault → Result A LineFault → Result A LineFault
+told_as f (Ok x) = Ok x
+told_as f (Err e) = Err f
+
+-- what was read, where no word is left
+abbrev pub to_the_end : {A : Type 0} → Result (A × List (List ℕ)) LineFault → Result A LineFault
+to_the_end read = read >>= λ x. if length x.1 == 0 then Ok x.0 else Err fault.WordCount
+
+-- a number, and what is made of it
+abbrev pub of_number : {A : Type 0} → (ℕ → A) → List (List ℕ) → Result (A × List (List ℕ)) LineFault
+of_number make words = do
+  n ← number_at words
+  Ok (make n.0, n.1)
+
+-- two numbers, and what is made of them
+abbrev pub of_two : {A : Type 0} → (ℕ → ℕ → A) → List (List ℕ) → Result (A × List (List ℕ)) LineFault
+of_two make words = do
+  n ← number_at words
+  m ← number_at n.1
+  Ok (make n.0 m.0, m.1)
+
+unfoldable pub refusal_at : Reason → List (List ℕ) → Result (Refusal × List (List ℕ)) LineFault
+refusal_at reason.BelowClosed words = of_number refusal.BelowClosed words
+refusal_at reason.TsUsed words = Ok (refusal.TsUsed, words)
+refusal_at reason.TsRange words = Ok (refusal.TsRange, words)
+refusal_at reason.Blocked words = of_number refusal.Blocked words
+refusal_at reason.NoTxn words = Ok (refusal.NoTxn, words)
+refusal_at reason.NotOwner words = Ok (refusal.NotOwner, words)
+refusal_at reason.Ended words = Ok (refusal.Ended, words)
+refusal_at reason.TooLate words = Ok (refusal.TooLate, words)
+refusal_at reason.NotClosed words = of_number refusal.NotClosed words
+refusal_at reason.BelowHorizon words = of_number refusal.BelowHorizon words
+refusal_at reason.NoProtection words = Ok (refusal.NoProtection, words)
+refusal_at reason.NoFeed words = Ok (refusal.NoFeed, words)
+refusal_at reason.FeedCancelled words = Ok (refusal.FeedCancelled, words)
+refusal_at reason.NoMemory words = Ok (refusal.NoMemory, words)
+
+unfoldable pub stats_at : List (List ℕ) → Result (Reply × List (List ℕ)) LineFault
+stats_at words = do
+  versions ← number_at words
+  undecided ← number_at versions.1
+  feeds ← number_at undecided.1
+  closed ← number_at feeds.1
+  horizon ← number_at closed.1
+  Ok (reply.Stats versions.0 undecided.0 feeds.0 closed.0 horizon.0, horizon.1)
+
+-- a reply of a kind, or how many lines follow, from the words behind its name
+unfoldable pub shape_at : Kind → List (List ℕ) → Result (Shape × List (List ℕ)) LineFault
+shape_at kind.Started words = Ok (shape.Alone reply.Started, words)
+shape_at kind.Absent words = Ok (shape.Alone (reply.Found None), words)
+shape_at kind.Value words = do
+  value ← value_at words
+  Ok (shape.Alone (reply.Found (Some value.0)), value.1)
+shape_at kind.Rows words = of_number shape.Rows words
+shape_at kind.Written words = Ok (shape.Alone reply.Written, words)
+shape_at kind.Committed words = of_number (λ n. shape.Alone (reply.Committed n)) words
+shape_at kind.Aborted words = Ok (shape.Alone reply.Aborted, words)
+shape_at kind.Closed words = of_two (λ n m. shape.Alone (reply.Closed n m)) words
+shape_at kind.Messages words = of_number shape.Messages words
+shape_at kind.Protected words = of_number (λ n. shape.Alone (reply.Protected n)) words
+shape_at kind.Released words = Ok (shape.Alone reply.Released, words)
+shape_at kind.Collected words = of_two (λ n m. shape.Alone (reply.Collected n m)) words
+shape_at kind.Opened words = of_number (λ n. shape.Alone (reply.Opened n)) words
+shape_at kind.Cancelled words = Ok (shape.Alone reply.Cancelled, words)
+shape_at kind.Stats words = do
+  r ← stats_at words
+  Ok (shape.Alone r.0, r.1)
+shape_at (kind.Refused why) words = do
+  r ← refusal_at why words
+  Ok (shape.Alone (reply.Refused r.0), r.1)
+
+-- the name, and what stands behind it up to the end
+unfoldable pub named_at : List (List ℕ) → Result Shape LineFault
+named_at words = do
+  w ← word_at words
+  k ← ok_or (kind_of replies w.0) fault.Reply
+  to_the_end (shape_at k w.1)
+
+-- the words of a reply: where they are none, that is the one fault
+abbrev pub reply_at : List (List ℕ) → Result Shape LineFault
+reply_at words = told_as fault.Reply (named_at words)

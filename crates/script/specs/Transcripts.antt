@@ -1,0 +1,90 @@
+-- Reading transcripts from the first line to the last: the events, or the first fault with the number of its line.
+use Rattle.std.specs.Prelude.{◌≡◌, ℕ, zero, suc, ◌+◌, ◌==◌, if◌then◌else◌, List, [], ◌∷◌, length, Result, Ok, Err}
+use Rattle.spans.specs.declared.calls.events.Event.{Event}
+use Rattle.spans.specs.declared.calls.replies.Reply.{Reply}
+use Rattle.spans.specs.declared.calls.replies.Reply.TheVariants as reply
+use Rattle.script.specs.declared.fault.LineFault.{LineFault}
+use Rattle.script.specs.declared.fault.LineFault.TheVariants.{Follow}
+use Rattle.script.specs.declared.fault.ReadError.{ReadError}
+use Rattle.script.specs.declared.fault.ReadError.TheVariants as read_error
+use Rattle.script.specs.declared.fault.TranscriptError.{TranscriptError}
+use Rattle.script.specs.declared.fault.TranscriptError.TheVariants as errors
+use Rattle.script.specs.declared.reply_reading.Shape.{Shape}
+use Rattle.script.specs.declared.reply_reading.Shape.TheVariants as shape
+use Rattle.script.specs.Lines.{Place, lines_of}
+use Rattle.script.specs.Reading.{◌>>=◌}
+use Rattle.script.specs.EventLines.{heading_at, row_line_at, message_line_at}
+
+-- a fault, and the number of its line
+pub record Fault : Type 0 where
+  pub line : ℕ
+  pub fault : LineFault
+
+-- what a function returned, seen by view, is what reading gives, unless memory ran out
+abbrev pub Fails : {Y : Type 0} → TranscriptError → Result Y Fault → Type 0
+Fails errors.NoMemory read = Unit {0}
+Fails (errors.Fault line fault) read = read ≡ Err (record { line = line; fault = fault })
+
+abbrev pub Tells : {X Y : Type 0} → (X → Y) → Result X TranscriptError → Result Y Fault → Type 0
+Tells view (Ok x) read = read ≡ Ok (view x)
+Tells view (Err e) read = Fails e read
+
+-- the same of a function that takes lines off the front, with the place that it leaves
+abbrev pub TakesLines : {X Y : Type 0} → (X → Y) → Result X TranscriptError → Place → Result (Y × Place) Fault → Type 0
+TakesLines view (Ok x) left read = read ≡ Ok (view x, left)
+TakesLines view (Err e) left read = Fails e read
+
+-- what a line says, a fault with the line's number
+abbrev pub at_line : {A : Type 0} → ℕ → Result A LineFault → Result A Fault
+at_line number (Ok x) = Ok x
+at_line number (Err f) = Err (record { line = number; fault = f })
+
+abbrev pub error_at_line : ℕ → ReadError → TranscriptError
+error_at_line number (read_error.Fault f) = errors.Fault number f
+error_at_line number read_error.NoMemory = errors.NoMemory
+
+-- what the first of the lines says; where there is none, a line is missing
+abbrev pub first_of : {A : Type 0} → (List ℕ → Result A LineFault) → ℕ → List (List ℕ) → Result (A × Place) Fault
+first_of read number [] = Err (record { line = number; fault = Follow })
+first_of read number (line ∷ lines) = do
+  x ← at_line number (read line)
+  Ok (x, record { number = number + 1; lines = lines })
+
+abbrev pub next_at : {A : Type 0} → (List ℕ → Result A LineFault) → Place → Result (A × Place) Fault
+next_at read p = first_of read p.number p.lines
+
+-- what so many lines say
+unfoldable pub many_at : {A : Type 0} → (List ℕ → Result A LineFault) → ℕ → Place → Result (List A × Place) Fault
+many_at read zero p = Ok ([], p)
+many_at read (suc n) p = do
+  first ← next_at read p
+  others ← many_at read n first.1
+  Ok (first.0 ∷ others.0, others.1)
+
+-- the reply with the lines that follow
+unfoldable pub following_at : Shape → Place → Result (Reply × Place) Fault
+following_at (shape.Alone r) p = Ok (r, p)
+following_at (shape.Rows n) p = do
+  rows ← many_at row_line_at n p
+  Ok (reply.Rows rows.0, rows.1)
+following_at (shape.Messages n) p = do
+  messages ← many_at message_line_at n p
+  Ok (reply.Messages messages.0, messages.1)
+
+unfoldable pub event_at : Place → Result (Event × Place) Fault
+event_at p = do
+  h ← next_at heading_at p
+  r ← following_at h.0.shape h.1
+  Ok (record { position = h.0.position; seat = h.0.seat; cmd = h.0.cmd; reply = r.0 }, r.1)
+
+-- the events of all lines, of which there are at most so many
+unfoldable pub events_at : ℕ → Place → Result (List Event) Fault
+events_at zero p = Ok []
+events_at (suc n) p = if length p.lines == 0 then Ok [] else (do
+  first ← event_at p
+  others ← events_at n first.1
+  Ok (first.0 ∷ others))
+
+-- an event has a line at least, so there are no more events than lines
+unfoldable pub transcript_at : List ℕ → Result (List Event) Fault
+transcript_at text = events_at (length (lines_of text)) (record { number = 1; lines = lines_of text })

@@ -1,0 +1,156 @@
+//! The lines that follow an event's first line: the rows or the messages of its reply.
+ghost use Rattle.std.specs.Prelude.{◌≡◌};
+ghost use Rattle.script.specs.Reading.{Gives};
+ghost use Rattle.script.specs.EventLines.{pair_at, pair_of, row_line_at, message_line_at, read_error_of};
+ghost use Rattle.script.specs.Transcripts.{TakesLines, next_at, many_at, following_at};
+
+use crate::arguments::{take_key, take_value};
+use crate::fault::{LineFault, ReadError, TranscriptError};
+use crate::lines::Lines;
+use crate::reply_reading::Shape;
+use crate::words::{Words, text_of, words_of};
+use json_lines::{MessageFault, read_message};
+use spans::calls::{Message, Messages, Reply, Rows};
+use std::alloc::Global;
+use timestamps::key::Key;
+use timestamps::value::Value;
+
+/// The reply of a shape, with the lines that follow taken.
+#[tactic(auto, unfolding(crate::specs::Transcripts::following_at))]
+pub(crate) fn take_following(
+    alloc: Global,
+    shape: Shape,
+    lines: &mut Lines,
+) -> Result<Reply, TranscriptError>
+    ensures { TakesLines (λ x. x) result lines.new (following_at shape lines.old) }
+{
+    match shape {
+        Shape::Alone(reply) => Ok(reply),
+        Shape::Rows(count) => {
+            let rows = take_rows(alloc, count, lines)?;
+            Ok(Reply::Rows(Rows::from_vec(rows)))
+        }
+        Shape::Messages(count) => {
+            let messages = take_messages(alloc, count, lines)?;
+            Ok(Reply::Messages(Messages::from_vec(messages)))
+        }
+    }
+}
+
+/// Takes so many rows. Room is made for those alone that came.
+fn take_rows(
+    alloc: Global,
+    count: u64,
+    lines: &mut Lines,
+) -> Result<Vec<(Key, Value)>, TranscriptError>
+    ensures { TakesLines (λ rows. rows.items) result lines.new (many_at row_line_at count lines.old) }
+{
+    let mut rows = Vec::new(alloc);
+    for _ in 0..count {
+        let row = take_row(alloc, lines)?;
+        rows.push(row)?;
+    }
+    Ok(rows)
+}
+
+/// Takes so many messages. Room is made for those alone that came.
+fn take_messages(
+    alloc: Global,
+    count: u64,
+    lines: &mut Lines,
+) -> Result<Vec<Message>, TranscriptError>
+    ensures { TakesLines (λ messages. messages.items) result lines.new (many_at message_line_at count lines.old) }
+{
+    let mut messages = Vec::new(alloc);
+    for _ in 0..count {
+        let message = take_message(alloc, lines)?;
+        messages.push(message)?;
+    }
+    Ok(messages)
+}
+
+fn take_row(alloc: Global, lines: &mut Lines) -> Result<(Key, Value), TranscriptError>
+    ensures { TakesLines (λ x. x) result lines.new (next_at row_line_at lines.old) }
+{
+    let number = lines.number();
+    let Some(line) = lines.take_line() else {
+        return Err(ReadError::Fault(LineFault::Follow).at_line(number));
+    };
+    match read_row(alloc, line) {
+        Ok(row) => Ok(row),
+        Err(e) => Err(e.at_line(number)),
+    }
+}
+
+fn take_message(alloc: Global, lines: &mut Lines) -> Result<Message, TranscriptError>
+    ensures { TakesLines (λ x. x) result lines.new (next_at message_line_at lines.old) }
+{
+    let number = lines.number();
+    let Some(line) = lines.take_line() else {
+        return Err(ReadError::Fault(LineFault::Follow).at_line(number));
+    };
+    match read_message_line(alloc, line) {
+        Ok(message) => Ok(message),
+        Err(e) => Err(e.at_line(number)),
+    }
+}
+
+/// Reads the line of a row, with its newline.
+#[tactic(auto, unfolding(crate::specs::EventLines::row_line_at))]
+fn read_row(alloc: Global, line: &[u8]) -> Result<(Key, Value), ReadError>
+    ensures { Gives (λ x. x) result (row_line_at line.now) }
+{
+    let text = text_of(line)?;
+    match pair_of(alloc, text) {
+        Err(ReadError::Fault(_)) => Err(ReadError::Fault(LineFault::Follow)),
+        read => read,
+    }
+}
+
+#[tactic(auto, unfolding(crate::specs::EventLines::pair_of))]
+fn pair_of(alloc: Global, text: &[u8]) -> Result<(Key, Value), ReadError>
+    ensures { Gives (λ x. x) result (pair_of text.now) }
+{
+    let mut words = words_of(text)?;
+    let pair = take_pair(alloc, &mut words)?;
+    if words.len() > 0 {
+        return Err(ReadError::Fault(LineFault::WordCount));
+    }
+    Ok(pair)
+}
+
+/// `row KEY VALUE`.
+#[tactic(auto, unfolding(crate::specs::EventLines::pair_at))]
+fn take_pair(alloc: Global, words: &mut Words) -> Result<(Key, Value), ReadError>
+    ensures { Gives (λ x. (x, words.new)) result (pair_at words.old) }
+{
+    let name = words.take_word().ok_or(LineFault::WordCount)?;
+    if name != b"row".as_slice() {
+        return Err(ReadError::Fault(LineFault::Follow));
+    }
+    let key = take_key(alloc, words)?;
+    let value = take_value(alloc, words)?;
+    Ok((key, value))
+}
+
+/// Reads the line of a message, with its newline.
+#[tactic(auto, unfolding(crate::specs::EventLines::message_line_at))]
+fn read_message_line(alloc: Global, line: &[u8]) -> Result<Message, ReadError>
+    ensures { Gives (λ x. x) result (message_line_at line.now) }
+{
+    text_of(line)?;
+    match read_message(alloc, line) {
+        Ok(message) => Ok(message),
+        Err(fault) => Err(read_error_of(fault)),
+    }
+}
+
+/// The fault of a line that is no message, or want of memory.
+fn read_error_of(fault: MessageFault) -> ReadError
+    ensures { result ≡ read_error_of fault }
+{
+    match fault {
+        MessageFault::NoMemory => ReadError::NoMemory,
+        _ => ReadError::Fault(LineFault::Follow),
+    }
+}

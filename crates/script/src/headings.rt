@@ -1,0 +1,89 @@
+//! The first line of an event: its position, its session, its command and what its reply's words say.
+ghost use Rattle.std.specs.Prelude.{◌≡◌, drop};
+ghost use Rattle.script.specs.Reading.{Gives, TakesForm, row_at};
+ghost use Rattle.script.specs.Table.{table};
+ghost use Rattle.script.specs.EventLines.{behind_arrow, heading_of, heading_at};
+
+use crate::arguments::take_number;
+use crate::commands::{take_arguments, take_form, take_seat};
+use crate::fault::{LineFault, ReadError};
+use crate::reply_reading::{Shape, read_reply};
+use crate::table::{FORMS, Form};
+use crate::words::{Words, text_of, words_of};
+use spans::calls::Cmd;
+use std::alloc::Global;
+
+/// How many seats a transcript can have.
+const SEATS: u8 = 64;
+
+/// What the first line of an event says.
+#[derive(Debug, Drop)]
+pub(crate) struct Heading {
+    pub(crate) position: u64,
+    pub(crate) seat: u8,
+    pub(crate) cmd: Cmd,
+    pub(crate) shape: Shape,
+}
+
+/// Reads the first line of an event, with its newline. All commands are known here.
+#[tactic(auto, unfolding(crate::specs::EventLines::heading_at))]
+pub(crate) fn read_heading(alloc: Global, line: &[u8]) -> Result<Heading, ReadError>
+    ensures { Gives (λ x. x) result (heading_at line.now) }
+{
+    let text = text_of(line)?;
+    let mut words = words_of(text)?;
+    if words.len() < 3 {
+        return Err(ReadError::Fault(LineFault::WordCount));
+    }
+    take_heading(alloc, &mut words)
+}
+
+/// What the words of an event's first line say.
+#[tactic(auto, unfolding(crate::specs::EventLines::heading_of))]
+fn take_heading(alloc: Global, words: &mut Words) -> Result<Heading, ReadError>
+    ensures { Gives (λ x. x) result (heading_of words.old) }
+{
+    let position = take_number(words)?;
+    let seat = take_seat(words, SEATS)?;
+    let form = take_known(words)?;
+    let mut answer = words_behind_arrow(words, form.arguments)?;
+    let cmd = take_arguments(alloc, form.verb, words)?;
+    let shape = read_reply(alloc, &mut answer)?;
+    Ok(Heading {
+        position,
+        seat,
+        cmd,
+        shape,
+    })
+}
+
+/// The row of a command's name, among all commands.
+fn take_known(words: &mut Words) -> Result<Form, LineFault>
+    ensures { TakesForm result words.new (row_at table words.old) }
+{
+    take_form(words, &FORMS)
+}
+
+/// The words of the reply: those behind so many arguments and `=>`.
+fn words_behind_arrow<'a>(words: &Words<'a>, arguments: usize) -> Result<Words<'a>, LineFault>
+    ensures { result ≡ behind_arrow arguments words.now }
+{
+    let mut ahead = words.fork();
+    skip(&mut ahead, arguments);
+    let Some(arrow) = ahead.take_word() else {
+        return Err(LineFault::WordCount);
+    };
+    if arrow == b"=>".as_slice() {
+        return Ok(ahead);
+    }
+    Err(LineFault::WordCount)
+}
+
+/// Takes so many words away, or all where there are fewer.
+fn skip(words: &mut Words, count: usize)
+    ensures { words.new ≡ drop count words.old }
+{
+    for _ in 0..count {
+        let _ = words.take_word();
+    }
+}

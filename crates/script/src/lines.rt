@@ -1,0 +1,83 @@
+//! A text taken line by line, with the lines counted.
+ghost use Rattle.std.specs.Prelude.{◌≡◌, ◌+◌, ◌==◌, ◌<◌, ◌∷◌, [], length, position, IfSome, MatchOption};
+ghost use Rattle.script.specs.Lines.{is_newline, lines_of};
+
+use std::marker::Model;
+
+/// The lines of a text that are still to come, lent, and the number of the next.
+#[derive(Debug, Drop)]
+pub(crate) struct Lines<'a> {
+    rest: &'a [u8],
+    number: u64,
+}
+
+impl<'a> Model for Lines<'a> {
+    ghost use Rattle.std.specs.Prelude.{◌+◌, ◌<◌, ◌^◌, length};
+    ghost use Rattle.script.specs.Lines.{Place, lines_of};
+
+    ghost Value = { Place };
+
+    ghost view = { λ l. record { number = l.number; lines = lines_of l.rest.now } };
+
+    // a line has a byte at least, so the count doesn't overflow
+    ghost invariant = { λ l. l.number + length l.rest.now < 2 ^ 64 };
+}
+
+impl<'a> Lines<'a> {
+    /// The lines of a text, counted from 1.
+    pub(crate) fn of(text: &'a [u8]) -> Lines<'a>
+        ensures { result ≡ record { number = 1; lines = lines_of text.now } }
+    {
+        Lines {
+            rest: text,
+            number: 1,
+        }
+    }
+
+    /// Whether no line is left.
+    pub(crate) fn is_empty(&self) -> bool
+        ensures { result ≡ (length self.now.lines == 0) }
+    {
+        self.rest.is_empty()
+    }
+
+    /// The number of the next line.
+    pub(crate) fn number(&self) -> u64
+        ensures { result ≡ self.now.number }
+    {
+        self.number
+    }
+
+    /// Takes the next line, with its newline, if there is one.
+    pub(crate) fn take_line(&mut self) -> Option<&'a [u8]>
+        ensures { MatchOption result ((self.old.lines ≡ []) × (self.new ≡ self.old)) (λ line. (self.old.lines ≡ line.now ∷ self.new.lines) × (self.new.number ≡ self.old.number + 1)) }
+    {
+        if self.rest.is_empty() {
+            return None;
+        }
+        let (line, others) = first_line(self.rest);
+        self.rest = others;
+        self.number += 1;
+        Some(line)
+    }
+}
+
+/// The first line of a text, with its newline where it has one, and what stands behind it.
+fn first_line(text: &[u8]) -> (&[u8], &[u8])
+    requires { 0 < length text.now }
+    ensures lines { lines_of text.now ≡ result.0.now ∷ lines_of result.1.now }
+    ensures shorter { length result.1.now < length text.now }
+{
+    match newline_at(text) {
+        None => (text, &[]),
+        Some(at) => (&text[..at + 1], &text[at + 1..]),
+    }
+}
+
+/// Where the first newline stands.
+fn newline_at(text: &[u8]) -> Option<usize>
+    ensures place { result ≡ position is_newline text.now }
+    ensures within { IfSome result (λ at. at < length text.now) }
+{
+    text.iter().position(|byte| *byte == b'\n')
+}

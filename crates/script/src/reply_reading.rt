@@ -1,0 +1,126 @@
+//! Replies read from their words.
+ghost use Rattle.script.specs.Reading.{Gives, Takes};
+ghost use Rattle.script.specs.ReplyReading.{stats_at, refusal_at, shape_at, named_at, reply_at};
+
+use crate::arguments::{take_number, take_value};
+use crate::fault::{LineFault, ReadError};
+use crate::reply_table::{Kind, REPLIES, Reason, kind_of};
+use crate::words::Words;
+use spans::calls::{Refusal, Reply};
+use std::alloc::Global;
+
+/// What the words of a reply say.
+#[derive(Debug, Drop)]
+pub(crate) enum Shape {
+    /// The whole reply.
+    Alone(Reply),
+    /// How many rows follow.
+    Rows(u64),
+    /// How many messages follow.
+    Messages(u64),
+}
+
+/// The reply that all of the words are. Where they are none, the fault is `Reply`.
+pub(crate) fn read_reply(alloc: Global, words: &mut Words) -> Result<Shape, ReadError>
+    ensures { Gives (λ x. x) result (reply_at words.old) }
+{
+    match read_named(alloc, words) {
+        Err(ReadError::Fault(_)) => Err(ReadError::Fault(LineFault::Reply)),
+        read => read,
+    }
+}
+
+#[tactic(auto, unfolding(crate::specs::ReplyReading::named_at))]
+fn read_named(alloc: Global, words: &mut Words) -> Result<Shape, ReadError>
+    ensures { Gives (λ x. x) result (named_at words.old) }
+{
+    let name = words.take_word().ok_or(LineFault::WordCount)?;
+    let kind = kind_of(&REPLIES, name).ok_or(LineFault::Reply)?;
+    let shape = take_shape(alloc, kind, words)?;
+    if words.len() > 0 {
+        return Err(ReadError::Fault(LineFault::WordCount));
+    }
+    Ok(shape)
+}
+
+/// What a kind of reply says, from the words behind its name.
+#[tactic(auto, unfolding(crate::specs::ReplyReading::shape_at))]
+fn take_shape(alloc: Global, kind: Kind, words: &mut Words) -> Result<Shape, ReadError>
+    ensures { Takes result words.new (shape_at kind words.old) }
+{
+    let reply = match kind {
+        Kind::Rows => return Ok(Shape::Rows(take_number(words)?)),
+        Kind::Messages => return Ok(Shape::Messages(take_number(words)?)),
+        Kind::Started => Reply::Started,
+        Kind::Absent => Reply::Found(None),
+        Kind::Value => Reply::Found(Some(take_value(alloc, words)?)),
+        Kind::Written => Reply::Written,
+        Kind::Committed => Reply::Committed {
+            keys: take_number(words)?,
+        },
+        Kind::Aborted => Reply::Aborted,
+        Kind::Closed => Reply::Closed {
+            at: take_number(words)?,
+            aborted: take_number(words)?,
+        },
+        Kind::Protected => Reply::Protected {
+            id: take_number(words)?,
+        },
+        Kind::Released => Reply::Released,
+        Kind::Collected => Reply::Collected {
+            horizon: take_number(words)?,
+            removed: take_number(words)?,
+        },
+        Kind::Opened => Reply::Opened {
+            feed: take_number(words)?,
+        },
+        Kind::Cancelled => Reply::Cancelled,
+        Kind::Stats => take_stats(words)?,
+        Kind::Refused(reason) => Reply::Refused(take_refusal(reason, words)?),
+    };
+    Ok(Shape::Alone(reply))
+}
+
+#[tactic(auto, unfolding(crate::specs::ReplyReading::stats_at))]
+fn take_stats(words: &mut Words) -> Result<Reply, ReadError>
+    ensures { Takes result words.new (stats_at words.old) }
+{
+    Ok(Reply::Stats {
+        versions: take_number(words)?,
+        undecided: take_number(words)?,
+        feeds: take_number(words)?,
+        closed: take_number(words)?,
+        horizon: take_number(words)?,
+    })
+}
+
+#[tactic(auto, unfolding(crate::specs::ReplyReading::refusal_at))]
+fn take_refusal(reason: Reason, words: &mut Words) -> Result<Refusal, ReadError>
+    ensures { Takes result words.new (refusal_at reason words.old) }
+{
+    let refusal = match reason {
+        Reason::BelowClosed => Refusal::BelowClosed {
+            closed: take_number(words)?,
+        },
+        Reason::TsUsed => Refusal::TsUsed,
+        Reason::TsRange => Refusal::TsRange,
+        Reason::Blocked => Refusal::Blocked {
+            by: take_number(words)?,
+        },
+        Reason::NoTxn => Refusal::NoTxn,
+        Reason::NotOwner => Refusal::NotOwner,
+        Reason::Ended => Refusal::Ended,
+        Reason::TooLate => Refusal::TooLate,
+        Reason::NotClosed => Refusal::NotClosed {
+            closed: take_number(words)?,
+        },
+        Reason::BelowHorizon => Refusal::BelowHorizon {
+            horizon: take_number(words)?,
+        },
+        Reason::NoProtection => Refusal::NoProtection,
+        Reason::NoFeed => Refusal::NoFeed,
+        Reason::FeedCancelled => Refusal::FeedCancelled,
+        Reason::NoMemory => Refusal::NoMemory,
+    };
+    Ok(refusal)
+}

@@ -1,0 +1,76 @@
+//! Transcripts: the texts of events, one after the other.
+//!
+//! ```text
+//! 1  0 0 begin 10 => started
+//! 2  1 0 scan 10 - - => rows 2
+//! 3  row a 1
+//! 4                              follow at line 4: a row is missing
+//! ```
+//!
+//! The place of `=>` is known from the number of the command's arguments, so a value may be spelled
+//! so. A number of lines that follow asks for no room by itself: it is made line by line.
+//!
+//! Cost: each byte is looked at four times, and keys, values and bounds are copied once.
+ghost use Rattle.std.specs.Prelude.{◌≡◌, IfOk};
+ghost use Rattle.std.specs.List.{All};
+ghost use Rattle.script.specs.Events.{transcript_text};
+ghost use Rattle.script.specs.Limits.{IsEvent};
+ghost use Rattle.script.specs.EventLines.{heading_at};
+ghost use Rattle.script.specs.Transcripts.{Tells, TakesLines, next_at, event_at, transcript_at};
+
+use crate::fault::{LineFault, ReadError, TranscriptError};
+use crate::following::take_following;
+use crate::headings::{Heading, read_heading};
+use crate::lines::Lines;
+use spans::calls::Event;
+use std::alloc::Global;
+
+/// Reads a transcript: its events, or the first line that is faulty.
+pub fn read_transcript(alloc: Global, text: &[u8]) -> Result<Vec<Event>, TranscriptError>
+    // What is read is the text of these events, byte for byte.
+    ensures found { IfOk result (λ events. (text.now ≡ transcript_text events.items) × All IsEvent events.items) }
+    // Which fault it is, and in which line: the first from the top and from the left.
+    ensures exact { Tells (λ events. events.items) result (transcript_at text.now) }
+{
+    events_of(alloc, text)
+}
+
+fn events_of(alloc: Global, text: &[u8]) -> Result<Vec<Event>, TranscriptError>
+    ensures { Tells (λ events. events.items) result (transcript_at text.now) }
+{
+    let mut lines = Lines::of(text);
+    let mut events = Vec::new(alloc);
+    while !lines.is_empty() {
+        let event = take_event(alloc, &mut lines)?;
+        events.push(event)?;
+    }
+    Ok(events)
+}
+
+/// Takes the lines of one event.
+#[tactic(auto, unfolding(crate::specs::Transcripts::event_at))]
+fn take_event(alloc: Global, lines: &mut Lines) -> Result<Event, TranscriptError>
+    ensures { TakesLines (λ x. x) result lines.new (event_at lines.old) }
+{
+    let heading = take_heading(alloc, lines)?;
+    let reply = take_following(alloc, heading.shape, lines)?;
+    Ok(Event {
+        position: heading.position,
+        seat: heading.seat,
+        cmd: heading.cmd,
+        reply,
+    })
+}
+
+fn take_heading(alloc: Global, lines: &mut Lines) -> Result<Heading, TranscriptError>
+    ensures { TakesLines (λ x. x) result lines.new (next_at heading_at lines.old) }
+{
+    let number = lines.number();
+    let Some(line) = lines.take_line() else {
+        return Err(ReadError::Fault(LineFault::Follow).at_line(number));
+    };
+    match read_heading(alloc, line) {
+        Ok(heading) => Ok(heading),
+        Err(e) => Err(e.at_line(number)),
+    }
+}
