@@ -17,7 +17,7 @@ use Rattle.script.specs.declared.table.Verb.TheVariants as verb
 use Rattle.script.specs.declared.words.TheConstants.{MAX_LINE_BYTES}
 use Rattle.script.specs.Spelling.{spelling}
 use Rattle.script.specs.Words.{has_newline, without_newline, text_at, is_printable, is_empty, words, words_at}
-use Rattle.script.specs.Table.{Row, row_of, served}
+use Rattle.script.specs.Table.{Row, row_of, table}
 use Rattle.script.specs.Commands.{joined, bound_word, words_of, command_line}
 use Rattle.json_lines.specs.Messages.{IsKey}
 use Rattle.script.specs.Limits.{IsNumber, IsSpan, IsCommand}
@@ -161,8 +161,9 @@ row_found : (rows : List Row) (name : List ℕ) (r : Row) → AllByRecursion IsR
 row_found [] name r right e = absurd cc
 row_found (row ∷ rows) name r right e = row_by (bytes_eq row.name name) row rows name r refl right (row_found rows name r right.1) e
 
-pub served_right : AllByRecursion IsRight served
-served_right = (record { name = refl; arguments = refl }, (record { name = refl; arguments = refl }, (record { name = refl; arguments = refl }, (record { name = refl; arguments = refl }, (record { name = refl; arguments = refl }, (record { name = refl; arguments = refl }, (record { name = refl; arguments = refl }, tt)))))))
+-- each row has the name and the number of arguments of its verb
+pub table_right : AllByRecursion IsRight table
+table_right = (record { name = refl; arguments = refl }, (record { name = refl; arguments = refl }, (record { name = refl; arguments = refl }, (record { name = refl; arguments = refl }, (record { name = refl; arguments = refl }, (record { name = refl; arguments = refl }, (record { name = refl; arguments = refl }, (record { name = refl; arguments = refl }, (record { name = refl; arguments = refl }, (record { name = refl; arguments = refl }, (record { name = refl; arguments = refl }, (record { name = refl; arguments = refl }, (record { name = refl; arguments = refl }, (record { name = refl; arguments = refl }, (record { name = refl; arguments = refl }, (record { name = refl; arguments = refl }, (record { name = refl; arguments = refl }, (record { name = refl; arguments = refl }, tt))))))))))))))))))
 
 -- ---- lines
 
@@ -214,18 +215,18 @@ counted : {B : Type 0} (b : Bool) (r : Result B LineFault) (y : B) → cond b r 
 counted true r y e = (refl, e)
 counted false r y e = absurd cc
 
-pub command_found : (seats : ℕ) (line : List ℕ) (x : ℕ × Cmd) → command_at served seats line ≡ Ok x → (line ≡ command_line x.0 x.1) × (x.0 < seats) × IsCommand x.1
+pub command_found : (seats : ℕ) (line : List ℕ) (x : ℕ × Cmd) → command_at table seats line ≡ Ok x → (line ≡ command_line x.0 x.1) × (x.0 < seats) × IsCommand x.1
 unfolding command_at
 command_found seats line x e =
-    let t = bind_ok (text_at line) (λ text. words_at text >>= λ ws. cond (nat_lt (length ws) 2) (Err WordCount) (session_at seats ws >>= λ s. row_at served s.1 >>= λ r. cond (length r.1 == r.0.arguments) (arguments_at r.0.verb r.1 >>= λ c. Ok (s.0, c.0)) (Err WordCount))) x e in
-    let w = bind_ok (words_at t.0) (λ ws. cond (nat_lt (length ws) 2) (Err WordCount) (session_at seats ws >>= λ s. row_at served s.1 >>= λ r. cond (length r.1 == r.0.arguments) (arguments_at r.0.verb r.1 >>= λ c. Ok (s.0, c.0)) (Err WordCount))) x t.2 in
-    let g = refused (nat_lt (length w.0) 2) WordCount (session_at seats w.0 >>= λ s. row_at served s.1 >>= λ r. cond (length r.1 == r.0.arguments) (arguments_at r.0.verb r.1 >>= λ c. Ok (s.0, c.0)) (Err WordCount)) x w.2 in
-    let s = bind_ok (session_at seats w.0) (λ s. row_at served s.1 >>= λ r. cond (length r.1 == r.0.arguments) (arguments_at r.0.verb r.1 >>= λ c. Ok (s.0, c.0)) (Err WordCount)) x g.1 in
-    let r = bind_ok (row_at served s.0.1) (λ r. cond (length r.1 == r.0.arguments) (arguments_at r.0.verb r.1 >>= λ c. Ok (s.0.0, c.0)) (Err WordCount)) x s.2 in
+    let t = bind_ok (text_at line) (λ text. words_at text >>= λ ws. cond (nat_lt (length ws) 2) (Err WordCount) (session_at seats ws >>= λ s. row_at table s.1 >>= λ r. cond (length r.1 == r.0.arguments) (arguments_at r.0.verb r.1 >>= λ c. Ok (s.0, c.0)) (Err WordCount))) x e in
+    let w = bind_ok (words_at t.0) (λ ws. cond (nat_lt (length ws) 2) (Err WordCount) (session_at seats ws >>= λ s. row_at table s.1 >>= λ r. cond (length r.1 == r.0.arguments) (arguments_at r.0.verb r.1 >>= λ c. Ok (s.0, c.0)) (Err WordCount))) x t.2 in
+    let g = refused (nat_lt (length w.0) 2) WordCount (session_at seats w.0 >>= λ s. row_at table s.1 >>= λ r. cond (length r.1 == r.0.arguments) (arguments_at r.0.verb r.1 >>= λ c. Ok (s.0, c.0)) (Err WordCount)) x w.2 in
+    let s = bind_ok (session_at seats w.0) (λ s. row_at table s.1 >>= λ r. cond (length r.1 == r.0.arguments) (arguments_at r.0.verb r.1 >>= λ c. Ok (s.0, c.0)) (Err WordCount)) x g.1 in
+    let r = bind_ok (row_at table s.0.1) (λ r. cond (length r.1 == r.0.arguments) (arguments_at r.0.verb r.1 >>= λ c. Ok (s.0.0, c.0)) (Err WordCount)) x s.2 in
     let n = counted (length r.0.1 == r.0.0.arguments) (arguments_at r.0.0.verb r.0.1 >>= λ c. Ok (s.0.0, c.0)) x r.2 in
     let c = bind_ok (arguments_at r.0.0.verb r.0.1) (λ c. Ok (s.0.0, c.0)) x n.1 in
     let session = session_word seats w.0 s.0 s.1 in
-    let row = row_word served s.0.1 r.0 served_right r.1 in
+    let row = row_word table s.0.1 r.0 table_right r.1 in
     let begins = arguments_found r.0.0.verb r.0.1 c.0 c.1 in
     let many : length r.0.1 ≡ arity_of r.0.0.verb = eqb-true _ _ n.0 ∙ row.1 in
     let all : w.0 ≡ decimal s.0.0 ∷ words_of c.0.0 = session.0 ∙ ap (λ (v : List (List ℕ)). decimal s.0.0 ∷ v) (row.0 ∙ nothing_left (name_of r.0.0.verb) (arity_of r.0.0.verb) r.0.1 c.0 begins many) in
@@ -233,6 +234,6 @@ command_found seats line x e =
     (text_found line t.0 t.1 ∙ ap (λ (v : List ℕ). v ++ 10 ∷ []) (words_found t.0 w.0 w.1 ∙ ap joined all), session.1, begins.lawful)
 
 -- what is read of a line is its text, where nothing is said of want of memory
-pub read_found : (seats : ℕ) (line : List ℕ) (r : Result (ℕ × Cmd) ReadError) → Gives (λ x. x) r (command_at served seats line) → IfOk r (λ x. (line ≡ command_line x.0 x.1) × (x.0 < seats) × IsCommand x.1)
+pub read_found : (seats : ℕ) (line : List ℕ) (r : Result (ℕ × Cmd) ReadError) → Gives (λ x. x) r (command_at table seats line) → IfOk r (λ x. (line ≡ command_line x.0 x.1) × (x.0 < seats) × IsCommand x.1)
 read_found seats line (Ok x) given = command_found seats line x given
 read_found seats line (Err e) given = tt

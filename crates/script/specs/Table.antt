@@ -1,9 +1,8 @@
 -- The table of commands: the name of each, and how many arguments stand behind it.
-use Rattle.std.specs.Prelude.{ℕ, List, [], ◌∷◌, codes, take, if◌then◌else◌, bytes_eq, Option, Some, None}
+use Rattle.std.specs.Prelude.{ℕ, List, [], ◌∷◌, codes, if◌then◌else◌, bytes_eq, Option, Some, None}
 use Rattle.script.specs.declared.table.Verb.{Verb}
 use Rattle.script.specs.declared.table.Verb.TheVariants as verb
 use Rattle.script.specs.declared.table.Form.{Form}
-use Rattle.script.specs.declared.table.TheConstants.{SERVED}
 
 pub record Row : Type 0 where
   pub name : List ℕ
@@ -20,10 +19,6 @@ table =
     ∷ row (codes "closehard") verb.CloseHard 1 ∷ row (codes "readat") verb.ReadAt 2 ∷ row (codes "scanat") verb.ScanAt 3 ∷ row (codes "protect") verb.Protect 1
     ∷ row (codes "release") verb.Release 1 ∷ row (codes "collect") verb.Collect 1 ∷ row (codes "open") verb.Open 3 ∷ row (codes "poll") verb.Poll 2
     ∷ row (codes "cancel") verb.Cancel 1 ∷ row (codes "stats") verb.Stats 0 ∷ []
-
--- the rows whose commands are served
-abbrev pub served : List Row
-served = take SERVED table
 
 -- the row of a name
 abbrev pub row_of : List Row → List ℕ → Option Row

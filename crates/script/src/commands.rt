@@ -2,7 +2,7 @@
 
 ghost use Rattle.std.specs.Prelude.{◌≡◌, ◌++◌, ◌∷◌, [], ◌<◌, map, decimal, IfOk, OnOk, OnErr};
 ghost use Rattle.script.specs.Reading.{Gives, Takes, TakesFree, TakesForm, session_at, row_at, arguments_at, command_at};
-ghost use Rattle.script.specs.Table.{row_view, served};
+ghost use Rattle.script.specs.Table.{row_view, table};
 ghost use Rattle.script.specs.Spelling.{spelling};
 ghost use Rattle.script.specs.Limits.{IsCommand};
 ghost use Rattle.script.specs.Writing.{Keeps};
@@ -13,7 +13,7 @@ use crate::buffer::or_undo;
 use crate::fault::{LineFault, ReadError};
 use crate::numbers::{number_of, put_number};
 use crate::spelling::put_spelling;
-use crate::table::{FORMS, Form, SERVED, Verb, form_of};
+use crate::table::{FORMS, Form, Verb, form_of};
 use crate::words::{Words, text_of, words_of};
 use spans::bound::Bound;
 use spans::calls::Cmd;
@@ -26,9 +26,9 @@ pub fn read_command(alloc: Global, line: &[u8], seats: u8) -> Result<(u8, Cmd), 
     // What is read is the text of this command, byte for byte.
     ensures found { IfOk result (λ x. (line.now ≡ command_line x.0 x.1) × (x.0 < seats) × IsCommand x.1) }
     // Which fault it is: the first from the left.
-    ensures exact { Gives (λ x. x) result (command_at served seats line.now) }
+    ensures exact { Gives (λ x. x) result (command_at table seats line.now) }
 {
-    read_among(alloc, &FORMS[..SERVED], line, seats)
+    read_among(alloc, &FORMS, line, seats)
 }
 
 /// Reads a command of these rows of the table.

@@ -33,9 +33,6 @@ pub(crate) struct Form {
     pub(crate) arguments: usize,
 }
 
-/// How many rows of the table are served: a command of a later row is unknown to `read_command`.
-pub(crate) const SERVED: usize = 7;
-
 /// All commands, the most frequent first.
 pub(crate) static FORMS: [Form; 18] = [
     Form {
