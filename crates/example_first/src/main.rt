@@ -2,12 +2,17 @@
 //! write the text of `examples/first.transcript`. (`examples/check` compares the files.)
 #![tactic(auto)]
 
-use sessions::{End, serve};
+use sessions::{Config, End, serve};
 use std::io;
 use std::process::ExitCode;
 
 fn main(rt: HostRuntime) -> ExitCode {
-    match serve(rt.alloc(), rt.reader(), io::writer(&rt)) {
+    let config = Config {
+        seats: 64,
+        ring: 1024,
+        first: 0,
+    };
+    match serve(&rt, rt.alloc(), config, rt.reader(), io::writer(&rt)) {
         End::Done => ExitCode::SUCCESS,
         _ => ExitCode::FAILURE,
     }

@@ -10,7 +10,8 @@ pub(crate) fn command<'a>(alloc: Global) -> Result<Command<'a>, AllocError> {
     Command::new(alloc, "mvfeed")
         .about("A multiversion timestamp database whose changes leave it as ordered streams")
         .subcommand_required(true)
-        .subcommand(run_command(alloc)?)
+        .subcommand(run_command(alloc)?)?
+        .subcommand(check_command(alloc))
 }
 
 fn run_command<'a>(alloc: Global) -> Result<Command<'a>, AllocError> {
@@ -30,15 +31,33 @@ fn run_command<'a>(alloc: Global) -> Result<Command<'a>, AllocError> {
         .arg(first)
 }
 
+fn check_command<'a>(alloc: Global) -> Command<'a> {
+    Command::new(alloc, "check").about("Say whether a transcript is right, or where it is not")
+}
+
 fn option<'a>(alloc: Global, name: &'a str) -> Arg<'a> {
     Arg::new(alloc, name).long(name).value_name("N")
 }
 
+/// What the program is asked to do.
+#[derive(Drop)]
+pub(crate) enum Job {
+    /// To run a script on a database that is opened so.
+    Run(Config),
+    /// To check a transcript.
+    Check,
+}
+
+/// What a command line asks for.
+pub(crate) fn job_of(matches: &ArgMatches) -> Job {
+    match matches.subcommand_matches("run") {
+        Some(run) => Job::Run(options_of(run)),
+        None => Job::Check,
+    }
+}
+
 /// The options of `mvfeed run`.
-pub(crate) fn options_of(matches: &ArgMatches) -> Config {
-    let Some(run) = matches.subcommand_matches("run") else {
-        return DEFAULTS;
-    };
+fn options_of(run: &ArgMatches) -> Config {
     Config {
         seats: run.get_one("seats").unwrap_or(DEFAULTS.seats),
         ring: run.get_one("ring").unwrap_or(DEFAULTS.ring),

@@ -5,19 +5,24 @@
 //! 0 0 begin 10 => started
 //! 1 0 put 10 a 1 => written
 //! 2 0 commit 10 => committed 1
+//! $ printf '0 0 begin 10 => tsused\n' | mvfeed check
+//! no 0
 //! ```
 //!
 //! Each command is a function over its options, a reader and a writer that answers an `End`; `main`
 //! makes the exit status of it, and the word on standard error.
 #![tactic(auto)]
 
+mod check;
 mod command_line;
+mod ending;
 mod run;
 mod status;
 #[cfg(test)]
 mod tests;
 
-use command_line::{command, options_of};
+use check::check_io;
+use command_line::{Job, command, job_of};
 use run::run_io;
 use std::env::Env;
 use std::io;
@@ -33,8 +38,12 @@ fn main(rt: HostRuntime) -> ExitCode {
     };
     match command.try_get_matches_from(words.as_slice()) {
         Ok(matches) => {
-            let options = options_of(&matches);
-            let end = run_io(&rt, rt.alloc(), options, rt.reader(), io::writer(&rt));
+            let end = match job_of(&matches) {
+                Job::Run(options) => {
+                    run_io(&rt, rt.alloc(), options, rt.reader(), io::writer(&rt))
+                }
+                Job::Check => check_io(rt.alloc(), rt.reader(), io::writer(&rt)),
+            };
             status::told(&rt, end)
         }
         Err(refused) => status::refused(&rt, &refused),

@@ -1,6 +1,7 @@
 //! `mvfeed run`.
 
-use sessions::{Config, End, serve};
+use crate::ending::End;
+use sessions::{Config, serve};
 use std::alloc::Global;
 use std::io::{Read, Write};
 use std::sync::Wait;
@@ -21,5 +22,5 @@ pub fn run_io<R: Read + Drop, W: Write + Drop, T: Wait>(
     input: R,
     output: W,
 ) -> End {
-    serve(rt, alloc, options, input, output)
+    serve(rt, alloc, options, input, output).into()
 }

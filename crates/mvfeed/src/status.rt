@@ -1,7 +1,8 @@
 //! What the program leaves its caller: an exit status, and a word where it failed.
 
+use crate::ending::End;
 use clap::Error;
-use sessions::{End, OpenError};
+use sessions::OpenError;
 use std::process::ExitCode;
 
 /// The word where a growth of memory was refused.
@@ -16,11 +17,15 @@ pub(crate) const NO_TEXT: &str = "an argument is not UTF-8";
 /// The exit status where the program failed.
 const FAILED: u8 = 1;
 
-/// The exit status of an end: 0 where all was done, 2 for a faulty line, else 1.
+/// The exit status where what was checked is not right.
+const NO: u8 = 3;
+
+/// The exit status of an end: 0 where all was done, 2 for a faulty line, 3 for what is not right, else 1.
 pub(crate) fn status_of(end: End) -> u8 {
     match end {
         End::Done => 0,
         End::Faulty => 2,
+        End::No => NO,
         End::Open(_) | End::Input | End::Output | End::Memory | End::Spent => FAILED,
     }
 }
@@ -28,7 +33,7 @@ pub(crate) fn status_of(end: End) -> u8 {
 /// The word that standard error is told, at status 1.
 pub(crate) fn word_of(end: End) -> Option<&'static str> {
     match end {
-        End::Done | End::Faulty => None,
+        End::Done | End::Faulty | End::No => None,
         End::Open(OpenError::SeatCount) => Some("seats"),
         End::Open(OpenError::RingSize) => Some("ring"),
         End::Open(OpenError::NoMemory) | End::Memory => Some(MEMORY),

@@ -1,13 +1,19 @@
 //! The program's runs, byte for byte, over readers and writers in memory.
 
+mod checks;
+mod closings;
 mod devices;
+mod feeds;
+mod random;
 mod rows;
+mod transactions;
 
-use crate::command_line::{command, options_of};
+use crate::command_line::{Job, command, job_of};
+use crate::ending::End;
 use crate::run::{DEFAULTS, run_io};
 use crate::status::{status_of, word_of};
 use devices::{Sink, Source};
-use sessions::{Config, End, OpenError};
+use sessions::{Config, OpenError};
 use std::alloc::{AllocError, Global};
 use std::sync::Wait;
 use std::test::Fail;
@@ -32,10 +38,22 @@ fn run_with<R: Wait>(rt: &R, alloc: Global, options: Config, input: &[u8]) -> Ra
     }
 }
 
-/// The script whose transcript this is: each line without its position and its answer.
+/// The worked transcripts, by what they are about.
+const TRANSCRIPTS: [&[&str]; 4] = [
+    &[""],
+    &transactions::TRANSCRIPTS,
+    &closings::TRANSCRIPTS,
+    &feeds::TRANSCRIPTS,
+];
+
+/// The script whose transcript this is: each line without its position and its answer, but those that
+/// follow an answer.
 fn script_of(alloc: Global, transcript: &str) -> Result<Vec<u8>, AllocError> {
     let mut script = Vec::new(alloc);
     for line in transcript.lines() {
+        if line.starts_with("row ") || line.starts_with("{") {
+            continue;
+        }
         let call = line.split_once(' ').map_or(line, |parts| parts.1);
         let call = call.split_once(" => ").map_or(call, |parts| parts.0);
         script.extend_from_slice(call.as_bytes())?;
@@ -46,7 +64,7 @@ fn script_of(alloc: Global, transcript: &str) -> Result<Vec<u8>, AllocError> {
 
 #[test]
 fn transcripts(rt: HostRuntime) -> Result<(), Fail> {
-    for transcript in rows::TRANSCRIPTS {
+    for transcript in TRANSCRIPTS.iter().copied().flatten() {
         let script = script_of(rt.alloc(), transcript)?;
         let ran = run_of(&rt, rt.alloc(), script.as_slice());
         assert_eq!(rt; ran.end, End::Done, "{transcript}");
@@ -55,6 +73,24 @@ fn transcripts(rt: HostRuntime) -> Result<(), Fail> {
             transcript.as_bytes(),
             "{transcript}"
         );
+    }
+    Ok(())
+}
+
+#[test]
+fn rings_of_any_size_give_the_same_output(rt: HostRuntime) -> Result<(), Fail> {
+    for ring in [1, 2, 65536] {
+        let options = Config { ring, ..DEFAULTS };
+        for transcript in feeds::TRANSCRIPTS {
+            let script = script_of(rt.alloc(), transcript)?;
+            let ran = run_with(&rt, rt.alloc(), options, script.as_slice());
+            assert_eq!(rt; ran.end, End::Done, "{transcript}");
+            assert_eq!(rt;
+                ran.output.as_slice(),
+                transcript.as_bytes(),
+                "ring {ring}: {transcript}"
+            );
+        }
     }
     Ok(())
 }
@@ -192,6 +228,7 @@ fn statuses(rt: HostRuntime) {
     for (end, status, word) in [
         (End::Done, 0, None),
         (End::Faulty, 2, None),
+        (End::No, 3, None),
         (End::Open(OpenError::SeatCount), 1, Some("seats")),
         (End::Open(OpenError::RingSize), 1, Some("ring")),
         (End::Open(OpenError::NoMemory), 1, Some("memory")),
@@ -223,7 +260,7 @@ fn positions_run_from_the_first(rt: HostRuntime) {
 fn the_last_positions_are_used_up(rt: HostRuntime) {
     for (first, output) in rows::SPENT {
         let options = Config { first, ..DEFAULTS };
-        let script = b"0 begin 10\n0 commit 10\n0 close 5\n".as_slice();
+        let script = b"0 begin 10\n0 commit 10\n0 stats\n".as_slice();
         let ran = run_with(&rt, rt.alloc(), options, script);
         assert_eq!(rt; ran.end, End::Spent, "from {first}");
         assert_eq!(rt; ran.output.as_slice(), output.as_bytes(), "from {first}");
@@ -261,7 +298,10 @@ fn a_database_that_is_not_opened_reads_nothing(rt: HostRuntime) {
 /// The options that a command line asks for, if it is taken.
 fn options_in(alloc: Global, words: &[&str]) -> Result<Option<Config>, AllocError> {
     match command(alloc)?.try_get_matches_from(words) {
-        Ok(matches) => Ok(Some(options_of(&matches))),
+        Ok(matches) => match job_of(&matches) {
+            Job::Run(options) => Ok(Some(options)),
+            Job::Check => Ok(None),
+        },
         Err(_) => Ok(None),
     }
 }

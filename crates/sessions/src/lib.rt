@@ -18,7 +18,9 @@ mod ending;
 mod lines;
 mod output;
 mod serving;
+mod whole;
 
 pub use ending::End;
 pub use serving::serve;
 pub use shared_db::{Config, OpenError};
+pub use whole::{read_whole, write_whole};

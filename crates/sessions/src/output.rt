@@ -75,7 +75,7 @@ impl<W: Write + Drop> Output<W> {
 }
 
 /// Writes the bytes, in as many pieces as the device takes. Where it fails, those before are written.
-fn write_all<W: Write>(sink: &mut W, bytes: &[u8]) -> Result<(), WriteFailed> {
+pub(crate) fn write_all<W: Write>(sink: &mut W, bytes: &[u8]) -> Result<(), WriteFailed> {
     let mut rest = bytes;
     while !rest.is_empty() {
         match sink.write(rest) {

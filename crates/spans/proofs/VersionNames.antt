@@ -79,4 +79,3 @@ has_versions p all v =
           (has_filter (λ t. not (is_aborted p t)) v.ts (begun_of p)).1 (ap not wrote.0, among_has v.ts (begun_of p) (begun_among p v.ts (wrote_begun p all v.ts v.key a wrote.1))),
           in_has v.key (write_set p v.ts) ((has_in v.key (write_set p v.ts)).1 (has_written p v.ts v.key ∙ ap is_some wrote.1)),
         )
-

@@ -1,72 +1,4 @@
-//! Worked transcripts, and faulty lines with their faults.
-
-/// Transcripts of runs that end well.
-pub(crate) const TRANSCRIPTS: [&str; 8] = [
-    // nothing
-    "",
-    // two sessions
-    "0 0 begin 10 => started
-1 0 put 10 a 1 => written
-2 0 commit 10 => committed 1
-3 1 begin 20 => started
-4 1 get 20 a => value 1
-",
-    // a write beneath a later read
-    "0 0 begin 10 => started
-1 1 begin 20 => started
-2 1 get 20 a => none
-3 0 put 10 a 1 => toolate
-4 0 commit 10 => ended
-5 1 commit 20 => committed 0
-",
-    // a write between two versions
-    "0 0 begin 5 => started
-1 0 put 5 a 1 => written
-2 0 commit 5 => committed 1
-3 0 begin 12 => started
-4 0 put 12 a 2 => written
-5 0 commit 12 => committed 1
-6 1 begin 15 => started
-7 1 get 15 a => value 2
-8 0 begin 11 => started
-9 0 put 11 a 3 => written
-",
-    // read, then write, by one transaction
-    "0 0 begin 20 => started
-1 0 get 20 a => none
-2 0 put 20 a 1 => written
-3 1 begin 10 => started
-4 1 put 10 a 2 => toolate
-",
-    // an own read leaves no mark
-    "0 0 begin 20 => started
-1 0 put 20 a 1 => written
-2 0 get 20 a => value 1
-3 1 begin 10 => started
-4 1 put 10 a 2 => written
-",
-    // a blocked read
-    "0 0 begin 10 => started
-1 0 put 10 a 1 => written
-2 1 begin 20 => started
-3 2 begin 15 => started
-4 1 get 20 a => blocked 10
-5 0 commit 10 => committed 1
-6 1 get 20 a => value 1
-7 2 put 15 a 2 => toolate
-",
-    // closing
-    "0 0 begin 10 => started
-1 0 close 100 => closed 9 0
-2 0 commit 10 => committed 0
-3 0 close 100 => closed 100 0
-4 0 begin 50 => belowclosed 100
-5 0 close 20 => closed 100 0
-6 0 begin 100 => belowclosed 100
-7 0 begin 101 => started
-8 0 commit 50 => ended
-",
-];
+//! Faulty lines with their faults, and command lines with what they ask for.
 
 /// Lines that are faulty, alone in the input, each with the last line of the output.
 pub(crate) const FAULTS: [(&str, &str); 15] = [
@@ -88,12 +20,13 @@ pub(crate) const FAULTS: [(&str, &str); 15] = [
 ];
 
 /// Lines by their lengths: a beginning, a letter, how many of it, an end, and the last line of the output.
-pub(crate) const LENGTHS: [(&str, u8, usize, &str, &str); 5] = [
+pub(crate) const LENGTHS: [(&str, u8, usize, &str, &str); 6] = [
     ("", b'a', 4096, "", "fault 1 7 nonewline\n"),
     ("", b'a', 4097, "", "fault 1 8 linetoolong\n"),
     ("", b'a', 4097, "\n", "fault 1 8 linetoolong\n"),
     ("0 put 10 a ", b'b', 1025, "\n", "fault 1 5 valuelength\n"),
     ("0 get 10 ", b'a', 65, "\n", "fault 1 4 keylength\n"),
+    ("0 open ", b'a', 66, " - 0\n", "fault 1 4 keylength\n"),
 ];
 
 /// First positions that leave too few for a script of three lines, each with the output.

@@ -4,8 +4,8 @@ use Rattle.shared_db.specs.Calls.{IsAnswered}
 use Rattle.sessions.proofs.Seating.{lent, back}
 use Rattle.sessions.proofs.callers.Callers.call.Goals as goal
 
-pub call-requires-clause-own : goal.call-requires-clause-own
-call-requires-clause-own g c = (lent c.args.self.now.db c.args.self.now.seats.items c.from.result c.index_mut.result.now c.args.self.now.seated (search rules) c.index_mut.ensures.value).own
+pub call-requires : goal.call-requires
+call-requires g c = record { own = (lent c.args.self.now.db c.args.self.now.seats.items c.from.result c.index_mut.result.now c.args.self.now.seated (search rules) c.index_mut.ensures.value).own }
 
 pub invariant_of-self-clause-seated : goal.invariant_of-self-clause-seated
 invariant_of-self-clause-seated g c = let db = c.args.self.now.db in let seats = c.args.self.now.seats.items in let seat = c.index_mut.result.now in

@@ -1,0 +1,176 @@
+//! What `mvfeed check` says, byte for byte.
+
+use super::devices::{Sink, Source};
+use super::{Ran, TRANSCRIPTS, random, run_of};
+use crate::check::check_io;
+use crate::command_line::{Job, command, job_of};
+use crate::ending::End;
+use std::alloc::Global;
+use std::test::Fail;
+
+/// Transcripts, each with how its check ends and what is written.
+const VERDICTS: [(&str, End, &str); 12] = [
+    ("", End::Done, "yes\n"),
+    ("7 0 stats => stats 0 0 0 0 0\n", End::Done, "yes\n"),
+    ("0 0 stats => started\n", End::No, "no 0\n"),
+    ("0 0 stats => startet\n", End::Faulty, "fault 1 10 reply\n"),
+    ("0 0 stats\n", End::Faulty, "fault 1 1 wordcount\n"),
+    (
+        "0 0 scanat 0 - - => rows 18446744073709551615\n",
+        End::Faulty,
+        "fault 2 11 follow\n",
+    ),
+    // a value that was never written
+    (
+        "0 0 begin 10 => started
+1 0 put 10 a 1 => written
+2 0 commit 10 => committed 1
+3 1 begin 20 => started
+4 1 get 20 a => value 2
+",
+        End::No,
+        "no 4\n",
+    ),
+    // an event that isn't there
+    (
+        "0 0 begin 10 => started
+1 0 put 10 a 1 => written
+3 1 begin 20 => started
+4 1 get 20 a => value 1
+",
+        End::No,
+        "no 3\n",
+    ),
+    // want of memory where there may be
+    (
+        "0 0 begin 20 => started
+1 0 scan 20 - - => nomemory
+2 1 begin 10 => started
+3 1 put 10 z 1 => written
+",
+        End::Done,
+        "yes\n",
+    ),
+    // want of memory where there may be none
+    (
+        "0 0 begin 20 => started
+1 0 commit 20 => nomemory
+",
+        End::No,
+        "no 1\n",
+    ),
+    // want of memory in the place of a refusal
+    ("0 0 get 5 a => nomemory\n", End::No, "no 0\n"),
+    // a fault after a wrong event: the text is read whole first
+    (
+        "0 0 stats => started\n1 0 stats",
+        End::Faulty,
+        "fault 2 7 nonewline\n",
+    ),
+];
+
+fn check_of(alloc: Global, transcript: &[u8]) -> Ran {
+    let mut sink = Sink::new(alloc);
+    let end = check_io(alloc, Source::new(transcript), &mut sink);
+    Ran {
+        end,
+        output: sink.taken,
+    }
+}
+
+#[test]
+fn verdicts(rt: HostRuntime) {
+    for (transcript, end, output) in VERDICTS {
+        let checked = check_of(rt.alloc(), transcript.as_bytes());
+        assert_eq!(rt; checked.end, end, "{transcript}");
+        assert_eq!(rt;
+            checked.output.as_slice(),
+            output.as_bytes(),
+            "{transcript}"
+        );
+    }
+}
+
+#[test]
+fn worked_transcripts_are_right(rt: HostRuntime) {
+    for transcript in TRANSCRIPTS.iter().copied().flatten() {
+        let checked = check_of(rt.alloc(), transcript.as_bytes());
+        assert_eq!(rt; checked.end, End::Done, "{transcript}");
+        assert_eq!(rt;
+            checked.output.as_slice(),
+            b"yes\n".as_slice(),
+            "{transcript}"
+        );
+    }
+}
+
+/// What stands in the transcript of a few thousand commands of all kinds.
+const ANSWERS: [&[u8]; 22] = [
+    b" => started",
+    b" => value",
+    b" => none",
+    b" => rows",
+    b" => written",
+    b" => committed",
+    b" => aborted",
+    b" => closed",
+    b" => protected",
+    b" => released",
+    b" => collected",
+    b" => opened",
+    b" => messages",
+    b" => cancelled",
+    b" => stats",
+    b" => toolate",
+    b" => blocked",
+    b" => belowclosed",
+    b" => belowhorizon",
+    b" => notowner",
+    b"{\"resolved\"",
+    b"{\"after\":null",
+];
+
+#[test]
+fn thousands_of_commands_are_answered_right(rt: HostRuntime) -> Result<(), Fail> {
+    let script = random::script(rt.alloc(), 3000)?;
+    let ran = run_of(&rt, rt.alloc(), script.as_slice());
+    assert_eq!(rt; ran.end, End::Done);
+    for answer in ANSWERS {
+        let found = ran
+            .output
+            .windows(answer.len())
+            .any(|bytes| bytes == answer);
+        assert!(rt; found, "{answer:?}");
+    }
+    let checked = check_of(rt.alloc(), ran.output.as_slice());
+    assert_eq!(rt; checked.output.as_slice(), b"yes\n".as_slice());
+    assert_eq!(rt; checked.end, End::Done);
+    Ok(())
+}
+
+#[test]
+fn a_check_whose_devices_fail(rt: HostRuntime) {
+    let transcript = b"7 0 stats => stats 0 0 0 0 0\n".as_slice();
+    let mut sink = Sink::new(rt.alloc());
+    let source = Source::new(transcript).failing_after(9);
+    assert_eq!(rt; check_io(rt.alloc(), source, &mut sink), End::Input);
+    assert!(rt; sink.taken.is_empty());
+    for stuck in [false, true] {
+        let mut sink = Sink::new(rt.alloc()).with_room(2, stuck);
+        assert_eq!(rt;
+            check_io(rt.alloc(), Source::new(transcript), &mut sink),
+            End::Output
+        );
+        assert_eq!(rt; sink.taken.as_slice(), b"ye".as_slice());
+    }
+}
+
+#[test]
+fn check_takes_no_options(rt: HostRuntime) -> Result<(), Fail> {
+    let words = ["mvfeed", "check"];
+    let matches = command(rt.alloc())?.try_get_matches_from(&words);
+    assert!(rt; matches.is_ok_and(|matches| matches!(job_of(&matches), Job::Check)));
+    let words = ["mvfeed", "check", "--ring", "1"];
+    assert!(rt; command(rt.alloc())?.try_get_matches_from(&words).is_err());
+    Ok(())
+}
