@@ -168,8 +168,11 @@ fn a_check_whose_devices_fail(rt: HostRuntime) {
 #[test]
 fn check_takes_no_options(rt: HostRuntime) -> Result<(), Fail> {
     let words = ["mvfeed", "check"];
-    let matches = command(rt.alloc())?.try_get_matches_from(&words);
-    assert!(rt; matches.is_ok_and(|matches| matches!(job_of(&matches), Job::Check)));
+    let is_check = match command(rt.alloc())?.try_get_matches_from(&words) {
+        Ok(matches) => matches!(job_of(&matches), Job::Check),
+        Err(_) => false,
+    };
+    assert!(rt; is_check);
     let words = ["mvfeed", "check", "--ring", "1"];
     assert!(rt; command(rt.alloc())?.try_get_matches_from(&words).is_err());
     Ok(())

@@ -15,6 +15,11 @@ impl Dice {
         self.state ^= self.state.wrapping_shl(17);
         self.state.checked_rem(limit).unwrap_or(0)
     }
+
+    fn one_of(&mut self, words: &[&'static str]) -> &'static str {
+        let index = self.below(words.len() as u64) as usize;
+        words.get(index).copied().unwrap_or("-")
+    }
 }
 
 /// A script of so many lines.
@@ -41,9 +46,9 @@ fn line(alloc: Global, dice: &mut Dice, turn: u64) -> Result<String, AllocError>
         ts % 4
     };
     let closed = (turn / 8).saturating_sub(dice.below(6));
-    let key = ["a", "b", "c", "%25", "ab"][dice.below(5) as usize];
-    let low = ["-", "a", "b", "%25"][dice.below(4) as usize];
-    let high = ["-", "c", "ac", "b"][dice.below(4) as usize];
+    let key = dice.one_of(&["a", "b", "c", "%25", "ab"]);
+    let low = dice.one_of(&["-", "a", "b", "%25"]);
+    let high = dice.one_of(&["-", "c", "ac", "b"]);
     let number = dice.below(6);
     // About as many feeds, and as many protections, as there are by now.
     let opened = (turn / 72).saturating_add(2);
