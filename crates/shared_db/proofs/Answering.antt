@@ -18,7 +18,7 @@ use Rattle.shared_db.proofs.Turning.{others_only, none_of}
 
 module _ {C : Ghosts Served Event} where
   abbrev Turn : ℕ → Seat Served Event C → Served → ℕ → Seat Served Event C → Type 0
-  Turn = HasTurn (λ (s : Served) (n : ℕ) (h : List Event). Stands s.engine n h) (λ (s : Served). closed_timestamp s.engine)
+  Turn = HasTurn (λ (s : Served) (n : ℕ) (h : List Event). Stands s.engine.value n h) (λ (s : Served). closed_timestamp s.engine.value)
 
   pub ready : (first : ℕ) (old turn : Seat Served Event C) (value : Served) (t : ℕ) → Turn first old value t turn → IsReady first value t turn
   ready first old turn value t h = record { turn = h.ticket; stood = h.stood; place = h.place; unraised = h.unraised }

@@ -42,7 +42,7 @@ IsDenied first old cmd (Spent back) new = (back ≡ cmd) × IsSpent old new
 -- the seat has the turn t, and the value stands for what it found
 pub record IsReady {C : Ghosts Served Event} (first : ℕ) (value : Served) (t : ℕ) (s : Seat Served Event C) : Type 0 where
   pub turn : ticket s ≡ Some t
-  pub stood : Stands value.engine first (found s)
+  pub stood : Stands value.engine.value first (found s)
   pub place : first + length (found s) ≡ t
   pub unraised : raised s ≡ 0
 

@@ -44,11 +44,12 @@ impl Db {
         if config.ring == 0 || config.ring > 65536 {
             return Err(OpenError::RingSize);
         }
-        let served = Served {
-            engine: Engine::new(alloc, config.ring),
+        let Ok(engine) = Box::new(alloc, Engine::new(alloc, config.ring)) else {
+            return Err(OpenError::NoMemory);
         };
         let seats = config.seats as usize;
-        let Ok((lock, seats)) = TicketLock::new(alloc, served, config.first, seats) else {
+        let Ok((lock, seats)) = TicketLock::new(alloc, Served { engine }, config.first, seats)
+        else {
             return Err(OpenError::NoMemory);
         };
         let Ok((oracle, passes)) = Oracle::new(alloc, 0, config.seats) else {
@@ -59,7 +60,6 @@ impl Db {
 
     /// The engine, once all seats are back, in any order. It is refused exactly where a seat is
     /// missing. It waits for nobody, and passes may be dropped before or after.
-    #[tactic(auto, using(crate::specs::Standing::legal_of, crate::specs::Standing::steps_are))]
     pub fn finish(self, seats: Vec<Seat>) -> Result<Engine, SeatsMissing>
         requires own { AllOf self seats.items }
         ensures ok { IfOk result (λ engine. IsWhole self seats.items engine × (length seats.items ≡ seat_count self)) }
@@ -69,7 +69,7 @@ impl Db {
         match lock.finish(seats) {
             Ok(served) => {
                 let Served { engine } = served;
-                Ok(engine)
+                Ok(Box::into_inner(engine))
             }
             Err(missing) => {
                 let ticket_lock::SeatsMissing { lock, seats } = missing;

@@ -5,10 +5,11 @@ use engine::Engine;
 use spans::calls::Event;
 use ticket_lock::Chronicle;
 
-/// An engine that stands for a history, whose floor is its closed timestamp.
+/// An engine that stands for a history, whose floor is its closed timestamp. It is boxed, so that a
+/// turn moves its address in and out of the lock and not the engine itself.
 #[derive(Drop)]
 pub struct Served {
-    pub engine: Engine,
+    pub engine: Box<Engine>,
 }
 
 impl Chronicle for Served {
@@ -18,15 +19,15 @@ impl Chronicle for Served {
 
     type Entry = Event;
 
-    ghost stands = { λ served first events. Stands served.engine first events };
+    ghost stands = { λ served first events. Stands served.engine.value first events };
 
     ghost seat_of = { λ event. event.seat };
 
-    ghost floor_of = { λ served. closed_timestamp served.engine };
+    ghost floor_of = { λ served. closed_timestamp served.engine.value };
 
     fn floor(&self) -> u64 {
         self.engine.closed()
     }
 
-    ghost floor_rises = { λ x y first before after p q. closed_rises x.engine y.engine first before after p q };
+    ghost floor_rises = { λ x y first before after p q. closed_rises x.engine.value y.engine.value first before after p q };
 }

@@ -1,0 +1,29 @@
+-- What the lock gave back is the whole history.
+use Rattle.std.proofs.Common.{ℕ, List, reverse, ◌∙◌}
+use Rattle.std.proofs.lemmas.List.{length-reverse}
+use Rattle.spans.specs.declared.calls.events.Event.{Event}
+use Rattle.engine.specs.Engine.{closed_timestamp}
+use Rattle.ticket_lock.specs.declared.chronicle.Chronicle.{Ghosts}
+use Rattle.ticket_lock.specs.declared.lock.Seat.{Seat}
+use Rattle.ticket_lock.specs.Finish.{IsMerge}
+use Rattle.shared_db.specs.declared.served.Served.{Served}
+use Rattle.shared_db.specs.declared.db.Db.{Db}
+use Rattle.shared_db.specs.History.{Stands}
+use Rattle.shared_db.specs.Seats.{first_of, seat_count}
+use Rattle.shared_db.specs.Standing.{legal_of, steps_are}
+use Rattle.shared_db.specs.Whole.{IsWhole}
+
+module _ {C : Ghosts Served Event} where
+  pub whole : (db : Db) (seats : List (Seat Served Event C)) (served : Served) → IsMerge (λ (s : Served) (n : ℕ) (h : List Event). Stands s.engine.value n h) (λ (e : Event). e.seat) (λ (s : Served). closed_timestamp s.engine.value) (first_of db) (seat_count db) seats served
+      → IsWhole db seats served.engine.value
+  whole db seats served m = let stood = m.stood.history in record {
+    history = m.history;
+    stood = stood;
+    legal = legal_of served.engine.value (reverse m.history) stood;
+    gapless = m.stood.gapless;
+    steps = steps_are served.engine.value (reverse m.history) stood ∙ length-reverse m.history;
+    named = m.named;
+    each = m.each;
+    once = m.once;
+    total = m.total;
+  }
