@@ -8,11 +8,11 @@ use Rattle.spans.specs.Transactions.{owner_of, closed_of, is_committed, is_abort
 use Rattle.spans.specs.Versions.{write_of, version_of, committed_version_of, visible, is_blocked, committed_value}
 use Rattle.spans.specs.Newest.{Version, IsNewest}
 use Rattle.spans.specs.Reads.{too_late, IsRead}
-use Rattle.spans.specs.Keys.{in_span, AreRows}
+use Rattle.spans.specs.Keys.{in_span, AreRows, value_among}
 use Rattle.spans.specs.Feeds.{Feed, feed_of, feeds_opened, is_cancelled, next_messages}
 use Rattle.spans.specs.Collection.{horizon_of, collection_horizon}
 use Rattle.spans.specs.Serial.{serial_run, map_at, ReadsAgree, SnapshotsAgree, IsOneCopy}
-use Rattle.spans.proofs.Keyed.{rows_like}
+use Rattle.spans.proofs.Keyed.{rows_like, among_rows}
 use Rattle.spans.proofs.Steps.{same_key, key_itself, by_test, newest_is, or_else, after_is, map_at_is, newest_same, newest_at, version_wrote, no_version_wrote}
 
 -- t is open: not closed, and not decided
@@ -115,7 +115,7 @@ kept (Reads t y w ∷ p) all j x k v r below = elim r [
   | inr before ↦ (let h = kept p all.1 j x k v before below in record { gap = h.gap; whole = h.whole })
 ]
 kept (Scans t span rows ∷ p) all j x k v r below = elim r [
-  | inl now ↦ rw (← now.0, ← now.2, ← now.3) (let h = kept_now p t x (visible p x t).after (all.0.1 x now.1) refl (omega (arith, now.0, now.2)) in record { gap = h.gap; whole = h.whole })
+  | inl now ↦ rw (← now.0, ← now.2, ← now.3) (let h = kept_now p t x (value_among rows x) (all.0.1 x now.1) (among_rows span (λ y. (visible p y t).after) rows all.0.2 x now.1) (omega (arith, now.0, now.2)) in record { gap = h.gap; whole = h.whole })
   | inr before ↦ (let h = kept p all.1 j x k v before below in record { gap = h.gap; whole = h.whole })
 ]
 kept (Writes t y a ∷ p) all j x k v r below = kept_through_write p j x k v t y a all.0 r (kept p all.1 j x k v r below)
@@ -210,7 +210,7 @@ agrees p (Reads k y w ∷ q) all all' sub t = (
 agrees p (Scans k span rows ∷ q) all all' sub t = (
   λ e. let open' : Allowed q (Scans (suc t) span rows) = subst (λ n. Allowed q (Scans n span rows)) e all'.0 in
       rows_like span (λ x. (visible q x (suc t)).after) (serial_run q (suc t) (map_at p t)) rows
-      (λ x inside. read_agrees p q all t x open'.0.unaborted (sub (suc t) x (visible q x (suc t)).ts (visible q x (suc t)).after (inl (e, inside, ap (λ n. (visible q x n).ts) e, ap (λ n. (visible q x n).after) e))))
+      (λ x inside. read_agrees p q all t x open'.0.unaborted (sub (suc t) x (visible q x (suc t)).ts (visible q x (suc t)).after (inl (e, inside, ap (λ n. (visible q x n).ts) e, among_rows span (λ y. (visible q y (suc t)).after) rows open'.2 x inside))))
       open'.2,
   agrees p q all all'.1 (λ j x n v r. sub j x n v (inr r)) t,
 )

@@ -1,6 +1,7 @@
 -- Rising keys, and the rows that they give.
 use Rattle.std.proofs.Common.{◌≡◌, ℕ, ◌⊎◌, Bool, true, false, cond, List, [], ◌∷◌, Option, Some, None, refl, sym, ◌∙◌, ap, subst, inl, inr}
-use Rattle.std.specs.Prelude.{◌↔◌, filter}
+use Rattle.std.specs.Prelude.{◌↔◌, filter, bytes_eq}
+use Rattle.std.proofs.lemmas.Bool.{both_ways}
 use Rattle.std.specs.declared.cmp.Ordering.{Ordering}
 use Rattle.std.specs.declared.cmp.Ordering.TheVariants.{Less, Equal, Greater}
 use Rattle.std.specs.Ordering.{ordering_reverse}
@@ -8,7 +9,8 @@ use Rattle.std.proofs.lemmas.Cmp.{nat_list_cmp_total}
 use Rattle.std.proofs.lemmas.Map.Lookups.{exact_bytes}
 use Rattle.spans.specs.declared.span.Span.{Span}
 use Rattle.timestamps.specs.Bytes.{key_cmp}
-use Rattle.spans.specs.Keys.{in_span, insert_where, insert_key, with_value, pairs_of, IsPairIn, KeysRise, AreRows}
+use Rattle.spans.specs.Keys.{in_span, insert_where, insert_key, with_value, pairs_of, IsPairIn, KeysRise, AreRows, value_among}
+use Rattle.spans.proofs.Steps.{by_test, same_key, key_itself}
 
 abbrev pub IsIn : List ℕ → List (List ℕ) → Type 0
 IsIn x [] = ⊥
@@ -120,3 +122,29 @@ rows_like span m n rows same r = record {
   rising = r.rising;
   each = λ x v. (λ i. let k = (r.each x v).0 i in (k.0, sym (same x k.0) ∙ k.1), λ i. (r.each x v).1 (i.0, same x i.0 ∙ i.1));
 }
+
+-- what is among the rows is one of them
+pub pair_among : (rows : List (List ℕ × List ℕ)) (x v : List ℕ) → value_among rows x ≡ Some v → IsPairIn rows x v
+pair_among [] x v is = cc
+pair_among (r ∷ rows) x v is = by_test (bytes_eq r.0 x)
+    (λ here. inl (same_key r.0 x here, (let e : Some r.1 ≡ Some v = rw here at is in cc)))
+    (λ other. inr (pair_among rows x v (rw other at is)))
+
+-- and where there is one, something is
+pub none_among : (rows : List (List ℕ × List ℕ)) (x v : List ℕ) → value_among rows x ≡ None → IsPairIn rows x v → ⊥
+none_among [] x v none i = i
+none_among (r ∷ rows) x v none i = by_test (bytes_eq r.0 x)
+    (λ here. let e : Some r.1 ≡ None = rw here at none in cc)
+    (λ other. elim i [
+      | inl now ↦ both_ways _ other (subst (λ y. bytes_eq r.0 y ≡ true) now.0 (key_itself r.0))
+      | inr later ↦ none_among rows x v (rw other at none) later
+    ])
+
+-- at a key of their span rows have what their map has
+pub among_rows : (span : Span) (m : List ℕ → Option (List ℕ)) (rows : List (List ℕ × List ℕ)) → AreRows span m rows → (x : List ℕ) → in_span span x ≡ true → value_among rows x ≡ m x
+among_rows span m rows are x inside = by_value (value_among rows x) refl (m x) refl
+  where
+    by_value : (o : Option (List ℕ)) → value_among rows x ≡ o → (q : Option (List ℕ)) → m x ≡ q → value_among rows x ≡ m x
+    by_value (Some v) e q f = e ∙ sym ((are.each x v).0 (pair_among rows x v e)).1
+    by_value None e None f = e ∙ sym f
+    by_value None e (Some v) f = absurd (none_among rows x v e ((are.each x v).1 (inside, f)))

@@ -3,6 +3,7 @@ use Rattle.std.proofs.Common.{◌≡◌, ℕ, ◌<◌, ◌⊎◌, true, false, L
 use Rattle.std.specs.Prelude.{◌↔◌}
 use Rattle.std.proofs.lemmas.Bool.{or_cases, and_parts, ltb-true}
 use Rattle.spans.specs.Effects.{After, Effect, Reads, Scans}
+use Rattle.spans.specs.Keys.{value_among}
 use Rattle.spans.specs.Transactions.{is_committed, is_aborted}
 use Rattle.spans.specs.Versions.{write_of, version_of, committed_version_of, visible}
 use Rattle.spans.specs.Reads.{too_late, IsRead, IsReadAcross}
@@ -27,7 +28,7 @@ late_across (Scans j span rows ∷ p) x i late = elim (or_cases _ _ late) [
   | inl now ↦ (let a = and_parts _ _ now in let b = and_parts _ _ a.1 in record {
     reader = j;
     source = (visible p x j).ts;
-    found = (visible p x j).after;
+    found = value_among rows x;
     read = inl (refl, a.0, refl, refl);
     low = ltb-true _ _ b.0;
     high = ltb-true _ _ b.1;

@@ -30,7 +30,8 @@ abbrev pub is_owner : Option ℕ → ℕ → Bool
 is_owner None seat = false
 is_owner (Some s) seat = s == seat
 
--- the tests of every command of a transaction
+-- the tests of every command of a transaction. Ended comes first: what is at or below closed need not be remembered, not
+-- even whether it ever began
 abbrev pub transaction_tests : List Effect → ℕ → ℕ → List (Bool × Refusal)
 transaction_tests p seat t =
     (nat_le t (closed_of p), Ended)
@@ -56,7 +57,8 @@ snapshot_tests p t = (nat_lt (closed_of p) t, NotClosed (closed_of p)) ∷ (nat_
 abbrev pub horizon_tests : List Effect → ℕ → List (Bool × Refusal)
 horizon_tests p t = (nat_lt MAX t, TsRange) ∷ (nat_lt t (horizon_of p), BelowHorizon (horizon_of p)) ∷ []
 
--- the answer to a seat's command after p
+-- the answer to a seat's command after p. The statistics are the versions that aren't dead, the undecided transactions,
+-- the live feeds, closed and the horizon
 abbrev pub answer_of : List Effect → ℕ → Cmd → Reply
 answer_of p seat (Begin t) =
     first_refusal_or ((not (is_timestamp t), TsRange) ∷ (nat_le t (closed_of p), BelowClosed (closed_of p)) ∷ (is_some (owner_of p t), TsUsed) ∷ []) Started

@@ -47,8 +47,8 @@ live_feeds (Opens f seat span cursor ∷ p) = record { number = f; cursor = curs
 live_feeds (Cancels f ∷ p) = filter (λ (n : LiveFeed). not (n.number == f)) (live_feeds p)
 live_feeds (_ ∷ p) = live_feeds p
 
--- the floor after messages: n where there are none, t after a resolved t, and t - 1 after a row of t, since more rows of t
--- may follow
+-- the floor by the last message: n where there is none, t after a resolved t, and t - 1 after a row of t, since more rows
+-- of t may follow
 abbrev pub floor_after : ℕ → List Message → ℕ
 floor_after n [] = n
 floor_after n (messages.Row r ∷ ms) = floor_after (r.ts - 1) ms
@@ -57,7 +57,7 @@ floor_after n (messages.Resolved t ∷ ms) = floor_after t ms
 abbrev pub floor_of : List Effect → LiveFeed → ℕ
 floor_of p n = floor_after n.cursor (told_to p n.number)
 
--- the horizon that a collection through to reaches: no protection and no live feed is passed, and it never falls
+-- the horizon that a collection through `to` reaches: no protection and no live feed is passed, and it never falls
 abbrev pub collection_horizon : List Effect → ℕ → ℕ
 collection_horizon p to =
     max (horizon_of p)
@@ -80,7 +80,8 @@ abbrev pub is_delete : Option After → Bool
 is_delete None = false
 is_delete (Some a) = is_none a
 
--- a version is dead: committed at or below the horizon, and a delete or older than another such version of its key
+-- a version is dead: committed at or below the horizon, and a delete, or older than another version of its key that is
+-- committed at or below the horizon. A delete goes even as the newest: a read then finds nothing either way
 abbrev pub is_dead : List Effect → VersionName → Bool
 is_dead p v =
     is_committed p v.ts

@@ -1,5 +1,5 @@
 -- What a consumer of a feed sees, and the tests that it makes of each message. A consumer begins with the map at the
--- cursor of the finished history: seed it from a snapshot at a cursor that is closed, since what is committed later at or
+-- cursor, as it is in the finished history: seed it from a snapshot at a cursor that is closed, since what is committed later at or
 -- below the cursor is never told.
 use Rattle.std.specs.Prelude.{ℕ, List, [], ◌∷◌, ◌++◌, Bool, true, not, ◌&&◌, ◌≡◌, nat_le, nat_lt, if◌then◌else◌, Option, Some, None}
 use Rattle.timestamps.specs.declared.row.Row.{Row}
@@ -38,13 +38,13 @@ abbrev pub reaches : Option Row → ℕ → Bool
 reaches None t = true
 reaches (Some last) t = nat_le last.ts t
 
--- why a message is refused, where taken are the messages before it
+-- why a message is refused
 pub data ApplyFault : Type 0 where
   NotAfter : ApplyFault
   OutsideSpan : ApplyFault
   ResolvedBack : ApplyFault
 
--- a row comes after the cursor, all resolved timestamps and the row before it, and lies in the span; a resolved
+-- the tests of a message, where taken are the messages before it: a row comes after the cursor, all resolved timestamps and the row before it, and lies in the span; a resolved
 -- timestamp is above the cursor and all resolved ones, and not below the row before it
 abbrev pub apply_fault : Span → ℕ → List Message → Message → Option ApplyFault
 apply_fault span cursor taken (messages.Row r) =

@@ -1,7 +1,15 @@
--- What an event did to the database. A history h is a list of events, its newest first; all definitions but those of
--- answers and of legal histories read the list p of its effects, the newest first as well, so that what was so earlier
--- is the tail of a list. Lists of messages and of rows stand in the order in which they are told, the oldest first.
--- t, i, j, k are timestamps, x and y keys, f and g numbers of feeds.
+-- What an event did to the database: the way in to all other definitions.
+--
+-- A history h is a list of events, its newest first, and p the list of their effects, the newest first as well. So in
+-- `f (e ∷ p)` the effect e came last, and p is all that came before it. Only what is legal, and gapless, is said of
+-- events; all else is said of effects. Lists of messages and of rows stand in the order in which they are told.
+-- A seat is one of the callers of the database, a number. t, i, j, k are timestamps, x and y keys, which are lists of
+-- bytes, f and g numbers of feeds, v and w values.
+--
+-- A name in small letters computes: a number, a list, a test (`Bool`). A name that begins with a capital is a
+-- proposition or a type (`Type 0`): × is "and", ⊎ "or", ↔ "exactly where", (n : A) × .. "there is an n", (n : A) → ..
+-- "for all n", Unit "true", ⊥ "false"; .0, .1 .. are the parts of what × joins. Commands, replies, refusals and messages
+-- are the types of `src/calls`, with their fields in the order in which they stand there.
 use Rattle.std.specs.Prelude.{ℕ, List, map, Option, Some, None}
 use Rattle.spans.specs.declared.span.Span.{Span}
 use Rattle.spans.specs.declared.calls.commands.Cmd.{Cmd}
@@ -23,9 +31,9 @@ pub data Effect : Type 0 where
   Writes : (t : ℕ) (x : List ℕ) (after : After) → Effect
   Commits : (t : ℕ) → Effect
   Aborts : (t : ℕ) → Effect
-  -- at is where closed then stands
+  -- `at`: the closed timestamp from then on
   Closes : (at : ℕ) → Effect
-  -- to is what was asked, and says who is aborted
+  -- `to`: what was asked; whoever is undecided at or below it is aborted
   HardCloses : (to at : ℕ) → Effect
   SnapshotReads : (t : ℕ) (x : List ℕ) (found : After) → Effect
   SnapshotScans : (t : ℕ) (span : Span) (rows : List (List ℕ × List ℕ)) → Effect
@@ -37,8 +45,8 @@ pub data Effect : Type 0 where
   Cancels : (feed : ℕ) → Effect
   NoEffect : Effect
 
--- what a seat's command did, by its reply: a refusal does nothing, but that a write which is too late
--- aborts its transaction
+-- what a seat's command did, by its reply: a refusal does nothing, except that a write which is too late aborts its
+-- transaction
 abbrev pub effect : ℕ → Cmd → Reply → Effect
 effect seat (Begin t) Started = Begins t seat
 effect seat (Get t x) (Found v) = Reads t x v
@@ -67,5 +75,6 @@ effect_of e = effect e.seat e.cmd e.reply
 abbrev pub effects_of : List Event → List Effect
 effects_of h = map effect_of h
 
+-- an event from its parts, for the crates above
 abbrev pub event : ℕ → ℕ → Cmd → Reply → Event
 event n seat cmd reply = record { position = n; seat = seat; cmd = cmd; reply = reply }

@@ -1,4 +1,5 @@
--- When a feed is right.
+-- When a feed is right. The law says it of every legal history, so also of all longer ones: that a resolved timestamp is
+-- closed is what makes it hold of those.
 use Rattle.std.specs.Prelude.{ℕ, List, [], ◌∷◌, ◌++◌, length, false, ◌≡◌, ◌<◌, ◌≤◌}
 use Rattle.timestamps.specs.declared.row.Row.{Row}
 use Rattle.spans.specs.declared.calls.messages.Message.{Message}

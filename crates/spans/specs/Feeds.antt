@@ -62,6 +62,7 @@ untold_rows p f feed = filter (λ r. not (list_any (same_version r) (rows_in (to
 abbrev pub due_message : List Effect → ℕ → Feed → List Message
 due_message p f feed = if nat_lt (last_resolved feed.cursor (told_to p f)) (closed_of p) then messages.Resolved (closed_of p) ∷ [] else []
 
--- the next messages of the feed, at most max
+-- the next messages of the feed, at most max: rows first, and the resolved message only where there is room for it after
+-- all of them. That of an earlier closing is not made up for
 abbrev pub next_messages : List Effect → ℕ → Feed → ℕ → List Message
 next_messages p f feed max = take max (map messages.Row (untold_rows p f feed) ++ due_message p f feed)

@@ -1,4 +1,5 @@
--- What an engine that forgets keeps of a history, and when it is that of a history (this project). Versions that are
+-- What an engine that forgets keeps of a history, and when such a record fits a history (this project; only the crate
+-- `kept` and what stands on it read this). Versions that are
 -- dead are gone, and so are transactions at or below closed and marks of readers there; each layer of an engine keeps
 -- its part of the record. The length of the history is kept beside it.
 use Rattle.std.specs.Prelude.{ℕ, List, Bool, true, ◌≡◌, ◌<◌, ◌↔◌, nat_lt, if◌then◌else◌, Option, Some, None, option_map}

@@ -1,10 +1,10 @@
 -- Sets of keys: spans, rising lists of keys, and the part of a map that lies in a span.
-use Rattle.std.specs.Prelude.{ℕ, List, [], ◌∷◌, Bool, true, ◌&&◌, ◌≡◌, ◌⊎◌, ◌↔◌, Option, Some, None}
+use Rattle.std.specs.Prelude.{ℕ, List, [], ◌∷◌, Bool, true, ◌&&◌, ◌≡◌, ◌⊎◌, ◌↔◌, Option, Some, None, bytes_eq, if◌then◌else◌}
 use Rattle.std.specs.declared.cmp.Ordering.{Ordering}
 use Rattle.std.specs.declared.cmp.Ordering.TheVariants.{Less, Equal, Greater}
 use Rattle.timestamps.specs.Bytes.{key_cmp}
 use Rattle.spans.specs.declared.span.Span.{Span}
-use Rattle.spans.specs.SpanTests.{from_low, below_high}
+use Rattle.spans.specs.KeyOrder.{from_low, below_high}
 
 -- the span holds the key
 abbrev pub in_span : Span → List ℕ → Bool
@@ -43,3 +43,8 @@ KeysRise (r ∷ rows) = ((x v : List ℕ) → IsPairIn rows x v → key_cmp r.0 
 pub record AreRows (span : Span) (m : List ℕ → Option (List ℕ)) (rows : List (List ℕ × List ℕ)) : Type 0 where
   pub rising : KeysRise rows
   pub each : (x v : List ℕ) → IsPairIn rows x v ↔ ((in_span span x ≡ true) × (m x ≡ Some v))
+
+-- what the rows have at a key, and nothing where they don't have it
+abbrev pub value_among : List (List ℕ × List ℕ) → List ℕ → Option (List ℕ)
+value_among [] x = None
+value_among (r ∷ rows) x = if bytes_eq r.0 x then Some r.1 else value_among rows x

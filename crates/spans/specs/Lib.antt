@@ -1,6 +1,6 @@
-pub mod SpanTests
-pub mod Keys
 pub mod Effects
+pub mod KeyOrder
+pub mod Keys
 pub mod Transactions
 pub mod Newest
 pub mod Versions

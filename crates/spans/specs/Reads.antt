@@ -1,18 +1,20 @@
 -- Reads, and the write rule of multiversion timestamp ordering (Bernstein, Hadzilacos and Goodman, section 5.3;
 -- Reed 1978: a version is known valid from its write to its latest read, and a write inside that interval is refused).
 use Rattle.std.specs.Prelude.{ℕ, List, [], ◌∷◌, Bool, true, false, ◌&&◌, ◌||◌, ◌≡◌, ◌<◌, ◌⊎◌, nat_lt, bytes_eq}
-use Rattle.spans.specs.Keys.{in_span}
+use Rattle.spans.specs.Keys.{in_span, value_among}
 use Rattle.spans.specs.Effects.{After, Effect, Reads, Scans}
 use Rattle.spans.specs.Versions.{visible}
 
--- j read x, and was given the version of k, which left v. A scan reads every key of its span, the absent ones too
+-- j read x from the version of k, and was given v. A scan reads every key of its span, the absent ones too. Reads of
+-- transactions that are aborted later count; a blocked read is none; snapshot reads need not be counted, since nothing at
+-- or below closed is written any more
 abbrev pub IsRead : List Effect → ℕ → List ℕ → ℕ → After → Type 0
 IsRead [] j x k v = ⊥
 IsRead (Reads t y w ∷ p) j x k v = ((t ≡ j) × (y ≡ x) × ((visible p y t).ts ≡ k) × (w ≡ v)) ⊎ IsRead p j x k v
-IsRead (Scans t span rows ∷ p) j x k v = ((t ≡ j) × (in_span span x ≡ true) × ((visible p x t).ts ≡ k) × ((visible p x t).after ≡ v)) ⊎ IsRead p j x k v
+IsRead (Scans t span rows ∷ p) j x k v = ((t ≡ j) × (in_span span x ≡ true) × ((visible p x t).ts ≡ k) × (value_among rows x ≡ v)) ⊎ IsRead p j x k v
 IsRead (_ ∷ p) j x k v = IsRead p j x k v
 
--- the write rule, in the book's words: some read of x by a transaction above i was given a version from below i
+-- the write rule, in the book's words ("has already processed a read", whatever became of the reader): some read of x by a transaction above i was given a version from below i
 pub record IsReadAcross (p : List Effect) (x : List ℕ) (i : ℕ) : Type 0 where
   pub reader : ℕ
   pub source : ℕ

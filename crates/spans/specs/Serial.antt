@@ -1,5 +1,6 @@
--- The database with one copy: one finite map, on which the committed transactions run one after the other by rising
--- timestamp (one-copy serializability of Bernstein, Hadzilacos and Goodman, section 5.2, in timestamp order).
+-- The database with one copy: one map, empty at first, on which the committed transactions run one after the other by
+-- rising timestamp (one-copy serializability of Bernstein, Hadzilacos and Goodman, section 5.2, in timestamp order). The
+-- book compares which write each read was given, and here the values are compared; the law says both.
 use Rattle.std.specs.Prelude.{ℕ, zero, suc, List, [], ◌∷◌, true, ◌==◌, ◌≡◌, if◌then◌else◌, None, bytes_eq}
 use Rattle.spans.specs.Effects.{After, Effect, Reads, Scans, SnapshotReads, SnapshotScans, Writes}
 use Rattle.spans.specs.Keys.{AreRows}
@@ -38,6 +39,7 @@ SnapshotsAgree p (SnapshotReads t x v ∷ q) = (v ≡ map_at p t x) × Snapshots
 SnapshotsAgree p (SnapshotScans t span rows ∷ q) = AreRows span (map_at p t) rows × SnapshotsAgree p q
 SnapshotsAgree p (_ ∷ q) = SnapshotsAgree p q
 
+-- (timestamps begin at 1: suc t is a transaction's, and the map at t is what it runs on)
 -- committed transactions and snapshot reads are those of the database with one copy, run in timestamp order
 pub record IsOneCopy (p : List Effect) : Type 0 where
   pub reads : (t : ℕ) → is_committed p (suc t) ≡ true → ReadsAgree p (suc t) (map_at p t)

@@ -4,7 +4,7 @@ use Rattle.std.specs.Prelude.{ℕ, zero, suc, List, [], ◌++◌, map, filter, B
 use Rattle.timestamps.specs.declared.row.Row.{Row}
 use Rattle.spans.specs.declared.span.Span.{Span}
 use Rattle.spans.specs.Keys.{in_span}
-use Rattle.spans.specs.SpanTests.{key_lt}
+use Rattle.spans.specs.KeyOrder.{key_lt}
 use Rattle.spans.specs.Effects.{After, Effect}
 use Rattle.spans.specs.Transactions.{is_committed}
 use Rattle.spans.specs.Versions.{write_of, write_set}
@@ -13,12 +13,12 @@ use Rattle.spans.specs.Versions.{write_of, write_set}
 abbrev pub row_lt : Row → Row → Bool
 row_lt r s = nat_lt r.ts s.ts || ((r.ts == s.ts) && key_lt r.key s.key)
 
--- what a write left, and nothing where there is none
+-- what a write left (a key of a write set always has one)
 abbrev pub written_value : Option After → After
 written_value None = None
 written_value (Some a) = a
 
--- the rows of t in the span: each key with what t last wrote there, keys rising
+-- the rows of t in the span, a delete of an absent key among them: each key with what t last wrote there, keys rising
 abbrev pub rows_of : List Effect → Span → ℕ → List Row
 rows_of p span t = map (λ x. record { ts = t; key = x; after = written_value (write_of p t x) }) (filter (in_span span) (write_set p t))
 

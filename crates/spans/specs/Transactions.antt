@@ -47,7 +47,7 @@ abbrev pub least_of : ℕ → List ℕ → ℕ
 least_of n [] = n
 least_of n (m ∷ ms) = min m (least_of n ms)
 
--- how far a closing to `to` reaches: to `to`, or just below the oldest undecided transaction
--- where that is lower
+-- how far a closing to `to` may go: to `to`, or just below the oldest undecided transaction where that is lower. (It may
+-- be below closed; the answer takes the greater of the two.)
 abbrev pub decided_through : List Effect → ℕ → ℕ
 decided_through p to = least_of to (map (λ t. t - 1) (undecided_timestamps p))

@@ -42,7 +42,7 @@ committed_version_of p x t = if is_committed p t then write_of p t x else None
 abbrev pub visible : List Effect → List ℕ → ℕ → Version
 visible p x t = newest (version_of p x) t
 
--- the committed value of x at t. Answers use this; that it is the value of the database with one copy is the law's
+-- the committed value of x at t. Answers use this; the law says that it is the value in the database with one copy
 abbrev pub committed_value : List Effect → List ℕ → ℕ → After
 committed_value p x t = (newest (committed_version_of p x) t).after
 

@@ -67,9 +67,9 @@ pub absent_key : replies_to [] ((0, Begin 20) ∷ (0, Scan 20 whole) ∷ (1, Beg
     ≡ Started ∷ Rows [] ∷ Started ∷ Refused TooLate ∷ []
 absent_key = refl
 
--- a write beneath a later read
-pub beneath : replies_to [] ((0, Begin 10) ∷ (1, Begin 20) ∷ (1, Get 20 a) ∷ (0, Put 10 a one) ∷ (0, Commit 10) ∷ (1, Commit 20) ∷ [])
-    ≡ Started ∷ Started ∷ Found None ∷ Refused TooLate ∷ Refused Ended ∷ Committed 0 ∷ []
+-- a write beneath a later read, whatever became of the reader
+pub beneath : replies_to [] ((0, Begin 10) ∷ (1, Begin 20) ∷ (1, Get 20 a) ∷ (1, Abort 20) ∷ (0, Put 10 a one) ∷ (0, Commit 10) ∷ [])
+    ≡ Started ∷ Started ∷ Found None ∷ Aborted ∷ Refused TooLate ∷ Refused Ended ∷ []
 beneath = refl
 
 -- closing
@@ -105,8 +105,8 @@ pub dropped : replies_to [] ((0, Begin 3) ∷ (0, Put 3 a one) ∷ (0, Commit 3)
 dropped = refl
 
 -- a blocked read leaves no mark, and the read that follows the decision does
-pub blocks : replies_to [] ((0, Begin 10) ∷ (0, Put 10 a one) ∷ (1, Begin 20) ∷ (2, Begin 15) ∷ (1, Get 20 a) ∷ (1, Scan 20 whole) ∷ (0, Commit 10) ∷ (1, Scan 20 whole) ∷ (2, Put 15 b two) ∷ [])
-    ≡ Started ∷ Written ∷ Started ∷ Started ∷ Refused (Blocked 10) ∷ Refused (Blocked 10) ∷ Committed 1 ∷ Rows ((a, one) ∷ []) ∷ Refused TooLate ∷ []
+pub blocks : replies_to [] ((0, Begin 10) ∷ (0, Put 10 a one) ∷ (1, Begin 20) ∷ (2, Begin 15) ∷ (1, Get 20 a) ∷ (1, Scan 20 whole) ∷ (2, Put 15 b two) ∷ (2, Commit 15) ∷ (0, Commit 10) ∷ (1, Scan 20 whole) ∷ (2, Begin 16) ∷ (2, Put 16 c two) ∷ [])
+    ≡ Started ∷ Written ∷ Started ∷ Started ∷ Refused (Blocked 10) ∷ Refused (Blocked 10) ∷ Written ∷ Committed 1 ∷ Committed 1 ∷ Rows ((a, one) ∷ (b, two) ∷ []) ∷ Started ∷ Refused TooLate ∷ []
 blocks = refl
 
 -- a transaction split over polls, with a closing between

@@ -2,7 +2,7 @@
 ghost use Rattle.std.specs.Prelude.{◌≡◌, ℕ, List, ◌<◌, ◌≤◌, ◌⊎◌, length, bytes_eq, IfOk, IfErr, OnOk};
 ghost use Rattle.std.specs.Cmp.{partial_equiv_from_equiv};
 ghost use Rattle.std.specs.Cmp.Lexicographic.{nat_list_eq_equiv};
-ghost use Rattle.spans.specs.SpanTests.{from_low, below_high};
+ghost use Rattle.spans.specs.KeyOrder.{from_low, below_high};
 ghost use Rattle.spans.specs.declared.bound.TheConstants.{MAX_BOUND_BYTES};
 ghost use Rattle.spans.specs.declared.bound.BoundError.TheVariants.{BoundLength, NoMemory};
 

@@ -14,8 +14,13 @@ ghost use Rattle.spans.specs.Serial.{IsOneCopy};
 /// A legal history, its newest event first, is that of a database with one copy, run in timestamp
 /// order; each feed tells the right messages; and a consumer of a feed takes them all, and has
 /// after each resolved message the map at its timestamp. Beside it: the write rule that the answers
-/// test is the one of Bernstein, Hadzilacos and Goodman; and every read, also one of a transaction
-/// that was aborted, was given what is for good the newest committed version below its reader.
+/// test is the one of Bernstein, Hadzilacos and Goodman, for every list of events; and every read,
+/// also one of a transaction that was aborted, that wasn't given its own transaction's version was
+/// given what is for good the newest committed version below its reader. (Timestamps begin at 1:
+/// `suc t` is the reader, and what is at most `t` is below it.)
+///
+/// Legal says of a history that each reply is the one that `answer_of` computes, or want of memory
+/// where a command may want it. Nothing else is assumed.
 ///
 /// It does nothing. Its contract is the theorem.
 pub fn law_of_histories()

@@ -1,4 +1,4 @@
--- What the two bounds of a span ask of a key.
+-- The order of keys, byte by byte, and what the two bounds of a span ask of a key.
 use Rattle.std.specs.Prelude.{ℕ, List, Bool, true, not, Option, Some, None}
 use Rattle.std.specs.Ordering.{is_lt}
 use Rattle.timestamps.specs.Bytes.{key_cmp}
