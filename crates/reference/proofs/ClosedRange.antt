@@ -10,15 +10,11 @@ use Rattle.spans.specs.declared.calls.replies.Reply.TheVariants.{Started, Found,
 use Rattle.spans.specs.declared.calls.replies.Refusal.TheVariants.{TsRange, TooLate, NoMemory}
 use Rattle.spans.specs.declared.calls.events.Event.{Event}
 use Rattle.spans.specs.Effects.{Effect, effect, effects_of, event}
-use Rattle.spans.specs.Transactions.{closed_of, least_of, decided_through, undecided_timestamps}
+use Rattle.spans.specs.Transactions.{closed_of, decided_through, undecided_timestamps}
 use Rattle.spans.specs.Answer.{first_refusal_or}
 use Rattle.spans.specs.Legal.{IsRightEvent, IsLegal}
 use Rattle.spans.proofs.Steps.{by_test}
-
--- the least of n and others is at most n
-least_low : (n : ℕ) (ms : List ℕ) → least_of n ms ≤ n
-least_low n [] = omega arith
-least_low n (m ∷ ms) = omega (arith, least_low n ms)
+use Rattle.reference.proofs.Undecided.{least_low}
 
 -- what a closing through `to` answers is in range, where it isn't refused
 answered_in_range : (to at aborted at' aborted' : ℕ) → Closed at aborted ≡ first_refusal_or ((nat_lt MAX to, TsRange) ∷ []) (Closed at' aborted') → (to ≤ MAX → at' ≤ MAX) → at ≤ MAX

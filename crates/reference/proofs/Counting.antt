@@ -1,25 +1,23 @@
 -- The chains have as many versions as the history, and as many dead ones.
-use Rattle.std.proofs.Common.{◌≡◌, ℕ, suc, ◌+◌, ◌-◌, ◌^◌, ◌≤◌, ◌==◌, Bool, true, false, ◌&&◌, ◌||◌, List, [], ◌∷◌, ◌++◌, length, take, drop, map, Option, Some, None, refl, sym, ◌∙◌, ap, subst, inl, inr, arith}
+use Rattle.std.proofs.Common.{◌≡◌, ℕ, ◌+◌, ◌-◌, ◌^◌, ◌≤◌, ◌==◌, Bool, true, false, ◌&&◌, ◌||◌, List, [], ◌∷◌, ◌++◌, length, take, drop, map, Option, Some, None, refl, sym, ◌∙◌, ap, subst, inl, inr, arith}
 use Rattle.std.specs.Prelude.{◌↔◌, bytes_eq, filter, flat_map, is_some, is_none, min, nat_le, nat_lt}
 use Rattle.std.specs.List.{sum_by}
 use Rattle.std.proofs.lemmas.Bool.{eqb-true, eq-eqb, both_ways, and_parts}
-use Rattle.std.proofs.lemmas.List.{length-map, length-reverse, length-take, at_drop_all}
+use Rattle.std.proofs.lemmas.List.{length-map, length-take, at_drop_all}
 use Rattle.std.proofs.lemmas.List.Concat.{length-flat_map}
 use Rattle.std.proofs.lemmas.List.Elements.{filter-append}
 use Rattle.std.proofs.lemmas.List.Sums.{length-filter, count_by-le-length}
 use Rattle.spans.specs.Collection.{VersionName, version_name, versions_of, dead_of, is_dead, is_delete, horizon_of}
 use Rattle.spans.specs.Effects.{After, Effect, Writes, Collects}
 use Rattle.spans.specs.Newest.{Version as Seen, newest}
-use Rattle.spans.specs.Transactions.{is_committed, undecided_timestamps}
+use Rattle.spans.specs.Transactions.{is_committed}
 use Rattle.spans.specs.Versions.{version_of, write_of, committed_version_of}
 use Rattle.spans.proofs.Copies.{AllAllowed}
 use Rattle.spans.proofs.Keyed.{IsIn, RisingKeys}
 use Rattle.spans.proofs.Steps.{by_test, same_key, key_itself, newest_same, version_wrote}
-use Rattle.reference.specs.declared.transactions.Transaction.{Transaction}
 use Rattle.reference.specs.declared.versions.Version.{Version}
 use Rattle.reference.specs.declared.chains.Chain.{Chain}
 use Rattle.reference.specs.declared.database.Database.{Database}
-use Rattle.reference.specs.Transactions.{is_open}
 use Rattle.reference.specs.Versions.{version_in}
 use Rattle.reference.specs.Chains.{version_at}
 use Rattle.reference.specs.Counts.{is_dead_at, dead_in}
@@ -30,27 +28,11 @@ use Rattle.reference.proofs.ChainSteps.{keys_in}
 use Rattle.spans.proofs.Members.{Has, AreDistinct, same_length, distinct_filter, has_filter, has_append, distinct_append, fits_in}
 use Rattle.reference.proofs.Once.{once_in, found_by_ts}
 use Rattle.reference.proofs.Scanning.{IsChainIn, less_differs, chains_rise, chain_has, settled_is}
-use Rattle.reference.proofs.Ties.{filter_reverse}
 use Rattle.spans.proofs.VersionNames.{versions_distinct, has_versions}
 
 -- a count so far is no more than the elements so far
 pub counted_few : {A : Type 0} (q : A → Bool) (xs : List A) (i n : ℕ) → n ≡ length (filter q (take i xs)) → n ≤ i
 counted_few q xs i n is = omega (arith, length-filter q (take i xs), count_by-le-length q (take i xs), length-take i xs)
-
--- ---- the undecided ones
-
-filter_open : (to : ℕ) (txns : List Transaction) → length (filter (λ (x : Transaction). is_open x && nat_le x.ts to) txns) ≡ length (filter (λ t. nat_le t to) (map (λ (x : Transaction). x.ts) (filter is_open txns)))
-filter_open to [] = refl
-filter_open to (x ∷ xs) = let more = filter_open to xs in by_test (is_open x)
-    (λ is. rw is (by_test (nat_le x.ts to) (λ low. rw low (ap suc more)) (λ high. rw high more)))
-    (λ isnt. rw isnt more)
-
-pub through_is : (db : Database) (p : List Effect) → IsTied db p → (to : ℕ) → length (filter (λ (x : Transaction). is_open x && nat_le x.ts to) db.transactions) ≡ length (filter (λ t. nat_le t to) (undecided_timestamps p))
-through_is db p tied to =
-    filter_open to db.transactions
-    ∙ ap (λ ts. length (filter (λ t. nat_le t to) ts)) tied.undecided
-    ∙ ap length (filter_reverse (λ t. nat_le t to) (undecided_timestamps p))
-    ∙ length-reverse (filter (λ t. nat_le t to) (undecided_timestamps p))
 
 -- ---- the names of the versions
 

@@ -17,7 +17,7 @@ use Rattle.reference.specs.declared.chains.Chain.{Chain}
 use Rattle.reference.specs.declared.reads.Read.{Read}
 use Rattle.reference.specs.declared.span_reads.Scan.{Scan as SpanRead}
 use Rattle.reference.specs.declared.database.Database.{Database}
-use Rattle.reference.specs.Transactions.{begun_by, decided, aborted_through}
+use Rattle.reference.specs.Transactions.{with_begun, begun_by, decided, aborted_through}
 use Rattle.reference.specs.Chains.{with_write, dropped, cleared}
 use Rattle.reference.specs.Reads.{read_of}
 use Rattle.reference.specs.SpanReads.{scan_of, sources_in}
@@ -33,7 +33,7 @@ represents_still db h n seat cmd reply none stands right = record {
   tied = subst (λ e. IsTied db (e ∷ effects_of h)) (sym none) (tied_still db (effects_of h) stands.tied);
 }
 
-pub represents_begins : (db : Database) (txns : List Transaction) (h : List Event) (n seat t : ℕ) → txns ≡ db.transactions ++ begun_by t seat ∷ []
+pub represents_begins : (db : Database) (txns : List Transaction) (h : List Event) (n seat t : ℕ) → txns ≡ with_begun db.transactions (begun_by t seat)
     → Represents db h → IsRightEvent (effects_of h) (event n seat (Begin t) Started) → Represents (record db { transactions = txns }) (event n seat (Begin t) Started ∷ h)
 represents_begins db txns h n seat t is stands right = record {
   legal = (right, stands.legal);

@@ -1,8 +1,7 @@
 -- Why a database's answers are those of the definitions.
-use Rattle.std.proofs.Common.{◌≡◌, ℕ, ◌-◌, ◌<◌, ◌≤◌, ◌==◌, Bool, true, false, not, ◌&&◌, ◌||◌, List, [], ◌∷◌, ◌++◌, map, reverse, length, Option, Some, None, refl, sym, ◌∙◌, ap, arith}
-use Rattle.std.specs.Prelude.{filter, max, min, nat_lt, nat_le, Result, Ok, Err, IfOk, OnErr}
+use Rattle.std.proofs.Common.{◌≡◌, ℕ, ◌-◌, ◌<◌, ◌≤◌, ◌==◌, Bool, true, false, not, ◌&&◌, ◌||◌, List, [], ◌∷◌, ◌++◌, map, length, Option, Some, None, refl, sym, ◌∙◌, ap, arith}
+use Rattle.std.specs.Prelude.{filter, max, nat_lt, nat_le, Result, Ok, Err, IfOk, OnErr}
 use Rattle.std.proofs.lemmas.Bool.{ne_eqb, le-ltb, ltb-false}
-use Rattle.std.proofs.lemmas.List.{reverse-append, map-append, length-reverse}
 use denote.Ref.{Bor}
 use Rattle.timestamps.specs.declared.ts.TheConstants.{MAX}
 use Rattle.spans.specs.declared.calls.commands.Cmd.TheVariants.{Get, Close, CloseHard, ReadAt}
@@ -11,15 +10,15 @@ use Rattle.std.specs.declared.alloc.AllocError.{AllocError}
 use Rattle.spans.specs.Legal.{is_accepted, may_lack_memory}
 use Rattle.spans.proofs.Legal.{legal_allowed}
 use Rattle.spans.proofs.Closed.{closed_value}
-use Rattle.reference.proofs.Ties.{filter_reverse}
 use Rattle.reference.proofs.TransactionSteps.{count_through}
+use Rattle.reference.proofs.Undecided.{least_open, open_count_of}
 use Rattle.spans.specs.declared.calls.replies.Reply.{Reply}
 use Rattle.spans.specs.declared.calls.replies.Reply.TheVariants.{Found, Closed, Refused}
 use Rattle.spans.specs.declared.calls.replies.Refusal.{Refusal}
 use Rattle.spans.specs.declared.calls.replies.Refusal.TheVariants.{Blocked, NotClosed}
 use Rattle.spans.specs.declared.calls.events.Event.{Event}
 use Rattle.spans.specs.Effects.{Effect, effects_of}
-use Rattle.spans.specs.Transactions.{is_committed, undecided_timestamps, least_of, decided_through, closed_of}
+use Rattle.spans.specs.Transactions.{is_committed, least_of, decided_through, closed_of}
 use Rattle.spans.specs.Versions.{visible, is_blocked, committed_value}
 use Rattle.spans.specs.Newest.{Version as Seen, version_at as seen_at}
 use Rattle.spans.specs.Answer.{first_refusal_or, first_refusal, transaction_tests, snapshot_tests, answer_of}
@@ -93,22 +92,12 @@ get_blocked db h seat t x v stands here best shut =
 
 -- ---- closing
 
-least_of_push : (n : ℕ) (ms : List ℕ) (m : ℕ) → least_of n (ms ++ m ∷ []) ≡ min m (least_of n ms)
-least_of_push n [] m = refl
-least_of_push n (k ∷ ks) m = ap (min k) (least_of_push n ks m) ∙ omega arith
-
-least_of_reverse : (n : ℕ) (ts : List ℕ) → least_of n (map (λ t. t - 1) (reverse ts)) ≡ least_of n (map (λ t. t - 1) ts)
-least_of_reverse n [] = refl
-least_of_reverse n (t ∷ ts) = ap (λ (us : List ℕ). least_of n (map (λ t. t - 1) us)) (reverse-append (t ∷ []) ts) ∙ ap (least_of n) (map-append (λ t. t - 1) (reverse ts) (t ∷ []))
-    ∙ least_of_push n (map (λ t. t - 1) (reverse ts)) (t - 1) ∙ ap (min (t - 1)) (least_of_reverse n ts)
-
 below_each : (txns : List Transaction) → map (λ (x : Transaction). x.ts - 1) txns ≡ map (λ t. t - 1) (map (λ (x : Transaction). x.ts) txns)
 below_each [] = refl
 below_each (x ∷ xs) = ap (λ (ts : List ℕ). (x.ts - 1) ∷ ts) (below_each xs)
 
 pub decided_through_is : (db : Database) (h : List Event) (to : ℕ) → Represents db h → least_of to (map (λ (x : Transaction). x.ts - 1) (filter is_open db.transactions)) ≡ decided_through (effects_of h) to
-decided_through_is db h to stands = ap (least_of to) (below_each (filter is_open db.transactions)) ∙ ap (λ (ts : List ℕ). least_of to (map (λ t. t - 1) ts)) stands.tied.undecided
-    ∙ least_of_reverse to (undecided_timestamps (effects_of h))
+decided_through_is db h to stands = ap (least_of to) (below_each (filter is_open db.transactions)) ∙ least_open db (effects_of h) stands.tied to
 
 pub close_answers : (db : Database) (h : List Event) (seat to at n : ℕ) → Represents db h → to ≤ MAX → at ≡ max db.closed n → n ≡ least_of to (map (λ (x : Transaction). x.ts - 1) (filter is_open db.transactions))
     → Closed at 0 ≡ answer_of (effects_of h) seat (Close to)
@@ -135,13 +124,10 @@ read_at_answers db h seat t x o stands here best =
         (λ above. let no : None ≡ Some (NotClosed (closed_of (effects_of h))) = rw above at here in cc)
         (λ below. ltb-false (closed_of (effects_of h)) t below)
 
-filter_length : (q : ℕ → Bool) (ts : List ℕ) → length (filter q (reverse ts)) ≡ length (filter q ts)
-filter_length q ts = ap length (filter_reverse q ts) ∙ length-reverse (filter q ts)
-
 pub close_hard_answers : (db : Database) (h : List Event) (seat to at n : ℕ) → Represents db h → to ≤ MAX → at ≡ max db.closed to → n ≡ length (filter (is_open_through to) db.transactions)
     → Closed at n ≡ answer_of (effects_of h) seat (CloseHard to)
 close_hard_answers db h seat to at n stands low is is' = rw (not_above) (rw (is, stands.tied.closed_at) (ap (λ (m : ℕ). Closed (max (closed_of (effects_of h)) to) m)
-    (is' ∙ count_through to db.transactions ∙ ap (λ (ts : List ℕ). length (filter (λ t. nat_le t to) ts)) stands.tied.undecided ∙ filter_length (λ t. nat_le t to) (undecided_timestamps (effects_of h)))))
+    (is' ∙ count_through to db.transactions ∙ open_count_of db (effects_of h) (legal_allowed h stands.legal) stands.tied (λ t. nat_le t to))))
   where
     not_above : nat_lt MAX to ≡ false
     not_above = le-ltb MAX to low

@@ -1,12 +1,12 @@
 -- What the chains say of a span is what the definitions say.
-use Rattle.std.proofs.Common.{◌≡◌, ℕ, ◌+◌, ◌-◌, ◌<◌, ◌≤◌, ◌⊎◌, ◌==◌, Bool, true, false, cond, not, ◌&&◌, List, [], ◌∷◌, ◌++◌, length, get_or, drop, append-nil, map, Option, Some, None, find, refl, sym, ◌∙◌, ap, subst, inl, inr, arith}
+use Rattle.std.proofs.Common.{◌≡◌, ℕ, ◌+◌, ◌<◌, ◌≤◌, ◌⊎◌, ◌==◌, Bool, true, false, cond, not, ◌&&◌, List, [], ◌∷◌, ◌++◌, length, get_or, take, drop, append-nil, map, Option, Some, None, find, refl, sym, ◌∙◌, ap, subst, inl, inr, arith}
 use Rattle.std.specs.Prelude.{option_map, bytes_eq, filter}
 use Rattle.std.specs.Ordering.{ordering_reverse}
 use Rattle.std.specs.declared.cmp.Ordering.TheVariants.{Less, Greater}
-use Rattle.std.proofs.lemmas.Bool.{ne_eqb, eqb-true, false_from_ne_true}
-use Rattle.std.proofs.lemmas.Bool.Decides.{nat_tests}
+use Rattle.std.proofs.lemmas.Bool.{ne_eqb, false_from_ne_true}
 use Rattle.std.proofs.lemmas.Cmp.{nat_list_cmp_total}
-use Rattle.std.proofs.lemmas.List.{at_drop_more, at_drop_all}
+use Rattle.std.proofs.lemmas.List.{at_drop_more, at_drop_all, take_more}
+use Rattle.std.proofs.lemmas.List.Elements.{filter-append}
 use denote.Ref.{Bor}
 use Rattle.timestamps.specs.Bytes.{key_cmp}
 use Rattle.spans.specs.declared.span.Span.{Span}
@@ -21,17 +21,18 @@ use Rattle.spans.specs.Versions.{version_of, committed_version_of, committed_val
 use Rattle.spans.proofs.Copies.{AllAllowed, not_both}
 use Rattle.spans.proofs.Keyed.{IsIn, RisingKeys}
 use Rattle.spans.proofs.Legal.{keys_rise}
-use Rattle.spans.proofs.Steps.{by_test, same_key, key_itself, newest_only, newest_same, newest_is}
+use Rattle.spans.proofs.Steps.{by_test, same_key, key_itself, newest_only, newest_same}
 use Rattle.reference.specs.declared.transactions.Transaction.{Transaction}
 use Rattle.reference.specs.declared.versions.Version.{Version}
 use Rattle.reference.specs.declared.chains.Chain.{Chain}
 use Rattle.reference.specs.declared.database.Database.{Database}
 use Rattle.reference.specs.Transactions.{transaction_at}
-use Rattle.reference.specs.Versions.{version_in, IsBest}
+use Rattle.reference.specs.Versions.{version_in, without_those, IsBest}
 use Rattle.reference.specs.Chains.{versions_in, versions_at}
 use Rattle.reference.specs.Scans.{is_anothers, blocker_in, or_else, first_blocker, settled, value_if, rows_with, seen}
 use Rattle.reference.specs.Tied.{committed_in, IsTied}
 use Rattle.reference.proofs.ChainSteps.{keys_in}
+use Rattle.reference.proofs.VersionSteps.{version_in_without_those}
 
 -- ---- what one chain has
 
@@ -63,42 +64,37 @@ settled_none txns vs t best = newest_only _ _ _ _ (record {
   has = inl (refl, refl);
 })
 
-pub settled_finds : (txns : List Transaction) (vs : List Version) (t : ℕ) (v : Bor Version) → IsBest vs t (Some v) → committed_in (transaction_at txns v.now.ts) ≡ true
-    → newest (settled txns vs) t ≡ seen_at v.now.ts v.now.after
-settled_finds txns vs t v best done = newest_only _ _ _ _ (record {
-  at_most = best.0.at_most;
-  gap = λ i low high. none_settled txns vs i (best.0.gap i low high);
-  has = elim best.0.has [
-    | inl none ↦ absurd (omega (arith, none.0, best.1))
-    | inr some ↦ inr (some.0, rw done some.1)
-  ];
-})
+-- the versions but those that aren't committed
+abbrev pub undone : List Transaction → ℕ → Bool
+undone txns k = not (committed_in (transaction_at txns k))
 
-pub settled_below : (txns : List Transaction) (vs : List Version) (t : ℕ) (v : Bor Version) → IsBest vs t (Some v) → committed_in (transaction_at txns v.now.ts) ≡ false
-    → newest (settled txns vs) (v.now.ts - 1) ≡ newest (settled txns vs) t
-settled_below txns vs t v best undone =
-    let below = newest_is (settled txns vs) (v.now.ts - 1) in
-    sym (newest_only (settled txns vs) t (newest (settled txns vs) (v.now.ts - 1)).ts (newest (settled txns vs) (v.now.ts - 1)).after (record {
-      at_most = omega (arith, below.at_most, best.0.at_most);
-      gap = λ i low high. by_test (i == v.now.ts)
-          (λ here. subst (λ n. settled txns vs n ≡ None) (sym (eqb-true i v.now.ts here)) (rw undone refl))
-          (λ other. by_place i low high other (below.gap i low));
-      has = below.has;
-    }))
+-- the best of these is the newest that is settled
+pub settled_best : (txns : List Transaction) (vs : List Version) (t : ℕ) (o : Option (Bor Version)) → IsBest (without_those (undone txns) vs) t o → newest (settled txns vs) t ≡ seen o
+settled_best txns vs t o best = newest_same _ _ t (λ k low. says k) ∙ best_is (without_those (undone txns) vs) t o best
   where
-    by_place : (i : ℕ) → (newest (settled txns vs) (v.now.ts - 1)).ts < i → i ≤ t → (i == v.now.ts) ≡ false → (i ≤ v.now.ts - 1 → settled txns vs i ≡ None) → settled txns vs i ≡ None
-    by_place i low high other lower = elim (sides i other) [
-      | inl under ↦ lower under
-      | inr over ↦ none_settled txns vs i (best.0.gap i over high)
-    ]
-      where
-        sides : (i : ℕ) → (i == v.now.ts) ≡ false → (i ≤ v.now.ts - 1) ⊎ (v.now.ts < i)
-        sides i other = grind (arith, nat_tests)
+    by_committed : (c : Bool) (a : Option After) → cond c a None ≡ cond (not c) None a
+    by_committed true a = refl
+    by_committed false a = refl
 
-pub settled_end : (txns : List Transaction) (vs : List Version) (t : ℕ) (o : Option (Bor Version)) → ((v : Bor Version) → o ≡ Some v → ⊥) → IsBest vs t o
-    → newest (settled txns vs) t ≡ seen_at 0 None
-settled_end txns vs t None none best = settled_none txns vs t best
-settled_end txns vs t (Some v) none best = absurd (none v refl)
+    says : (k : ℕ) → settled txns vs k ≡ version_in (without_those (undone txns) vs) k
+    says k = by_committed (committed_in (transaction_at txns k)) (version_in vs k) ∙ sym (version_in_without_those (undone txns) vs k)
+
+-- one more version, which is committed or not
+pub settled_more : (txns : List Transaction) (items : List Version) (i t : ℕ) (v : Version) (o o' : Option (Bor Version)) → i < length items → v ≡ get_or items i v
+    → IsBest (without_those (undone txns) (take i items)) t o → (committed_in (transaction_at txns v.ts) ≡ true → IsBest (without_those (undone txns) (take i items) ++ v ∷ []) t o')
+    → (committed_in (transaction_at txns v.ts) ≡ false → o' ≡ o) → IsBest (without_those (undone txns) (take (i + 1) items)) t o'
+settled_more txns items i t v o o' low at best more same =
+    subst (λ (vs : List Version). IsBest vs t o') (sym longer) (by_committed (committed_in (transaction_at txns v.ts)) more same)
+  where
+    longer : without_those (undone txns) (take (i + 1) items) ≡ without_those (undone txns) (take i items) ++ cond (not (undone txns v.ts)) (v ∷ []) []
+    longer = ap (without_those (undone txns)) (take_more items i v low ∙ ap (λ (w : Version). take i items ++ w ∷ []) (sym at))
+        ∙ filter-append (λ (w : Version). not (undone txns w.ts)) (take i items) (v ∷ [])
+
+    by_committed : (c : Bool) → (c ≡ true → IsBest (without_those (undone txns) (take i items) ++ v ∷ []) t o') → (c ≡ false → o' ≡ o)
+        → IsBest (without_those (undone txns) (take i items) ++ cond (not (not c)) (v ∷ []) []) t o'
+    by_committed true more same = more refl
+    by_committed false more same =
+        subst (λ (vs : List Version). IsBest vs t o') (sym (append-nil (without_those (undone txns) (take i items)))) (subst (IsBest (without_those (undone txns) (take i items)) t) (sym (same refl)) best)
 
 pub shown_in : (inside : Bool) (vs : List Version) (t : ℕ) (o : Option (Bor Version)) → inside ≡ true → IsBest vs t o → (seen o).after ≡ value_if inside (newest (version_in vs) t).after
 shown_in inside vs t o is best = rw is (ap (λ (n : Seen). n.after) (sym (best_is vs t o best)))

@@ -1,12 +1,17 @@
--- The rows that are gathered are those of the stream, in its order.
-use Rattle.std.proofs.Common.{◌≡◌, ℕ, zero, suc, ◌<◌, ◌≤◌, ◌==◌, Bool, true, false, cond, ◌&&◌, List, [], ◌∷◌, ◌++◌, append-nil, map, Option, Some, None, refl, sym, ◌∙◌, ap, subst, inl, inr, arith}
-use Rattle.std.specs.Prelude.{◌↔◌, filter, is_some, min, max, nat_lt, nat_le}
-use Rattle.std.specs.Ordering.{ordering_reverse}
+-- The rows that are gathered and sorted are those of the stream, in its order.
+use Rattle.std.proofs.Common.{◌≡◌, ℕ, zero, suc, ◌+◌, ◌<◌, ◌≤◌, ◌==◌, Bool, true, false, cond, not, ◌&&◌, List, [], ◌∷◌, ◌++◌, length, get_or, drop, append_assoc, map, Option, Some, None, refl, sym, ◌∙◌, ap, subst, inl, inr, arith}
+use Rattle.std.specs.Prelude.{◌↔◌, filter, is_some, nat_lt, nat_le}
+use Rattle.std.specs.List.{list_any}
+use Rattle.std.specs.List.Sorted.{IsNonDecreasingBy, IsPermutation, IsStableByKey}
+use Rattle.std.specs.Ordering.{ordering_reverse, is_lt, nat_cmp}
 use Rattle.std.specs.declared.cmp.Ordering.TheVariants.{Less, Greater}
-use Rattle.std.proofs.lemmas.Bool.{leb-true, leb-false, lt-ltb, eqb-true, ne_eqb}
+use Rattle.std.proofs.lemmas.Bool.{and_parts, or_parts, eqb-true, le-leb}
 use Rattle.std.proofs.lemmas.Bool.Decides.{nat_tests}
 use Rattle.std.proofs.lemmas.Cmp.{nat_list_cmp_total}
-use Rattle.std.proofs.lemmas.List.Folds.{find-append}
+use Rattle.std.proofs.lemmas.List.{at_drop_more}
+use Rattle.std.proofs.lemmas.List.Elements.{filter-append, filter_agree}
+use Rattle.std.proofs.lemmas.List.Folds.{list_any-append}
+use Rattle.std.proofs.lemmas.List.Sorted.{list_any-IsPermutation}
 use Rattle.timestamps.specs.Bytes.{key_cmp}
 use Rattle.timestamps.specs.declared.row.Row.{Row}
 use Rattle.spans.specs.declared.span.Span.{Span}
@@ -21,75 +26,15 @@ use Rattle.spans.proofs.Legal.{keys_rise, written_in}
 use Rattle.spans.proofs.Steps.{by_test}
 use Rattle.spans.proofs.WriteSets.{has_in, has_written, write_set_rises}
 use Rattle.reference.specs.declared.transactions.Transaction.{Transaction}
+use Rattle.reference.specs.declared.versions.Version.{Version}
 use Rattle.reference.specs.declared.chains.Chain.{Chain}
 use Rattle.reference.specs.declared.database.Database.{Database}
-use Rattle.reference.specs.Transactions.{transaction_at}
+use Rattle.reference.specs.Once.{IsOnce, AreOnce}
 use Rattle.reference.specs.Versions.{version_in}
-use Rattle.reference.specs.Streams.{with_row, rows_at, committed_rows_at, IsNext}
-use Rattle.reference.specs.Tied.{committed_in, IsTied}
+use Rattle.reference.specs.Streams.{is_due, row_of, due_rows, rows_due, with_row, rows_at}
+use Rattle.reference.specs.Tied.{IsTied}
 use Rattle.reference.proofs.ChainSteps.{keys_in}
 use Rattle.reference.proofs.Scanning.{IsChainIn, chain_has}
-
--- ---- the next timestamp
-
-none_more : (txns : List Transaction) (x : Transaction) (t : ℕ) → transaction_at txns t ≡ None → (x.ts == t) ≡ false → transaction_at (txns ++ x ∷ []) t ≡ None
-none_more txns x t none other = find-append (λ (y : Transaction). y.ts == t) txns (x ∷ []) ∙ rw (none, other) refl
-
-pub next_stays : (txns : List Transaction) (x : Transaction) (above through : ℕ) (o : Option ℕ) → IsNext txns above through o → (above < x.ts → x.ts ≤ through → ⊥)
-    → IsNext (txns ++ x ∷ []) above through o
-next_stays txns x above through None next out = λ t high low. none_more txns x t (next t high low) (ne_eqb x.ts t (λ e. out (omega arith) (omega arith)))
-next_stays txns x above through (Some s) next out = (
-  next.0,
-  next.1,
-  λ t high low. none_more txns x t (next.2 t high low) (ne_eqb x.ts t (λ e. out (omega arith) (omega (arith, next.1)))),
-)
-
-pub next_first : (txns : List Transaction) (x : Transaction) (above through t : ℕ) (o : Option ℕ) → x.ts ≡ t → o ≡ None → IsNext txns above through o → above < t → t ≤ through
-    → IsNext (txns ++ x ∷ []) above through (Some t)
-next_first txns x above through t None at is next high low = (high, low, λ i high' low'. none_more txns x i (next i high' (omega arith)) (ne_eqb x.ts i (λ e. omega arith)))
-next_first txns x above through t (Some s) at is next high low = cc
-
-pub next_sooner : (txns : List Transaction) (x : Transaction) (above through t s n : ℕ) (o : Option ℕ) → x.ts ≡ t → o ≡ Some s → n ≡ min s t → IsNext txns above through o → above < t → t ≤ through
-    → IsNext (txns ++ x ∷ []) above through (Some n)
-next_sooner txns x above through t s n None at is least next high low = cc
-next_sooner txns x above through t s n (Some k) at is least next high low =
-    let same : k ≡ s = cc in (
-      omega (arith, next.0),
-      omega arith,
-      λ i high' low'. none_more txns x i (next.2 i high' (omega arith)) (ne_eqb x.ts i (λ e. omega arith)),
-    )
-
--- ---- the stream between two timestamps
-
-pub stream_empty : (p : List Effect) (span : Span) (cursor n : ℕ) → n ≤ cursor → stream_of p span cursor n ≡ []
-stream_empty p span cursor zero low = refl
-stream_empty p span cursor (suc t) low =
-    let out : nat_lt cursor (suc t) ≡ false = grind (arith, nat_tests) in
-    let before : stream_of p span cursor t ≡ [] = stream_empty p span cursor t (omega arith) in
-    rw (before, out) refl
-
-stream_skips : (p : List Effect) (span : Span) (cursor m n : ℕ) → m ≤ n → ((t : ℕ) → m < t → t ≤ n → is_committed p t ≡ false) → stream_of p span cursor n ≡ stream_of p span cursor m
-stream_skips p span cursor m zero low none = let e : m ≡ zero = omega arith in rw e refl
-stream_skips p span cursor m (suc t) low none =
-    let before : (m ≤ t → stream_of p span cursor t ≡ stream_of p span cursor m) = (λ lower. stream_skips p span cursor m t lower (λ i high low'. none i high (omega arith))) in
-    by_test (m == suc t)
-    (λ same. rw (eqb-true m (suc t) same) refl)
-    (λ other.
-    let below : m ≤ t = grind (arith, nat_tests) in
-    by_parts (nat_lt cursor (suc t)) (is_committed p (suc t)) (none (suc t) (omega arith) (omega arith)) (before below))
-  where
-    by_parts : (b c : Bool) → c ≡ false → stream_of p span cursor t ≡ stream_of p span cursor m
-        → stream_of p span cursor t ++ cond (b && c) (rows_of p span (suc t)) [] ≡ stream_of p span cursor m
-    by_parts true c undone e = rw undone (append-nil (stream_of p span cursor t) ∙ e)
-    by_parts false c undone e = append-nil (stream_of p span cursor t) ∙ e
-
-stream_more : (p : List Effect) (span : Span) (cursor m s : ℕ) → cursor ≤ m → m < s → ((t : ℕ) → m < t → t < s → is_committed p t ≡ false)
-    → stream_of p span cursor s ≡ stream_of p span cursor m ++ cond (is_committed p s) (rows_of p span s) []
-stream_more p span cursor m zero low high none = absurd (omega arith)
-stream_more p span cursor m (suc t) low high none =
-    let inside : nat_lt cursor (suc t) ≡ true = lt-ltb cursor (suc t) (omega arith) in
-    let before : stream_of p span cursor t ≡ stream_of p span cursor m = stream_skips p span cursor m t (omega arith) (λ i high' low'. none i high' (omega arith)) in
-    rw (before, inside) refl
 
 -- ---- the rows of a transaction
 
@@ -159,32 +104,174 @@ rows_are p t span (c ∷ cs) says = rw (says c (inl refl)) (by_write (filter (λ
         (λ inside. rw inside (heads (valued a (write_of p t c.key) e) more))
         (λ outside. rw outside more)
 
-pub committed_rows_are : (db : Database) (p : List Effect) → AllAllowed p → IsTied db p → (span : Span) (t : ℕ)
-    → committed_rows_at db.transactions t span db.chains ≡ cond (is_committed p t) (rows_of p span t) []
-committed_rows_are db p all tied span t = rw (tied.committed t) (by_test (is_committed p t)
-    (λ done. rw done (rows_are p t span db.chains (λ c i. chain_has db p tied c i t ∙ rw (not_both p all t done) refl)
+rows_at_are : (db : Database) (p : List Effect) → AllAllowed p → IsTied db p → (span : Span) (t : ℕ) → is_committed p t ≡ true → rows_at t span db.chains ≡ rows_of p span t
+rows_at_are db p all tied span t done =
+    rows_are p t span db.chains (λ c i. chain_has db p tied c i t ∙ rw (not_both p all t done) refl)
     ∙ ap (λ keys. map (row p t) (filter (in_span span) (filter (λ x. is_some (write_of p t x)) keys))) tied.keys
-    ∙ ap (λ keys. map (row p t) (filter (in_span span) keys)) (sym (write_set_is p t))))
-    (λ undone. rw undone refl))
+    ∙ ap (λ keys. map (row p t) (filter (in_span span) keys)) (sym (write_set_is p t))
 
--- ---- the loop
+-- ---- what is gathered has the rows of each transaction that are due
 
-none_done : (db : Database) (p : List Effect) → IsTied db p → (t : ℕ) → transaction_at db.transactions t ≡ None → is_committed p t ≡ false
-none_done db p tied t none = sym (tied.committed t) ∙ ap committed_in none
+gathered_at_key : (txns : List Transaction) (cursor end : ℕ) (x : List ℕ) (vs : List Version) → IsOnce vs → (t : ℕ)
+    → filter (λ (r : Row). r.ts == t) (due_rows txns cursor end x vs) ≡ cond (is_due txns cursor end t) (with_row true t x (version_in vs t) []) []
+gathered_at_key txns cursor end x [] once t = by_test (is_due txns cursor end t) (λ is. rw is refl) (λ isnt. rw isnt refl)
+gathered_at_key txns cursor end x (v ∷ vs) once t =
+    let more = gathered_at_key txns cursor end x vs once.1 t in
+    by_test (v.ts == t)
+    (λ same. here same (eqb-true v.ts t same) (subst (λ n. version_in vs n ≡ None) (eqb-true v.ts t same) once.0) more)
+    (λ other. by_test (is_due txns cursor end v.ts)
+    (λ is. rw (is, other) more)
+    (λ isnt. rw (isnt, other) more))
+  where
+    both_none : (b : Bool) → cond b (with_row true t x None []) [] ≡ []
+    both_none true = refl
+    both_none false = refl
 
--- with the rows of the next timestamp they are those up to it
-pub stream_grows : (db : Database) (p : List Effect) → AllAllowed p → IsTied db p → (span : Span) (cursor m s end : ℕ) (rows : List Row) → cursor ≤ m → IsNext db.transactions m end (Some s)
-    → rows ≡ stream_of p span cursor m → rows ++ committed_rows_at db.transactions s span db.chains ≡ stream_of p span cursor s
-stream_grows db p all tied span cursor m s end rows low next is =
-    ap (λ rs. rs ++ committed_rows_at db.transactions s span db.chains) is
-    ∙ ap (λ rs. stream_of p span cursor m ++ rs) (committed_rows_are db p all tied span s)
-    ∙ sym (stream_more p span cursor m s low next.0 (λ t high low'. none_done db p tied t (next.2 t high low')))
+    made : v.ts ≡ t → row_of x v ≡ record { ts = t; key = x; after = v.after }
+    made e = rw e refl
 
--- and where there is none, up to the end
-pub stream_ends : (db : Database) (p : List Effect) → IsTied db p → (span : Span) (cursor m end : ℕ) (o : Option ℕ) (rows : List Row) → cursor ≤ m → m ≤ max cursor end → IsNext db.transactions m end o
-    → ((s : ℕ) → o ≡ Some s → ⊥) → rows ≡ stream_of p span cursor m → rows ≡ stream_of p span cursor end
-stream_ends db p tied span cursor m end None rows low high next none is = by_test (nat_le m end)
-    (λ below. is ∙ sym (stream_skips p span cursor m end (leb-true m end below) (λ t high' low'. none_done db p tied t (next t high' low'))))
-    (λ above. let past : end < m = leb-false m end above in
-    is ∙ stream_empty p span cursor m (omega arith) ∙ sym (stream_empty p span cursor end (omega arith)))
-stream_ends db p tied span cursor m end (Some s) rows low high next none is = absurd (none s refl)
+    here : (v.ts == t) ≡ true → v.ts ≡ t → version_in vs t ≡ None
+        → filter (λ (r : Row). r.ts == t) (due_rows txns cursor end x vs) ≡ cond (is_due txns cursor end t) (with_row true t x (version_in vs t) []) []
+        → filter (λ (r : Row). r.ts == t) (due_rows txns cursor end x (v ∷ vs)) ≡ cond (is_due txns cursor end t) (with_row true t x (version_in (v ∷ vs) t) []) []
+    here same e none more =
+        let rest : filter (λ (r : Row). r.ts == t) (due_rows txns cursor end x vs) ≡ [] = more ∙ rw none (both_none (is_due txns cursor end t)) in
+        by_test (is_due txns cursor end v.ts)
+        (λ is. let is' : is_due txns cursor end t ≡ true = subst (λ n. is_due txns cursor end n ≡ true) e is in
+        rw (is, same, is', rest) (ap (λ (r : Row). r ∷ []) (made e)))
+        (λ isnt. let isnt' : is_due txns cursor end t ≡ false = subst (λ n. is_due txns cursor end n ≡ false) e isnt in
+        rw (isnt, isnt') rest)
+
+gathered_at : (txns : List Transaction) (cursor end : ℕ) (span : Span) (cs : List Chain) → AreOnce cs → (t : ℕ)
+    → filter (λ (r : Row). r.ts == t) (rows_due txns cursor end span cs) ≡ cond (is_due txns cursor end t) (rows_at t span cs) []
+gathered_at txns cursor end span [] once t = by_test (is_due txns cursor end t) (λ is. rw is refl) (λ isnt. rw isnt refl)
+gathered_at txns cursor end span (c ∷ cs) once t =
+    let more = gathered_at txns cursor end span cs once.1 t in
+    by_test (in_span span c.key)
+    (λ inside. rw inside (filter-append (λ (r : Row). r.ts == t) (due_rows txns cursor end c.key c.versions) (rows_due txns cursor end span cs)
+    ∙ joined (rows_at t span cs) (is_due txns cursor end t) (version_in c.versions t) (gathered_at_key txns cursor end c.key c.versions once.0 t) more))
+    (λ outside. rw outside (more ∙ ap (λ rs. cond (is_due txns cursor end t) rs []) (unwanted (version_in c.versions t) (rows_at t span cs))))
+  where
+    unwanted : (o : Option After) (rows : List Row) → rows ≡ with_row false t c.key o rows
+    unwanted None rows = refl
+    unwanted (Some a) rows = refl
+
+    joined : {xs ys : List Row} (rows : List Row) (b : Bool) (o : Option After) → xs ≡ cond b (with_row true t c.key o []) [] → ys ≡ cond b rows [] → xs ++ ys ≡ cond b (with_row true t c.key o rows) []
+    joined rows true None e h = rw (e, h) refl
+    joined rows true (Some a) e h = rw (e, h) refl
+    joined rows false o e h = rw (e, h) refl
+
+-- one more key
+pub gathers : (txns : List Transaction) (cursor end : ℕ) (span : Span) (items : List Chain) (i : ℕ) (c : Chain) (rows more all : List Row) → i < length items → c ≡ get_or items i c
+    → more ≡ rows ++ cond (in_span span c.key) (due_rows txns cursor end c.key c.versions) [] → rows ++ rows_due txns cursor end span (drop i items) ≡ all → more ++ rows_due txns cursor end span (drop (i + 1) items) ≡ all
+gathers txns cursor end span items i c rows more all low at is before =
+    ap (λ rs. rs ++ rows_due txns cursor end span (drop (i + 1) items)) is
+    ∙ append_assoc rows (cond (in_span span c.key) (due_rows txns cursor end c.key c.versions) []) (rows_due txns cursor end span (drop (i + 1) items))
+    ∙ ap (λ rs. rows ++ rs) (ap (λ (d : Chain). rows_due txns cursor end span (d ∷ drop (i + 1) items)) at ∙ sym (at_drop_more (rows_due txns cursor end span) items i c low))
+    ∙ before
+
+-- and none above the end
+low_at_key : (txns : List Transaction) (cursor end : ℕ) (x : List ℕ) (vs : List Version) → list_any (λ (r : Row). nat_lt end r.ts) (due_rows txns cursor end x vs) ≡ false
+low_at_key txns cursor end x [] = refl
+low_at_key txns cursor end x (v ∷ vs) = by_test (is_due txns cursor end v.ts)
+    (λ is. rw (is, under v.ts (and_parts _ _ (and_parts _ _ is).1).0) (low_at_key txns cursor end x vs))
+    (λ isnt. rw isnt (low_at_key txns cursor end x vs))
+  where
+    under : (n : ℕ) → nat_le n end ≡ true → nat_lt end n ≡ false
+    under n low = grind (arith, nat_tests)
+
+gathered_low : (txns : List Transaction) (cursor end : ℕ) (span : Span) (cs : List Chain) → list_any (λ (r : Row). nat_lt end r.ts) (rows_due txns cursor end span cs) ≡ false
+gathered_low txns cursor end span [] = refl
+gathered_low txns cursor end span (c ∷ cs) = by_test (in_span span c.key)
+    (λ inside. rw inside (list_any-append (λ (r : Row). nat_lt end r.ts) (due_rows txns cursor end c.key c.versions) (rows_due txns cursor end span cs)
+    ∙ rw (low_at_key txns cursor end c.key c.versions) (gathered_low txns cursor end span cs)))
+    (λ outside. rw outside (gathered_low txns cursor end span cs))
+
+-- ---- rows by rising timestamp
+
+abbrev pub RowsRise : List Row → Type 0
+RowsRise rows = IsNonDecreasingBy (λ (r : Row). r.ts) rows
+
+none_low : (rows : List Row) (t n : ℕ) → ((k : ℕ) (d : Row) → k < length rows → n ≤ (get_or rows k d).ts) → t < n → filter (λ (r : Row). nat_le r.ts t) rows ≡ []
+none_low [] t n least low = refl
+none_low (r ∷ rows) t n least low =
+    let here : n ≤ r.ts = least 0 r (omega arith) in
+    let above : nat_le r.ts t ≡ false = grind (arith, nat_tests) in
+    rw above (none_low rows t n (λ k d more. least (suc k) d (omega arith)) low)
+
+-- those up to the next timestamp are those up to this one and then those at the next
+next_rows : (rows : List Row) (t : ℕ) → RowsRise rows → filter (λ (r : Row). nat_le r.ts (suc t)) rows ≡ filter (λ (r : Row). nat_le r.ts t) rows ++ filter (λ (r : Row). r.ts == suc t) rows
+next_rows [] t rise = refl
+next_rows (r ∷ rows) t rise =
+    let more = next_rows rows t (λ i j d up few. rise (suc i) (suc j) d (omega arith) (omega arith)) in
+    by_test (nat_le r.ts t)
+    (λ low. let low' : nat_le r.ts (suc t) ≡ true = grind (arith, nat_tests) in let other : (r.ts == suc t) ≡ false = grind (arith, nat_tests) in
+    rw (low, low', other) (ap (λ (rs : List Row). r ∷ rs) more))
+    (λ high. by_test (r.ts == suc t)
+    (λ same. let low' : nat_le r.ts (suc t) ≡ true = grind (arith, nat_tests) in let above : t < r.ts = grind (arith, nat_tests) in
+    let none = none_low rows t r.ts (λ k d few. rise 0 (suc k) d (omega arith) (omega arith)) above in
+    rw (high, low', same, none) (ap (λ (rs : List Row). r ∷ rs) (more ∙ rw none refl)))
+    (λ other. let high' : nat_le r.ts (suc t) ≡ false = grind (arith, nat_tests) in rw (high, high', other) more))
+
+all_low : (end : ℕ) (rows : List Row) → list_any (λ (r : Row). nat_lt end r.ts) rows ≡ false → filter (λ (r : Row). nat_le r.ts end) rows ≡ rows
+all_low end [] low = refl
+all_low end (r ∷ rows) low =
+    let parts = or_parts _ _ low in
+    let under : nat_le r.ts end ≡ true = by_number r.ts parts.0 in
+    rw under (ap (λ (rs : List Row). r ∷ rs) (all_low end rows parts.1))
+  where
+    by_number : (n : ℕ) → nat_lt end n ≡ false → nat_le n end ≡ true
+    by_number n e = grind (arith, nat_tests)
+
+tied_at : (t n : ℕ) → (n == t) ≡ (not (is_lt (nat_cmp t n)) && not (is_lt (nat_cmp n t)))
+tied_at t n = by_test (nat_lt t n)
+    (λ above. let other : (n == t) ≡ false = grind (arith, nat_tests) in rw (above, other) refl)
+    (λ isnt. by_test (nat_lt n t)
+    (λ below. let other : (n == t) ≡ false = grind (arith, nat_tests) in let other' : (t == n) ≡ false = grind (arith, nat_tests) in rw (isnt, below, other, other') refl)
+    (λ isnt'. let same : (n == t) ≡ true = grind (arith, nat_tests) in let same' : (t == n) ≡ true = grind (arith, nat_tests) in rw (isnt, isnt', same, same') refl))
+
+-- a stable sort leaves those of one timestamp in their order
+stable_at : (xs ys : List Row) (t : ℕ) → IsStableByKey (λ (r : Row). r.ts) nat_cmp xs ys → filter (λ (r : Row). r.ts == t) ys ≡ filter (λ (r : Row). r.ts == t) xs
+stable_at xs ys t stable =
+    let q = λ (r : Row). not (is_lt (nat_cmp t r.ts)) && not (is_lt (nat_cmp r.ts t)) in
+    filter_agree (λ (r : Row). r.ts == t) q (λ r. tied_at t r.ts) ys
+    ∙ stable (record { ts = t; key = []; after = None })
+    ∙ sym (filter_agree (λ (r : Row). r.ts == t) q (λ r. tied_at t r.ts) xs)
+
+-- ---- the stream
+
+due_is : (db : Database) (p : List Effect) → AllAllowed p → IsTied db p → (span : Span) (cursor end t : ℕ) → t ≤ end
+    → cond (is_due db.transactions cursor end t) (rows_at t span db.chains) [] ≡ cond (nat_lt cursor t && is_committed p t) (rows_of p span t) []
+due_is db p all tied span cursor end t low = rw (le-leb t end low, tied.committed t) (by_parts (nat_lt cursor t) (is_committed p t) (rows_at_are db p all tied span t))
+  where
+    by_parts : (b c : Bool) → (c ≡ true → rows_at t span db.chains ≡ rows_of p span t) → cond (b && c) (rows_at t span db.chains) [] ≡ cond (b && c) (rows_of p span t) []
+    by_parts true true same = same refl
+    by_parts true false same = refl
+    by_parts false c same = refl
+
+stream_through : (db : Database) (p : List Effect) → AllAllowed p → IsTied db p → (span : Span) (cursor end : ℕ) (rows : List Row) → RowsRise rows
+    → ((t : ℕ) → filter (λ (r : Row). r.ts == t) rows ≡ cond (is_due db.transactions cursor end t) (rows_at t span db.chains) [])
+    → (t : ℕ) → t ≤ end → filter (λ (r : Row). nat_le r.ts t) rows ≡ stream_of p span cursor t
+stream_through db p all tied span cursor end rows rise at zero low =
+    filter_agree (λ (r : Row). nat_le r.ts 0) (λ (r : Row). r.ts == 0) (λ r. first r.ts) rows ∙ at 0 ∙ rw (none cursor) refl
+  where
+    first : (n : ℕ) → nat_le n 0 ≡ (n == 0)
+    first n = by_test (nat_le n 0)
+        (λ is. let same : (n == 0) ≡ true = grind (arith, nat_tests) in rw (is, same) refl)
+        (λ isnt. let other : (n == 0) ≡ false = grind (arith, nat_tests) in rw (isnt, other) refl)
+
+    none : (n : ℕ) → nat_lt n 0 ≡ false
+    none n = grind (arith, nat_tests)
+stream_through db p all tied span cursor end rows rise at (suc t) low =
+    next_rows rows t rise
+    ∙ ap (λ rs. rs ++ filter (λ (r : Row). r.ts == suc t) rows) (stream_through db p all tied span cursor end rows rise at t (omega arith))
+    ∙ ap (λ rs. stream_of p span cursor t ++ rs) (at (suc t) ∙ due_is db p all tied span cursor end (suc t) low)
+
+pub sorted_stream : (db : Database) (p : List Effect) → AllAllowed p → IsTied db p → (span : Span) (cursor end : ℕ) (gathered rows : List Row)
+    → gathered ≡ rows_due db.transactions cursor end span db.chains → IsPermutation gathered rows → RowsRise rows → IsStableByKey (λ (r : Row). r.ts) nat_cmp gathered rows
+    → rows ≡ stream_of p span cursor end
+sorted_stream db p all tied span cursor end gathered rows is moved rise stable =
+    let low : list_any (λ (r : Row). nat_lt end r.ts) gathered ≡ false = ap (list_any (λ (r : Row). nat_lt end r.ts)) is ∙ gathered_low db.transactions cursor end span db.chains in
+    let low' : list_any (λ (r : Row). nat_lt end r.ts) rows ≡ false = sym (list_any-IsPermutation (λ (r : Row). nat_lt end r.ts) gathered rows moved) ∙ low in
+    let at : (t : ℕ) → filter (λ (r : Row). r.ts == t) rows ≡ cond (is_due db.transactions cursor end t) (rows_at t span db.chains) [] =
+    λ t. stable_at gathered rows t stable ∙ ap (filter (λ (r : Row). r.ts == t)) is ∙ gathered_at db.transactions cursor end span db.chains tied.once t in
+    sym (all_low end rows low') ∙ stream_through db p all tied span cursor end rows rise at end (omega arith)

@@ -1,13 +1,11 @@
 -- What a database holds after one more event.
-use Rattle.std.proofs.Common.{◌≡◌, ℕ, ◌<◌, ◌==◌, Bool, true, false, cond, not, ◌&&◌, ◌||◌, List, [], ◌∷◌, ◌++◌, map, reverse, Option, Some, None, refl, sym, ◌∙◌, ap, subst, inl, inr, arith, append-nil}
-use Rattle.std.specs.Prelude.{option_map, is_some, bytes_eq, filter, nat_le, nat_lt}
+use Rattle.std.proofs.Common.{◌≡◌, ℕ, ◌<◌, ◌==◌, Bool, true, false, cond, not, ◌&&◌, ◌||◌, List, [], ◌∷◌, ◌++◌, map, Option, Some, None, refl, sym, ◌∙◌, ap, subst, arith}
+use Rattle.std.specs.Prelude.{option_map, is_some, bytes_eq, nat_le, nat_lt}
 use Rattle.std.specs.List.{list_any}
-use Rattle.std.proofs.lemmas.Bool.{eqb-true, eq-eqb, both_ways, false_from_ne_true, ltb-false, or_parts}
-use Rattle.std.proofs.lemmas.List.{reverse-append, map-append}
-use Rattle.std.proofs.lemmas.List.Elements.{filter-append}
+use Rattle.std.proofs.lemmas.Bool.{eqb-true, false_from_ne_true, ltb-false, or_parts}
 use Rattle.std.proofs.lemmas.List.Folds.{list_any-append}
 use Rattle.spans.specs.Effects.{After, Effect, Begins, Reads, Scans, Writes, Commits, Aborts, Closes, HardCloses, SnapshotReads, SnapshotScans, Opens, Polls, Cancels, Protects, Releases, NoEffect}
-use Rattle.spans.specs.Transactions.{owner_of, begun_of, closed_of, is_committed, is_aborted, is_undecided, undecided_timestamps}
+use Rattle.spans.specs.Transactions.{owner_of, closed_of, is_committed, is_aborted, is_undecided}
 use Rattle.spans.specs.Versions.{visible, write_of}
 use Rattle.spans.specs.declared.span.Span.{Span}
 use Rattle.spans.specs.Keys.{in_span, insert_key}
@@ -16,12 +14,12 @@ use Rattle.spans.proofs.Steps.{by_test}
 use Rattle.spans.proofs.Keyed.{RisingKeys}
 use Rattle.spans.proofs.Legal.{keys_rise}
 use Rattle.spans.proofs.Copies.{IsActive, AllAllowed}
-use Rattle.spans.proofs.Open.{IsAmong, open_above}
+use Rattle.spans.proofs.Open.{open_above}
 use Rattle.reference.specs.declared.transactions.Transaction.{Transaction}
 use Rattle.reference.specs.declared.transactions.State.{State}
 use Rattle.reference.specs.declared.transactions.State.TheVariants as states
 use Rattle.reference.specs.declared.database.Database.{Database}
-use Rattle.reference.specs.Transactions.{transaction_at, begun_by, decided, is_open, is_committed_state, is_aborted_state, is_open_state, state_closed, aborted_through, open_in, is_undecided_at}
+use Rattle.reference.specs.Transactions.{transaction_at, with_begun, begun_by, decided, is_committed_state, is_aborted_state, state_closed, aborted_through, is_undecided_at}
 use Rattle.reference.specs.Chains.{version_at, with_write, dropped, cleared}
 use Rattle.reference.specs.Reads.{read_of, goes_across}
 use Rattle.reference.specs.SpanReads.{sources_in, scan_of, scan_goes_across}
@@ -31,71 +29,12 @@ use Rattle.feed_book.specs.FeedTie.{FeedsTied}
 use Rattle.feed_book.specs.ProtectionTie.{Standing, ProtectionsTied}
 use Rattle.feed_book.proofs.FeedTies.{feeds_kept}
 use Rattle.feed_book.proofs.ProtectionTies.{protections_kept}
-use Rattle.reference.proofs.TransactionSteps.{with_state, transaction_at_push, transaction_at_decided, open_decided, transaction_at_closed, found_at, open_closed}
+use Rattle.reference.proofs.Rising.{transaction_at_begun, single_begun, single_mapped, decided_keeps}
+use Rattle.reference.proofs.TransactionSteps.{with_state, transaction_at_decided, transaction_at_closed, found_at}
+use Rattle.reference.proofs.Undecided.{open_at}
 use Rattle.reference.proofs.SpanReads.{source_visible}
 use Rattle.reference.proofs.Once.{once_with_write, once_dropped, once_cleared}
 use Rattle.reference.proofs.ChainSteps.{keys_in, keys_with_write, version_at_with, count_with, keys_dropped, version_at_dropped, count_dropped, keys_cleared, version_at_cleared, count_cleared}
-
--- ---- the undecided timestamps
-
-owned : (p : List Effect) (t : ℕ) → IsAmong t (begun_of p) → is_some (owner_of p t) ≡ true
-owned [] t among = absurd among
-owned (Begins k seat ∷ p) t among = by_test (k == t)
-    (λ same. rw same refl)
-    (λ other. rw other (elim among [ inl here ↦ absurd (both_ways _ other (eq-eqb k t here)) | inr there ↦ owned p t there ]))
-owned (_ ∷ p) t among = owned p t among
-
-filter_same : (f g : ℕ → Bool) (ts : List ℕ) → ((t : ℕ) → IsAmong t ts → f t ≡ g t) → filter f ts ≡ filter g ts
-filter_same f g [] same = refl
-filter_same f g (t ∷ ts) same = rw (same t (inl refl)) (by_test (g t)
-    (λ is. rw is (ap (λ (us : List ℕ). t ∷ us) (filter_same f g ts (λ u among. same u (inr among)))))
-    (λ isnt. rw isnt (filter_same f g ts (λ u among. same u (inr among)))))
-
-filter_both : (f g h : ℕ → Bool) → ((t : ℕ) → f t ≡ (g t && h t)) → (ts : List ℕ) → filter f ts ≡ filter h (filter g ts)
-filter_both f g h both [] = refl
-filter_both f g h both (t ∷ ts) = rw (both t) (by_test (g t)
-    (λ is. rw is (by_test (h t) (λ is'. rw is' (ap (λ (us : List ℕ). t ∷ us) (filter_both f g h both ts))) (λ isnt'. rw isnt' (filter_both f g h both ts))))
-    (λ isnt. rw isnt (filter_both f g h both ts)))
-
-pub filter_reverse : (f : ℕ → Bool) (ts : List ℕ) → filter f (reverse ts) ≡ reverse (filter f ts)
-filter_reverse f [] = refl
-filter_reverse f (t ∷ ts) = ap (filter f) (reverse-append (t ∷ []) ts) ∙ filter-append f (reverse ts) (t ∷ []) ∙ by_test (f t)
-    (λ is. rw is (ap (λ (us : List ℕ). us ++ t ∷ []) (filter_reverse f ts) ∙ sym (reverse-append (t ∷ []) (filter f ts))))
-    (λ isnt. rw isnt (append-nil (filter f (reverse ts)) ∙ filter_reverse f ts))
-
--- one more begins
-undecided_begins : (p : List Effect) (t seat : ℕ) → owner_of p t ≡ None → is_committed p t ≡ false → is_aborted p t ≡ false
-    → undecided_timestamps (Begins t seat ∷ p) ≡ t ∷ undecided_timestamps p
-undecided_begins p t seat none uncommitted unaborted = rw (eq-eqb t t refl, uncommitted, unaborted)
-    (ap (λ (ts : List ℕ). t ∷ ts) (filter_same (is_undecided (Begins t seat ∷ p)) (is_undecided p) (begun_of p) (λ i among.
-    let other : (t == i) ≡ false = false_from_ne_true _ (λ same.
-    let no : is_some (owner_of p t) ≡ true = subst (λ k. is_some (owner_of p k) ≡ true) (sym (eqb-true t i same)) (owned p i among) in
-    let no' : false ≡ true = sym (ap is_some none) ∙ no in cc) in
-    rw other refl)))
-
--- one ends
-undecided_commits : (p : List Effect) (t : ℕ) → undecided_timestamps (Commits t ∷ p) ≡ filter (λ i. not (t == i)) (undecided_timestamps p)
-undecided_commits p t = filter_both (is_undecided (Commits t ∷ p)) (is_undecided p) (λ i. not (t == i)) (λ i. by_parts (is_some (owner_of p i)) (t == i) (is_committed p i) (is_aborted p i)) (begun_of p)
-  where
-    by_parts : (o e c a : Bool) → (o && (not (e || c) && not a)) ≡ ((o && (not c && not a)) && not e)
-    by_parts false e c a = refl
-    by_parts true true true a = refl
-    by_parts true true false true = refl
-    by_parts true true false false = refl
-    by_parts true false true a = refl
-    by_parts true false false true = refl
-    by_parts true false false false = refl
-
-undecided_aborts : (p : List Effect) (t : ℕ) → undecided_timestamps (Aborts t ∷ p) ≡ filter (λ i. not (t == i)) (undecided_timestamps p)
-undecided_aborts p t = filter_both (is_undecided (Aborts t ∷ p)) (is_undecided p) (λ i. not (t == i)) (λ i. by_parts (is_some (owner_of p i)) (t == i) (is_committed p i) (is_aborted p i)) (begun_of p)
-  where
-    by_parts : (o e c a : Bool) → (o && (not c && not (e || a))) ≡ ((o && (not c && not a)) && not e)
-    by_parts false e c a = refl
-    by_parts true e true a = refl
-    by_parts true true false true = refl
-    by_parts true true false false = refl
-    by_parts true false false true = refl
-    by_parts true false false false = refl
 
 -- ---- the events
 
@@ -125,7 +64,7 @@ tied_still db p tied = record {
   owners = tied.owners;
   committed = tied.committed;
   aborted = tied.aborted;
-  undecided = tied.undecided;
+  single = tied.single;
   keys = tied.keys;
   versions = tied.versions;
   counts = tied.counts;
@@ -138,18 +77,17 @@ tied_still db p tied = record {
 
 -- a transaction that wasn't there begins
 pub tied_begins : (db : Database) (p : List Effect) (t seat : ℕ) → IsTied db p → owner_of p t ≡ None
-    → IsTied (record db { transactions = db.transactions ++ begun_by t seat ∷ [] }) (Begins t seat ∷ p)
+    → IsTied (record db { transactions = with_begun db.transactions (begun_by t seat) }) (Begins t seat ∷ p)
 tied_begins db p t seat tied unowned = record {
   closed_at = tied.closed_at;
-  owners = λ i. rw (transaction_at_push db.transactions (begun_by t seat) i none) (by_test (t == i) (λ same. rw same refl) (λ other. rw other (tied.owners i)));
-  committed = λ i. rw (transaction_at_push db.transactions (begun_by t seat) i none) (by_test (t == i)
+  owners = λ i. rw (transaction_at_begun db.transactions (begun_by t seat) i none) (by_test (t == i) (λ same. rw same refl) (λ other. rw other (tied.owners i)));
+  committed = λ i. rw (transaction_at_begun db.transactions (begun_by t seat) i none) (by_test (t == i)
       (λ same. rw same (sym (ap committed_in (gone i same)) ∙ tied.committed i))
       (λ other. rw other (tied.committed i)));
-  aborted = λ i. rw (transaction_at_push db.transactions (begun_by t seat) i none) (by_test (t == i)
+  aborted = λ i. rw (transaction_at_begun db.transactions (begun_by t seat) i none) (by_test (t == i)
       (λ same. rw same (sym (ap aborted_in (gone i same)) ∙ tied.aborted i))
       (λ other. rw other (tied.aborted i)));
-  undecided = rw (filter-append is_open db.transactions (begun_by t seat ∷ []), map-append (λ (x : Transaction). x.ts) (filter is_open db.transactions) (begun_by t seat ∷ []))
-      (ap (λ (ts : List ℕ). ts ++ t ∷ []) tied.undecided ∙ sym (ap reverse (undecided_begins p t seat unowned (sym (tied.committed t) ∙ ap committed_in none) (sym (tied.aborted t) ∙ ap aborted_in none)) ∙ reverse-append (t ∷ []) (undecided_timestamps p)));
+  single = single_begun db.transactions (begun_by t seat) none tied.single;
   keys = tied.keys;
   versions = tied.versions;
   counts = tied.counts;
@@ -194,7 +132,7 @@ tied_reads db p t x v k tied is = record {
   owners = tied.owners;
   committed = tied.committed;
   aborted = tied.aborted;
-  undecided = tied.undecided;
+  single = tied.single;
   keys = tied.keys;
   versions = tied.versions;
   counts = tied.counts;
@@ -215,7 +153,7 @@ tied_scans db p t span rows tied = record {
   owners = tied.owners;
   committed = tied.committed;
   aborted = tied.aborted;
-  undecided = tied.undecided;
+  single = tied.single;
   keys = tied.keys;
   versions = tied.versions;
   counts = tied.counts;
@@ -241,7 +179,7 @@ tied_writes db p t x a tied active = record {
   owners = tied.owners;
   committed = tied.committed;
   aborted = tied.aborted;
-  undecided = tied.undecided;
+  single = tied.single;
   keys = keys_with_write db.chains x t a ∙ ap (insert_key x) tied.keys;
   versions = λ y i. version_at_with db.chains x t a rise y i ∙ by_test (t == i)
       (λ same. by_test (bytes_eq x y)
@@ -274,8 +212,7 @@ tied_commits db p t tied active = record {
   aborted = λ i. rw (transaction_at_decided t states.Committed db.transactions i) (by_test (t == i)
       (λ same. rw same (not_aborted (transaction_at db.transactions i) ∙ sym (subst (λ n. is_aborted p n ≡ false) (eqb-true t i same) active.unaborted)))
       (λ other. rw other (tied.aborted i)));
-  undecided = open_decided t states.Committed (λ x. refl) db.transactions ∙ ap (filter (λ i. not (t == i))) tied.undecided
-      ∙ filter_reverse (λ i. not (t == i)) (undecided_timestamps p) ∙ ap reverse (sym (undecided_commits p t));
+  single = single_mapped (decided t states.Committed) (decided_keeps t states.Committed) db.transactions tied.single;
   keys = tied.keys;
   versions = tied.versions;
   counts = tied.counts;
@@ -306,8 +243,7 @@ tied_aborts db p t tied active = record {
   aborted = λ i. rw (transaction_at_decided t states.Aborted db.transactions i) (by_test (t == i)
       (λ same. rw same (aborted_now (transaction_at db.transactions i) (owner_some db p t tied active i same)))
       (λ other. rw other (tied.aborted i)));
-  undecided = open_decided t states.Aborted (λ x. refl) db.transactions ∙ ap (filter (λ i. not (t == i))) tied.undecided
-      ∙ filter_reverse (λ i. not (t == i)) (undecided_timestamps p) ∙ ap reverse (sym (undecided_aborts p t));
+  single = single_mapped (decided t states.Aborted) (decided_keeps t states.Aborted) db.transactions tied.single;
   keys = keys_dropped t db.chains ∙ tied.keys;
   versions = λ y i. version_at_dropped t db.chains y i ∙ by_test (t == i) (λ same. rw same refl) (λ other. rw other (tied.versions y i));
   counts = λ i live. by_test (t == i)
@@ -335,7 +271,7 @@ tied_closes db p at tied = record {
   owners = tied.owners;
   committed = tied.committed;
   aborted = tied.aborted;
-  undecided = tied.undecided;
+  single = tied.single;
   keys = tied.keys;
   versions = tied.versions;
   counts = tied.counts;
@@ -353,7 +289,7 @@ tied_snapshot db p t x v tied = record {
   owners = tied.owners;
   committed = tied.committed;
   aborted = tied.aborted;
-  undecided = tied.undecided;
+  single = tied.single;
   keys = tied.keys;
   versions = tied.versions;
   counts = tied.counts;
@@ -371,7 +307,7 @@ tied_snapshot_scan db p t span rows tied = record {
   owners = tied.owners;
   committed = tied.committed;
   aborted = tied.aborted;
-  undecided = tied.undecided;
+  single = tied.single;
   keys = tied.keys;
   versions = tied.versions;
   counts = tied.counts;
@@ -384,15 +320,15 @@ tied_snapshot_scan db p t span rows tied = record {
 
 -- something of a feed happens
 pub tied_feeds : (db : Database) (p : List Effect) (e : Effect) (feeds : List FeedRecord) → IsOfFeed e → IsTied db p → FeedsTied feeds (e ∷ p) → IsTied (record db { feeds = feeds }) (e ∷ p)
-tied_feeds db p (Opens f seat span cursor) feeds is tied now = record { closed_at = tied.closed_at; owners = tied.owners; committed = tied.committed; aborted = tied.aborted; undecided = tied.undecided; keys = tied.keys; versions = tied.versions; counts = tied.counts; once = tied.once; reads = tied.reads; horizon_at = tied.horizon_at; feeds = now; protections = protections_kept db.protections p (Opens f seat span cursor) tt tied.protections }
-tied_feeds db p (Polls f max ms) feeds is tied now = record { closed_at = tied.closed_at; owners = tied.owners; committed = tied.committed; aborted = tied.aborted; undecided = tied.undecided; keys = tied.keys; versions = tied.versions; counts = tied.counts; once = tied.once; reads = tied.reads; horizon_at = tied.horizon_at; feeds = now; protections = protections_kept db.protections p (Polls f max ms) tt tied.protections }
-tied_feeds db p (Cancels f) feeds is tied now = record { closed_at = tied.closed_at; owners = tied.owners; committed = tied.committed; aborted = tied.aborted; undecided = tied.undecided; keys = tied.keys; versions = tied.versions; counts = tied.counts; once = tied.once; reads = tied.reads; horizon_at = tied.horizon_at; feeds = now; protections = protections_kept db.protections p (Cancels f) tt tied.protections }
+tied_feeds db p (Opens f seat span cursor) feeds is tied now = record { closed_at = tied.closed_at; owners = tied.owners; committed = tied.committed; aborted = tied.aborted; single = tied.single; keys = tied.keys; versions = tied.versions; counts = tied.counts; once = tied.once; reads = tied.reads; horizon_at = tied.horizon_at; feeds = now; protections = protections_kept db.protections p (Opens f seat span cursor) tt tied.protections }
+tied_feeds db p (Polls f max ms) feeds is tied now = record { closed_at = tied.closed_at; owners = tied.owners; committed = tied.committed; aborted = tied.aborted; single = tied.single; keys = tied.keys; versions = tied.versions; counts = tied.counts; once = tied.once; reads = tied.reads; horizon_at = tied.horizon_at; feeds = now; protections = protections_kept db.protections p (Polls f max ms) tt tied.protections }
+tied_feeds db p (Cancels f) feeds is tied now = record { closed_at = tied.closed_at; owners = tied.owners; committed = tied.committed; aborted = tied.aborted; single = tied.single; keys = tied.keys; versions = tied.versions; counts = tied.counts; once = tied.once; reads = tied.reads; horizon_at = tied.horizon_at; feeds = now; protections = protections_kept db.protections p (Cancels f) tt tied.protections }
 tied_feeds db p _ feeds is tied now = absurd is
 
 -- something of a protection happens
 pub tied_protections : (db : Database) (p : List Effect) (e : Effect) (protections : Standing) → IsOfProtection e → IsTied db p → ProtectionsTied protections (e ∷ p) → IsTied (record db { protections = protections }) (e ∷ p)
-tied_protections db p (Protects id t) protections is tied now = record { closed_at = tied.closed_at; owners = tied.owners; committed = tied.committed; aborted = tied.aborted; undecided = tied.undecided; keys = tied.keys; versions = tied.versions; counts = tied.counts; once = tied.once; reads = tied.reads; horizon_at = tied.horizon_at; feeds = feeds_kept db.feeds p (Protects id t) tt tied.feeds; protections = now }
-tied_protections db p (Releases id) protections is tied now = record { closed_at = tied.closed_at; owners = tied.owners; committed = tied.committed; aborted = tied.aborted; undecided = tied.undecided; keys = tied.keys; versions = tied.versions; counts = tied.counts; once = tied.once; reads = tied.reads; horizon_at = tied.horizon_at; feeds = feeds_kept db.feeds p (Releases id) tt tied.feeds; protections = now }
+tied_protections db p (Protects id t) protections is tied now = record { closed_at = tied.closed_at; owners = tied.owners; committed = tied.committed; aborted = tied.aborted; single = tied.single; keys = tied.keys; versions = tied.versions; counts = tied.counts; once = tied.once; reads = tied.reads; horizon_at = tied.horizon_at; feeds = feeds_kept db.feeds p (Protects id t) tt tied.feeds; protections = now }
+tied_protections db p (Releases id) protections is tied now = record { closed_at = tied.closed_at; owners = tied.owners; committed = tied.committed; aborted = tied.aborted; single = tied.single; keys = tied.keys; versions = tied.versions; counts = tied.counts; once = tied.once; reads = tied.reads; horizon_at = tied.horizon_at; feeds = feeds_kept db.feeds p (Releases id) tt tied.feeds; protections = now }
 tied_protections db p _ protections is tied now = absurd is
 
 -- closed moves hard
@@ -406,8 +342,7 @@ tied_hard_closes db p to at tied all = record {
   owners = λ i. rw (transaction_at_closed to db.transactions i) (owner_closed (transaction_at db.transactions i) ∙ tied.owners i);
   committed = λ i. rw (transaction_at_closed to db.transactions i) (committed_closed (transaction_at db.transactions i) ∙ tied.committed i);
   aborted = λ i. rw (transaction_at_closed to db.transactions i, sym (tied.owners i), sym (tied.committed i), sym (tied.aborted i)) (aborted_closed i (transaction_at db.transactions i) (found_at db.transactions i));
-  undecided = open_closed to db.transactions ∙ ap (filter (λ i. not (nat_le i to))) tied.undecided
-      ∙ filter_reverse (λ i. not (nat_le i to)) (undecided_timestamps p) ∙ ap reverse (sym undecided_closed);
+  single = single_mapped (aborted_through to) (λ x. refl) db.transactions tied.single;
   keys = keys_cleared (goes db to) db.chains ∙ tied.keys;
   versions = λ y i. version_at_cleared (goes db to) db.chains y i ∙ rw (gone i, tied.versions y i) (by_parts (nat_le i to) (is_some (owner_of p i)) (is_committed p i) (is_aborted p i) (write_of p i y));
   counts = λ i live. let parts = or_parts _ _ live in count_cleared (goes db to) db.chains i (gone i ∙ still (nat_le i to) (is_some (owner_of p i)) (is_committed p i) (is_aborted p i) parts.0) ∙ tied.counts i parts.1;
@@ -444,31 +379,8 @@ tied_hard_closes db p to at tied all = record {
     aborted_closed i None at' = by_test (nat_le i to) (λ low. rw low refl) (λ high. rw high refl)
     aborted_closed i (Some x) at' = let same : x.ts ≡ i = at' x refl in rw (sym same) (by_state' (nat_le x.ts to) x.state)
 
-    by_decided : (low o c a : Bool) → (o && (not c && not ((low && (o && not c)) || a))) ≡ ((o && (not c && not a)) && not low)
-    by_decided low false c a = refl
-    by_decided low true true a = refl
-    by_decided true true false true = refl
-    by_decided true true false false = refl
-    by_decided false true false true = refl
-    by_decided false true false false = refl
-
-    undecided_closed : undecided_timestamps (HardCloses to at ∷ p) ≡ filter (λ i. not (nat_le i to)) (undecided_timestamps p)
-    undecided_closed = filter_both (is_undecided (HardCloses to at ∷ p)) (is_undecided p) (λ i. not (nat_le i to)) (λ i. by_decided (nat_le i to) (is_some (owner_of p i)) (is_committed p i) (is_aborted p i)) (begun_of p)
-
-    open_state : (s : State) → is_open_state s ≡ (true && (not (is_committed_state s) && not (is_aborted_state s)))
-    open_state states.Undecided = refl
-    open_state states.Committed = refl
-    open_state states.Aborted = refl
-
-    open_is : (o : Option Transaction) → open_in o ≡ (is_some (owner_in o) && (not (committed_in o) && not (aborted_in o)))
-    open_is None = refl
-    open_is (Some x) = open_state x.state
-
-    open_at : (i : ℕ) → open_in (transaction_at db.transactions i) ≡ is_undecided p i
-    open_at i = open_is (transaction_at db.transactions i) ∙ rw (tied.owners i, tied.committed i, tied.aborted i) refl
-
     gone : (i : ℕ) → goes db to i ≡ (nat_le i to && is_undecided p i)
-    gone i = rw (open_at i) (by_test (nat_lt db.closed i)
+    gone i = rw (open_at db p tied i) (by_test (nat_lt db.closed i)
         (λ above. rw above refl)
         (λ below. let shut : is_undecided p i ≡ false = false_from_ne_true _ (λ is. let above : closed_of p < i = open_above p all i is in
         let low = ltb-false db.closed i below in omega (arith, tied.closed_at)) in

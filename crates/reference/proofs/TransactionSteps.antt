@@ -1,26 +1,13 @@
 -- How the transactions change.
-use Rattle.std.proofs.Common.{◌≡◌, ℕ, suc, length, ◌-◌, ◌==◌, Bool, true, false, cond, not, List, [], ◌∷◌, ◌++◌, Option, Some, None, map, refl, sym, ◌∙◌, ap, subst, arith}
+use Rattle.std.proofs.Common.{◌≡◌, ℕ, suc, length, ◌-◌, ◌==◌, true, false, cond, List, [], ◌∷◌, ◌++◌, Some, map, refl, sym, ◌∙◌, ap, arith}
 use Rattle.std.specs.Prelude.{option_map, filter, min, nat_le}
-use Rattle.std.specs.Option.{option_or}
-use Rattle.std.proofs.lemmas.List.Folds.{find-append}
 use Rattle.std.proofs.lemmas.Bool.{eqb-true}
 use Rattle.std.proofs.lemmas.Bool.Decides.{nat_tests}
 use Rattle.spans.specs.Transactions.{least_of}
 use Rattle.spans.proofs.Steps.{by_test}
 use Rattle.reference.specs.declared.transactions.Transaction.{Transaction}
 use Rattle.reference.specs.declared.transactions.State.{State}
-use Rattle.reference.specs.declared.transactions.State.TheVariants.{Undecided, Committed, Aborted}
 use Rattle.reference.specs.Transactions.{transaction_at, decided, is_open, below_open, aborted_through, is_open_through}
-
-or_none : {A : Type 0} (o : Option A) → option_or o None ≡ o
-or_none None = refl
-or_none (Some a) = refl
-
--- a new transaction at the end
-pub transaction_at_push : (txns : List Transaction) (x : Transaction) (t : ℕ) → transaction_at txns x.ts ≡ None → transaction_at (txns ++ x ∷ []) t ≡ cond (x.ts == t) (Some x) (transaction_at txns t)
-transaction_at_push txns x t none = find-append (λ (y : Transaction). y.ts == t) txns (x ∷ []) ∙ by_test (x.ts == t)
-    (λ same. let none' : transaction_at txns t ≡ None = subst (λ n. transaction_at txns n ≡ None) (eqb-true x.ts t same) none in rw (same, none') refl)
-    (λ other. rw other (or_none (transaction_at txns t)))
 
 abbrev pub with_state : State → Transaction → Transaction
 with_state s x = record x { state = s }
@@ -36,18 +23,6 @@ transaction_at_decided t s (x ∷ xs) i = by_test (x.ts == t)
     (λ other. by_test (x.ts == i)
     (λ here. let there' : (t == i) ≡ false = grind (arith, nat_tests) in rw (other, here, there') refl)
     (λ there. rw (other, there) (transaction_at_decided t s xs i)))
-
--- the undecided ones but that which is decided
-pub open_decided : (t : ℕ) (s : State) → ((x : Transaction) → is_open (with_state s x) ≡ false) → (txns : List Transaction)
-    → map (λ (x : Transaction). x.ts) (filter is_open (map (decided t s) txns)) ≡ filter (λ i. not (t == i)) (map (λ (x : Transaction). x.ts) (filter is_open txns))
-open_decided t s shut [] = refl
-open_decided t s shut (x ∷ xs) = by_test (x.ts == t)
-    (λ same. let same' : (t == x.ts) ≡ true = grind (arith, nat_tests) in by_test (is_open x)
-    (λ is. rw (same, shut x, is) (rw same' (open_decided t s shut xs)))
-    (λ isnt. rw (same, shut x, isnt) (open_decided t s shut xs)))
-    (λ other. let other' : (t == x.ts) ≡ false = grind (arith, nat_tests) in by_test (is_open x)
-    (λ is. rw (other, is, other') (ap (λ (ts : List ℕ). x.ts ∷ ts) (open_decided t s shut xs)))
-    (λ isnt. rw (other, isnt) (open_decided t s shut xs)))
 
 -- the least so far, with one more
 pub least_more : (n : ℕ) (xs : List Transaction) (x : Transaction) → least_of n (map (λ (y : Transaction). y.ts - 1) (filter is_open (xs ++ x ∷ []))) ≡ below_open x (least_of n (map (λ (y : Transaction). y.ts - 1) (filter is_open xs)))
@@ -66,19 +41,6 @@ found_at [] i x is = cc
 found_at (y ∷ ys) i x is = by_test (y.ts == i)
     (λ here. let is' : Some y ≡ Some x = rw here at is in let same : y ≡ x = cc in ap (λ (z : Transaction). z.ts) (sym same) ∙ eqb-true y.ts i here)
     (λ there. found_at ys i x (rw there at is))
-
-pub open_closed : (to : ℕ) (txns : List Transaction)
-    → map (λ (x : Transaction). x.ts) (filter is_open (map (aborted_through to) txns)) ≡ filter (λ i. not (nat_le i to)) (map (λ (x : Transaction). x.ts) (filter is_open txns))
-open_closed to [] = refl
-open_closed to (x ∷ xs) = by_state x.state (nat_le x.ts to) refl refl (open_closed to xs)
-  where
-    by_state : (s : State) (low : Bool) → x.state ≡ s → nat_le x.ts to ≡ low
-        → map (λ (y : Transaction). y.ts) (filter is_open (map (aborted_through to) xs)) ≡ filter (λ i. not (nat_le i to)) (map (λ (y : Transaction). y.ts) (filter is_open xs))
-        → map (λ (y : Transaction). y.ts) (filter is_open (map (aborted_through to) (x ∷ xs))) ≡ filter (λ i. not (nat_le i to)) (map (λ (y : Transaction). y.ts) (filter is_open (x ∷ xs)))
-    by_state Undecided true is e more = rw (is, e) more
-    by_state Undecided false is e more = rw (is, e) (ap (λ (ts : List ℕ). x.ts ∷ ts) more)
-    by_state Committed low is e more = rw is more
-    by_state Aborted low is e more = rw is more
 
 -- how many are undecided through to
 pub count_through : (to : ℕ) (txns : List Transaction) → length (filter (is_open_through to) txns) ≡ length (filter (λ i. nat_le i to) (map (λ (x : Transaction). x.ts) (filter is_open txns)))

@@ -1,9 +1,9 @@
 -- What a database holds of a history.
-use Rattle.std.specs.Prelude.{ℕ, List, ◌≡◌, ◌||◌, false, map, reverse, option_map, Option, Some, None, Bool, length, filter}
+use Rattle.std.specs.Prelude.{ℕ, List, ◌≡◌, ◌||◌, false, map, option_map, Option, Some, None, Bool, length, filter}
 use Rattle.std.specs.List.{list_any}
 use Rattle.spans.specs.declared.calls.events.Event.{Event}
 use Rattle.spans.specs.Effects.{Effect, effects_of}
-use Rattle.spans.specs.Transactions.{owner_of, closed_of, is_committed, is_aborted, undecided_timestamps}
+use Rattle.spans.specs.Transactions.{owner_of, closed_of, is_committed, is_aborted}
 use Rattle.spans.specs.Versions.{version_of, written_keys, write_count}
 use Rattle.spans.specs.Reads.{too_late}
 use Rattle.spans.specs.Collection.{horizon_of}
@@ -13,7 +13,7 @@ use Rattle.feed_book.specs.ProtectionTie.{ProtectionsTied}
 use Rattle.reference.specs.declared.transactions.Transaction.{Transaction}
 use Rattle.reference.specs.declared.chains.Chain.{Chain}
 use Rattle.reference.specs.declared.database.Database.{Database}
-use Rattle.reference.specs.Transactions.{transaction_at, has_committed, has_aborted, is_open}
+use Rattle.reference.specs.Transactions.{transaction_at, AreSingle, has_committed, has_aborted}
 use Rattle.reference.specs.Chains.{version_at, wrote}
 use Rattle.reference.specs.Once.{AreOnce}
 use Rattle.reference.specs.Reads.{goes_across}
@@ -30,13 +30,17 @@ abbrev pub aborted_in : Option Transaction → Bool
 aborted_in None = false
 aborted_in (Some x) = has_aborted x
 
+-- the closed timestamp that the database keeps
+abbrev pub closed_timestamp : Database → ℕ
+closed_timestamp db = db.closed
+
 -- each list says what the definitions say of p
 pub record IsTied (db : Database) (p : List Effect) : Type 0 where
   pub closed_at : db.closed ≡ closed_of p
   pub owners : (t : ℕ) → owner_in (transaction_at db.transactions t) ≡ owner_of p t
   pub committed : (t : ℕ) → committed_in (transaction_at db.transactions t) ≡ is_committed p t
   pub aborted : (t : ℕ) → aborted_in (transaction_at db.transactions t) ≡ is_aborted p t
-  pub undecided : map (λ (x : Transaction). x.ts) (filter is_open db.transactions) ≡ reverse (undecided_timestamps p)
+  pub single : AreSingle db.transactions
   pub keys : map (λ (c : Chain). c.key) db.chains ≡ written_keys p
   pub versions : (x : List ℕ) (t : ℕ) → version_at db.chains x t ≡ version_of p x t
   pub counts : (t : ℕ) → is_aborted p t ≡ false → length (filter (wrote t) db.chains) ≡ write_count p t

@@ -1,5 +1,6 @@
 -- What a list of transactions says.
-use Rattle.std.specs.Prelude.{ℕ, List, Bool, true, false, ◌==◌, ◌&&◌, ◌-◌, min, nat_lt, nat_le, if◌then◌else◌, Option, Some, None, find}
+use Rattle.std.specs.Prelude.{ℕ, List, [], ◌∷◌, ◌≡◌, Bool, true, false, ◌==◌, ◌&&◌, ◌-◌, min, nat_lt, nat_le, if◌then◌else◌, Option, Some, None, find}
+use Rattle.std.specs.List.Sorted.{IsNonDecreasingBy, IsPartitionPoint}
 use Rattle.reference.specs.declared.transactions.Transaction.{Transaction}
 use Rattle.reference.specs.declared.transactions.State.{State}
 use Rattle.reference.specs.declared.transactions.State.TheVariants.{Undecided, Committed, Aborted}
@@ -10,6 +11,24 @@ transaction_at txns t = find (λ (x : Transaction). x.ts == t) txns
 
 abbrev pub begun_by : ℕ → ℕ → Transaction
 begun_by t seat = record { ts = t; seat = seat; state = Undecided }
+
+-- timestamps rise
+abbrev pub AreRising : List Transaction → Type 0
+AreRising txns = IsNonDecreasingBy (λ (x : Transaction). x.ts) txns
+
+-- what is below t stands before the place, and nothing else
+abbrev pub IsPlaceOf : ℕ → List Transaction → ℕ → Type 0
+IsPlaceOf t txns place = IsPartitionPoint (λ (x : Transaction). nat_lt x.ts t ≡ true) (λ (x : Transaction). nat_lt x.ts t ≡ false) txns place
+
+-- x in its place, where timestamps rise
+abbrev pub with_begun : List Transaction → Transaction → List Transaction
+with_begun [] x = x ∷ []
+with_begun (y ∷ ys) x = if nat_lt y.ts x.ts then y ∷ with_begun ys x else x ∷ y ∷ ys
+
+-- no two have one timestamp
+abbrev pub AreSingle : List Transaction → Type 0
+AreSingle [] = Unit {0}
+AreSingle (x ∷ xs) = (transaction_at xs x.ts ≡ None) × AreSingle xs
 
 -- the transaction, which ended so where it is that of t
 abbrev pub decided : ℕ → State → Transaction → Transaction

@@ -153,16 +153,6 @@ impl Database {
     fn may_read(&self, ts: u64, source: u64) -> bool
         ensures { result ≡ (source == ts || committed_in (transaction_at self.now.transactions source)) }
     {
-        source == ts || self.is_committed(source)
-    }
-
-    /// Whether the transaction is committed.
-    fn is_committed(&self, ts: u64) -> bool
-        ensures { result ≡ committed_in (transaction_at self.now.transactions ts) }
-    {
-        match self.transactions.find(ts) {
-            None => false,
-            Some(transaction) => transaction.state == State::Committed,
-        }
+        source == ts || self.transactions.has_committed(source)
     }
 }

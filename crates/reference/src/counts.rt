@@ -1,5 +1,5 @@
 //! Statistics: how many transactions are undecided, and how many versions there are and are dead.
-ghost use Rattle.std.specs.Prelude.{◌≡◌, ◌<◌, ℕ, List, ◌∷◌, ◌&&◌, ◌||◌, ◌^◌, ◌-◌, nat_le, nat_lt, min, length, filter, is_none};
+ghost use Rattle.std.specs.Prelude.{◌≡◌, ◌<◌, ℕ, List, ◌∷◌, ◌^◌, ◌-◌, min, length};
 ghost use Rattle.spans.specs.declared.calls.events.Event.{Event};
 ghost use Rattle.spans.specs.declared.calls.commands.Cmd.TheVariants.{Stats};
 ghost use Rattle.spans.specs.Answer.{answer_of};
@@ -39,19 +39,6 @@ impl Database {
         let mut count = 0;
         for transaction in self.transactions.as_slice() {
             if is_undecided(*transaction) {
-                count += 1;
-            }
-        }
-        count
-    }
-
-    /// How many of them are at or below `to`.
-    pub(crate) fn undecided_through(&self, to: u64) -> u64
-        ensures { (h : List Event) → Represents self.now h → result ≡ length (filter (λ t. nat_le t to) (undecided_timestamps (effects_of h))) }
-    {
-        let mut count = 0;
-        for transaction in self.transactions.as_slice() {
-            if is_undecided_through(*transaction, to) {
                 count += 1;
             }
         }
@@ -119,11 +106,4 @@ fn is_undecided(transaction: Transaction) -> bool
     ensures { result ≡ is_open transaction }
 {
     transaction.state == State::Undecided
-}
-
-/// Whether the transaction is undecided, and at or below `to`.
-fn is_undecided_through(transaction: Transaction, to: u64) -> bool
-    ensures { result ≡ (is_open transaction && nat_le transaction.ts to) }
-{
-    is_undecided(transaction) && transaction.ts <= to
 }

@@ -1,5 +1,5 @@
 //! The database: a list for each thing that a history is asked about.
-ghost use Rattle.std.specs.Prelude.{◌≡◌, []};
+ghost use Rattle.std.specs.Prelude.{◌≡◌, List, []};
 
 use crate::chains::Chains;
 use crate::reads::Reads;
@@ -23,7 +23,10 @@ pub struct Database {
 }
 
 impl Database {
-    ghost use Rattle.reference.specs.Tied.{Represents};
+    ghost use Rattle.spans.specs.declared.calls.events.Event.{Event};
+    ghost use Rattle.spans.specs.Effects.{effects_of};
+    ghost use Rattle.spans.specs.Transactions.{closed_of};
+    ghost use Rattle.reference.specs.Tied.{Represents, closed_timestamp};
 
     /// The database of the empty history.
     pub fn new(alloc: Global) -> Database
@@ -44,7 +47,8 @@ impl Database {
 
     /// The closed timestamp.
     pub fn closed(&self) -> u64
-        ensures { result ≡ self.now.closed }
+        ensures number { result ≡ closed_timestamp self.now }
+        ensures history { (h : List Event) → Represents self.now h → result ≡ closed_of (effects_of h) }
     {
         self.closed
     }

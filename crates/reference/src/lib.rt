@@ -3,9 +3,9 @@
 //! A [`Database`](database::Database) has a list for each thing that a history is asked about. `answer`
 //! computes the one right reply to a command and changes nothing; `record` takes in a command with its
 //! right reply, so that a checker of transcripts can ask and compare before it goes on. Each list is a
-//! type of its own: [`transactions`], the [`chains`] of versions by rising key, the [`reads`] of keys
-//! and of spans ([`span_reads`]), each with the timestamps that it read from, and the protections and
-//! feeds of `feed_book`.
+//! type of its own: `transactions` by rising timestamp, the `chains` of versions by rising key, the
+//! `reads` of keys and of spans (`span_reads`), each with the timestamps that it read from, and the
+//! protections and feeds of `feed_book`.
 //!
 //! ```text
 //!                    transactions      chains           reads          closed
@@ -18,24 +18,25 @@
 //! begin 25, put b    toolate: 30 read across 25, since it read every key and found no b
 //! ```
 //!
-//! Cost: each call walks its lists once. A hard closing also looks up the transaction of each version
-//! above closed, a collection and the statistics that of each version; a write looks at the keys that
-//! the scans found, and a poll gathers the whole stream of its feed. Nothing is ever forgotten.
+//! Cost: a step walks each of its lists at most once or twice. A transaction is found by halves, so what
+//! looks up that of each version (a hard closing, a collection, the statistics, a snapshot, a poll) costs
+//! a logarithm more. A poll gathers and sorts the whole stream of its feed, and walks what was told; a
+//! write looks at the keys that the scans above it found. Nothing is ever forgotten.
 #![tactic(auto)]
 
 mod answers;
-pub mod chains;
+mod chains;
 mod collecting;
 mod counts;
 pub mod database;
 mod holds;
 mod polling;
-pub mod reads;
+mod reads;
 mod records;
 mod scans;
-pub mod sources;
+mod sources;
 mod span_commands;
-pub mod span_reads;
+mod span_reads;
 mod streams;
-pub mod transactions;
-pub mod versions;
+mod transactions;
+mod versions;

@@ -27,46 +27,26 @@ impl Database {
         ensures memory { OnErr result ((is_accepted reply.now ≡ true) × (may_lack_memory cmd.now ≡ true)) }
     {
         match cmd {
-            Cmd::Begin { ts } => self.record_begin(seat, *ts, reply),
-            Cmd::Get { ts, key } => self.record_get(*ts, key, reply),
-            Cmd::Scan { ts, span } => self.record_scan(*ts, span, reply),
-            Cmd::Put { ts, key, value } => self.record_put(*ts, key, value, reply),
-            Cmd::Del { ts, key } => self.record_del(*ts, key, reply),
-            Cmd::Commit { ts } => {
-                self.record_commit(*ts, reply);
-                Ok(())
-            }
-            Cmd::Abort { ts } => {
-                self.record_abort(*ts, reply);
-                Ok(())
-            }
-            Cmd::Close { to } => {
-                self.record_close(*to, reply);
-                Ok(())
-            }
-            Cmd::CloseHard { to } => {
-                self.record_close_hard(*to, reply);
-                Ok(())
-            }
-            Cmd::ReadAt { t: _, key: _ } => Ok(()),
-            Cmd::ScanAt { t: _, span: _ } => Ok(()),
-            Cmd::Protect { t } => self.record_protect(*t, reply),
-            Cmd::Release { id } => {
-                self.record_release(*id, reply);
-                Ok(())
-            }
-            Cmd::Open { span, cursor } => self.record_open(seat, span, *cursor, reply),
-            Cmd::Cancel { feed } => {
-                self.record_cancel(*feed, reply);
-                Ok(())
-            }
-            Cmd::Collect { to } => {
-                self.record_collect(*to, reply);
-                Ok(())
-            }
-            Cmd::Poll { feed, max: _ } => self.record_poll(seat, *feed, reply),
-            Cmd::Stats => Ok(()),
+            Cmd::Begin { ts } => self.record_begin(seat, *ts, reply)?,
+            Cmd::Get { ts, key } => self.record_get(*ts, key, reply)?,
+            Cmd::Scan { ts, span } => self.record_scan(*ts, span, reply)?,
+            Cmd::Put { ts, key, value } => self.record_put(*ts, key, value, reply)?,
+            Cmd::Del { ts, key } => self.record_del(*ts, key, reply)?,
+            Cmd::Commit { ts } => self.record_commit(*ts, reply),
+            Cmd::Abort { ts } => self.record_abort(*ts, reply),
+            Cmd::Close { to } => self.record_close(*to, reply),
+            Cmd::CloseHard { to } => self.record_close_hard(*to, reply),
+            Cmd::ReadAt { t: _, key: _ } => {}
+            Cmd::ScanAt { t: _, span: _ } => {}
+            Cmd::Protect { t } => self.record_protect(*t, reply)?,
+            Cmd::Release { id } => self.record_release(*id, reply),
+            Cmd::Open { span, cursor } => self.record_open(seat, span, *cursor, reply)?,
+            Cmd::Cancel { feed } => self.record_cancel(*feed, reply),
+            Cmd::Collect { to } => self.record_collect(*to, reply),
+            Cmd::Poll { feed, max: _ } => self.record_poll(seat, *feed, reply)?,
+            Cmd::Stats => {}
         }
+        Ok(())
     }
 
     fn record_begin(&mut self, seat: u8, ts: u64, reply: &Reply) -> Result<(), AllocError>

@@ -15,7 +15,7 @@ ghost use Rattle.reference.specs.Versions.{version_in};
 
 use crate::chains::Chain;
 use crate::database::Database;
-use crate::versions::{Version, Versions};
+use crate::versions::{Version, Versions, better_of};
 use spans::calls::Rows;
 use spans::span::Span;
 use std::alloc::{AllocError, Global};
@@ -127,14 +127,13 @@ impl Database {
     pub(crate) fn settled_version<'a>(&self, versions: &'a Versions, t: u64) -> Option<&'a Version>
         ensures { newest (settled self.now.transactions versions.now) t ≡ seen result }
     {
-        let mut top = t;
-        while let Some(version) = versions.newest(top) {
+        let mut best = None;
+        for version in versions.as_slice() {
             if self.transactions.has_committed(version.ts) {
-                return Some(version);
+                best = better_of(best, version, t);
             }
-            top = version.ts - 1;
         }
-        None
+        best
     }
 }
 

@@ -62,7 +62,7 @@ impl Scans {
         ensures { result ≡ list_any (scan_goes_across key.now ts) self.now }
     {
         for scan in &self.list {
-            if scan.span.contains(key) && scan.sources.of(key) < ts && ts < scan.reader {
+            if ts < scan.reader && scan.span.contains(key) && scan.sources.of(key) < ts {
                 return true;
             }
         }

@@ -1,8 +1,8 @@
 //! Which transactions began, whose they are and how far they are.
-ghost use Rattle.std.specs.Prelude.{◌≡◌, ◌++◌, ◌∷◌, [], ◌-◌, length, map, filter, OnOk, OnErr};
+ghost use Rattle.std.specs.Prelude.{◌≡◌, ◌≤◌, [], ◌-◌, length, map, filter, OnOk, OnErr};
 ghost use Rattle.spans.specs.Transactions.{least_of};
 ghost use Rattle.reference.specs.declared.transactions.Transaction.{Transaction};
-ghost use Rattle.reference.specs.Transactions.{transaction_at, begun_by, decided, is_open, below_open, state_closed, aborted_through, is_undecided_at, is_open_through};
+ghost use Rattle.reference.specs.Transactions.{AreRising, IsPlaceOf, transaction_at, with_begun, begun_by, decided, is_open, below_open, state_closed, aborted_through, is_undecided_at, is_open_through};
 
 mod lent;
 
@@ -26,7 +26,7 @@ pub struct Transaction {
     pub state: State,
 }
 
-/// The transactions, in the order in which they began.
+/// The transactions, by rising timestamp.
 #[derive(Debug, Drop)]
 pub struct Transactions {
     list: Vec<Transaction>,
@@ -38,7 +38,11 @@ impl Model for Transactions {
 
     ghost Value = { List Transaction };
 
+    ghost use Rattle.reference.specs.Transactions.{AreRising};
+
     ghost view = { λ t. t.list.items };
+
+    ghost invariant = { λ t. AreRising t.list.items };
 }
 
 impl Transactions {
@@ -55,24 +59,30 @@ impl Transactions {
     pub fn find(&self, ts: u64) -> Option<Transaction>
         ensures { result ≡ transaction_at self.now ts }
     {
-        for transaction in &self.list {
-            if transaction.ts == ts {
-                return Some(*transaction);
+        let place = place_of(self.list.as_slice(), ts);
+        match self.list.get(place) {
+            None => None,
+            Some(transaction) => {
+                if transaction.ts != ts {
+                    return None;
+                }
+                Some(*transaction)
             }
         }
-        None
     }
 
     /// Takes in a transaction that begins.
     pub fn begin(&mut self, ts: u64, seat: u8) -> Result<(), AllocError>
-        ensures ok { OnOk result (self.new ≡ self.old ++ begun_by ts seat ∷ []) }
+        ensures ok { OnOk result (self.new ≡ with_begun self.old (begun_by ts seat)) }
         ensures err { OnErr result (self.new ≡ self.old) }
     {
-        self.list.push(Transaction {
+        let place = place_of(self.list.as_slice(), ts);
+        let transaction = Transaction {
             ts,
             seat,
             state: State::Undecided,
-        })?;
+        };
+        self.list.insert(place, transaction)?;
         Ok(())
     }
 
@@ -130,6 +140,15 @@ impl Transactions {
         }
         least
     }
+}
+
+/// Where the transaction of `ts` stands, or would stand.
+fn place_of(transactions: &[Transaction], ts: u64) -> usize
+    requires rising { AreRising transactions.now }
+    ensures bound { result ≤ length transactions.now }
+    ensures place { IsPlaceOf ts transactions.now result }
+{
+    transactions.partition_point(|transaction| transaction.ts < ts)
 }
 
 /// The transaction, which ended so where it is that of `ts`.

@@ -114,7 +114,11 @@ fn newest_of<'a>(versions: &'a [Version], ts: u64) -> Option<&'a Version>
 }
 
 /// The better of the best version so far and the next.
-fn better_of<'a>(best: Option<&'a Version>, next: &'a Version, ts: u64) -> Option<&'a Version>
+pub(crate) fn better_of<'a>(
+    best: Option<&'a Version>,
+    next: &'a Version,
+    ts: u64,
+) -> Option<&'a Version>
     ensures { (xs : List Version) → IsBest xs ts best.entry → IsBest (xs ++ next.now ∷ []) ts result }
 {
     if next.ts > ts {

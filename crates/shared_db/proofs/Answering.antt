@@ -37,6 +37,7 @@ module _ {C : Ghosts Served Event} where
         legal = m.legal;
         gapless = m.gapless;
         own = grown;
+        owned = m.owned;
         seat = by;
         command = m.command;
         position = m.position ∙ (sym h.place ∙ ap (λ (l : List Event). first + length l) here);

@@ -24,6 +24,7 @@ pub record IsAnswered {C : Ghosts Served Event} (first : ℕ) (old : Seat Served
   pub gapless : IsGapless first (seen new)
   -- the event is the seat's, and its only new one
   pub own : mine new ≡ mine old ++ event ∷ []
+  pub owned : mine new ≡ of_seat (λ (e : Event). e.seat) (number new) (seen new)
   pub seat : event.seat ≡ number old
   pub command : event.cmd ≡ cmd
   pub position : event.position ≡ first + length (seen old ++ between)

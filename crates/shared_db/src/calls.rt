@@ -21,7 +21,7 @@ pub struct Spent {
 #[derive(Debug, Drop)]
 pub enum CallDenied {
     /// The call at position `served` had its turn, and the positions from there up to `next` were
-    /// given out. So `served` is below `next`, which was found later in the call.
+    /// given out. Both were loaded in this call, `next` after `served`.
     Busy { served: u64, next: u64, cmd: Cmd },
     /// No position is left.
     Spent { cmd: Cmd },

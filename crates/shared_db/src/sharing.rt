@@ -1,11 +1,11 @@
 //! What seats and passes do beside calls, none of which waits or takes memory.
-ghost use Rattle.std.specs.Prelude.{◌≡◌, ◌<◌, ◌≤◌, ◌++◌, [], ◌∷◌, max, IfOk, IfErr, OnOk, OnErr};
+ghost use Rattle.std.specs.Prelude.{◌≡◌, ◌<◌, ◌≤◌, ◌+◌, ◌++◌, [], ◌∷◌, max, IfOk, IfErr, OnOk, OnErr};
 ghost use Rattle.std.specs.List.Sorted.{IsStrictlyIncreasing};
 ghost use Rattle.ticket_lock.specs.Lists.{of_seat, longer, StartsWith};
 ghost use Rattle.ticket_lock.specs.Seats.{number, seen, mine, known, met_spent, IsSame};
 ghost use Rattle.timestamps.specs.Numbers.{timestamps_of, AreApart};
-ghost use Rattle.timestamps.specs.Passes.{drawn, leased, loaded, earlier, IsOf as IsPassOf, IsSame as IsSamePass};
-ghost use Rattle.timestamps.specs.Reasons.{IsReason};
+ghost use Rattle.timestamps.specs.Passes.{drawn, leased, loaded, earlier, looks, IsOf as IsPassOf, IsSame as IsSamePass};
+ghost use Rattle.timestamps.specs.Reasons.{IsReason, steps_of};
 ghost use Rattle.timestamps.specs.declared.lease.TheConstants.{BLOCKS};
 ghost use Rattle.shared_db.specs.Seats.{IsOf};
 
@@ -49,6 +49,8 @@ impl Db {
         requires own { IsPassOf self.now.oracle pass.old }
         ensures same { IsSamePass pass.old pass.new }
         ensures rises { loaded pass.old ≤ loaded pass.new }
+        // So what it compares was loaded in this call.
+        ensures steps { looks pass.new ≡ looks pass.old + steps_of result }
         ensures lease { IfOk result (λ lease. lease ≡ timestamps_of (loaded pass.new)) }
         ensures drawn { OnOk result (drawn pass.new ≡ drawn pass.old ++ loaded pass.new ∷ []) }
         ensures in_range { OnOk result (loaded pass.new < BLOCKS) }

@@ -13,3 +13,6 @@ pub mod Closed
 pub mod Members
 pub mod VersionNames
 pub mod Histories
+pub mod Ascending
+pub mod Succeeding
+pub mod Cutting

@@ -15,3 +15,5 @@ pub mod FeedRight
 pub mod Consumer
 pub mod Kept
 pub mod WorkedHistories
+pub mod Pieces
+pub mod Successors

@@ -1,8 +1,9 @@
 //! Bounds of spans: 1 to 65 bytes, so that the place just above any key is one.
-ghost use Rattle.std.specs.Prelude.{◌≡◌, ℕ, List, ◌<◌, ◌≤◌, ◌⊎◌, length, bytes_eq, IfOk, IfErr, OnOk};
+ghost use Rattle.std.specs.Prelude.{◌≡◌, ℕ, List, Some, ◌<◌, ◌≤◌, ◌⊎◌, length, bytes_eq, IfOk, IfErr, OnOk};
 ghost use Rattle.std.specs.Cmp.{partial_equiv_from_equiv};
 ghost use Rattle.std.specs.Cmp.Lexicographic.{nat_list_eq_equiv};
-ghost use Rattle.spans.specs.KeyOrder.{from_low, below_high};
+ghost use Rattle.spans.specs.KeyOrder.{from_low, below_high, key_lt};
+ghost use Rattle.spans.specs.Successors.{successor};
 ghost use Rattle.spans.specs.declared.bound.TheConstants.{MAX_BOUND_BYTES};
 ghost use Rattle.spans.specs.declared.bound.BoundError.TheVariants.{BoundLength, NoMemory};
 
@@ -55,6 +56,18 @@ impl Bound {
             Ok(bytes) => Ok(Bound { bytes }),
             Err(_) => Err(BoundError::NoMemory),
         }
+    }
+
+    /// The least bound above the key: its bytes and a zero byte.
+    pub fn successor(alloc: Global, key: &Key) -> Result<Bound, AllocError>
+        ensures bytes { IfOk result (λ b. b ≡ successor key.now) }
+        ensures least { IfOk result (λ b. (x : List ℕ) → from_low (Some b) x ≡ key_lt key.now x) }
+    {
+        let key = key.bytes();
+        let mut bytes = Vec::with_capacity(alloc, key.len() + 1)?;
+        bytes.extend_from_slice(key)?;
+        bytes.push(0)?;
+        Ok(Bound { bytes })
     }
 
     /// Its bytes.

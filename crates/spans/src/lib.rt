@@ -22,6 +22,7 @@
 pub mod bound;
 pub mod calls;
 pub mod law;
+mod pieces;
 pub mod span;
 #[cfg(test)]
 mod tests;

@@ -8,14 +8,16 @@ use lib.ListN.{get_elem?}
 use prog.Atomic.{either}
 use Rattle.atomic_table.specs.Table.{State, Me, Act, keeps, step, stepped, carried_after, Valid, Allows}
 use Rattle.ticket_lock.specs.declared.rule.SeatRecord.{SeatRecord}
+use Rattle.ticket_lock.specs.declared.rule.Look.{Look}
+use Rattle.ticket_lock.specs.declared.rule.Look.TheVariants.{Serving}
 use Rattle.ticket_lock.specs.declared.rule.View.{View}
 use Rattle.ticket_lock.specs.declared.rule.Setup.{Setup}
 use Rattle.ticket_lock.specs.Lists.{most, StartsWith, of_seat, span}
-use Rattle.ticket_lock.specs.Views.{numbers, met_spent, drawn, looked}
+use Rattle.ticket_lock.specs.Views.{numbers, met_spent, drawn, looked, looking, noted_serving, noted_next}
 use Rattle.ticket_lock.specs.Rule.{Fits, Knows, Ordered}
 use Rattle.ticket_lock.specs.Steps.{saw_ticket, drew, saw_serving}
 use Rattle.ticket_lock.proofs.ListFacts.{each_set, set_there, stays_at, same_sum}
-use Rattle.ticket_lock.proofs.Keeping.{Holding, KnowsAt, at_words, unmoved, knows_looked, far}
+use Rattle.ticket_lock.proofs.Keeping.{Holding, KnowsAt, at_words, unmoved, knows_looked, knows_looking, far}
 
 z_is : (t old new : ℕ) → t ≡ old → new ≡ old + 1 → t + 1 ≡ new
 z_is t old new is up = omega arith
@@ -53,17 +55,17 @@ module _ {T E : Type 0} (stands : T → ℕ → List E → Type 0) (seat_of : E 
   sees_ticket slots id me sits s r _ at _ = let v : View E = me.0 in let k = r.each id v at in
       at_words s r (λ ws. (w : View E) × (a : Act S) × Valid s.homes me.1 a × Rule (stepped record { words = ws; homes = s.homes; views = s.views } 0 (get_or ws 0 0) id me.1 w a)
       × saw_ticket (step slots 0 0 0 none) me (get_or ws 0 0) (w, carried_after me.1 a))
-      (let low : v.loaded ≤ r.ticket = (let a = k.low in let b = r.ahead in omega arith) in
+      (let low : v.loaded ≤ r.ticket = (let a = k.low in let b = r.ahead in omega arith) in let w : View E = noted_next v r.ticket in let kw = knows_looking s r id v k w.looks in
       let heard : (v.kept.spent ≡ true → r.ticket ≡ most) = (k.fits sits).ended in
       dite (ℕ_discrete r.ticket most)
-      (λ is. (met_spent v, keeps, tt, unmoved s r id v (met_spent v) at refl refl refl (knows_spent s r id v k is) (λ f. refl), (refl, low, heard, (λ _. refl), (λ not. absurd (not is)))))
-      (λ not. (v, keeps, tt, unmoved s r id v v at refl refl refl k (λ f. refl), (refl, low, heard, (λ is. absurd (not is)), (λ _. refl)))))
+      (λ is. (met_spent w, keeps, tt, unmoved s r id v (met_spent w) at refl refl refl (knows_spent s r id w kw is) (λ f. refl), (refl, low, heard, (λ _. refl), (λ not. absurd (not is)))))
+      (λ not. (w, keeps, tt, unmoved s r id v w at refl refl refl kw (λ f. refl), (refl, low, heard, (λ is. absurd (not is)), (λ _. refl)))))
 
   pub sees_serving : (slots id : ℕ) (me : M) → me.0.sits ≡ true → Allows Rule slots id me 1 (λ n. n) (saw_serving (step slots 1 0 0 none) me)
   sees_serving slots id me sits s r _ at _ = let v : View E = me.0 in let k = r.each id v at in
       at_words s r (λ ws. (w : View E) × (a : Act S) × Valid s.homes me.1 a × Rule (stepped record { words = ws; homes = s.homes; views = s.views } 1 (get_or ws 1 0) id me.1 w a)
       × saw_serving (step slots 1 0 0 none) me (get_or ws 1 0) (w, carried_after me.1 a))
-      (looked v r.serving, keeps, tt, unmoved s r id v (looked v r.serving) at refl refl refl (knows_looked s r id v k r.serving (le_refl r.serving)) (λ f. refl), (refl, k.low, far s r id v k sits))
+      (noted_serving v r.serving, keeps, tt, unmoved s r id v (noted_serving v r.serving) at refl refl refl (knows_looking s r id (looked v r.serving) (knows_looked s r id v k r.serving (le_refl r.serving)) (Serving r.serving ∷ v.looks)) (λ f. refl), (refl, k.low, far s r id v k sits))
 
   -- who draws the next ticket
   abbrev owner_after : ℕ → ℕ → (ℕ → ℕ) → ℕ → ℕ
@@ -87,9 +89,9 @@ module _ {T E : Type 0} (stands : T → ℕ → List E → Type 0) (seat_of : E 
     holder = holder;
   }
 
-  draw_hit : (s : St) (r : Rule s) (id : ℕ) (v : View E) → get_elem? s.views id ≡ some v → v.sits ≡ true → v.ticket ≡ None → r.ticket < most
-      → Rule record { words = (r.ticket + 1) ∷ r.serving ∷ r.floor ∷ r.beds; homes = s.homes; views = set s.views id (drawn v r.ticket) }
-  draw_hit s r id v at sits free room = let w : View E = drawn v r.ticket in let n : ℕ = r.ticket in let k = r.each id v at in
+  draw_hit : (s : St) (r : Rule s) (id : ℕ) (v : View E) (looks : List Look) → get_elem? s.views id ≡ some v → v.sits ≡ true → v.ticket ≡ None → r.ticket < most
+      → Rule record { words = (r.ticket + 1) ∷ r.serving ∷ r.floor ∷ r.beds; homes = s.homes; views = set s.views id (drawn (looking v looks) r.ticket) }
+  draw_hit s r id v looks at sits free room = let w : View E = drawn (looking v looks) r.ticket in let n : ℕ = r.ticket in let k = r.each id v at in
       let own : owner_after n id r.owner n ≡ id = ap (λ b. cond b id (r.owner n)) (eq-eqb n n refl) in
       let other : (t : ℕ) → t ≢ n → owner_after n id r.owner t ≡ r.owner t = λ t ne. ap (λ b. cond b id (r.owner t)) (ne_eqb t n ne) in
       let none_held : v.holds ≡ true → ⊥ = λ h. let x = (k.holder h).1 in let y = sym free ∙ x in cc in record {
@@ -127,21 +129,21 @@ module _ {T E : Type 0} (stands : T → ℕ → List E → Type 0) (seat_of : E 
   draws slots id me old new sits free room up s r _ at _ = let v : View E = me.0 in let k = r.each id v at in
       at_words s r (λ ws. (w : View E) × (a : Act S) × Valid s.homes me.1 a × Rule (stepped record { words = ws; homes = s.homes; views = s.views } 0 (either (eqb (get_or ws 0 0) old) new (get_or ws 0 0)) id me.1 w a)
       × drew (step slots 0 old new none) me (get_or ws 0 0) (w, carried_after me.1 a))
-      (let low : v.loaded ≤ r.ticket = (let a = k.low in let b = r.ahead in omega arith) in
+      (let low : v.loaded ≤ r.ticket = (let a = k.low in let b = r.ahead in omega arith) in let w : View E = noted_next v r.ticket in
       dite (ℕ_discrete r.ticket old)
       (λ is. (
-        drawn v old,
+        drawn w old,
         keeps,
         tt,
-        subst (λ b. Rule record { words = either b new r.ticket ∷ r.serving ∷ r.floor ∷ r.beds; homes = s.homes; views = set s.views id (drawn v old) }) (sym (eq-eqb r.ticket old is))
-            (subst (λ (z : ℕ × ℕ). Rule record { words = z.0 ∷ r.serving ∷ r.floor ∷ r.beds; homes = s.homes; views = set s.views id (drawn v z.1) }) (λ i. (z_is r.ticket old new is up i, is i))
-            (draw_hit s r id v at sits free (omega arith))),
+        subst (λ b. Rule record { words = either b new r.ticket ∷ r.serving ∷ r.floor ∷ r.beds; homes = s.homes; views = set s.views id (drawn w old) }) (sym (eq-eqb r.ticket old is))
+            (subst (λ (z : ℕ × ℕ). Rule record { words = z.0 ∷ r.serving ∷ r.floor ∷ r.beds; homes = s.homes; views = set s.views id (drawn w z.1) }) (λ i. (z_is r.ticket old new is up i, is i))
+            (draw_hit s r id v w.looks at sits free (omega arith))),
         (refl, low, (λ _. refl), (λ not. absurd (not is))),
       ))
       (λ not. (
-        v,
+        w,
         keeps,
         tt,
-        subst (λ b. Rule record { words = either b new r.ticket ∷ r.serving ∷ r.floor ∷ r.beds; homes = s.homes; views = set s.views id v }) (sym (ne_eqb r.ticket old not)) (unmoved s r id v v at refl refl refl k (λ f. refl)),
+        subst (λ b. Rule record { words = either b new r.ticket ∷ r.serving ∷ r.floor ∷ r.beds; homes = s.homes; views = set s.views id w }) (sym (ne_eqb r.ticket old not)) (unmoved s r id v w at refl refl refl (knows_looking s r id v k w.looks) (λ f. refl)),
         (refl, low, (λ is. absurd (not is)), (λ _. refl)),
       )))

@@ -6,10 +6,11 @@ use mathlib.Core.Option.{some, some-ne-none}
 use lib.ListN.{get_elem?}
 use Rattle.atomic_table.specs.Table.{State}
 use Rattle.atomic_table.proofs.Lists.{at_set, at_snoc}
+use Rattle.ticket_lock.specs.declared.rule.Look.{Look}
 use Rattle.ticket_lock.specs.declared.rule.View.{View}
 use Rattle.ticket_lock.specs.declared.rule.Setup.{Setup}
 use Rattle.ticket_lock.specs.Lists.{span}
-use Rattle.ticket_lock.specs.Views.{numbers, looked, nobody}
+use Rattle.ticket_lock.specs.Views.{numbers, looked, looking, nobody}
 use Rattle.ticket_lock.specs.Rule.{Knows, Ordered}
 use Rattle.ticket_lock.proofs.ListFacts.{each_set, stays_at, longer_at, sum_set, same_sum, starts_length}
 
@@ -82,6 +83,10 @@ module _ {T E : Type 0} {stands : T → ℕ → List E → Type 0} {seat_of : E 
   -- what a seat knows once it has loaded the serving word
   pub knows_looked : (s : State (Option T) (View E)) (r : Ordered stands seat_of floor_of key s) (id : ℕ) (v : View E) → KnowsAt r id v → (n : ℕ) → n ≤ r.serving → KnowsAt r id (looked v n)
   knows_looked s r id v k n l = record { sees = k.sees; heard = k.heard; fits = k.fits; gathered = k.gathered; unissued = k.unissued; low = l; cap = k.cap; out = k.out; holder = k.holder }
+
+  -- its looks are of no account
+  pub knows_looking : (s : State (Option T) (View E)) (r : Ordered stands seat_of floor_of key s) (id : ℕ) (v : View E) → KnowsAt r id v → (looks : List Look) → KnowsAt r id (looking v looks)
+  knows_looking s r id v k looks = record { sees = k.sees; heard = k.heard; fits = k.fits; gathered = k.gathered; unissued = k.unissued; low = k.low; cap = k.cap; out = k.out; holder = k.holder }
 
   pub far : (s : State (Option T) (View E)) (r : Ordered stands seat_of floor_of key s) (id : ℕ) (v : View E) → KnowsAt r id v → v.sits ≡ true → v.kept.first + length v.kept.seen ≤ r.serving
   far s r id v k sits = let b = (k.fits sits).base in let c = r.come in let d = starts_length r.history v.kept.seen k.sees in omega arith

@@ -79,7 +79,7 @@ module _ {T E : Type 0} (stands : T → ℕ → List E → Type 0) (seat_of : E 
           far s r id v k sits,
           λ z e. (
             more z e,
-            (λ same. (r.history, r.last, ap (λ (n : ℕ). (holding v n r.history, (0, Some r.last) ∷ me.1)) same, subst (λ (n : ℕ). stands r.last n r.history) (sym base) r.stood, k.sees, (let c = r.come in omega arith), (let q = r.capped got.0 in let z = k.cap in omega arith))),
+            (λ same. (r.history, r.last, ap (λ (n : ℕ). (holding v n r.history, (0, Some r.last) ∷ me.1)) same, (subst (λ (n : ℕ). stands r.last n r.history) (sym base) r.stood, k.sees, (let c = r.come in omega arith), (let q = r.capped got.0 in let z = k.cap in omega arith)))),
             λ not. let y = sym drew ∙ e in let q : t ≡ z = cc in absurd (not (is ∙ q)),
           ),
         ),

@@ -1,11 +1,11 @@
 -- What a turn's steps tell, put together.
-use Rattle.std.proofs.Common.{◌≡◌, ℕ, ◌+◌, ◌<◌, ◌≤◌, ◌≢◌, List, [], ◌∷◌, length, sym, ap, ◌∙◌, subst, arith, Option, Some, None}
+use Rattle.std.proofs.Common.{◌≡◌, ℕ, ◌<◌, ◌≤◌, ◌≢◌, List, [], ◌∷◌, sym, ap, ◌∙◌, subst, arith, Option, Some}
 use Rattle.atomic_table.specs.Table.{Me, rest}
 use Rattle.ticket_lock.specs.declared.rule.View.{View}
 use Rattle.ticket_lock.specs.declared.rule.SeatRecord.{SeatRecord}
 use Rattle.ticket_lock.specs.Lists.{most, StartsWith, longer}
-use Rattle.ticket_lock.specs.Views.{gathering, gatherer, looked, holding}
-use Rattle.ticket_lock.specs.Steps.{Waits, HearsOf}
+use Rattle.ticket_lock.specs.Views.{gathering, gatherer, looked, noted_serving, holding}
+use Rattle.ticket_lock.specs.Steps.{Finds, Waits, HearsOf}
 use Rattle.ticket_lock.proofs.ListFacts.{longer_whole}
 
 module _ {T E : Type 0} (stands : T → ℕ → List E → Type 0) (floor_of : T → ℕ) where
@@ -16,33 +16,19 @@ module _ {T E : Type 0} (stands : T → ℕ → List E → Type 0) (floor_of : T
   M = Me S (View E)
 
   abbrev pub Came : View E → ℕ → M → Type 0
-  Came v t m = (found : List E) × (x : T) × (m ≡ (holding v t found, (0, Some x) ∷ [])) × stands x v.kept.first found × StartsWith found v.kept.seen × (v.kept.first + length found ≡ t) × (v.kept.known ≤ floor_of x)
+  Came v t m = (found : List E) × (x : T) × (m ≡ (holding v t found, (0, Some x) ∷ [])) × Finds stands floor_of v t found x
 
   pub came : (v : View E) (n t r : ℕ) (m m' : M) → m ≡ (looked v n, []) → v.ticket ≡ Some t → r ≡ t → Waits stands floor_of m r m' → Came v t m'
   came v n t r m m' is mine here a = let a' = subst (λ (z : M). Waits stands floor_of z r m') is a in ((a'.2 t mine).1 here)
 
-  pub still_waits : (v : View E) (n t r : ℕ) (cs : List (ℕ × S)) (m m' : M) → m ≡ (looked v n, cs) → v.ticket ≡ Some t → r ≢ t → Waits stands floor_of m r m' → m' ≡ (looked v m'.0.loaded, cs)
-  still_waits v n t r cs m m' is mine not a = let a' = subst (λ (z : M). Waits stands floor_of z r m') is a in let q = (a'.2 t mine).2 not in q ∙ ap (λ (z : M). (looked v z.0.loaded, cs)) (sym q)
-
   pub in_front : (v : View E) (t : ℕ) (m : M) → Came v t m → (x : S) × (m.1 ≡ (0, x) ∷ rest m.1)
   in_front v t m c = (Some c.1, let e = ap (λ (z : M). z.1) c.2 in e ∙ ap (λ (l : List (ℕ × S)). (0, Some c.1) ∷ rest l) (sym e))
 
-  first_or : S → List (ℕ × S) → S
-  first_or d [] = d
-  first_or d (x ∷ xs) = x.1
-
-  -- what was in the slot is the value that stands for the list
-  pub handed : (v : View E) (t : ℕ) (m m' : M) (value : T) → Came v t m → m.1 ≡ (0, Some value) ∷ rest m.1 → m' ≡ (m.0, (0, None) ∷ rest m.1)
-      → (found : List E) × (m' ≡ (holding v t found, (0, None) ∷ [])) × stands value v.kept.first found × StartsWith found v.kept.seen × (v.kept.first + length found ≡ t) × (v.kept.known ≤ floor_of value)
-  unfolding first_or
-  handed v t m m' value c hand now = let q : Some value ≡ Some c.1 = ap (first_or None) (sym hand ∙ ap (λ (z : M). z.1) c.2) in let same : c.1 ≡ value = cc in
-      (c.0, now ∙ ap (λ (z : M). (z.0, (0, None) ∷ rest z.1)) c.2, subst (λ (x : T). stands x v.kept.first c.0) same c.3, c.4, c.5, subst (λ (x : T). v.kept.known ≤ floor_of x) same c.6)
-
   pub came_now : (t r : ℕ) (m m' : M) → m.0.ticket ≡ Some t → m.1 ≡ [] → m.0.loaded ≡ t → Waits stands floor_of m r m' → Came m.0 t m'
   came_now t r m m' mine empty looked a = let w = a.2 t mine in let l = a.0 in let u = w.0 in let c = w.1 (omega arith) in
-      (c.0, c.1, c.2 ∙ ap (λ (l : List (ℕ × S)). (holding m.0 t c.0, (0, Some c.1) ∷ l)) empty, c.3, c.4, c.5, c.6)
+      (c.0, c.1, c.2 ∙ ap (λ (l : List (ℕ × S)). (holding m.0 t c.0, (0, Some c.1) ∷ l)) empty, c.3)
 
-  pub room_left : (s n : ℕ) (m m' : M) → m' ≡ (looked m.0 s, m.1) → m'.0.loaded ≤ n → n ≤ s → n ≢ most → n < 18446744073709551616 → s < most
+  pub room_left : (s n : ℕ) (m m' : M) → m' ≡ (noted_serving m.0 s, m.1) → m'.0.loaded ≤ n → n ≤ s → n ≢ most → n < 18446744073709551616 → s < most
   room_left s n m m' is low back not fits = let e : m'.0.loaded ≡ s = ap (λ (z : M). z.0.loaded) is in omega arith
 
   pub grew : (m u m' : M) (records : List (SeatRecord E)) → m' ≡ (gathering m.0 u.0, m.1) → m ≡ (gatherer records, []) → m' ≡ (gatherer (u.0.kept ∷ records), [])

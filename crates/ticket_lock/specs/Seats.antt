@@ -3,6 +3,7 @@ use Rattle.std.specs.Prelude.{◌≡◌, ℕ, List, length, Option, None, Bool}
 use mathlib.Core.Option.{some}
 use lib.ListN.{get_elem?}
 use Rattle.ticket_lock.specs.declared.rule.SeatRecord.{SeatRecord}
+use Rattle.ticket_lock.specs.declared.rule.Look.{Look}
 use Rattle.ticket_lock.specs.declared.chronicle.Chronicle.{Ghosts}
 use Rattle.ticket_lock.specs.declared.lock.Seat.{Seat}
 use Rattle.ticket_lock.specs.declared.lock.TicketLock.{TicketLock}
@@ -44,6 +45,10 @@ module _ {T E : Type 0} {C : Ghosts T E} where
   -- the greatest floor that it raised the word to in this turn
   abbrev pub raised : Seat T E C → ℕ
   raised s = s.pass.me.0.raised
+
+  -- what it found in the serving word and the ticket word while it had no ticket, the newest first
+  abbrev pub looks : Seat T E C → List Look
+  looks s = s.pass.me.0.looks
 
   -- the lock was made with this seat
   pub record IsOf (lock : TicketLock T E) (s : Seat T E C) : Type 0 where

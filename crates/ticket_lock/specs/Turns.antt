@@ -1,12 +1,18 @@
 -- How a call for a turn ends.
-use Rattle.std.specs.Prelude.{◌≡◌, ℕ, ◌+◌, ◌<◌, ◌≤◌, List, length, Some, None, true, false}
+use Rattle.std.specs.Prelude.{◌≡◌, ℕ, ◌+◌, ◌<◌, ◌≤◌, ◌⊎◌, List, ◌∷◌, length, Some, None, true, false}
+use Rattle.ticket_lock.specs.declared.rule.Look.{Look}
+use Rattle.ticket_lock.specs.declared.rule.Look.TheVariants.{Serving, Next}
 use Rattle.ticket_lock.specs.declared.denied.Denied.{Denied}
 use Rattle.ticket_lock.specs.declared.denied.Denied.TheVariants.{Busy, Spent}
 use Rattle.ticket_lock.specs.declared.chronicle.Chronicle.{Ghosts}
 use Rattle.ticket_lock.specs.declared.lock.Seat.{Seat}
 use Rattle.ticket_lock.specs.Lists.{StartsWith}
-use Rattle.ticket_lock.specs.Seats.{Keeps, seen, known, ticket, found, raised}
+use Rattle.ticket_lock.specs.Seats.{Keeps, seen, known, ticket, found, raised, looks}
 use Rattle.ticket_lock.specs.Seats as seats
+
+-- The serving word had `served`, and the ticket word had `next` after it, perhaps at a second look, where the first found `served` still. There were no other looks.
+abbrev pub HasLooked : List Look → ℕ → ℕ → List Look → Type 0
+HasLooked before served next after = (after ≡ Next next ∷ Serving served ∷ before) ⊎ (after ≡ Next next ∷ Next served ∷ Serving served ∷ before)
 
 module _ {T E : Type 0} {C : Ghosts T E} where
   -- The seat has the turn t of a lock that began at `first`. The value stands for what it found: all turns so far, which begin with what it had seen.
@@ -27,12 +33,13 @@ module _ {T E : Type 0} {C : Ghosts T E} where
     pub free : ticket new ≡ None
     pub met : seats.met_spent new ≡ true
 
-  -- the turn that was served was no older than what the seat had seen, and a later one was to be drawn: the seat never met `Spent`
+  -- In this call the serving word had `served`, no older than what the seat had seen, and the ticket word then had `next`, which is later: the seat never met `Spent`.
   pub record IsBusy (first : ℕ) (old : Seat T E C) (served next : ℕ) (new : Seat T E C) : Type 0 where
     pub keeps : Keeps old new
     pub free : ticket new ≡ None
     pub unspent : seats.met_spent old ≡ false
     pub met : seats.met_spent new ≡ seats.met_spent old
+    pub looked : HasLooked (looks old) served next (looks new)
     pub ahead : served < next
     pub reached : first + length (seen old) ≤ served
 

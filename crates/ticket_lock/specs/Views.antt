@@ -3,6 +3,8 @@ use Rattle.std.specs.Prelude.{ℕ, List, [], ◌∷◌, ◌++◌, map, max, Opti
 use Rattle.atomic_table.specs.Table.{Me}
 use Rattle.ticket_lock.specs.Lists.{span, head_or, tail, longer}
 use Rattle.ticket_lock.specs.declared.rule.SeatRecord.{SeatRecord}
+use Rattle.ticket_lock.specs.declared.rule.Look.{Look}
+use Rattle.ticket_lock.specs.declared.rule.Look.TheVariants.{Serving, Next}
 use Rattle.ticket_lock.specs.declared.rule.View.{View}
 use Rattle.ticket_lock.specs.declared.rule.Setup.{Setup}
 
@@ -19,11 +21,11 @@ module _ {E : Type 0} where
 
   -- no seat, but it still issues those of the numbers
   abbrev pub issuer : ℕ → List ℕ → View E
-  issuer first numbers = record { sits = false; kept = fresh_record first 0; gathered = []; unissued = numbers; ticket = None; holds = false; found = []; raised = 0; loaded = 0; heard = [] }
+  issuer first numbers = record { sits = false; kept = fresh_record first 0; gathered = []; unissued = numbers; ticket = None; holds = false; found = []; raised = 0; loaded = 0; looks = []; heard = [] }
 
   -- a seat before its first turn
   abbrev pub seat : ℕ → ℕ → View E
-  seat first n = record { sits = true; kept = fresh_record first n; gathered = []; unissued = []; ticket = None; holds = false; found = []; raised = 0; loaded = 0; heard = [] }
+  seat first n = record { sits = true; kept = fresh_record first n; gathered = []; unissued = []; ticket = None; holds = false; found = []; raised = 0; loaded = 0; looks = []; heard = [] }
 
   -- the table's first view: it issues all seats
   abbrev pub opener : Setup → View E
@@ -37,7 +39,7 @@ module _ {E : Type 0} where
 
   -- no seat, with what was seen
   abbrev pub report : List E → ℕ → View E
-  report seen known = record { sits = false; kept = record { first = 0; number = 0; seen = seen; mine = []; spent = false; known = known }; gathered = []; unissued = []; ticket = None; holds = false; found = []; raised = 0; loaded = 0; heard = [] }
+  report seen known = record { sits = false; kept = record { first = 0; number = 0; seen = seen; mine = []; spent = false; known = known }; gathered = []; unissued = []; ticket = None; holds = false; found = []; raised = 0; loaded = 0; looks = []; heard = [] }
 
   -- what a joined view leaves
   abbrev pub nobody : View E
@@ -55,7 +57,7 @@ module _ {E : Type 0} where
 
   -- no seat, but it has gathered seats that kept this
   abbrev pub gatherer : List (SeatRecord E) → View E
-  gatherer records = record { sits = false; kept = record { first = 0; number = 0; seen = []; mine = []; spent = false; known = 0 }; gathered = records; unissued = []; ticket = None; holds = false; found = []; raised = 0; loaded = 0; heard = [] }
+  gatherer records = record { sits = false; kept = record { first = 0; number = 0; seen = []; mine = []; spent = false; known = 0 }; gathered = records; unissued = []; ticket = None; holds = false; found = []; raised = 0; loaded = 0; looks = []; heard = [] }
 
   abbrev pub gathering : View E → View E → View E
   gathering v w = record v { gathered = w.kept ∷ v.gathered }
@@ -76,6 +78,16 @@ module _ {E : Type 0} where
 
   abbrev pub looked : View E → ℕ → View E
   looked v n = record v { loaded = n }
+
+  -- with other looks
+  abbrev pub looking : View E → List Look → View E
+  looking v looks = record v { looks = looks }
+
+  abbrev pub noted_serving : View E → ℕ → View E
+  noted_serving v n = looking (looked v n) (Serving n ∷ v.looks)
+
+  abbrev pub noted_next : View E → ℕ → View E
+  noted_next v n = looking v (Next n ∷ v.looks)
 
   abbrev pub holding : View E → ℕ → List E → View E
   holding v n h = record v { holds = true; loaded = n; found = h }

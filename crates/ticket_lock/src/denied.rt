@@ -1,8 +1,8 @@
 /// Why `TicketLock::try_turn` gave no turn.
 #[derive(Drop)]
 pub enum Denied {
-    /// The ticket `served` had its turn, and the tickets from there up to `next` were drawn. So
-    /// `served` is below `next`, which was found later in the call.
+    /// The ticket `served` had its turn, and the tickets from there up to `next` were drawn. Both were
+    /// loaded in this call, `next` after `served`.
     Busy { served: u64, next: u64 },
     /// No ticket is left.
     Spent,

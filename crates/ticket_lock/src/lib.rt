@@ -18,10 +18,12 @@
 //! seat 1 has its turn   7      6     40    seat 1   a            what it found: a
 //! ```
 //!
-//! A turn costs a compare-exchange to draw a ticket, a load to see it served and a store to end it.
-//! A seat that waits long sleeps on a word of its own, its bed, and whoever ends the turn before
-//! wakes that seat alone. `floor`, `raise_floor` and a refused `try_turn` are one to three steps,
-//! and `meet` is six loads. Only `new` takes memory, and only `turn` waits.
+//! Where no other seat draws, a turn costs a load and a compare-exchange of the ticket word and a load
+//! of the serving word, and its end a store of that word and a look at the bed of the next ticket. A
+//! seat that waits long, or whose turn is far, sleeps on a word of its own, its bed, and whoever ends
+//! the turn before wakes that seat alone. `try_turn` makes four steps, or two or three where it is
+//! `Busy`; `floor` and `raise_floor` one each, and `meet` six loads. Only `new` takes memory, and only
+//! `turn` waits.
 #![tactic(auto)]
 
 mod chronicle;

@@ -24,6 +24,9 @@ pub(crate) const ASLEEP: u64 = 1;
 /// What it says else.
 pub(crate) const AWAKE: u64 = 0;
 
+/// How many turns a seat may be from its own and not sleep at once.
+pub(crate) const NEAR: u64 = 3;
+
 /// The slot that has the value while nobody has a turn.
 pub(crate) const HOME: usize = 0;
 
@@ -41,6 +44,14 @@ pub struct SeatRecord<E> {
     pub spent: bool,
     /// The greatest floor that it knows.
     pub known: u64,
+}
+
+/// What a seat without a ticket found in a word. No value of it is made.
+pub enum Look {
+    /// The ticket that is served.
+    Serving(u64),
+    /// The next ticket to be drawn.
+    Next(u64),
 }
 
 /// What a seat at the table knows. No value of it is made.
@@ -63,6 +74,9 @@ pub struct View<E> {
     pub raised: u64,
     /// The serving number that it loaded last.
     pub loaded: u64,
+    /// What it found in the serving word and the ticket word while it had no ticket, by a load or by
+    /// a compare-exchange, the newest first.
+    pub looks: LinkedList<Look>,
     /// What another seat had seen, until it is compared with what this one has.
     pub heard: LinkedList<E>,
 }

@@ -1,15 +1,15 @@
 //! The single steps of a turn.
 ghost use Rattle.std.specs.Prelude.{◌≡◌, List, ◌≤◌, ◌<◌, ◌+◌, ◌-◌, ◌^◌, ◌++◌, [], ◌∷◌, length, true, false, Some, None, IfSome, IfNone, IfOk, IfErr};
 ghost use Rattle.ticket_lock.specs.Lists.{of_seat, StartsWith};
-ghost use Rattle.ticket_lock.specs.Views.{drawn, met_spent, looked, holding, ended};
-ghost use Rattle.ticket_lock.specs.Steps.{DeniedAt};
+ghost use Rattle.ticket_lock.specs.Views.{drawn, met_spent, looked, looking, holding, ended};
+ghost use Rattle.ticket_lock.specs.Steps.{DeniedAt, HasDrawn, Took};
 ghost use Rattle.ticket_lock.specs.Proper.{IsSamePass};
 
 use crate::chronicle::Chronicle;
 use crate::denied::Denied;
 use crate::lock::TicketLock;
 use crate::plays::{AwaitTurn, DrawTicket, EndTurn, EndsWith, LoadServing, LoadTicket, MarkBed};
-use crate::rule::{ASLEEP, AWAKE, BEDS, HOME, Pass, SERVING, TICKET};
+use crate::rule::{ASLEEP, AWAKE, BEDS, HOME, NEAR, Pass, SERVING, TICKET};
 use crossbeam_utils::Backoff;
 use std::sync::Wait;
 
@@ -19,8 +19,8 @@ impl<T: Chronicle> TicketLock<T> {
         requires own { pass.old.table_id ≡ self.now.board.shared.table_id }
         requires free { (pass.old.me.0.sits ≡ true) × (pass.old.me.0.ticket ≡ None) }
         ensures same { IsSamePass pass.old pass.new }
-        ensures some { IfSome result (λ n. (n < 2 ^ 64 - 1) × (pass.new.me ≡ (drawn pass.old.me.0 n, pass.old.me.1)) × (pass.old.me.0.kept.spent ≡ false)) }
-        ensures none { IfNone result (pass.new.me ≡ (met_spent pass.old.me.0, pass.old.me.1)) }
+        ensures some { IfSome result (λ n. (n < 2 ^ 64 - 1) × (pass.new.me ≡ (drawn (looking pass.old.me.0 pass.new.me.0.looks) n, pass.old.me.1)) × (pass.old.me.0.kept.spent ≡ false)) }
+        ensures none { IfNone result (pass.new.me ≡ (met_spent (looking pass.old.me.0 pass.new.me.0.looks), pass.old.me.1)) }
     {
         let shared = &self.board.shared;
         for _ in rt.forever() {
@@ -41,7 +41,7 @@ impl<T: Chronicle> TicketLock<T> {
         requires own { pass.old.table_id ≡ self.now.board.shared.table_id }
         requires free { (pass.old.me.0.sits ≡ true) × (pass.old.me.0.ticket ≡ None) }
         ensures same { IsSamePass pass.old pass.new }
-        ensures ok { IfOk result (λ n. (n < 2 ^ 64 - 1) × (pass.new.me ≡ (drawn (looked pass.old.me.0 n) n, pass.old.me.1)) × (pass.old.me.0.kept.spent ≡ false)) }
+        ensures ok { IfOk result (λ n. (n < 2 ^ 64 - 1) × (pass.new.me ≡ (drawn (looking (looked pass.old.me.0 n) pass.new.me.0.looks) n, pass.old.me.1)) × (pass.old.me.0.kept.spent ≡ false)) }
         ensures err { IfErr result (λ d. DeniedAt pass.old.me d pass.new.me) }
     {
         let shared = &self.board.shared;
@@ -67,9 +67,10 @@ impl<T: Chronicle> TicketLock<T> {
     // Takes the value, where the ticket was drawn at its turn.
     pub(crate) fn take_turn(&self, pass: &mut Pass<T, T::Entry>, ticket: u64) -> T
         requires own { pass.old.table_id ≡ self.now.board.shared.table_id }
-        requires drew { (pass.old.me.0.sits ≡ true) × (pass.old.me.0.ticket ≡ Some ticket) × (pass.old.me.0.holds ≡ false) × (pass.old.me.1 ≡ []) × (pass.old.me.0.loaded ≡ ticket) }
+        requires drew { HasDrawn ticket pass.old.me }
+        requires served { pass.old.me.0.loaded ≡ ticket }
         ensures same { IsSamePass pass.old pass.new }
-        ensures takes { (found : List T.Entry) × (pass.new.me ≡ (holding pass.old.me.0 ticket found, (0, None) ∷ [])) × T.stands result pass.old.me.0.kept.first found × StartsWith found pass.old.me.0.kept.seen × (pass.old.me.0.kept.first + length found ≡ ticket) × (pass.old.me.0.kept.known ≤ T.floor_of result) }
+        ensures takes { Took T.stands T.floor_of pass.old.me.0 ticket result pass.new.me }
     {
         let _ = ticket;
         self.board.shared.load::<AwaitTurn>(pass, SERVING);
@@ -79,13 +80,14 @@ impl<T: Chronicle> TicketLock<T> {
         value
     }
 
-    // Waits for the turn of the ticket, and takes the value. It spins, then gives way to other
-    // threads, and then sleeps until it is woken by name.
+    // Waits for the turn of the ticket, and takes the value. While its turn is near it spins and then
+    // gives way to other threads; after that, or while its turn is far, it sleeps until it is woken by
+    // name.
     pub(crate) fn await_turn<R: Wait>(&self, rt: &R, pass: &mut Pass<T, T::Entry>, ticket: u64) -> T
         requires own { pass.old.table_id ≡ self.now.board.shared.table_id }
-        requires drew { (pass.old.me.0.sits ≡ true) × (pass.old.me.0.ticket ≡ Some ticket) × (pass.old.me.0.holds ≡ false) × (pass.old.me.1 ≡ []) }
+        requires drew { HasDrawn ticket pass.old.me }
         ensures same { IsSamePass pass.old pass.new }
-        ensures takes { (found : List T.Entry) × (pass.new.me ≡ (holding pass.old.me.0 ticket found, (0, None) ∷ [])) × T.stands result pass.old.me.0.kept.first found × StartsWith found pass.old.me.0.kept.seen × (pass.old.me.0.kept.first + length found ≡ ticket) × (pass.old.me.0.kept.known ≤ T.floor_of result) }
+        ensures takes { Took T.stands T.floor_of pass.old.me.0 ticket result pass.new.me }
     {
         let shared = &self.board.shared;
         let bed = self.bed(ticket);
@@ -103,7 +105,7 @@ impl<T: Chronicle> TicketLock<T> {
                 shared.park(rt, bed, ASLEEP as u32);
                 announced = false;
                 backoff.reset();
-            } else if backoff.is_completed() {
+            } else if backoff.is_completed() || ticket.saturating_sub(serving) > NEAR {
                 // It sleeps after one more look, so that whoever passes the turn on meanwhile
                 // either was seen or sees the mark.
                 shared.store::<MarkBed>(pass, bed, ASLEEP);
@@ -146,7 +148,7 @@ impl<T: Chronicle> TicketLock<T> {
 
     // The bed of the seat with this ticket. At most as many tickets are out as there are seats, so
     // two that wait have different beds.
-    fn bed(&self, ticket: u64) -> usize
+    pub(crate) fn bed(&self, ticket: u64) -> usize
         ensures { (3 ≤ result) × (result < self.now.board.shared.table_id.words) }
     {
         BEDS + (ticket % u64::from(self.count)) as usize

@@ -3,6 +3,7 @@ ghost use Rattle.ticket_lock.specs.Seats.{AllNew, IsOf, number, ticket};
 
 mod counter;
 
+use crate::rule::ASLEEP;
 use crate::{Denied, Seat, Spent, TicketLock};
 use counter::{Counter, Mark};
 use std::process::Abort;
@@ -155,32 +156,49 @@ fn a_held_turn_keeps_others_busy(rt: HostRuntime) -> Result<(), Fail> {
     Ok(())
 }
 
-/// A turn that takes a while, in which another seat falls asleep.
-fn dawdle<R: Wait>(
+/// The first turn, in which another seat asks for one. Whether that was refused as it should be.
+fn asks_meanwhile<R: Wait>(
     rt: &R,
     lock: &TicketLock<Counter>,
     mut seat: Seat<Counter>,
+    mut asking: Seat<Counter>,
     begun: &AtomicBool,
-) -> Seat<Counter>
+) -> (Seat<Counter>, Seat<Counter>, bool)
     requires own { IsOf lock.now seat × (ticket seat ≡ None) }
-    ensures own { IsOf lock.now result × (ticket result ≡ None) }
+    requires asks { IsOf lock.now asking × (ticket asking ≡ None) }
+    ensures own { IsOf lock.now result.0 × (ticket result.0 ≡ None) }
+    ensures asks { IsOf lock.now result.1 × (ticket result.1 ≡ None) }
 {
     let Ok(mut held) = lock.turn(rt, &mut seat) else {
-        return seat;
+        return (seat, asking, false);
     };
     held.value.count += 1;
     begun.store(true, SeqCst);
-    for _ in 0..10_000 {
-        yield_now();
-    }
+    let told = told_of_two(lock, &mut asking);
     let mark = Mark {
         seat: seat.number(),
     };
     lock.end(&mut seat, held, &mark);
-    seat
+    (seat, asking, told)
 }
 
-/// A turn after the other's, and its ticket.
+/// Waits until a call is told that ticket 0 has its turn and 2 is next, but not for ever. Before that
+/// 1 is next.
+fn told_of_two(lock: &TicketLock<Counter>, seat: &mut Seat<Counter>) -> bool
+    requires own { IsOf lock.now seat.old × (ticket seat.old ≡ None) }
+    ensures own { IsOf lock.now seat.new × (ticket seat.new ≡ None) }
+{
+    for _ in 0..PATIENCE {
+        match try_tick(lock, seat) {
+            Err(Denied::Busy { served: 0, next: 2 }) => return true,
+            Err(Denied::Busy { served: 0, next: 1 }) => yield_now(),
+            _ => return false,
+        }
+    }
+    false
+}
+
+/// A turn after the first one, and its ticket.
 fn follow<R: Wait>(
     rt: &R,
     lock: &TicketLock<Counter>,
@@ -198,25 +216,155 @@ fn follow<R: Wait>(
 }
 
 #[test]
+fn a_refusal_counts_the_tickets_that_are_out(rt: HostRuntime) -> Result<(), Fail> {
+    let (lock, mut seats) = TicketLock::new(rt.alloc(), Counter { count: 0 }, 0, 3)?;
+    let third = last(&rt, &lock, &mut seats);
+    let second = last(&rt, &lock, &mut seats);
+    let first = last(&rt, &lock, &mut seats);
+    let begun = AtomicBool::new(false);
+    let (shared, host, flag) = (&lock, &rt, &begun);
+    let ((_first, mut third, told), (_second, ticket)) = join(
+        &rt,
+        || -> (Seat<Counter>, Seat<Counter>, bool)
+            requires { (IsOf shared.now first × (ticket first ≡ None)) × (IsOf shared.now third × (ticket third ≡ None)) }
+            ensures { (IsOf shared.entry.now result.0 × (ticket result.0 ≡ None)) × (IsOf shared.entry.now result.1 × (ticket result.1 ≡ None)) }
+        { asks_meanwhile(host, shared, first, third, flag) },
+        || -> (Seat<Counter>, Option<u64>)
+            requires { IsOf shared.now second × (ticket second ≡ None) }
+            ensures { IsOf shared.entry.now result.0 × (ticket result.0 ≡ None) }
+        { follow(host, shared, second, flag) },
+    );
+    assert_eq!(rt; (told, ticket), (true, Some(1)));
+    assert_eq!(rt; try_tick(&lock, &mut third).ok(), Some(2));
+    Ok(())
+}
+
+/// The seat with this ticket sleeps, or is about to.
+fn sleeps(lock: &TicketLock<Counter>, ticket: u64) -> bool {
+    lock.board.shared.peek(lock.bed(ticket)) == ASLEEP
+}
+
+/// Waits until the seats with the tickets from 1 to `sleepers` sleep at once, but not for ever.
+fn all_sleep(lock: &TicketLock<Counter>, sleepers: u64) -> bool {
+    for _ in 0..PATIENCE {
+        let mut asleep = true;
+        for ticket in 0..sleepers {
+            asleep = asleep && sleeps(lock, ticket + 1);
+        }
+        if asleep {
+            return true;
+        }
+        yield_now();
+    }
+    false
+}
+
+/// The first turn, which lasts until the seats that follow sleep.
+fn lead<R: Wait>(
+    rt: &R,
+    lock: &TicketLock<Counter>,
+    mut seat: Seat<Counter>,
+    begun: &AtomicBool,
+    sleepers: u64,
+) -> (Seat<Counter>, bool)
+    requires own { IsOf lock.now seat × (ticket seat ≡ None) }
+    ensures own { IsOf lock.now result.0 × (ticket result.0 ≡ None) }
+{
+    let Ok(mut held) = lock.turn(rt, &mut seat) else {
+        return (seat, false);
+    };
+    held.value.count += 1;
+    begun.store(true, SeqCst);
+    let asleep = all_sleep(lock, sleepers);
+    let mark = Mark {
+        seat: seat.number(),
+    };
+    lock.end(&mut seat, held, &mark);
+    (seat, asleep)
+}
+
+#[test]
 fn a_seat_that_sleeps_is_woken(rt: HostRuntime) -> Result<(), Fail> {
     let (lock, mut seats) = TicketLock::new(rt.alloc(), Counter { count: 0 }, 0, 2)?;
     let second = last(&rt, &lock, &mut seats);
     let first = last(&rt, &lock, &mut seats);
     let begun = AtomicBool::new(false);
     let (shared, host, flag) = (&lock, &rt, &begun);
-    let (mut first, (_, told)) = join(
+    let ((mut first, asleep), (_, told)) = join(
         &rt,
-        || -> Seat<Counter>
+        || -> (Seat<Counter>, bool)
             requires { IsOf shared.now first × (ticket first ≡ None) }
-            ensures { IsOf shared.entry.now result × (ticket result ≡ None) }
-        { dawdle(host, shared, first, flag) },
+            ensures { IsOf shared.entry.now result.0 × (ticket result.0 ≡ None) }
+        { lead(host, shared, first, flag, 1) },
         || -> (Seat<Counter>, Option<u64>)
             requires { IsOf shared.now second × (ticket second ≡ None) }
             ensures { IsOf shared.entry.now result.0 × (ticket result.0 ≡ None) }
         { follow(host, shared, second, flag) },
     );
-    assert_eq!(rt; told, Some(1));
+    assert_eq!(rt; (asleep, told), (true, Some(1)));
     assert_eq!(rt; tick(&rt, &lock, &mut first).ok(), Some(2));
+    Ok(())
+}
+
+/// Two seats follow, each in a thread. The sum of their tickets.
+fn follow_both<R: Threads + Wait + Sync>(
+    rt: &R,
+    lock: &TicketLock<Counter>,
+    one: Seat<Counter>,
+    two: Seat<Counter>,
+    begun: &AtomicBool,
+) -> Option<u64>
+    requires one { IsOf lock.now one × (ticket one ≡ None) }
+    requires two { IsOf lock.now two × (ticket two ≡ None) }
+{
+    let ((_, by_one), (_, by_two)) = join(
+        rt,
+        || -> (Seat<Counter>, Option<u64>)
+            requires { IsOf lock.now one × (ticket one ≡ None) }
+        { follow(rt, lock, one, begun) },
+        || -> (Seat<Counter>, Option<u64>)
+            requires { IsOf lock.now two × (ticket two ≡ None) }
+        { follow(rt, lock, two, begun) },
+    );
+    Some(by_one?.saturating_add(by_two?))
+}
+
+#[test]
+fn many_seats_that_sleep_are_woken_in_turn(rt: HostRuntime) -> Result<(), Fail> {
+    let (lock, mut seats) = TicketLock::new(rt.alloc(), Counter { count: 0 }, 0, 5)?;
+    let e = last(&rt, &lock, &mut seats);
+    let d = last(&rt, &lock, &mut seats);
+    let c = last(&rt, &lock, &mut seats);
+    let b = last(&rt, &lock, &mut seats);
+    let a = last(&rt, &lock, &mut seats);
+    let begun = AtomicBool::new(false);
+    let (shared, host, flag) = (&lock, &rt, &begun);
+    let ((mut a, asleep), (by_two, by_others)) = join(
+        &rt,
+        || -> (Seat<Counter>, bool)
+            requires { IsOf shared.now a × (ticket a ≡ None) }
+            ensures { IsOf shared.entry.now result.0 × (ticket result.0 ≡ None) }
+        { lead(host, shared, a, flag, 4) },
+        || -> (Option<u64>, Option<u64>)
+            requires { (IsOf shared.now b × (ticket b ≡ None)) × (IsOf shared.now c × (ticket c ≡ None)) × (IsOf shared.now d × (ticket d ≡ None)) × (IsOf shared.now e × (ticket e ≡ None)) }
+        {
+            join(
+                host,
+                || -> Option<u64>
+                    requires { (IsOf shared.now b × (ticket b ≡ None)) × (IsOf shared.now c × (ticket c ≡ None)) }
+                { follow_both(host, shared, b, c, flag) },
+                || -> Option<u64>
+                    requires { (IsOf shared.now d × (ticket d ≡ None)) × (IsOf shared.now e × (ticket e ≡ None)) }
+                { follow_both(host, shared, d, e, flag) },
+            )
+        },
+    );
+    assert!(rt; asleep, "four seats sleep at once");
+    let Some(total) = by_two.zip(by_others).map(|(x, y)| x.saturating_add(y)) else {
+        panic!(rt; "each has its turn");
+    };
+    assert_eq!(rt; total, 1 + 2 + 3 + 4);
+    assert_eq!(rt; tick(&rt, &lock, &mut a).ok(), Some(5));
     Ok(())
 }
 

@@ -6,7 +6,7 @@ ghost use Rattle.reference.specs.Tied.{committed_in};
 use crate::transactions::{State, Transaction, Transactions};
 
 impl Transactions {
-    /// The transactions, in the order in which they began.
+    /// The transactions, by rising timestamp.
     pub(crate) fn as_slice(&self) -> &[Transaction]
         ensures { result.now ≡ self.now }
     {

@@ -1,7 +1,5 @@
 //! The versions of a key, lent.
-ghost use Rattle.std.specs.Prelude.{◌≡◌, ◌==◌, find};
-ghost use Rattle.std.specs.Option.{option_copied};
-ghost use Rattle.reference.specs.declared.versions.Version.{Version};
+ghost use Rattle.std.specs.Prelude.{◌≡◌};
 
 use crate::versions::{Version, Versions};
 
@@ -11,17 +9,5 @@ impl Versions {
         ensures { result.now ≡ self.now }
     {
         self.list.as_slice()
-    }
-
-    /// What a transaction wrote.
-    pub(crate) fn find(&self, ts: u64) -> Option<&Version>
-        ensures { option_copied result ≡ find (λ (v : Version). v.ts == ts) self.now }
-    {
-        for version in &self.list {
-            if version.ts == ts {
-                return Some(version);
-            }
-        }
-        None
     }
 }

@@ -1,8 +1,9 @@
 use Rattle.std.proofs.Common.{◌≡◌, ◌++◌, drop}
-use Rattle.reference.specs.Streams.{rows_at}
+use Rattle.reference.specs.Streams.{due_rows}
 use Rattle.reference.proofs.database.Database.add_rows.Given as goal
 
 -- with the rows that are left they are all rows
-abbrev pub invariant-loop-chain : goal.invariant-loop-chain
-invariant-loop-chain l =
-    l.rows.items ++ rows_at l.ts l.span (drop l.chain-index l.chain-items) ≡ l.initial.rows.items ++ rows_at l.ts l.span l.chain-items
+abbrev pub invariant-loop-version : goal.invariant-loop-version
+invariant-loop-version l =
+    l.rows.items ++ due_rows l.self.transactions l.cursor l.through l.chain.key (drop l.version-index l.version-items)
+    ≡ l.initial.rows.items ++ due_rows l.self.transactions l.cursor l.through l.chain.key l.version-items

@@ -1,15 +1,30 @@
-use Rattle.std.proofs.Common.{◌∙◌, sym}
-use Rattle.reference.proofs.Scanning.{settled_finds, settled_below, settled_end}
+use Rattle.std.proofs.Common.{List, ◌++◌, ◌∷◌, [], take, arith, sym, subst, ◌∙◌}
+use Rattle.std.proofs.lemmas.Bool.{both_ways}
+use Rattle.std.proofs.lemmas.List.{take_all}
+use denote.Ref.{Bor}
+use Rattle.std.specs.Prelude.{Option}
+use Rattle.reference.specs.declared.versions.Version.{Version}
+use Rattle.reference.specs.Versions.{IsBest, without_those}
+use Rattle.reference.proofs.Scanning.{undone, settled_best, settled_more}
 use Rattle.reference.proofs.database.Database.settled_version.Goals as goal
-
-pub returns-then-has_committed : goal.returns-then-has_committed
-returns-then-has_committed c =
-    sym c.loop-version.invariant ∙ settled_finds c.args.self.now.transactions c.args.versions.now c.loop-version.top c.in-Some.version c.in-Some.ensures (sym c.if-has_committed.ensures)
+use Rattle.reference.proofs.database.Database.settled_version.Goals.{then-has_committed, else-has_committed}
 
 pub loop-version-preserved : goal.loop-version-preserved
 loop-version-preserved c =
-    settled_below c.args.self.now.transactions c.args.versions.now c.loop-version.top c.in-Some.version c.in-Some.ensures (sym c.if-has_committed.ensures) ∙ c.loop-version.invariant
+    let so_far = without_those (undone c.args.self.now.transactions) (take c.loop-version.version-index c.as_slice-version-items.result.now) in
+    settled_more c.args.self.now.transactions c.as_slice-version-items.result.now c.loop-version.version-index c.args.t c.version-item.result c.loop-version.best c.if-has_committed.best
+    (omega arith) c.version-item.is c.loop-version.invariant
+    (λ done. elim c.if-has_committed.branch [
+      | then-has_committed w ↦ subst (λ (o : Option (Bor Version)). IsBest (so_far ++ c.version-item.result ∷ []) c.args.t o) (sym w.best-is) (w.better_of-best.ensures so_far c.loop-version.invariant)
+      | else-has_committed w ↦ absurd (both_ways _ (sym c.has_committed.ensures ∙ w.if-has_committed.false) done)
+    ])
+    (λ isnt. elim c.if-has_committed.branch [
+      | then-has_committed w ↦ absurd (both_ways _ isnt (sym c.has_committed.ensures ∙ w.if-has_committed.true))
+      | else-has_committed w ↦ w.best-is
+    ])
 
 pub returns : goal.returns
 returns c =
-    sym c.loop-version.invariant ∙ settled_end c.args.self.now.transactions c.args.versions.now c.loop-version.top c.newest.result c.in_default.not-Some c.newest.ensures
+    let all = take_all c.loop-version.version-index c.as_slice-version-items.result.now (omega arith) ∙ c.as_slice-version-items.ensures in
+    settled_best c.args.self.now.transactions c.args.versions.now c.args.t c.loop-version.best
+    (subst (λ (vs : List Version). IsBest (without_those (undone c.args.self.now.transactions) vs) c.args.t c.loop-version.best) all c.loop-version.invariant)

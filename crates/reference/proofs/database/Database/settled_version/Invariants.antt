@@ -1,11 +1,8 @@
-use Rattle.std.proofs.Common.{◌≡◌}
-use Rattle.spans.specs.Newest.{newest}
-use Rattle.reference.specs.Scans.{settled}
+use Rattle.std.proofs.Common.{take}
+use Rattle.reference.specs.Versions.{IsBest, without_those}
+use Rattle.reference.proofs.Scanning.{undone}
 use Rattle.reference.proofs.database.Database.settled_version.Given as goal
 
--- none that is committed is above
+-- it is the best so far of those that are committed
 abbrev pub invariant-loop-version : goal.invariant-loop-version
-invariant-loop-version l = newest (settled l.self.transactions l.versions) l.top ≡ newest (settled l.self.transactions l.versions) l.t
-
-abbrev pub decreases-loop-version : goal.decreases-loop-version
-decreases-loop-version l = l.top
+invariant-loop-version l = IsBest (without_those (undone l.self.transactions) (take l.version-index l.version-items)) l.t l.best

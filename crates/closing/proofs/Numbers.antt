@@ -1,0 +1,84 @@
+-- Protections by rising numbers, and the same with the newest first.
+use Rattle.std.proofs.Common.{Bool, List, None, Option, Some, ap, arith, cond, false, refl, subst, suc, sym, true, ℕ, ◌+◌, ◌<◌, ◌≤◌, ◌==◌, ◌||◌, ◌≡◌, ◌++◌, ◌∷◌, ◌∙◌, []}
+use Rattle.std.specs.Prelude.{filter, is_some, not}
+use Rattle.std.specs.Cmp.{nat_cmp_is}
+use Rattle.std.specs.List.{AllByRecursion, list_any}
+use Rattle.std.specs.List.Sorted.{IsStrictlySortedBy}
+use Rattle.std.specs.Map.{keys_of, lookup, remove_entry}
+use Rattle.std.specs.Ordering.{is_eq, match_ordering, nat_cmp}
+use Rattle.std.specs.BTreeMap.{insert_entry, is_at}
+use Rattle.std.specs.declared.cmp.Ordering.{Ordering}
+use Rattle.std.specs.declared.cmp.Ordering.TheVariants.{Greater, Less}
+use Rattle.std.proofs.lemmas.Bool.Decides.{nat_tests}
+use Rattle.std.proofs.lemmas.List.{append-nil}
+use Rattle.std.proofs.lemmas.List.Elements.{filter-append}
+use Rattle.std.proofs.lemmas.List.Folds.{list_any-append}
+use Rattle.spans.specs.Collection.{Protection}
+use Rattle.spans.proofs.Steps.{by_test}
+use Rattle.closing.specs.Standing.{newest_first, protection}
+use Rattle.closing.specs.Ties.{AreNumbered}
+
+pub same_number : (a b : ℕ) → is_at (nat_cmp a) b ≡ (b == a)
+same_number a b = grind (arith, nat_tests)
+
+higher : (a b : ℕ) → b < a → nat_cmp a b ≡ Greater
+higher a b h = sym (nat_cmp_is a b Greater h)
+
+-- a number above all comes last
+pub insert_last : (n t : ℕ) (es : List (ℕ × ℕ)) → AreNumbered n es → insert_entry nat_cmp es (n + 1) t ≡ es ++ (n + 1, t) ∷ []
+insert_last n t [] low = refl
+insert_last n t (e ∷ es) low = let above : nat_cmp (n + 1) e.0 ≡ Greater = higher (n + 1) e.0 (omega (arith, low.0)) in rw above (ap (λ l. e ∷ l) (insert_last n t es low.1))
+
+pub newest_push : (es : List (ℕ × ℕ)) (e : ℕ × ℕ) → newest_first (es ++ e ∷ []) ≡ protection e.0 e.1 ∷ newest_first es
+newest_push [] e = refl
+newest_push (f ∷ es) e = ap (λ l. l ++ protection f.0 f.1 ∷ []) (newest_push es e)
+
+pub numbered_push : (n t : ℕ) (es : List (ℕ × ℕ)) → AreNumbered n es → AreNumbered (n + 1) (es ++ (n + 1, t) ∷ [])
+numbered_push n t [] low = (omega arith, tt)
+numbered_push n t (e ∷ es) low = (omega (arith, low.0), numbered_push n t es low.1)
+
+pub numbered_removed : (n : ℕ) (test : ℕ → Bool) (es : List (ℕ × ℕ)) → AreNumbered n es → AreNumbered n (remove_entry test es)
+numbered_removed n test [] low = tt
+numbered_removed n test (e ∷ es) low = by_test (test e.0) (λ is. rw is low.1) (λ isnt. rw isnt (low.0, numbered_removed n test es low.1))
+
+-- a number that wasn't given stands nowhere
+pub none_beyond : (n id : ℕ) (es : List (ℕ × ℕ)) → AreNumbered n es → n < id → lookup (is_at (nat_cmp id)) es ≡ None
+none_beyond n id [] low beyond = refl
+none_beyond n id (e ∷ es) low beyond = let above : nat_cmp id e.0 ≡ Greater = higher id e.0 (omega (arith, low.0)) in rw above (none_beyond n id es low.1 beyond)
+
+kept_all : (id : ℕ) (es : List (ℕ × ℕ)) → AllByRecursion (λ k. nat_cmp id k ≡ Less) (keys_of es) → filter (λ (n : Protection). not (n.id == id)) (newest_first es) ≡ newest_first es
+kept_all id [] above = refl
+kept_all id (e ∷ es) above =
+    filter-append (λ (n : Protection). not (n.id == id)) (newest_first es) (protection e.0 e.1 ∷ [])
+    ∙ (let other : (e.0 == id) ≡ false = sym (same_number id e.0) ∙ ap is_eq above.0 in rw (other, kept_all id es above.1) refl)
+
+-- without one number
+pub newest_removed : (id : ℕ) (es : List (ℕ × ℕ)) → IsStrictlySortedBy nat_cmp (keys_of es) → newest_first (remove_entry (is_at (nat_cmp id)) es) ≡ filter (λ (n : Protection). not (n.id == id)) (newest_first es)
+unfolding IsStrictlySortedBy
+newest_removed id [] rising = refl
+newest_removed id (e ∷ es) rising = by_test (is_at (nat_cmp id) e.0)
+    (λ is. let same : (e.0 == id) ≡ true = sym (same_number id e.0) ∙ is in
+    let k : e.0 ≡ id = grind (arith, nat_tests) in
+    rw is (sym (filter-append (λ (n : Protection). not (n.id == id)) (newest_first es) (protection e.0 e.1 ∷ [])
+    ∙ rw (same, kept_all id es (subst (λ m. AllByRecursion (λ q. nat_cmp m q ≡ Less) (keys_of es)) k rising.0)) (append-nil (newest_first es)))))
+    (λ isnt. let other : (e.0 == id) ≡ false = sym (same_number id e.0) ∙ isnt in
+    rw isnt (sym (filter-append (λ (n : Protection). not (n.id == id)) (newest_first es) (protection e.0 e.1 ∷ [])
+    ∙ rw (other, ← newest_removed id es rising.1) refl)))
+
+or_last : (a b : Bool) → (a || (b || false)) ≡ (b || a)
+or_last true true = refl
+or_last true false = refl
+or_last false true = refl
+or_last false false = refl
+
+some_first : (b : Bool) (v : ℕ) (o : Option ℕ) → is_some (cond b (Some v) o) ≡ (b || is_some o)
+some_first true v o = refl
+some_first false v o = refl
+
+-- whether a number stands
+pub number_stands : (id : ℕ) (es : List (ℕ × ℕ)) → list_any (λ (n : Protection). n.id == id) (newest_first es) ≡ is_some (lookup (is_at (nat_cmp id)) es)
+number_stands id [] = refl
+number_stands id (e ∷ es) =
+    list_any-append (λ (n : Protection). n.id == id) (newest_first es) (protection e.0 e.1 ∷ [])
+    ∙ or_last (list_any (λ (n : Protection). n.id == id) (newest_first es)) (e.0 == id)
+    ∙ (rw (number_stands id es, ← same_number id e.0) (sym (some_first (is_at (nat_cmp id) e.0) e.1 (lookup (is_at (nat_cmp id)) es))))

@@ -1,0 +1,30 @@
+use Rattle.std.proofs.Common.{arith, refl, ◌+◌, ◌∙◌}
+use Rattle.std.specs.BTreeMap.{get}
+use Rattle.std.specs.BTreeSet.{contains}
+use Rattle.std.specs.Ordering.{nat_cmp}
+use Rattle.closing.specs.Ties.{pair_cmp}
+use Rattle.closing.proofs.Numbers.{insert_last, newest_push, none_beyond, numbered_push}
+use Rattle.closing.proofs.Tying.{alike_again, alike_put}
+use Rattle.closing.proofs.closing.Closing.protect.Goals as goal
+
+pub invariant_of-self-in-Ok : goal.invariant_of-self-in-Ok
+invariant_of-self-in-Ok c = let made = c.self.inside.made in let entries = c.self.inside.by_number.entries in let tied = c.self.invariant in record {
+  rising = c.in-Ok.ensures.ordered;
+  numbered = rw (c.in-Ok.ensures.entries, insert_last made c.args.t entries tied.numbered) (numbered_push made c.args.t entries tied.numbered);
+  each = alike_put (contains pair_cmp c.self.inside.by_timestamp) (contains pair_cmp c.insert.new.self) (get nat_cmp c.self.inside.by_number) (get nat_cmp c.insert-2.new.self) c.args.t (made + 1)
+      (none_beyond made (made + 1) entries tied.numbered (omega arith)) tied.each c.in_ok-insert.ensures.updates.0 c.in-Ok.ensures.updates.0;
+}
+
+pub invariant_of-self-in-Err : goal.invariant_of-self-in-Err
+invariant_of-self-in-Err c = let made = c.self.inside.made in let tied = c.self.invariant in record {
+  rising = c.insert-2.ensures.ordered;
+  numbered = rw c.in-Err.ensures.err tied.numbered;
+  each = rw c.in-Err.ensures.err (alike_again (contains pair_cmp c.self.inside.by_timestamp) (contains pair_cmp c.insert.new.self) (contains pair_cmp c.remove.new.self) (get nat_cmp c.self.inside.by_number) c.args.t (made + 1)
+      (none_beyond made (made + 1) c.self.inside.by_number.entries tied.numbered (omega arith)) tied.each c.in_ok-insert.ensures.updates.0 c.remove.ensures.updates.0);
+}
+
+pub returns-in-Ok-clause-protected : goal.returns-in-Ok-clause-protected
+returns-in-Ok-clause-protected c =
+    let made = c.self.inside.made in
+    let entries = c.self.inside.by_number.entries in
+    rw (c.in-Ok.ensures.entries, insert_last made c.args.t entries c.self.invariant.numbered, newest_push entries (made + 1, c.args.t), ← c.self.view_is) refl

@@ -1,0 +1,74 @@
+-- Readers of which some are forgotten.
+use Rattle.std.proofs.Common.{ℕ, List, Bool, true, false, ◌&&◌, ◌≡◌, ◌<◌, ◌≤◌, ◌⊎◌, inl, inr, refl, sym, ap, ◌∙◌, arith, nat_lt, lt-ltb}
+use Rattle.std.specs.List.{filter}
+use Rattle.kept.specs.Marks.{IsPiece}
+use Rattle.read_marks.specs.Readers.{is_kept, is_reader}
+use Rattle.read_marks.proofs.Splitting.{filtered_reader}
+
+second : (a b : Bool) → (a && b) ≡ true → b ≡ true
+second true b h = h
+second false b h = cc
+
+-- a piece's readers, less those that are forgotten
+module _ (forgotten : ℕ) where
+  abbrev above : (ℕ → Bool) → ℕ → Bool
+  above m j = nat_lt forgotten j && m j
+
+  above-marked : (m : ℕ → Bool) (j : ℕ) → forgotten < j → m j ≡ true → above m j ≡ true
+  above-marked m j lt h = rw (lt-ltb forgotten j lt) h
+
+  pub kept_piece : (m m' : ℕ → Bool) (ts low high : ℕ) → forgotten < ts → IsPiece m m' ts low high → IsPiece (above m) (above m') ts low high
+  kept_piece m m' ts low high lt p = record {
+    top = p.top;
+    marked = above-marked m' p.top late p.marked;
+    is = which p.is;
+    least = p.least;
+    most = p.most;
+    greatest = λ n h. p.greatest n (second (nat_lt forgotten n) (m n) h);
+    outside = λ n out. ap (λ b. nat_lt forgotten n && b) (p.outside n out);
+    inside = λ n over up h. p.inside n over up (second (nat_lt forgotten n) (m' n) h);
+  }
+    where
+      late : forgotten < p.top
+      late = let l : ts ≤ p.top = p.least in omega arith
+
+      which : (p.top ≡ ts) ⊎ (m p.top ≡ true) → (p.top ≡ ts) ⊎ (above m p.top ≡ true)
+      which (inl e) = inl e
+      which (inr h) = inr (above-marked m p.top (let l : ts ≤ p.top = p.least in omega arith) h)
+
+-- the same of readers that were the same before, or are afterwards
+pub piece_alike : (m n m' : ℕ → Bool) (ts low high : ℕ) → ((j : ℕ) → n j ≡ m j) → IsPiece n m' ts low high → IsPiece m m' ts low high
+piece_alike m n m' ts low high same p = record {
+  top = p.top;
+  marked = p.marked;
+  is = which p.is;
+  least = p.least;
+  most = p.most;
+  greatest = λ j h. p.greatest j (same j ∙ h);
+  outside = λ j out. p.outside j out ∙ same j;
+  inside = p.inside;
+}
+  where
+    which : (p.top ≡ ts) ⊎ (n p.top ≡ true) → (p.top ≡ ts) ⊎ (m p.top ≡ true)
+    which (inl e) = inl e
+    which (inr h) = inr (sym (same p.top) ∙ h)
+
+pub piece_becomes : (m m' n' : ℕ → Bool) (ts low high : ℕ) → ((j : ℕ) → n' j ≡ m' j) → IsPiece m m' ts low high → IsPiece m n' ts low high
+piece_becomes m m' n' ts low high same p = record {
+  top = p.top;
+  marked = same p.top ∙ p.marked;
+  is = p.is;
+  least = p.least;
+  most = p.most;
+  greatest = p.greatest;
+  outside = λ j out. same j ∙ p.outside j out;
+  inside = λ j over up h. p.inside j over up (sym (same j) ∙ h);
+}
+
+twice : (a b : Bool) → (a && (a && b)) ≡ (a && b)
+twice true b = refl
+twice false b = refl
+
+-- those that are forgotten may go
+pub kept_filter : (forgotten : ℕ) (xs : List ℕ) (j : ℕ) → is_kept forgotten (filter (nat_lt forgotten) xs) j ≡ is_kept forgotten xs j
+kept_filter forgotten xs j = ap (λ b. nat_lt forgotten j && b) (filtered_reader forgotten xs j) ∙ twice (nat_lt forgotten j) (is_reader xs j)

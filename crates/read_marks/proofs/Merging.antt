@@ -1,0 +1,140 @@
+-- The readers of one segment, where those of a gap become one.
+use Rattle.std.proofs.Common.{ℕ, List, [], ◌∷◌, ◌++◌, Bool, true, false, ◌≡◌, ◌<◌, ◌≤◌, ◌-◌, ◌+◌, ◌⊎◌, inl, inr, length, get_or, take, drop, leb, leb-true, leb-false, arith, refl, sym, length-append, max, subst}
+use Rattle.std.specs.List.{Contains}
+use Rattle.std.specs.List.Sorted.{IsNonDecreasing}
+use Rattle.std.proofs.lemmas.List.{get_or_default, get_or-append_right, get_or_append_left}
+use Rattle.std.proofs.lemmas.List.Sorted.{IsNonDecreasingBy-push, IsNonDecreasingBy-take, IsNonDecreasingBy-drop}
+use Rattle.std.proofs.lemmas.List.Elements.{Contains-get_or, Contains-append_left, Contains-append_right, Contains-append_cases, Contains-push, Contains-push_cases}
+use Rattle.kept.specs.Marks.{IsPiece}
+use Rattle.read_marks.specs.Readers.{is_reader, IsGreatest, SplitsAt}
+use Rattle.read_marks.proofs.Splitting.{from_place, reader_is, in_front, in_back, to_front, to_back}
+
+-- two tests that pass for the same
+same_test : (a b : Bool) → (a ≡ true → b ≡ true) → (b ≡ true → a ≡ true) → b ≡ a
+same_test true b f g = f refl
+same_test false true f g = sym (g refl)
+same_test false false f g = refl
+
+pub merged_piece : (xs : List ℕ) (above until ts a b top : ℕ) → SplitsAt xs above a → SplitsAt xs until b → a ≤ length xs → above < ts → IsGreatest xs above until ts top → IsPiece (is_reader xs) (is_reader ((take a xs ++ top ∷ []) ++ drop b xs)) ts above until
+merged_piece xs above until ts a b top p q bound gap g = record {
+  top = top;
+  marked = to_reader (Contains-append_left (take a xs ++ top ∷ []) (drop b xs) top (Contains-push (take a xs) top));
+  is = which g.one;
+  least = g.past_ts;
+  most = g.high;
+  greatest = λ n m low high. g.past n ((reader_is xs n).0 m) low high;
+  outside = λ n out. same_test _ _ (λ m. to_reader (kept n ((reader_is xs n).0 m) out)) (λ m. stays n out (from_reader m));
+  inside = λ n low high m. only n low high (from_reader m);
+}
+  where
+    ys : List ℕ
+    ys = (take a xs ++ top ∷ []) ++ drop b xs
+
+    to_reader : {n : ℕ} → Contains ((take a xs ++ top ∷ []) ++ drop b xs) n → is_reader ((take a xs ++ top ∷ []) ++ drop b xs) n ≡ true
+    to_reader {n} c = (reader_is ((take a xs ++ top ∷ []) ++ drop b xs) n).1 c
+
+    from_reader : {n : ℕ} → is_reader ((take a xs ++ top ∷ []) ++ drop b xs) n ≡ true → (Contains (take a xs) n ⊎ (top ≡ n)) ⊎ Contains (drop b xs) n
+    from_reader {n} m = front (Contains-append_cases (take a xs ++ top ∷ []) (drop b xs) n ((reader_is ((take a xs ++ top ∷ []) ++ drop b xs) n).0 m))
+      where
+        front : Contains (take a xs ++ top ∷ []) n ⊎ Contains (drop b xs) n → (Contains (take a xs) n ⊎ (top ≡ n)) ⊎ Contains (drop b xs) n
+        front (inl c) = inl (Contains-push_cases (take a xs) top n c)
+        front (inr c) = inr c
+
+    which : (top ≡ ts) ⊎ Contains xs top → (top ≡ ts) ⊎ (is_reader xs top ≡ true)
+    which (inl e) = inl e
+    which (inr c) = inr ((reader_is xs top).1 c)
+
+    kept : (n : ℕ) → Contains xs n → (n ≤ above) ⊎ (until < n) → Contains ((take a xs ++ top ∷ []) ++ drop b xs) n
+    kept n c (inl low) = Contains-append_left (take a xs ++ top ∷ []) (drop b xs) n (Contains-append_left (take a xs) (top ∷ []) n (to_front xs above a n p bound c low))
+    kept n c (inr high) = Contains-append_right (take a xs ++ top ∷ []) (drop b xs) n (to_back xs until b n q c high)
+
+    stays : (n : ℕ) → (n ≤ above) ⊎ (until < n) → (Contains (take a xs) n ⊎ (top ≡ n)) ⊎ Contains (drop b xs) n → is_reader xs n ≡ true
+    stays n out (inl (inl c)) = (reader_is xs n).1 (in_front xs above a n p bound c).0
+    stays n out (inr c) = (reader_is xs n).1 (in_back xs until b n q c).0
+    stays n (inl low) (inl (inr e)) = let l : above < top = g.low in absurd (omega arith)
+    stays n (inr high) (inl (inr e)) = let l : top ≤ until = g.high in absurd (omega arith)
+
+    only : (n : ℕ) → above < n → n ≤ until → (Contains (take a xs) n ⊎ (top ≡ n)) ⊎ Contains (drop b xs) n → n ≡ top
+    only n low high (inl (inl c)) = let h = in_front xs above a n p bound c in let l : n ≤ above = h.1 in absurd (omega arith)
+    only n low high (inl (inr e)) = sym e
+    only n low high (inr c) = let h = in_back xs until b n q c in let l : until < n = h.1 in absurd (omega arith)
+
+max_cases : (w ts top : ℕ) → top ≡ max w ts → (top ≡ ts) ⊎ (w ≡ top)
+max_cases w ts top sum = grind arith
+
+-- the greatest, where readers stand in the gap
+pub greatest_some : (xs : List ℕ) (above until ts a b w top : ℕ) → IsNonDecreasing xs → SplitsAt xs above a → SplitsAt xs until b → above < ts → ts ≤ until → a < b → b ≤ length xs → w ≡ get_or xs (b - 1) w → top ≡ max w ts → IsGreatest xs above until ts top
+greatest_some xs above until ts a b w top up p q low high some bound is sum =
+    let lt : b - 1 < length xs = omega arith in
+    let wlow : above < get_or xs (b - 1) w = leb-false _ _ (p.1 (b - 1) w (omega arith) lt) in
+    let whigh : get_or xs (b - 1) w ≤ until = leb-true _ _ (q.0 (b - 1) w (omega arith) (omega arith)) in
+    let own : Contains xs w = (b - 1, lt, sym is) in
+    record {
+      low = omega arith;
+      high = omega arith;
+      one = which (max_cases w ts top sum) own;
+      past_ts = omega arith;
+      past = λ i c above-i until-i.
+          let ci : c.0 < length xs = c.1 in
+          let e : get_or xs c.0 i ≡ i = c.2 in
+          let h : b ≤ c.0 → until < get_or xs c.0 i = λ g. leb-false _ _ (q.1 c.0 i g ci) in
+          let k : c.0 < b = grind (arith, h) in
+          let u : get_or xs c.0 i ≤ get_or xs (b - 1) i = up c.0 (b - 1) i (omega arith) lt in
+          let f : get_or xs (b - 1) i ≡ get_or xs (b - 1) w = get_or_default xs (b - 1) i w lt in
+          omega arith;
+    }
+  where
+    which : (top ≡ ts) ⊎ (w ≡ top) → Contains xs w → (top ≡ ts) ⊎ Contains xs top
+    which (inl e) c = inl e
+    which (inr e) c = inr (subst (λ (i : ℕ). Contains xs i) e c)
+
+-- the greatest, where none does
+pub greatest_none : (xs : List ℕ) (above until ts a b : ℕ) → SplitsAt xs above a → SplitsAt xs until b → above < ts → ts ≤ until → b ≤ a → IsGreatest xs above until ts ts
+greatest_none xs above until ts a b p q low high none =
+    record {
+      low = low;
+      high = high;
+      one = inl refl;
+      past_ts = omega arith;
+      past = λ i c above-i until-i.
+          let ci : c.0 < length xs = c.1 in
+          let e : get_or xs c.0 i ≡ i = c.2 in
+          let h : b ≤ c.0 → until < get_or xs c.0 i = λ g. leb-false _ _ (q.1 c.0 i g ci) in
+          let k : c.0 < b = grind (arith, h) in
+          let m : a ≤ c.0 = from_place xs above a c.0 i p c.1 c.2 above-i in
+          absurd (omega arith);
+    }
+
+-- two rising lists, with a number between them
+rises_append : (f g : List ℕ) (m : ℕ) → IsNonDecreasing f → IsNonDecreasing g → ((k d : ℕ) → k < length f → get_or f k d ≤ m) → ((k d : ℕ) → k < length g → m ≤ get_or g k d) → IsNonDecreasing (f ++ g)
+rises_append f g m up vp hi lo i j d le lt = by (leb (length f) i) (leb (length f) j) refl refl
+  where
+    n : length (f ++ g) ≡ length f + length g
+    n = length-append f g
+
+    by : (s t : Bool) → leb (length f) i ≡ s → leb (length f) j ≡ t → get_or (f ++ g) i d ≤ get_or (f ++ g) j d
+    by true t p q =
+        let a : length f ≤ i = leb-true _ _ p in
+        rw (get_or-append_right f g (length f) i d refl a, get_or-append_right f g (length f) j d refl (omega arith)) (vp (i - length f) (j - length f) d (omega arith) (omega (arith, n)))
+    by false true p q =
+        let a : i < length f = leb-false _ _ p in
+        let b : length f ≤ j = leb-true _ _ q in
+        let x : get_or f i d ≤ m = hi i d a in
+        let y : m ≤ get_or g (j - length f) d = lo (j - length f) d (omega (arith, n)) in
+        rw (get_or_append_left f g d i a, get_or-append_right f g (length f) j d refl b) (omega arith)
+    by false false p q =
+        let a : i < length f = leb-false _ _ p in
+        let b : j < length f = leb-false _ _ q in
+        rw (get_or_append_left f g d i a, get_or_append_left f g d j b) (up i j d le b)
+
+pub merged_rises : (xs : List ℕ) (above until ts a b top : ℕ) → IsNonDecreasing xs → SplitsAt xs above a → SplitsAt xs until b → a ≤ length xs → IsGreatest xs above until ts top → IsNonDecreasing ((take a xs ++ top ∷ []) ++ drop b xs)
+merged_rises xs above until ts a b top up p q bound g =
+    rises_append (take a xs ++ top ∷ []) (drop b xs) top
+    (IsNonDecreasingBy-push (λ x. x) (take a xs) top (IsNonDecreasingBy-take (λ x. x) a xs up) (λ d some. le _ (inl (Contains-get_or (take a xs) (length (take a xs) - 1) d (omega arith)))))
+    (IsNonDecreasingBy-drop (λ x. x) b xs up)
+    (λ k d lt. le _ (Contains-push_cases (take a xs) top _ (Contains-get_or (take a xs ++ top ∷ []) k d lt)))
+    (λ k d lt. let h = in_back xs until b _ q (Contains-get_or (drop b xs) k d lt) in let u : until < get_or (drop b xs) k d = h.1 in let v : top ≤ until = g.high in omega arith)
+  where
+    le : (i : ℕ) → Contains (take a xs) i ⊎ (top ≡ i) → i ≤ top
+    le i (inl c) = let h = in_front xs above a i p bound c in let u : i ≤ above = h.1 in let v : above < top = g.low in omega arith
+    le i (inr e) = omega arith

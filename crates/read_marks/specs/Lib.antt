@@ -1,0 +1,5 @@
+pub mod Readers
+pub mod Segments
+pub mod Patches
+pub mod Editing
+pub mod Marks

@@ -1,0 +1,34 @@
+//! Which transactions read which keys.
+//!
+//! A [`Marks`] is seen as pairs of a key and a reader, a timestamp. It is kept as a step function: an
+//! ordered map from starts to rising lists of readers, where a start speaks for all keys from it up
+//! to the next one. A span is marked by splitting at its two bounds and editing what lies between.
+//!
+//! ```text
+//! new                                no start: no key has a reader
+//! add [b, d) by 10                   b 10                  d
+//! add [c, ..) by 20                  b 10    c 10 20       d 20
+//! piece [b, c), above 0 to 30, 30    b 30    c 10 20       d 20
+//! forget through 10                  the same, and beside it the bound 10: c has the reader 20 alone
+//! ```
+//!
+//! A piece is what a read marks: of a key's readers above the version that was read and up to the next
+//! one, only the greatest can refuse a write. Neighbours with the same readers are joined.
+//!
+//! With n starts and m readers of one, a look-up costs O(log n + log m) and forgetting O(1); neither
+//! takes memory. An edit costs O(log n + m) for each start that it touches, and drops what is forgotten
+//! there. Where the starts have doubled, or a reader comes that counts as forgotten, a walk sweeps all
+//! of them. [`Marks::spans`] walks.
+#![tactic(auto)]
+
+mod marks;
+mod patch;
+mod piece;
+mod readers;
+mod segments;
+mod start;
+#[cfg(test)]
+mod tests;
+
+pub use marks::Marks;
+pub use piece::Piece;

@@ -1,0 +1,139 @@
+//! The marks of all keys.
+ghost use Rattle.std.specs.Prelude.{◌≡◌, ◌↔◌, ◌<◌, ◌==◌, ◌&&◌, ◌||◌, ℕ, List, false, true, IsTrue, OnOk, OnErr, nat_lt};
+ghost use Rattle.std.specs.List.{Contains};
+ghost use Rattle.spans.specs.Keys.{in_span};
+ghost use Rattle.kept.specs.Marks.{IsBetween, IsPiece};
+ghost use Rattle.read_marks.specs.declared.piece.Piece.{Piece};
+ghost use Rattle.read_marks.specs.Marks.{AreApart, HaveGaps, in_any, is_marked_in, marked_spans};
+ghost use Rattle.read_marks.specs.Patches as patching;
+ghost use Rattle.read_marks.specs.Patches.{AreEdited, holds};
+
+use crate::patch::{Patch, own_patch, own_patches, patches_of};
+use crate::piece::Piece;
+use crate::segments::Segments;
+use crate::start::Start;
+use spans::span::Span;
+use std::alloc::{AllocError, Global};
+use timestamps::key::Key;
+use timestamps::ts::Ts;
+
+// Fewer starts are never swept for their number.
+const LEAST_SWEEP: usize = 64;
+
+/// Pairs of a key and a reader: those of the segments, less those with a reader that is forgotten.
+#[derive(Debug, Drop)]
+pub struct Marks {
+    alloc: Global,
+    segments: Segments,
+    forgotten: u64,
+    // at this many starts the segments are swept
+    sweep_at: usize,
+}
+
+impl Marks {
+    /// No pair.
+    pub fn new(alloc: Global) -> Marks
+        ensures { (x : List ℕ) (j : ℕ) → is_marked_in result x j ≡ false }
+    {
+        Marks {
+            alloc,
+            segments: Segments::new(alloc),
+            forgotten: 0,
+            sweep_at: LEAST_SWEEP,
+        }
+    }
+
+    /// Whether a reader of the key is above `above` and, where `to` is given, at most that.
+    pub fn any_between(&self, key: &Key, above: u64, to: Option<u64>) -> bool
+        ensures { IsTrue result ↔ IsBetween (is_marked_in self.now key.now) above to }
+    {
+        let above = above.max(self.forgotten);
+        match self.segments.readers(&Start::of(key.bytes())) {
+            None => false,
+            Some(readers) => readers.any_between(above, to),
+        }
+    }
+
+    /// Each pair with a reader up to `ts` goes.
+    pub fn forget_through(&mut self, ts: u64)
+        ensures { (x : List ℕ) (j : ℕ) → is_marked_in self.new x j ≡ (nat_lt ts j && is_marked_in self.old x j) }
+    {
+        self.forgotten = self.forgotten.max(ts);
+    }
+
+    /// The keys of the span are marked by `ts`.
+    pub fn add(&mut self, span: &Span, ts: Ts) -> Result<(), AllocError>
+        ensures ok { OnOk result ((x : List ℕ) (j : ℕ) → is_marked_in self.new x j ≡ ((in_span span.now x && (j == ts)) || is_marked_in self.old x j)) }
+        ensures err { OnErr result ((x : List ℕ) (j : ℕ) → is_marked_in self.new x j ≡ is_marked_in self.old x j) }
+    {
+        let ts = ts.get();
+        self.edit(&[own_patch(span, ts)], ts)
+    }
+
+    /// The keys of the spans are marked by `ts`.
+    pub fn add_all(&mut self, spans: &[Span], ts: Ts) -> Result<(), AllocError>
+        ensures ok { OnOk result ((x : List ℕ) (j : ℕ) → is_marked_in self.new x j ≡ ((in_any spans.now x && (j == ts)) || is_marked_in self.old x j)) }
+        ensures err { OnErr result ((x : List ℕ) (j : ℕ) → is_marked_in self.new x j ≡ is_marked_in self.old x j) }
+    {
+        let ts = ts.get();
+        let patches = own_patches(self.alloc, spans, ts)?;
+        self.edit(&patches, ts)
+    }
+
+    /// Of each key of a piece, the readers above its lower bound and up to its upper bound, and
+    /// `ts`, become their greatest one.
+    pub fn add_pieces(&mut self, pieces: &[Piece], ts: Ts) -> Result<(), AllocError>
+        requires apart { AreApart pieces.now }
+        requires gaps { HaveGaps ts pieces.now }
+        ensures inside { OnOk result ((p : Piece) → Contains pieces.now p → (x : List ℕ) → in_span p.span x ≡ true →
+            IsPiece (is_marked_in self.old x) (is_marked_in self.new x) ts p.above p.until) }
+        ensures outside { OnOk result ((x : List ℕ) → ((p : Piece) → Contains pieces.now p → in_span p.span x ≡ false) →
+            (j : ℕ) → is_marked_in self.new x j ≡ is_marked_in self.old x j) }
+        ensures err { OnErr result ((x : List ℕ) (j : ℕ) → is_marked_in self.new x j ≡ is_marked_in self.old x j) }
+    {
+        let ts = ts.get();
+        let patches = patches_of(self.alloc, pieces)?;
+        self.edit(&patches, ts)
+    }
+
+    /// How many spans with readers are kept. Those whose readers are all forgotten count too, until
+    /// they are swept. It walks all of them.
+    pub fn spans(&self) -> u64
+        ensures { result ≡ marked_spans self.now }
+    {
+        self.segments.count()
+    }
+
+    // Where patches share keys, the first one decides.
+    fn edit(&mut self, patches: &[Patch], ts: u64) -> Result<(), AllocError>
+        requires low { 0 < ts }
+        requires gaps { patching.HaveGaps ts patches.now }
+        ensures ok { OnOk result ((x : List ℕ) → AreEdited (λ p. holds p x) ts patches.now (is_marked_in self.old x) (is_marked_in self.new x)) }
+        ensures err { OnErr result ((x : List ℕ) (j : ℕ) → is_marked_in self.new x j ≡ is_marked_in self.old x j) }
+    {
+        self.make_room_for(ts);
+        self.segments.edit(patches, ts, self.forgotten)
+    }
+
+    // What is forgotten really goes, in a walk over all segments.
+    fn sweep(&mut self)
+        ensures marks { (x : List ℕ) (j : ℕ) → is_marked_in self.new x j ≡ is_marked_in self.old x j }
+        ensures forgotten { self.new.forgotten ≡ 0 }
+    {
+        self.segments.forget_through(self.forgotten);
+        self.forgotten = 0;
+        self.sweep_at = self.segments.len().saturating_mul(2).max(LEAST_SWEEP);
+    }
+
+    // A pair with a reader that counts as forgotten can't be kept, so that a sweep comes first. One
+    // comes too where the starts have doubled since the last.
+    fn make_room_for(&mut self, ts: u64)
+        requires { 0 < ts }
+        ensures marks { (x : List ℕ) (j : ℕ) → is_marked_in self.new x j ≡ is_marked_in self.old x j }
+        ensures above { self.new.forgotten < ts }
+    {
+        if ts <= self.forgotten || self.segments.len() >= self.sweep_at {
+            self.sweep();
+        }
+    }
+}

@@ -1,0 +1,180 @@
+//! What no clause says: that marks are taken where memory is there, that clauses mean what was meant,
+//! and how many spans are kept.
+use crate::marks::Marks;
+use crate::piece::Piece;
+use spans::bound::Bound;
+use spans::span::Span;
+use std::alloc::Global;
+use std::test::Fail;
+use timestamps::key::Key;
+use timestamps::ts::Ts;
+
+fn ts(number: u64) -> Result<Ts, Fail> {
+    Ok(Ts::new(number).ok_or("no timestamp")?)
+}
+
+/// The bound of these bytes; no byte means none.
+fn bound(alloc: Global, bytes: &[u8]) -> Result<Option<Bound>, Fail> {
+    if bytes.is_empty() {
+        return Ok(None);
+    }
+    Ok(Some(Bound::new(alloc, bytes)?))
+}
+
+fn span(alloc: Global, lo: &[u8], hi: &[u8]) -> Result<Span, Fail> {
+    let lo = bound(alloc, lo)?;
+    let hi = bound(alloc, hi)?;
+    Ok(Span { lo, hi })
+}
+
+/// Marks one span after another, each with its reader.
+fn add(alloc: Global, marks: &mut Marks, spans: &[(&[u8], &[u8], u64)]) -> Result<(), Fail> {
+    for (lo, hi, reader) in spans {
+        marks.add(&span(alloc, lo, hi)?, ts(*reader)?)?;
+    }
+    Ok(())
+}
+
+/// Marks spans together.
+fn add_all(
+    alloc: Global,
+    marks: &mut Marks,
+    bounds: &[(&[u8], &[u8])],
+    reader: u64,
+) -> Result<(), Fail> {
+    let mut spans = Vec::new(alloc);
+    for (lo, hi) in bounds {
+        spans.push(span(alloc, lo, hi)?)?;
+    }
+    Ok(marks.add_all(&spans, ts(reader)?)?)
+}
+
+/// Marks a span by a piece.
+fn add_piece(
+    marks: &mut Marks,
+    span: Span,
+    above: u64,
+    until: u64,
+    reader: u64,
+) -> Result<(), Fail> {
+    let reader = ts(reader)?;
+    if above >= reader.get() || reader.get() > until {
+        return Err(Fail::new("no gap"));
+    }
+    Ok(marks.add_pieces(&[Piece { span, above, until }], reader)?)
+}
+
+/// Whether the readers of the key, of those from 1 to 40, are these.
+fn has_readers(alloc: Global, marks: &Marks, key: &[u8], want: &[u64]) -> Result<bool, Fail> {
+    let key = Key::new(alloc, key)?;
+    for reader in 1..41 {
+        if marks.any_between(&key, reader - 1, Some(reader)) != want.contains(&reader) {
+            return Ok(false);
+        }
+    }
+    Ok(true)
+}
+
+/// The same of some keys.
+fn have_readers(alloc: Global, marks: &Marks, wants: &[(&[u8], &[u64])]) -> Result<bool, Fail> {
+    for (key, want) in wants {
+        if !has_readers(alloc, marks, key, want)? {
+            return Ok(false);
+        }
+    }
+    Ok(true)
+}
+
+#[test]
+fn pieces_of_one_span_are_one_span(rt: HostRuntime) -> Result<(), Fail> {
+    let alloc = rt.alloc();
+    let mut marks = Marks::new(alloc);
+    add_piece(&mut marks, span(alloc, b"", b"")?, 0, 10, 5)?;
+    add_piece(&mut marks, span(alloc, b"", b"")?, 10, 20, 15)?;
+    assert_eq!(rt; marks.spans(), 1);
+    let key = Key::new(alloc, b"a")?;
+    assert!(rt; marks.any_between(&key, 0, Some(5)));
+    assert!(rt; marks.any_between(&key, 5, Some(15)));
+    assert!(rt; !marks.any_between(&key, 5, Some(14)));
+    assert!(rt; !marks.any_between(&key, 15, None));
+    Ok(())
+}
+
+#[test]
+fn spans_overlap(rt: HostRuntime) -> Result<(), Fail> {
+    let alloc = rt.alloc();
+    let mut marks = Marks::new(alloc);
+    add(alloc, &mut marks, &[(b"b", b"d", 10), (b"c", b"", 20)])?;
+    assert_eq!(rt; marks.spans(), 3);
+    let wants: &[(&[u8], &[u64])] = &[
+        (b"a", &[]),
+        (b"b", &[10]),
+        (b"c", &[10, 20]),
+        (b"c\0", &[10, 20]),
+        (b"d", &[20]),
+    ];
+    assert!(rt; have_readers(alloc, &marks, wants)?);
+    // a span whose end is not above its beginning holds no key, and leaves nothing
+    add(alloc, &mut marks, &[(b"cc", b"bb", 30), (b"c", b"c", 30)])?;
+    assert_eq!(rt; marks.spans(), 3);
+    assert!(rt; have_readers(alloc, &marks, wants)?);
+    Ok(())
+}
+
+#[test]
+fn neighbours_are_joined(rt: HostRuntime) -> Result<(), Fail> {
+    let alloc = rt.alloc();
+    let mut marks = Marks::new(alloc);
+    add_all(
+        alloc,
+        &mut marks,
+        &[(b"a", b"c"), (b"e", b"g"), (b"b", b"f")],
+        10,
+    )?;
+    assert_eq!(rt; marks.spans(), 1);
+    assert!(rt; have_readers(alloc, &marks, &[(b"d", &[10]), (b"g", &[])])?);
+    // the middle gets another reader, and then the rest
+    add(alloc, &mut marks, &[(b"c", b"d", 20)])?;
+    assert_eq!(rt; marks.spans(), 3);
+    add_all(alloc, &mut marks, &[(b"d", b"g"), (b"a", b"c")], 20)?;
+    assert_eq!(rt; marks.spans(), 1);
+    Ok(())
+}
+
+#[test]
+fn a_piece_has_one_reader_in_its_gap(rt: HostRuntime) -> Result<(), Fail> {
+    let alloc = rt.alloc();
+    let mut marks = Marks::new(alloc);
+    let readers: &[(&[u8], &[u8], u64)] = &[
+        (b"", b"", 3),
+        (b"", b"", 12),
+        (b"", b"", 14),
+        (b"", b"", 18),
+        (b"", b"", 25),
+    ];
+    add(alloc, &mut marks, readers)?;
+    // above 10 and up to 18 stand 12, 14 and 18
+    add_piece(&mut marks, span(alloc, b"b", b"c")?, 10, 18, 13)?;
+    add_piece(&mut marks, span(alloc, b"b", b"c")?, 25, u64::MAX, 30)?;
+    let wants: &[(&[u8], &[u64])] = &[
+        (b"a", &[3, 12, 14, 18, 25]),
+        (b"b", &[3, 18, 25, 30]),
+        (b"c", &[3, 12, 14, 18, 25]),
+    ];
+    assert!(rt; have_readers(alloc, &marks, wants)?);
+    Ok(())
+}
+
+#[test]
+fn what_is_forgotten_may_be_marked_again(rt: HostRuntime) -> Result<(), Fail> {
+    let alloc = rt.alloc();
+    let mut marks = Marks::new(alloc);
+    let readers: &[(&[u8], &[u8], u64)] = &[(b"", b"", 5), (b"", b"", 10), (b"", b"", 11)];
+    add(alloc, &mut marks, readers)?;
+    marks.forget_through(10);
+    marks.forget_through(7);
+    assert!(rt; have_readers(alloc, &marks, &[(b"a", &[11])])?);
+    add(alloc, &mut marks, &[(b"a", b"b", 4)])?;
+    assert!(rt; have_readers(alloc, &marks, &[(b"a", &[4, 11]), (b"b", &[11])])?);
+    Ok(())
+}

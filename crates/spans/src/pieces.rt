@@ -1,0 +1,47 @@
+//! What is left of a span where some keys are taken out.
+ghost use Rattle.std.specs.Prelude.{◌≡◌, ◌&&◌, ℕ, List, not, IfOk};
+ghost use Rattle.spans.specs.Keys.{in_span};
+ghost use Rattle.std.specs.List.Sorted.{IsStrictlySortedBy};
+ghost use Rattle.timestamps.specs.Bytes.{key_cmp};
+ghost use Rattle.spans.specs.Pieces.{is_among, is_held, NoneOverlap};
+
+use crate::bound::{Bound, copy_bound, is_below, is_from};
+use crate::span::Span;
+use std::alloc::{AllocError, Global};
+use std::mem;
+use timestamps::key::Key;
+
+impl Span {
+    /// Spans that hold the keys of this one but for those given, which rise: the parts between them.
+    /// Bytes are compared at most twice for each key, and copied twice for each that is in the span.
+    pub fn without(&self, alloc: Global, keys: &[Key]) -> Result<Vec<Span>, AllocError>
+        requires rising { IsStrictlySortedBy key_cmp keys.now }
+        ensures held { IfOk result (λ spans. (x : List ℕ) →
+            is_held spans.items x ≡ (in_span self.now x && not (is_among x keys.now))) }
+        ensures apart { IfOk result (λ spans. NoneOverlap spans.items) }
+    {
+        let mut pieces = Vec::new(alloc);
+        let mut lo = copy_bound(&self.lo)?;
+        for key in keys {
+            if is_from(&lo, key) && is_below(&self.hi, key) {
+                let hi = bound_at(alloc, key)?;
+                let next = Bound::successor(alloc, key)?;
+                let lo = mem::replace(&mut lo, Some(next));
+                pieces.push(Span { lo, hi: Some(hi) })?;
+            }
+        }
+        let hi = copy_bound(&self.hi)?;
+        pieces.push(Span { lo, hi })?;
+        Ok(pieces)
+    }
+}
+
+/// The bound of a key's bytes.
+fn bound_at(alloc: Global, key: &Key) -> Result<Bound, AllocError>
+    ensures { IfOk result (λ b. b ≡ key.now) }
+{
+    match Bound::new(alloc, key.bytes()) {
+        Ok(bound) => Ok(bound),
+        Err(_) => Err(AllocError),
+    }
+}

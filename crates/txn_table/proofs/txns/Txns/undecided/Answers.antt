@@ -1,0 +1,9 @@
+use Rattle.std.proofs.Common.{subst}
+use Rattle.kept.specs.Lists.{AreThose}
+use Rattle.kept.specs.Table.{is_open}
+use Rattle.txn_table.specs.TransactionIn.{IsCountOf, transaction_in}
+use Rattle.txn_table.proofs.Standing.{those}
+use Rattle.txn_table.proofs.txns.Txns.undecided.Goals as goal
+
+pub returns : goal.returns
+returns c = rw (← c.self.view_is) (c.self.inside.undecided.keys, those c.self.inside.table.entries c.self.inside.undecided c.len.ensures.ordered c.self.invariant, c.len.ensures.len)

@@ -1,0 +1,4 @@
+pub mod Places
+pub mod States
+pub mod TransactionIn
+pub mod Ties

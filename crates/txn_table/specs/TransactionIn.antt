@@ -1,0 +1,19 @@
+-- What a table of transactions says.
+use Rattle.std.specs.Prelude.{Bool, List, Option, length, ℕ, ◌≡◌}
+use Rattle.std.specs.BTreeMap.{is_at}
+use Rattle.std.specs.Map.{lookup}
+use Rattle.std.specs.Ordering.{nat_cmp}
+use Rattle.spans.specs.Kept.{Transaction}
+use Rattle.kept.specs.Lists.{AreThose}
+
+-- the transactions, each with its timestamp
+abbrev pub Table : Type 0
+Table = List (ℕ × Transaction)
+
+-- the transaction of t
+abbrev pub transaction_in : Table → ℕ → Option Transaction
+transaction_in table t = lookup (is_at (nat_cmp t)) table
+
+-- n is how many timestamps pass the test
+abbrev pub IsCountOf : (ℕ → Bool) → ℕ → Type 0
+IsCountOf test n = (ts : List ℕ) × AreThose test ts × (n ≡ length ts)

@@ -1,0 +1,68 @@
+//! Changes of the map and of the set that a table is made of.
+ghost use Rattle.std.specs.Prelude.{◌≡◌, ◌==◌, ◌&&◌, ℕ, List, None, OnOk, OnErr, false, nat_lt, option_map, if◌then◌else◌};
+ghost use Rattle.std.specs.BTreeSet.{contains};
+ghost use Rattle.std.specs.Ordering.{nat_cmp};
+ghost use Rattle.spans.specs.Kept.{Transaction};
+ghost use Rattle.spans.specs.Keys.{insert_key};
+ghost use Rattle.spans.proofs.WriteSets.{has};
+ghost use Rattle.kept.specs.Table.{keys_of};
+ghost use Rattle.txn_table.specs.States.{decided};
+ghost use Rattle.txn_table.specs.TransactionIn.{transaction_in};
+
+use crate::transaction::{Outcome, Transaction};
+use std::alloc::AllocError;
+use std::collections::{BTreeMap, BTreeSet};
+use timestamps::key::Key;
+
+/// Notes that the transaction of `ts` wrote the key.
+pub(crate) fn add_key_at(
+    table: &mut BTreeMap<u64, Transaction>,
+    ts: u64,
+    key: &Key,
+) -> Result<(), AllocError>
+    ensures ok { OnOk result ((i : ℕ) → transaction_in table.new.entries i
+        ≡ (if ts == i then option_map (λ (n : Transaction). record n { keys = insert_key key.now n.keys }) (transaction_in table.old.entries i) else transaction_in table.old.entries i)) }
+    ensures err { OnErr result (table.new.entries ≡ table.old.entries) }
+    ensures absent { OnErr result (has key.now (keys_of (transaction_in table.old.entries ts)) ≡ false) }
+{
+    match table.get_mut(&ts) {
+        None => Ok(()),
+        Some(transaction) => transaction.add_key(key),
+    }
+}
+
+/// Ends the transaction of `ts`.
+pub(crate) fn decide_at(table: &mut BTreeMap<u64, Transaction>, ts: u64, outcome: Outcome)
+    ensures { (i : ℕ) → transaction_in table.new.entries i
+        ≡ (if ts == i then option_map (decided outcome) (transaction_in table.old.entries i) else transaction_in table.old.entries i) }
+{
+    if let Some(transaction) = table.get_mut(&ts) {
+        transaction.decide(outcome);
+    }
+}
+
+/// Drops the transactions at or below `ts`.
+pub(crate) fn forget_transactions(table: &mut BTreeMap<u64, Transaction>, ts: u64)
+    ensures { (i : ℕ) → transaction_in table.new.entries i
+        ≡ (if nat_lt ts i then transaction_in table.old.entries i else None) }
+{
+    while let Some((first, _)) = table.first_key_value() {
+        if *first > ts {
+            break;
+        }
+        table.pop_first();
+    }
+}
+
+/// Drops the timestamps at or below `ts`.
+pub(crate) fn forget_undecided(undecided: &mut BTreeSet<u64>, ts: u64)
+    ensures { (i : ℕ) → contains nat_cmp undecided.new i
+        ≡ (nat_lt ts i && contains nat_cmp undecided.old i) }
+{
+    while let Some(oldest) = undecided.first() {
+        if *oldest > ts {
+            break;
+        }
+        undecided.pop_first();
+    }
+}

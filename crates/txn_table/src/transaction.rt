@@ -1,0 +1,118 @@
+//! One transaction of the table.
+ghost use Rattle.std.specs.Prelude.{◌≡◌, OnOk, OnErr, false};
+ghost use Rattle.spans.specs.Keys.{insert_key};
+ghost use Rattle.spans.proofs.Keyed.{RisingKeys};
+ghost use Rattle.spans.proofs.WriteSets.{has};
+ghost use Rattle.kept.specs.Table.{new_transaction};
+ghost use Rattle.txn_table.specs.States.{state_of, decided};
+
+use crate::write_set::WriteSet;
+use std::alloc::{AllocError, Global};
+use std::marker::Model;
+use timestamps::key::Key;
+
+/// How a transaction stands.
+#[derive(Clone, Copy, Debug, PartialEq, Eq)]
+pub enum State {
+    /// It has begun, and has not ended.
+    Undecided,
+    /// It has committed.
+    Committed,
+    /// It was aborted.
+    Aborted,
+}
+
+/// How a transaction ends.
+#[derive(Clone, Copy, Debug, PartialEq, Eq)]
+pub enum Outcome {
+    /// It commits.
+    Committed,
+    /// It is aborted.
+    Aborted,
+}
+
+/// A transaction: its owner, whether it has committed and whether it was aborted, each by a word of
+/// its own as in the definitions, and the keys that it wrote.
+#[derive(Debug, Drop)]
+pub(crate) struct Transaction {
+    seat: u8,
+    committed: bool,
+    aborted: bool,
+    keys: WriteSet,
+}
+
+impl Model for Transaction {
+    ghost use Rattle.spans.specs.Kept as kept;
+
+    ghost Value = { kept.Transaction };
+
+    ghost view = { λ t. record { seat = t.seat; committed = t.committed; aborted = t.aborted; keys = t.keys } };
+}
+
+impl Transaction {
+    /// A transaction that has just begun.
+    pub(crate) fn new(alloc: Global, seat: u8) -> Transaction
+        ensures { result ≡ new_transaction seat }
+    {
+        Transaction {
+            seat,
+            committed: false,
+            aborted: false,
+            keys: WriteSet::new(alloc),
+        }
+    }
+
+    /// The seat that began it.
+    pub(crate) fn seat(&self) -> u8
+        ensures { result ≡ self.now.seat }
+    {
+        self.seat
+    }
+
+    /// How it stands.
+    pub(crate) fn state(&self) -> State
+        ensures { result ≡ state_of self.now }
+    {
+        if self.committed {
+            return State::Committed;
+        }
+        if self.aborted {
+            return State::Aborted;
+        }
+        State::Undecided
+    }
+
+    /// The keys that it wrote.
+    pub(crate) fn keys(&self) -> &[Key]
+        ensures keys { result.now ≡ self.now.keys }
+        ensures rising { RisingKeys self.now.keys }
+    {
+        self.keys.as_slice()
+    }
+
+    /// Whether it wrote the key.
+    pub(crate) fn has_key(&self, key: &Key) -> bool
+        ensures { result ≡ has key.now self.now.keys }
+    {
+        self.keys.has(key)
+    }
+
+    /// Notes that it wrote the key.
+    pub(crate) fn add_key(&mut self, key: &Key) -> Result<(), AllocError>
+        ensures ok { OnOk result (self.new ≡ record self.old { keys = insert_key key.now self.old.keys }) }
+        ensures err { OnErr result (self.new ≡ self.old) }
+        ensures absent { OnErr result (has key.now self.old.keys ≡ false) }
+    {
+        self.keys.add(key)
+    }
+
+    /// Ends it.
+    pub(crate) fn decide(&mut self, outcome: Outcome)
+        ensures { self.new ≡ decided outcome self.old }
+    {
+        match outcome {
+            Outcome::Committed => self.committed = true,
+            Outcome::Aborted => self.aborted = true,
+        }
+    }
+}

@@ -1,0 +1,161 @@
+//! The transactions that stand, by timestamp.
+ghost use Rattle.std.specs.Prelude.{◌≡◌, ◌==◌, ◌&&◌, ℕ, List, [], Some, None, IfSome, OnOk, OnErr, IsSome, false, nat_le, nat_lt, option_map, if◌then◌else◌, length};
+ghost use Rattle.std.specs.List.Sorted.{IsStrictlyIncreasing};
+ghost use Rattle.spans.specs.Kept.{Transaction};
+ghost use Rattle.spans.specs.Keys.{insert_key};
+ghost use Rattle.spans.proofs.Keyed.{RisingKeys};
+ghost use Rattle.spans.proofs.WriteSets.{has};
+ghost use Rattle.kept.specs.Lists.{AreThose};
+ghost use Rattle.kept.specs.Table.{IsOldest, is_open, keys_of, new_transaction};
+ghost use Rattle.txn_table.specs.States.{state_of, decided};
+ghost use Rattle.txn_table.specs.TransactionIn.{transaction_in, IsCountOf};
+
+use crate::changes::{add_key_at, decide_at, forget_transactions, forget_undecided};
+use crate::transaction::{Outcome, State, Transaction};
+use std::alloc::{AllocError, Global};
+use std::collections::btree_set::Range;
+use std::collections::{BTreeMap, BTreeSet};
+use std::marker::Model;
+use timestamps::key::Key;
+use timestamps::ts::Ts;
+
+/// The transactions, and which of them are undecided.
+#[derive(Debug, Drop)]
+pub struct Txns {
+    alloc: Global,
+    table: BTreeMap<u64, Transaction>,
+    undecided: BTreeSet<u64>,
+}
+
+impl Model for Txns {
+    ghost use Rattle.txn_table.specs.TransactionIn.{Table};
+    ghost use Rattle.txn_table.specs.Ties.{AreUndecided};
+
+    ghost Value = { Table };
+
+    ghost view = { λ t. t.table.entries };
+
+    ghost invariant = { λ t. AreUndecided t.table.entries t.undecided };
+}
+
+impl Txns {
+    /// No transaction.
+    pub fn new(alloc: Global) -> Txns
+        ensures { (i : ℕ) → transaction_in result i ≡ None }
+    {
+        Txns {
+            alloc,
+            table: BTreeMap::new(alloc),
+            undecided: BTreeSet::new(alloc),
+        }
+    }
+
+    /// Begins a transaction of a seat. Where memory is wanting, nothing has begun.
+    pub fn begin(&mut self, ts: Ts, seat: u8) -> Result<(), AllocError>
+        requires free { transaction_in self.old ts ≡ None }
+        ensures ok { OnOk result ((i : ℕ) → transaction_in self.new i
+            ≡ (if ts == i then Some (new_transaction seat) else transaction_in self.old i)) }
+        ensures err { OnErr result (self.new ≡ self.old) }
+    {
+        let ts = ts.get();
+        self.undecided.insert(ts)?;
+        let transaction = Transaction::new(self.alloc, seat);
+        if self.table.insert(ts, transaction).is_err() {
+            self.undecided.remove(&ts);
+            return Err(AllocError);
+        }
+        Ok(())
+    }
+
+    /// The seat that began the transaction of `ts`.
+    pub fn owner(&self, ts: u64) -> Option<u8>
+        ensures { result ≡ option_map (λ (n : Transaction). n.seat) (transaction_in self.now ts) }
+    {
+        match self.table.get(&ts) {
+            None => None,
+            Some(transaction) => Some(transaction.seat()),
+        }
+    }
+
+    /// How the transaction of `ts` stands.
+    pub fn state(&self, ts: u64) -> Option<State>
+        ensures { result ≡ option_map state_of (transaction_in self.now ts) }
+    {
+        match self.table.get(&ts) {
+            None => None,
+            Some(transaction) => Some(transaction.state()),
+        }
+    }
+
+    /// The keys that the transaction of `ts` wrote, rising; none where there is no transaction.
+    pub fn write_set(&self, ts: u64) -> &[Key]
+        ensures keys { result.now ≡ keys_of (transaction_in self.now ts) }
+        ensures rising { RisingKeys result.now }
+    {
+        match self.table.get(&ts) {
+            None => &[],
+            Some(transaction) => transaction.keys(),
+        }
+    }
+
+    /// Whether the transaction of `ts` wrote the key.
+    pub fn has_key(&self, ts: u64, key: &Key) -> bool
+        ensures { result ≡ has key.now (keys_of (transaction_in self.now ts)) }
+    {
+        match self.table.get(&ts) {
+            None => false,
+            Some(transaction) => transaction.has_key(key),
+        }
+    }
+
+    /// Notes that the transaction of `ts` wrote the key. It takes no memory where the key is noted
+    /// already; where memory is wanting, nothing is noted.
+    pub fn add_key(&mut self, ts: Ts, key: &Key) -> Result<(), AllocError>
+        ensures ok { OnOk result ((i : ℕ) → transaction_in self.new i
+            ≡ (if ts == i then option_map (λ (n : Transaction). record n { keys = insert_key key.now n.keys }) (transaction_in self.old i) else transaction_in self.old i)) }
+        ensures err { OnErr result (self.new ≡ self.old) }
+        ensures absent { OnErr result (has key.now (keys_of (transaction_in self.old ts)) ≡ false) }
+    {
+        add_key_at(&mut self.table, ts.get(), key)
+    }
+
+    /// Ends the transaction of `ts`, where there is one. It takes no memory.
+    pub fn decide(&mut self, ts: Ts, outcome: Outcome)
+        ensures { (i : ℕ) → transaction_in self.new i
+            ≡ (if ts == i then option_map (decided outcome) (transaction_in self.old i) else transaction_in self.old i) }
+    {
+        decide_at(&mut self.table, ts.get(), outcome);
+        self.undecided.remove(&ts.get());
+    }
+
+    /// The least timestamp that is undecided.
+    pub fn oldest_undecided(&self) -> Option<u64>
+        ensures { IsOldest (transaction_in self.now) result }
+    {
+        self.undecided.first().copied()
+    }
+
+    /// How many transactions are undecided.
+    pub fn undecided(&self) -> u64
+        ensures { IsCountOf (λ t. is_open (transaction_in self.now t)) result }
+    {
+        self.undecided.len() as u64
+    }
+
+    /// The undecided timestamps at or below `to`, rising.
+    pub fn undecided_through(&self, to: u64) -> Range<'_, u64>
+        ensures those { AreThose (λ t. nat_le t to && is_open (transaction_in self.now t)) result }
+        ensures rising { IsStrictlyIncreasing result }
+    {
+        self.undecided.range(..=to)
+    }
+
+    /// Forgets the transactions at or below `ts`, undecided ones too. It takes no memory.
+    pub fn forget_through(&mut self, ts: u64)
+        ensures { (i : ℕ) → transaction_in self.new i
+            ≡ (if nat_lt ts i then transaction_in self.old i else None) }
+    {
+        forget_transactions(&mut self.table, ts);
+        forget_undecided(&mut self.undecided, ts);
+    }
+}

@@ -1,0 +1,168 @@
+-- What a chain has after a version was put in, replaced, marked or taken out.
+use Rattle.std.proofs.Common.{◌≡◌, ℕ, zero, suc, ◌<◌, ◌≤◌, ◌-◌, ◌==◌, false, cond, List, [], ◌∷◌, length, get_or, set, Option, Some, None, refl, sym, ◌∙◌, ap, arith, subst}
+use Rattle.std.specs.List.{insert, remove}
+use Rattle.std.specs.Prelude.{option_map}
+use Rattle.std.proofs.lemmas.Bool.{eqb-true, ne_eqb}
+use Rattle.spans.proofs.Steps.{by_test}
+use Rattle.version_chain.specs.declared.chain.Version.{Version}
+use Rattle.version_chain.specs.Versions.{AreAbove, DoRise, version_of, committed, IsPlaceAbove, IsPlaceOf, IsFreePlace}
+use Rattle.version_chain.proofs.Places.{above_at, rises_at, found, none_at, same_ts}
+
+-- ---- the place of a timestamp
+
+pub free_at_start : (vs : List Version) (t n : ℕ) → IsPlaceAbove vs t n → n ≡ 0 → IsFreePlace vs t 0
+free_at_start vs t n p start = record {
+  within = omega arith;
+  below = λ k d lt. absurd (omega arith);
+  above = λ k d at lt. p.above k d (omega arith) lt;
+}
+
+pub free_after : (vs : List Version) (t n : ℕ) (v : Version) → DoRise vs → IsPlaceAbove vs t n → 0 < n → v ≡ get_or vs (n - 1) v → (v.ts ≡ t → ⊥) → IsFreePlace vs t n
+free_after vs t n v r p some is other =
+    let lt : n - 1 < length vs = omega (arith, p.within) in
+    let here : v.ts ≡ (get_or vs (n - 1) v).ts = ap (λ w. w.ts) is in
+    let top : (get_or vs (n - 1) v).ts ≤ t = p.below (n - 1) v (omega arith) in
+    let less : v.ts < t = grind (arith, other) in
+    record {
+      within = p.within;
+      below = λ k d m.
+          let before : k < n - 1 → (get_or vs k d).ts < (get_or vs (n - 1) d).ts = λ l. rises_at vs k (n - 1) d r l lt in
+          let at : k ≡ n - 1 → (get_or vs k d).ts ≡ (get_or vs (n - 1) d).ts = λ e. ap (λ j. (get_or vs j d).ts) e in
+          let same : (get_or vs (n - 1) d).ts ≡ (get_or vs (n - 1) v).ts = same_ts vs (n - 1) d v lt in
+          grind (arith, before, at);
+      above = p.above;
+    }
+
+pub place_is : (vs : List Version) (t n : ℕ) (v : Version) → IsPlaceAbove vs t n → 0 < n → v ≡ get_or vs (n - 1) v → v.ts ≡ t → IsPlaceOf vs t (n - 1)
+place_is vs t n v p some is here =
+    let lt : n - 1 < length vs = omega (arith, p.within) in
+    record { within = lt; here = λ d. same_ts vs (n - 1) d v lt ∙ sym (ap (λ w. w.ts) is) ∙ here }
+
+pub none_free : (vs : List Version) (t n : ℕ) → IsFreePlace vs t n → version_of vs t ≡ None
+none_free vs t n p = none_at vs t (λ k d lt same.
+    let before : k < n → (get_or vs k d).ts < t = λ m. p.below k d m in
+    let after : n ≤ k → t < (get_or vs k d).ts = λ m. p.above k d m lt in
+    grind (arith, before, after))
+
+pub some_placed : (vs : List Version) (t k : ℕ) (d : Version) → DoRise vs → IsPlaceOf vs t k → version_of vs t ≡ Some (get_or vs k d)
+some_placed vs t k d r p = ap (version_of vs) (sym (p.here d)) ∙ found vs k d r p.within
+
+-- ---- rising
+
+above_insert : (vs : List Version) (t k : ℕ) (v : Version) → k ≤ length vs → AreAbove t vs → t < v.ts → AreAbove t (insert vs k v)
+above_insert vs t zero v le a up = (up, a)
+above_insert [] t (suc k) v le a up = absurd (omega arith)
+above_insert (w ∷ vs) t (suc k) v le a up = (a.0, above_insert vs t k v (omega arith) a.1 up)
+
+from_places : (vs : List Version) (t : ℕ) → ((k : ℕ) (d : Version) → k < length vs → t < (get_or vs k d).ts) → AreAbove t vs
+from_places [] t h = tt
+from_places (v ∷ vs) t h = (h zero v (omega arith), from_places vs t (λ k d lt. h (suc k) d (omega arith)))
+
+pub rises_insert : (vs : List Version) (k : ℕ) (v : Version) → DoRise vs → IsFreePlace vs v.ts k → DoRise (insert vs k v)
+rises_insert vs zero v r p = (from_places vs v.ts (λ j d lt. p.above j d (omega arith) lt), r)
+rises_insert [] (suc k) v r p = absurd (omega (arith, p.within))
+rises_insert (w ∷ vs) (suc k) v r p = (
+  above_insert vs w.ts k v (omega (arith, p.within)) r.0 (p.below zero w (omega arith)),
+  rises_insert vs k v r.1 (record {
+    within = omega (arith, p.within);
+    below = λ j d lt. p.below (suc j) d (omega arith);
+    above = λ j d at lt. p.above (suc j) d (omega arith) (omega arith);
+  }),
+)
+
+above_set : (vs : List Version) (t k : ℕ) (v : Version) → AreAbove t vs → t < v.ts → AreAbove t (set vs k v)
+above_set [] t k v a up = tt
+above_set (w ∷ vs) t zero v a up = (up, a.1)
+above_set (w ∷ vs) t (suc k) v a up = (a.0, above_set vs t k v a.1 up)
+
+pub rises_set : (vs : List Version) (k : ℕ) (v : Version) → DoRise vs → IsPlaceOf vs v.ts k → DoRise (set vs k v)
+rises_set [] k v r p = tt
+rises_set (w ∷ vs) zero v r p = (subst (λ t. AreAbove t vs) (p.here v) r.0, r.1)
+rises_set (w ∷ vs) (suc k) v r p =
+    let lt : k < length vs = omega (arith, p.within) in
+    let up : w.ts < (get_or vs k v).ts = above_at vs w.ts k v r.0 lt in (
+      above_set vs w.ts k v r.0 (let here : (get_or vs k v).ts ≡ v.ts = p.here v in omega arith),
+      rises_set vs k v r.1 (record { within = lt; here = λ d. p.here d }),
+    )
+
+above_remove : (vs : List Version) (t k : ℕ) → AreAbove t vs → AreAbove t (remove vs k)
+above_remove [] t zero a = tt
+above_remove [] t (suc k) a = tt
+above_remove (w ∷ vs) t zero a = a.1
+above_remove (w ∷ vs) t (suc k) a = (a.0, above_remove vs t k a.1)
+
+pub rises_remove : (vs : List Version) (k : ℕ) → DoRise vs → DoRise (remove vs k)
+rises_remove [] zero r = tt
+rises_remove [] (suc k) r = tt
+rises_remove (w ∷ vs) zero r = r.1
+rises_remove (w ∷ vs) (suc k) r = (above_remove vs w.ts k r.0, rises_remove vs k r.1)
+
+-- ---- what is found
+
+-- a version that stands behind one of another timestamp
+behind : (w : Version) (i t : ℕ) (o x y : Option Version) → (w.ts ≡ t → ⊥) → x ≡ cond (t == i) o y → cond (w.ts == i) (Some w) x ≡ cond (t == i) o (cond (w.ts == i) (Some w) y)
+behind w i t o x y apart e = by_test (w.ts == i)
+    (λ here. let off : (t == i) ≡ false = ne_eqb t i (λ same. apart (eqb-true w.ts i here ∙ sym same)) in rw (here, off) refl)
+    (λ there. rw there e)
+
+pub insert_finds : (vs : List Version) (k : ℕ) (v : Version) (i : ℕ) → IsFreePlace vs v.ts k → version_of (insert vs k v) i ≡ cond (v.ts == i) (Some v) (version_of vs i)
+insert_finds vs zero v i p = refl
+insert_finds [] (suc k) v i p = absurd (omega (arith, p.within))
+insert_finds (w ∷ vs) (suc k) v i p =
+    let less : w.ts < v.ts = p.below zero w (omega arith) in
+    behind w i v.ts (Some v) (version_of (insert vs k v) i) (version_of vs i) (λ same. omega arith) (insert_finds vs k v i (record {
+      within = omega (arith, p.within);
+      below = λ j d lt. p.below (suc j) d (omega arith);
+      above = λ j d at lt. p.above (suc j) d (omega arith) (omega arith);
+    }))
+
+pub set_finds : (vs : List Version) (k : ℕ) (v : Version) (i : ℕ) → DoRise vs → IsPlaceOf vs v.ts k → version_of (set vs k v) i ≡ cond (v.ts == i) (Some v) (version_of vs i)
+set_finds [] k v i r p = absurd (omega (arith, p.within))
+set_finds (w ∷ vs) zero v i r p =
+    let here : w.ts ≡ v.ts = p.here v in
+    by_test (v.ts == i)
+    (λ same. rw same refl)
+    (λ other. let off : (w.ts == i) ≡ false = ap (λ t. t == i) here ∙ other in rw (other, off) refl)
+set_finds (w ∷ vs) (suc k) v i r p =
+    let lt : k < length vs = omega (arith, p.within) in
+    let up : w.ts < (get_or vs k v).ts = above_at vs w.ts k v r.0 lt in
+    let here : (get_or vs k v).ts ≡ v.ts = p.here v in
+    behind w i v.ts (Some v) (version_of (set vs k v) i) (version_of vs i) (λ same. omega arith)
+    (set_finds vs k v i r.1 (record { within = lt; here = λ d. p.here d }))
+
+pub commit_finds : (vs : List Version) (k : ℕ) (v : Version) (t i : ℕ) → DoRise vs → IsPlaceOf vs t k → v ≡ get_or vs k v
+    → version_of (set vs k (committed v)) i ≡ cond (t == i) (option_map committed (version_of vs i)) (version_of vs i)
+commit_finds vs k v t i r p is =
+    let here : v.ts ≡ t = ap (λ w. w.ts) is ∙ p.here v in
+    let place : IsPlaceOf vs (committed v).ts k = record { within = p.within; here = λ d. p.here d ∙ sym here } in
+    set_finds vs k (committed v) i r place ∙ ap (λ n. cond (n == i) (Some (committed v)) (version_of vs i)) here ∙ by_test (t == i)
+    (λ same. let one : version_of vs i ≡ Some v = ap (version_of vs) (sym (eqb-true t i same)) ∙ some_placed vs t k v r p ∙ ap Some (sym is) in rw (same, one) refl)
+    (λ other. rw other refl)
+
+pub remove_finds : (vs : List Version) (k t i : ℕ) → DoRise vs → IsPlaceOf vs t k → version_of (remove vs k) i ≡ cond (t == i) None (version_of vs i)
+remove_finds [] k t i r p = absurd (omega (arith, p.within))
+remove_finds (w ∷ vs) zero t i r p =
+    let here : w.ts ≡ t = p.here w in
+    by_test (t == i)
+    (λ same. rw same (none_at vs i (λ j d lt e.
+    let up : w.ts < (get_or vs j d).ts = above_at vs w.ts j d r.0 lt in
+    let now : t ≡ i = eqb-true t i same in
+    omega arith)))
+    (λ other. let off : (w.ts == i) ≡ false = ap (λ n. n == i) here ∙ other in rw (other, off) refl)
+remove_finds (w ∷ vs) (suc k) t i r p =
+    let lt : k < length vs = omega (arith, p.within) in
+    let up : w.ts < (get_or vs k w).ts = above_at vs w.ts k w r.0 lt in
+    let here : (get_or vs k w).ts ≡ t = p.here w in
+    behind w i t None (version_of (remove vs k) i) (version_of vs i) (λ same. omega arith)
+    (remove_finds vs k t i r.1 (record { within = lt; here = λ d. p.here d }))
+
+-- no version of t, and so nothing to mark or to take out
+pub unmarked : (vs : List Version) (t i : ℕ) → version_of vs t ≡ None → version_of vs i ≡ cond (t == i) (option_map committed (version_of vs i)) (version_of vs i)
+unmarked vs t i none = by_test (t == i)
+    (λ same. let e : version_of vs i ≡ None = ap (version_of vs) (sym (eqb-true t i same)) ∙ none in rw (same, e) refl)
+    (λ other. rw other refl)
+
+pub untaken : (vs : List Version) (t i : ℕ) → version_of vs t ≡ None → version_of vs i ≡ cond (t == i) None (version_of vs i)
+untaken vs t i none = by_test (t == i)
+    (λ same. let e : version_of vs i ≡ None = ap (version_of vs) (sym (eqb-true t i same)) ∙ none in rw (same, e) refl)
+    (λ other. rw other refl)

@@ -1,0 +1,3 @@
+pub mod Versions
+pub mod Chains
+pub mod Stores

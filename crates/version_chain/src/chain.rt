@@ -1,0 +1,168 @@
+//! The versions of one key.
+ghost use Rattle.std.specs.Prelude.{◌≡◌, ℕ, ◌<◌, ◌≤◌, ◌+◌, ◌^◌, ◌==◌, ◌↔◌, [], ◌∷◌, suc, length, slice_index_or, if◌then◌else◌, MatchOption, MatchResult, Some, None, IsTrue, IfOk, OnOk, OnErr, is_some, is_none, option_map};
+ghost use Rattle.version_chain.specs.declared.chain.Version.{Version};
+ghost use Rattle.version_chain.specs.Versions.{version_of, committed, IsPlaceAbove, IsNoneUpTo, IsNewestOf, IsNoneAbove, IsLeastAbove, IsPlaceOf, IsFreePlace};
+
+use crate::steps::Steps;
+use std::alloc::{AllocError, Global};
+use std::marker::Model;
+use timestamps::ts::Ts;
+use timestamps::value::Value;
+
+/// What a transaction wrote.
+#[derive(Debug, Drop)]
+pub struct Version {
+    pub ts: Ts,
+    /// The value, or `None` for a delete.
+    pub after: Option<Value>,
+    /// Whether the transaction has committed.
+    pub decided: bool,
+}
+
+/// The versions of a key, by rising timestamp.
+#[derive(Debug, Drop)]
+pub struct Chain {
+    versions: Vec<Version>,
+}
+
+impl Model for Chain {
+    ghost use Rattle.std.specs.Prelude.{List};
+    ghost use Rattle.version_chain.specs.declared.chain.Version.{Version};
+    ghost use Rattle.version_chain.specs.Versions.{DoRise};
+
+    ghost Value = { List Version };
+
+    ghost view = { λ c. c.versions.items };
+
+    ghost invariant = { λ c. DoRise c.versions.items };
+}
+
+impl Chain {
+    /// The timestamp of the version at place `i`: one step.
+    pub fn ts_at(&self, i: usize, steps: &mut Steps) -> u64
+        requires { i < length self.now }
+        ensures ts { (d : Version) → result ≡ (slice_index_or self.now i d).ts }
+        ensures steps { steps.new.count ≡ suc steps.old.count }
+    {
+        *steps = Steps::after(steps);
+        self.versions[i].ts.get()
+    }
+
+    /// How many versions are at or below `t`, which is the place where those above it begin.
+    fn place_above(&self, t: u64, steps: &mut Steps) -> usize
+        ensures place { IsPlaceAbove self.now t result }
+        ensures steps { (d : ℕ) → length self.now < 2 ^ d → steps.new.count ≤ steps.old.count + d }
+    {
+        let mut low = 0;
+        let mut high = self.versions.len();
+        while low < high {
+            let middle = low + (high - low) / 2;
+            if self.ts_at(middle, steps) <= t {
+                low = middle + 1;
+            } else {
+                high = middle;
+            }
+        }
+        low
+    }
+
+    /// The version with the greatest timestamp at or below `t`. It reads at most as many timestamps as
+    /// the length has binary digits.
+    pub fn newest_at(&self, t: u64, steps: &mut Steps) -> Option<&Version>
+        ensures version { MatchOption result (IsNoneUpTo self.now t) (λ v. IsNewestOf self.now t v.now) }
+        ensures steps { (d : ℕ) → length self.now < 2 ^ d → steps.new.count ≤ steps.old.count + d }
+    {
+        let place = self.place_above(t, steps);
+        if place == 0 {
+            return None;
+        }
+        Some(&self.versions[place - 1])
+    }
+
+    /// The version with the least timestamp above `t`. It reads at most as many timestamps as the
+    /// length has binary digits.
+    pub fn next_above(&self, t: u64, steps: &mut Steps) -> Option<&Version>
+        ensures version { MatchOption result (IsNoneAbove self.now t) (λ v. IsLeastAbove self.now t v.now) }
+        ensures steps { (d : ℕ) → length self.now < 2 ^ d → steps.new.count ≤ steps.old.count + d }
+    {
+        let place = self.place_above(t, steps);
+        if place == self.versions.len() {
+            return None;
+        }
+        Some(&self.versions[place])
+    }
+
+    /// A chain of one version.
+    pub(crate) fn of(alloc: Global, version: Version) -> Result<Chain, AllocError>
+        ensures { IfOk result (λ chain. chain ≡ version ∷ []) }
+    {
+        let mut versions = Vec::new(alloc);
+        versions.push(version)?;
+        Ok(Chain { versions })
+    }
+
+    /// Whether there is no version.
+    pub(crate) fn is_empty(&self) -> bool
+        ensures { IsTrue result ↔ (self.now ≡ []) }
+    {
+        self.versions.is_empty()
+    }
+
+    /// The place of the version of `ts`, or where one would stand.
+    fn place_of(&self, ts: u64) -> Result<usize, usize>
+        ensures { MatchResult result (λ k. IsPlaceOf self.now ts k) (λ n. IsFreePlace self.now ts n) }
+    {
+        let place = self.place_above(ts, &mut Steps::new());
+        if place == 0 {
+            return Err(0);
+        }
+        if self.versions[place - 1].ts.get() != ts {
+            return Err(place);
+        }
+        Ok(place - 1)
+    }
+
+    /// Puts a version in its place, in which one of the same timestamp may stand, and says whether
+    /// none did.
+    pub(crate) fn write(&mut self, version: Version) -> Result<bool, AllocError>
+        ensures new { IfOk result (λ new. new ≡ is_none (version_of self.old version.ts)) }
+        ensures ok { OnOk result ((i : ℕ) →
+            version_of self.new i ≡ (if version.ts == i then Some version else version_of self.old i)) }
+        ensures err { OnErr result (self.new ≡ self.old) }
+    {
+        match self.place_of(version.ts.get()) {
+            Ok(place) => {
+                self.versions[place] = version;
+                Ok(false)
+            }
+            Err(place) => {
+                self.versions.insert(place, version)?;
+                Ok(true)
+            }
+        }
+    }
+
+    /// Marks the version of `ts`, where there is one, as committed.
+    pub(crate) fn commit(&mut self, ts: u64)
+        ensures { (i : ℕ) → version_of self.new i
+            ≡ (if ts == i then option_map committed (version_of self.old i) else version_of self.old i) }
+    {
+        if let Ok(place) = self.place_of(ts) {
+            self.versions[place].decided = true;
+        }
+    }
+
+    /// Takes out the version of `ts`, and says whether there was one.
+    pub(crate) fn remove(&mut self, ts: u64) -> bool
+        ensures was { result ≡ is_some (version_of self.old ts) }
+        ensures rest { (i : ℕ) → version_of self.new i ≡ (if ts == i then None else version_of self.old i) }
+    {
+        match self.place_of(ts) {
+            Err(_) => false,
+            Ok(place) => {
+                self.versions.remove(place);
+                true
+            }
+        }
+    }
+}
