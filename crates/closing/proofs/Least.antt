@@ -1,5 +1,5 @@
 -- The least protected timestamp is that of the first by timestamp.
-use Rattle.std.proofs.Common.{Bool, List, None, Option, Some, ap, arith, cond, false, inl, inr, length, min, refl, subst, sym, true, ℕ, ◌<◌, ◌≤◌, ◌==◌, ◌⊎◌, ◌≡◌, ◌++◌, ◌∷◌, ◌∙◌, []}
+use Rattle.std.proofs.Common.{Bool, List, None, Option, Some, ap, arith, false, inl, inr, length, min, refl, subst, sym, true, ℕ, ◌<◌, ◌≤◌, ◌==◌, ◌⊎◌, ◌≡◌, ◌++◌, ◌∷◌, ◌∙◌, []}
 use Rattle.std.specs.Prelude.{map}
 use Rattle.std.specs.List.Sorted.{IsStrictlySortedBy}
 use Rattle.std.specs.List.{AllByRecursion, list_any}
@@ -19,7 +19,6 @@ use Rattle.spans.proofs.Steps.{by_test}
 use Rattle.kept.proofs.Dead.{least_low}
 use Rattle.closing.specs.Standing.{newest_first, protection}
 use Rattle.closing.specs.Ties.{is_just, pair_cmp}
-use Rattle.closing.proofs.Numbers.{same_number}
 use Rattle.closing.proofs.Tying.{AreAlike}
 
 -- the timestamps that are protected

@@ -1,6 +1,6 @@
 -- The two orders of the protections stay tied to each other.
-use Rattle.std.proofs.Common.{Bool, None, Option, Some, ap, arith, cond, false, refl, subst, sym, true, ℕ, ◌&&◌, ◌==◌, ◌≡◌, ◌∙◌}
-use Rattle.std.specs.Ordering.{is_eq, nat_cmp}
+use Rattle.std.proofs.Common.{Bool, None, Option, Some, ap, arith, cond, false, refl, sym, true, ℕ, ◌&&◌, ◌==◌, ◌≡◌, ◌∙◌}
+use Rattle.std.specs.Ordering.{nat_cmp}
 use Rattle.std.specs.BTreeMap.{is_at}
 use Rattle.std.proofs.lemmas.Bool.{eqb-true}
 use Rattle.std.proofs.lemmas.Bool.Decides.{nat_tests}

@@ -1,5 +1,5 @@
 -- Where a key stands among rising keys, by what a search answers.
-use Rattle.std.proofs.Common.{Bool, Err, List, Ok, Result, Some, ap, arith, false, get_or, length, refl, subst, suc, sym, true, zero, ℕ, ◌+◌, ◌-◌, ◌<◌, ◌≤◌, ◌==◌, ◌≡◌, ◌∷◌, ◌∙◌, [], inl, inr}
+use Rattle.std.proofs.Common.{Err, List, Ok, Result, Some, ap, arith, false, get_or, length, refl, subst, suc, sym, true, zero, ℕ, ◌+◌, ◌-◌, ◌<◌, ◌≤◌, ◌==◌, ◌≡◌, ◌∷◌, ◌∙◌, [], inl, inr}
 use Rattle.std.specs.Prelude.{bytes_eq, insert}
 use Rattle.std.specs.List.{AllWithin, HoldsAt, slice_get}
 use Rattle.std.specs.List.Sorted.{IsBinarySearchResult, IsPartitionPoint, IsSearchInRange, IsSortedBy}

@@ -1,9 +1,9 @@
 -- The set of the undecided timestamps as a list of those that are undecided.
-use Rattle.std.proofs.Common.{Bool, List, ap, arith, false, leb, ltb, refl, subst, sym, true, ℕ, ◌&&◌, ◌<◌, ◌≤◌, ◌==◌, ◌≡◌, ◌∷◌, ◌∙◌, [], inl, inr}
-use Rattle.std.specs.Prelude.{filter, nat_le, not, ◌↔◌}
+use Rattle.std.proofs.Common.{Bool, List, ap, arith, false, refl, subst, sym, true, ℕ, ◌&&◌, ◌≡◌, ◌∷◌, ◌∙◌, [], inl, inr}
+use Rattle.std.specs.Prelude.{filter, nat_le, ◌↔◌}
 use Rattle.std.specs.List.{AllByRecursion, list_any}
 use Rattle.std.specs.List.Sorted.{IsStrictlyIncreasing, IsStrictlySortedBy}
-use Rattle.std.specs.Ordering.{is_eq, is_lt, nat_cmp}
+use Rattle.std.specs.Ordering.{is_eq, nat_cmp}
 use Rattle.std.specs.BTreeMap.{is_at}
 use Rattle.std.specs.BTreeMap.Range.{range_contains}
 use Rattle.std.specs.BTreeSet.{BTreeSet, IsOrdered}
@@ -14,13 +14,11 @@ use Rattle.std.proofs.lemmas.Bool.Decides.{nat_tests}
 use Rattle.std.proofs.lemmas.Cmp.{nat_cmp_total, tied_itself}
 use Rattle.std.proofs.lemmas.List.Kept.{IsStrictlyIncreasing-filter}
 use Rattle.std.proofs.lemmas.Map.Keys.{IsStrictlyIncreasing-from_sorted}
-use Rattle.std.proofs.lemmas.Map.Lookups.{exact_unsigned}
 use Rattle.spans.proofs.Members.{AreDistinct, Has, distinct_filter, has_filter}
-use Rattle.spans.proofs.Steps.{by_test}
 use Rattle.kept.specs.Lists.{AreThose}
 use Rattle.kept.specs.Table.{is_open}
 use Rattle.txn_table.specs.Ties.{AreUndecided}
-use Rattle.txn_table.specs.TransactionIn.{IsCountOf, Table, transaction_in}
+use Rattle.txn_table.specs.TransactionIn.{Table, transaction_in}
 
 found_itself : (t : ℕ) → is_at (nat_cmp t) t ≡ true
 found_itself t = ap is_eq (tied_itself nat_cmp_total t)

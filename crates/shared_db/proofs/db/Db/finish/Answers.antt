@@ -1,6 +1,5 @@
-use Rattle.std.proofs.Common.{◌≡◌, length, sym, subst}
+use Rattle.std.proofs.Common.{sym, subst}
 use Rattle.engine.specs.declared.Engine.{Engine}
-use Rattle.shared_db.specs.Seats.{seat_count}
 use Rattle.shared_db.specs.Whole.{IsWhole}
 use Rattle.shared_db.proofs.Finishing.{whole}
 use Rattle.shared_db.proofs.db.Db.finish.Goals as goal

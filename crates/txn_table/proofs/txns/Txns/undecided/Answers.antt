@@ -1,7 +1,3 @@
-use Rattle.std.proofs.Common.{subst}
-use Rattle.kept.specs.Lists.{AreThose}
-use Rattle.kept.specs.Table.{is_open}
-use Rattle.txn_table.specs.TransactionIn.{IsCountOf, transaction_in}
 use Rattle.txn_table.proofs.Standing.{those}
 use Rattle.txn_table.proofs.txns.Txns.undecided.Goals as goal
 
