@@ -10,8 +10,22 @@ use itoa::Buffer;
 use std::alloc::AllocError;
 
 /// Writes a number word at the end.
-#[tactic(auto, using(crate::proofs::Writing::keeping))]
+#[inline]
+#[tactic(auto, using(crate::proofs::Writing::keeping, std::proofs::lemmas::Fmt::decimal_digit))]
 pub fn put_number(out: &mut Vec<u8>, number: u64) -> Result<(), AllocError>
+    ensures ok { OnOk result (out.new.items ≡ out.old.items ++ decimal number) }
+    ensures err { OnErr result (Keeps out.old.items out.new.items) }
+{
+    if number < 10 {
+        out.push(b'0' + number as u8)?;
+        return Ok(());
+    }
+    put_digits(out, number)
+}
+
+#[inline(never)]
+#[tactic(auto, using(crate::proofs::Writing::keeping))]
+fn put_digits(out: &mut Vec<u8>, number: u64) -> Result<(), AllocError>
     ensures ok { OnOk result (out.new.items ≡ out.old.items ++ decimal number) }
     ensures err { OnErr result (Keeps out.old.items out.new.items) }
 {

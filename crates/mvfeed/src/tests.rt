@@ -189,6 +189,61 @@ fn a_write_fails(rt: HostRuntime) {
     }
 }
 
+/// The events of a transcript that come from the first so many bytes of its script, whole lines alone.
+fn events_of<'a>(transcript: &'a str, script: &[u8]) -> &'a [u8] {
+    let lines = script.iter().filter(|b| **b == b'\n').count();
+    let mut length = 0usize;
+    let mut seen = 0usize;
+    for line in transcript.lines() {
+        if !line.starts_with("row ") && !line.starts_with("{") {
+            seen = seen.saturating_add(1);
+        }
+        if seen > lines {
+            break;
+        }
+        length = length.saturating_add(line.len()).saturating_add(1);
+    }
+    transcript.as_bytes().get(..length).unwrap_or(b"")
+}
+
+#[test]
+fn a_read_fails_after_any_byte(rt: HostRuntime) -> Result<(), Fail> {
+    let transcript = feeds::LAGGING;
+    let script = script_of(rt.alloc(), transcript)?;
+    for length in 0..script.len() + 1 {
+        let mut sink = Sink::new(rt.alloc());
+        let source = Source::new(script.as_slice()).failing_after(length);
+        let end = run_io(&rt, rt.alloc(), DEFAULTS, source, &mut sink);
+        assert_eq!(rt; end, End::Input, "after {length} bytes");
+        assert_eq!(rt;
+            sink.taken.as_slice(),
+            events_of(transcript, &script[..length]),
+            "after {length} bytes"
+        );
+    }
+    Ok(())
+}
+
+#[test]
+fn a_write_fails_after_any_byte(rt: HostRuntime) -> Result<(), Fail> {
+    let transcript = feeds::LAGGING.as_bytes();
+    let script = script_of(rt.alloc(), feeds::LAGGING)?;
+    for room in 0..transcript.len() {
+        for stuck in [false, true] {
+            let mut sink = Sink::new(rt.alloc()).with_room(room, stuck);
+            let source = Source::new(script.as_slice());
+            let end = run_io(&rt, rt.alloc(), DEFAULTS, source, &mut sink);
+            assert_eq!(rt; end, End::Output, "after {room} bytes");
+            assert_eq!(rt;
+                sink.taken.as_slice(),
+                &transcript[..room],
+                "after {room} bytes"
+            );
+        }
+    }
+    Ok(())
+}
+
 #[test]
 fn any_cut_of_the_reads_gives_the_same_output(rt: HostRuntime) {
     let whole = run_of(&rt, rt.alloc(), TWO_SESSIONS.as_bytes());

@@ -4,6 +4,7 @@ use Rattle.std.specs.Prelude.{codes, decimal, bytes_eq, nat_lt}
 use Rattle.std.specs.List.{AllByRecursion}
 use Rattle.std.proofs.lemmas.Bool.{lt-ltb, le-ltb, le-leb, eq-eqb}
 use Rattle.std.proofs.lemmas.List.{append-nil}
+use Rattle.std.proofs.lemmas.List.Splits.{join_with_byte-slice_split}
 use Rattle.std.proofs.lemmas.Slice.Eq.{bytes_eq-Decides}
 use Rattle.spans.specs.declared.calls.commands.Cmd.{Cmd}
 use Rattle.spans.specs.declared.calls.commands.Cmd.TheVariants as cmd
@@ -12,14 +13,15 @@ use Rattle.script.specs.declared.fault.LineFault.{LineFault}
 use Rattle.script.specs.declared.table.Verb.TheVariants as verb
 use Rattle.script.specs.Spelling.{spelling, bytes_of, AreBytes}
 use Rattle.script.specs.Table.{Row, table}
-use Rattle.script.specs.Words.{text_at, words_at}
+use Rattle.script.specs.Words.{text_at, words, words_at}
 use Rattle.script.specs.Commands.{joined, bound_word, words_of, command_line}
 use Rattle.json_lines.specs.Messages.{IsKey}
 use Rattle.script.specs.Limits.{IsNumber, IsValue, IsBound, IsSpan, IsCommand}
-use Rattle.script.specs.Reading.{◌>>=◌, number_at, session_at, bytes_at, key_at, value_at, bound_at, span_at, row_at, arguments_at, command_at}
+use Rattle.script.specs.Reading.{◌>>=◌, number_at, session_at, bytes_at, key_at, value_at, bound_at, span_at, row_at, arguments_at, command_of, command_at}
 use Rattle.script.proofs.NumberWords.{number_only}
 use Rattle.script.proofs.SpelledWords.{some_of, some_is, not_true, spelled_only}
 use Rattle.script.proofs.Joining.{some_words}
+use Rattle.script.proofs.ReadCommands.{command_words_found}
 use Rattle.script.proofs.JoinedParts.{IsWord, text_again, words_again}
 use Rattle.script.proofs.WrittenWords.{number_word, number_length, joined_few, command_words, command_few}
 
@@ -144,7 +146,7 @@ two_words c seat = omega (arith, some_words c)
 
 -- a command's line is read as this command
 pub command_again : (seats seat : ℕ) (c : Cmd) → seats < 2 ^ 8 → seat < seats → IsCommand c → command_at table seats (command_line seat c) ≡ Ok (seat, c)
-unfolding command_at
+unfolding command_at command_of
 command_again seats seat c few lt is =
     let ws = decimal seat ∷ words_of c in
     let small : IsNumber seat = omega arith in
@@ -157,3 +159,15 @@ command_again seats seat c few lt is =
     let named : row_at table (words_of c) ≡ Ok (again.row, again.front) = ap (row_at table) (sym (append-nil (words_of c))) ∙ again.named ∙ ap (λ (v : List (List ℕ)). Ok (again.row, v)) (append-nil again.front) in
     let read : arguments_at again.row.verb again.front ≡ Ok (c, []) = ap (arguments_at again.row.verb) (sym (append-nil again.front)) ∙ again.read in
     rw (text, words, many, session_again seats seat (words_of c) lt small, named, eq-eqb (length again.front) again.row.arguments again.count, read) refl
+
+-- the words that a command was read from are printable, and none of them is empty
+pub taken_right : (seats : ℕ) (line text : List ℕ) (x : ℕ × Cmd) → seats < 2 ^ 8 → text_at line ≡ Ok text → command_of table seats (words text) ≡ Ok x → command_at table seats line ≡ Ok x
+unfolding command_at
+taken_right seats line text x few t taken =
+    let found = command_words_found seats (words text) x taken in
+    let ws = decimal x.0 ∷ words_of x.1 in
+    let small : IsNumber x.0 = omega (arith, found.1) in
+    let are : AllByRecursion IsWord ws = (number_word x.0 small, command_words x.1 found.2) in
+    let is : text ≡ joined ws = sym (join_with_byte-slice_split 32 text) ∙ ap joined found.0 in
+    let good : words_at text ≡ Ok (words text) = ap words_at is ∙ words_again ws (omega arith) are ∙ ap (λ (v : List (List ℕ)). Ok v) (sym found.0) in
+    rw (t, good) taken

@@ -1,6 +1,6 @@
 -- What is read as a command is written so.
 use Rattle.std.proofs.Common.{◌≡◌, ℕ, ◌+◌, ◌-◌, ◌<◌, Bool, true, false, cond, List, [], ◌∷◌, ◌++◌, length, get_or, take, Option, Some, Result, Ok, Err, refl, sym, ap, subst, ◌∙◌, inl, inr, arith}
-use Rattle.std.specs.Prelude.{codes, decimal, bytes_eq, ok_or, IfOk, not, ◌==◌, nat_lt}
+use Rattle.std.specs.Prelude.{codes, decimal, bytes_eq, ok_or, not, ◌==◌, nat_lt}
 use Rattle.std.specs.List.{AllByRecursion, list_all, list_any}
 use Rattle.std.proofs.lemmas.Bool.{eqb-true, cases_lt}
 use Rattle.std.proofs.lemmas.List.{take_more, take_all, append-nil, nil_from_length, length-append, get_or_past}
@@ -11,7 +11,6 @@ use Rattle.spans.specs.declared.calls.commands.Cmd.TheVariants as cmd
 use Rattle.spans.specs.declared.span.Span.{Span}
 use Rattle.script.specs.declared.fault.LineFault.{LineFault}
 use Rattle.script.specs.declared.fault.LineFault.TheVariants.{WordCount, UnknownCommand, LineTooLong, NoNewline, BadByte}
-use Rattle.script.specs.declared.fault.ReadError.{ReadError}
 use Rattle.script.specs.declared.table.Verb.{Verb}
 use Rattle.script.specs.declared.table.Verb.TheVariants as verb
 use Rattle.script.specs.declared.words.TheConstants.{MAX_LINE_BYTES}
@@ -21,7 +20,7 @@ use Rattle.script.specs.Table.{Row, row_of, table}
 use Rattle.script.specs.Commands.{joined, bound_word, words_of, command_line}
 use Rattle.json_lines.specs.Messages.{IsKey}
 use Rattle.script.specs.Limits.{IsNumber, IsSpan, IsCommand}
-use Rattle.script.specs.Reading.{◌>>=◌, Gives, word_at, number_at, session_at, key_at, value_at, span_at, row_at, arguments_at, command_at}
+use Rattle.script.specs.Reading.{◌>>=◌, word_at, number_at, session_at, key_at, value_at, span_at, row_at, arguments_at, command_of, command_at}
 use Rattle.script.proofs.ReadWords.{bind_ok, refused, some_ok, ok_is, pure, number_word, session_word, key_word, value_word, span_words, word_found}
 
 -- the name of a verb, and how many arguments it takes
@@ -215,25 +214,26 @@ counted : {B : Type 0} (b : Bool) (r : Result B LineFault) (y : B) → cond b r 
 counted true r y e = (refl, e)
 counted false r y e = absurd cc
 
-pub command_found : (seats : ℕ) (line : List ℕ) (x : ℕ × Cmd) → command_at table seats line ≡ Ok x → (line ≡ command_line x.0 x.1) × (x.0 < seats) × IsCommand x.1
-unfolding command_at
-command_found seats line x e =
-    let t = bind_ok (text_at line) (λ text. words_at text >>= λ ws. cond (nat_lt (length ws) 2) (Err WordCount) (session_at seats ws >>= λ s. row_at table s.1 >>= λ r. cond (length r.1 == r.0.arguments) (arguments_at r.0.verb r.1 >>= λ c. Ok (s.0, c.0)) (Err WordCount))) x e in
-    let w = bind_ok (words_at t.0) (λ ws. cond (nat_lt (length ws) 2) (Err WordCount) (session_at seats ws >>= λ s. row_at table s.1 >>= λ r. cond (length r.1 == r.0.arguments) (arguments_at r.0.verb r.1 >>= λ c. Ok (s.0, c.0)) (Err WordCount))) x t.2 in
-    let g = refused (nat_lt (length w.0) 2) WordCount (session_at seats w.0 >>= λ s. row_at table s.1 >>= λ r. cond (length r.1 == r.0.arguments) (arguments_at r.0.verb r.1 >>= λ c. Ok (s.0, c.0)) (Err WordCount)) x w.2 in
-    let s = bind_ok (session_at seats w.0) (λ s. row_at table s.1 >>= λ r. cond (length r.1 == r.0.arguments) (arguments_at r.0.verb r.1 >>= λ c. Ok (s.0, c.0)) (Err WordCount)) x g.1 in
+pub command_words_found : (seats : ℕ) (ws : List (List ℕ)) (x : ℕ × Cmd) → command_of table seats ws ≡ Ok x → (ws ≡ decimal x.0 ∷ words_of x.1) × (x.0 < seats) × IsCommand x.1
+unfolding command_of
+command_words_found seats ws x e =
+    let g = refused (nat_lt (length ws) 2) WordCount (session_at seats ws >>= λ s. row_at table s.1 >>= λ r. cond (length r.1 == r.0.arguments) (arguments_at r.0.verb r.1 >>= λ c. Ok (s.0, c.0)) (Err WordCount)) x e in
+    let s = bind_ok (session_at seats ws) (λ s. row_at table s.1 >>= λ r. cond (length r.1 == r.0.arguments) (arguments_at r.0.verb r.1 >>= λ c. Ok (s.0, c.0)) (Err WordCount)) x g.1 in
     let r = bind_ok (row_at table s.0.1) (λ r. cond (length r.1 == r.0.arguments) (arguments_at r.0.verb r.1 >>= λ c. Ok (s.0.0, c.0)) (Err WordCount)) x s.2 in
     let n = counted (length r.0.1 == r.0.0.arguments) (arguments_at r.0.0.verb r.0.1 >>= λ c. Ok (s.0.0, c.0)) x r.2 in
     let c = bind_ok (arguments_at r.0.0.verb r.0.1) (λ c. Ok (s.0.0, c.0)) x n.1 in
-    let session = session_word seats w.0 s.0 s.1 in
+    let session = session_word seats ws s.0 s.1 in
     let row = row_word table s.0.1 r.0 table_right r.1 in
     let begins = arguments_found r.0.0.verb r.0.1 c.0 c.1 in
     let many : length r.0.1 ≡ arity_of r.0.0.verb = eqb-true _ _ n.0 ∙ row.1 in
-    let all : w.0 ≡ decimal s.0.0 ∷ words_of c.0.0 = session.0 ∙ ap (λ (v : List (List ℕ)). decimal s.0.0 ∷ v) (row.0 ∙ nothing_left (name_of r.0.0.verb) (arity_of r.0.0.verb) r.0.1 c.0 begins many) in
-    subst (λ (y : ℕ × Cmd). (line ≡ command_line y.0 y.1) × (y.0 < seats) × IsCommand y.1) (ok_is (s.0.0, c.0.0) x c.2)
-    (text_found line t.0 t.1 ∙ ap (λ (v : List ℕ). v ++ 10 ∷ []) (words_found t.0 w.0 w.1 ∙ ap joined all), session.1, begins.lawful)
+    let all : ws ≡ decimal s.0.0 ∷ words_of c.0.0 = session.0 ∙ ap (λ (v : List (List ℕ)). decimal s.0.0 ∷ v) (row.0 ∙ nothing_left (name_of r.0.0.verb) (arity_of r.0.0.verb) r.0.1 c.0 begins many) in
+    subst (λ (y : ℕ × Cmd). (ws ≡ decimal y.0 ∷ words_of y.1) × (y.0 < seats) × IsCommand y.1) (ok_is (s.0.0, c.0.0) x c.2)
+    (all, session.1, begins.lawful)
 
--- what is read of a line is its text, where nothing is said of want of memory
-pub read_found : (seats : ℕ) (line : List ℕ) (r : Result (ℕ × Cmd) ReadError) → Gives (λ x. x) r (command_at table seats line) → IfOk r (λ x. (line ≡ command_line x.0 x.1) × (x.0 < seats) × IsCommand x.1)
-read_found seats line (Ok x) given = command_found seats line x given
-read_found seats line (Err e) given = tt
+pub command_found : (seats : ℕ) (line : List ℕ) (x : ℕ × Cmd) → command_at table seats line ≡ Ok x → (line ≡ command_line x.0 x.1) × (x.0 < seats) × IsCommand x.1
+unfolding command_at
+command_found seats line x e =
+    let t = bind_ok (text_at line) (λ text. words_at text >>= λ ws. command_of table seats ws) x e in
+    let w = bind_ok (words_at t.0) (λ ws. command_of table seats ws) x t.2 in
+    let c = command_words_found seats w.0 x w.2 in
+    (text_found line t.0 t.1 ∙ ap (λ (v : List ℕ). v ++ 10 ∷ []) (words_found t.0 w.0 w.1 ∙ ap joined c.0), c.1, c.2)

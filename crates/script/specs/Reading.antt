@@ -141,14 +141,19 @@ arguments_at verb.Poll words = do
 arguments_at verb.Cancel words = with_number cmd.Cancel words
 arguments_at verb.Stats words = Ok (cmd.Stats, words)
 
+-- the session and the command, from the words of a line
+unfoldable pub command_of : List Row → ℕ → List (List ℕ) → Result (ℕ × Cmd) LineFault
+command_of rows seats words =
+    if nat_lt (length words) 2 then Err WordCount else (do
+      session ← session_at seats words
+      row ← row_at rows session.1
+      if length row.1 == row.0.arguments then (do
+        c ← arguments_at row.0.verb row.1
+        Ok (session.0, c.0)) else Err WordCount)
+
 -- the session and the command of a line: the tests in the order in which they count
 unfoldable pub command_at : List Row → ℕ → List ℕ → Result (ℕ × Cmd) LineFault
 command_at rows seats line = do
   text ← text_at line
   words ← words_at text
-  if nat_lt (length words) 2 then Err WordCount else (do
-    session ← session_at seats words
-    row ← row_at rows session.1
-    if length row.1 == row.0.arguments then (do
-      c ← arguments_at row.0.verb row.1
-      Ok (session.0, c.0)) else Err WordCount)
+  command_of rows seats words

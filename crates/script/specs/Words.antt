@@ -43,8 +43,3 @@ words_at text =
 -- the words that are still to come: as many as are left
 abbrev pub words_left : ℕ → List ℕ → List (List ℕ)
 words_left left rest = if left == 0 then [] else words rest
-
--- how many they are
-abbrev pub counted : Result (List (List ℕ)) LineFault → Result ℕ LineFault
-counted (Ok words) = Ok (length words)
-counted (Err fault) = Err fault

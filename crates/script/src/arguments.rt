@@ -12,6 +12,7 @@ use timestamps::key::{Key, KeyError};
 use timestamps::value::{Value, ValueError};
 
 /// A number.
+#[inline(always)]
 #[tactic(auto, unfolding(crate::specs::Reading::number_at))]
 pub(crate) fn take_number(words: &mut Words) -> Result<u64, ReadError>
     ensures { Takes result words.new (number_at words.old) }
@@ -22,6 +23,7 @@ pub(crate) fn take_number(words: &mut Words) -> Result<u64, ReadError>
 }
 
 /// A key. It is copied once.
+#[inline(always)]
 #[tactic(auto, unfolding(crate::specs::Reading::key_at))]
 pub(crate) fn take_key(alloc: Global, words: &mut Words) -> Result<Key, ReadError>
     ensures { Takes result words.new (key_at words.old) }

@@ -1,8 +1,10 @@
 //! Commands as lines: the session's number, the command's name and its arguments.
 
-ghost use Rattle.std.specs.Prelude.{◌≡◌, ◌++◌, ◌∷◌, [], ◌<◌, map, decimal, IfOk, OnOk, OnErr};
-ghost use Rattle.script.specs.Reading.{Gives, Takes, TakesFree, TakesForm, session_at, row_at, arguments_at, command_at};
-ghost use Rattle.script.specs.Table.{row_view, table};
+ghost use Rattle.std.specs.Prelude.{◌≡◌, ◌++◌, ◌∷◌, [], ◌<◌, decimal, IfOk, OnOk, OnErr};
+ghost use Rattle.script.specs.Reading.{Gives, Takes, TakesFree, TakesForm, session_at, row_at, arguments_at, command_of, command_at};
+ghost use Rattle.script.specs.Table.{table};
+ghost use Rattle.script.specs.declared.words.TheConstants.{MAX_LINE_BYTES};
+ghost use Rattle.script.specs.Words.{words};
 ghost use Rattle.script.specs.Spelling.{spelling};
 ghost use Rattle.script.specs.Limits.{IsCommand};
 ghost use Rattle.script.specs.Writing.{Keeps};
@@ -13,8 +15,8 @@ use crate::buffer::or_undo;
 use crate::fault::{LineFault, ReadError};
 use crate::numbers::{number_of, put_number};
 use crate::spelling::put_spelling;
-use crate::table::{FORMS, Form, Verb, form_of};
-use crate::words::{Words, text_of, words_of};
+use crate::table::{Form, Verb, form_of};
+use crate::words::{Words, check_words, text_of, words_in};
 use spans::bound::Bound;
 use spans::calls::Cmd;
 use spans::span::Span;
@@ -22,32 +24,39 @@ use std::alloc::{AllocError, Global};
 
 /// Reads a command's line, with its newline: the session, below `seats`, and the command. It
 /// allocates for the command's keys, values and bounds alone.
+///
+/// A line that is read has only printable bytes and no empty word, since no command's text has
+/// others: so they are looked for only where there is another fault, before which they count.
+#[tactic(auto, unfolding(crate::specs::Reading::command_at))]
 pub fn read_command(alloc: Global, line: &[u8], seats: u8) -> Result<(u8, Cmd), ReadError>
     // What is read is the text of this command, byte for byte.
     ensures found { IfOk result (λ x. (line.now ≡ command_line x.0 x.1) × (x.0 < seats) × IsCommand x.1) }
     // Which fault it is: the first from the left.
     ensures exact { Gives (λ x. x) result (command_at table seats line.now) }
-{
-    read_among(alloc, &FORMS, line, seats)
-}
-
-/// Reads a command of these rows of the table.
-#[tactic(auto, unfolding(crate::specs::Reading::command_at))]
-pub(crate) fn read_among(
-    alloc: Global,
-    forms: &[Form],
-    line: &[u8],
-    seats: u8,
-) -> Result<(u8, Cmd), ReadError>
-    ensures { Gives (λ x. x) result (command_at (map row_view forms.now) seats line.now) }
+    ensures limit { MAX_LINE_BYTES ≡ 4096 }
 {
     let text = text_of(line)?;
-    let mut words = words_of(text)?;
+    match take_command(alloc, text, seats) {
+        Ok(read) => Ok(read),
+        Err(ReadError::NoMemory) => Err(ReadError::NoMemory),
+        Err(ReadError::Fault(fault)) => {
+            check_words(text)?;
+            Err(ReadError::Fault(fault))
+        }
+    }
+}
+
+/// Reads a command from the words of a text.
+#[tactic(auto, unfolding(crate::specs::Reading::command_of))]
+fn take_command(alloc: Global, text: &[u8], seats: u8) -> Result<(u8, Cmd), ReadError>
+    ensures { Gives (λ x. x) result (command_of table seats (words text.now)) }
+{
+    let mut words = words_in(text);
     if words.len() < 2 {
         return Err(ReadError::Fault(LineFault::WordCount));
     }
     let seat = take_seat(&mut words, seats)?;
-    let form = take_form(&mut words, forms)?;
+    let form = take_form(&mut words)?;
     if words.len() != form.arguments {
         return Err(ReadError::Fault(LineFault::WordCount));
     }
@@ -68,15 +77,17 @@ pub(crate) fn take_seat(words: &mut Words, seats: u8) -> Result<u8, LineFault>
 }
 
 /// The row of a command's name.
+#[inline(always)]
 #[tactic(auto, unfolding(crate::specs::Reading::row_at))]
-pub(crate) fn take_form(words: &mut Words, forms: &[Form]) -> Result<Form, LineFault>
-    ensures { TakesForm result words.new (row_at (map row_view forms.now) words.old) }
+pub(crate) fn take_form(words: &mut Words) -> Result<Form, LineFault>
+    ensures { TakesForm result words.new (row_at table words.old) }
 {
     let name = words.take_word().ok_or(LineFault::WordCount)?;
-    form_of(forms, name).ok_or(LineFault::UnknownCommand)
+    form_of(name).ok_or(LineFault::UnknownCommand)
 }
 
 /// The command, from the words of its arguments.
+#[inline(always)]
 #[tactic(auto, unfolding(crate::specs::Reading::arguments_at))]
 pub(crate) fn take_arguments(alloc: Global, verb: Verb, words: &mut Words) -> Result<Cmd, ReadError>
     ensures { Takes result words.new (arguments_at verb words.old) }

@@ -1,14 +1,12 @@
 //! The first line of an event: its position, its session, its command and what its reply's words say.
 ghost use Rattle.std.specs.Prelude.{◌≡◌, drop};
-ghost use Rattle.script.specs.Reading.{Gives, TakesForm, row_at};
-ghost use Rattle.script.specs.Table.{table};
+ghost use Rattle.script.specs.Reading.{Gives};
 ghost use Rattle.script.specs.EventLines.{behind_arrow, heading_of, heading_at};
 
 use crate::arguments::take_number;
 use crate::commands::{take_arguments, take_form, take_seat};
 use crate::fault::{LineFault, ReadError};
 use crate::reply_reading::{Shape, read_reply};
-use crate::table::{FORMS, Form};
 use crate::words::{Words, text_of, words_of};
 use spans::calls::Cmd;
 use std::alloc::Global;
@@ -45,7 +43,7 @@ fn take_heading(alloc: Global, words: &mut Words) -> Result<Heading, ReadError>
 {
     let position = take_number(words)?;
     let seat = take_seat(words, SEATS)?;
-    let form = take_known(words)?;
+    let form = take_form(words)?;
     let mut answer = words_behind_arrow(words, form.arguments)?;
     let cmd = take_arguments(alloc, form.verb, words)?;
     let shape = read_reply(alloc, &mut answer)?;
@@ -55,13 +53,6 @@ fn take_heading(alloc: Global, words: &mut Words) -> Result<Heading, ReadError>
         cmd,
         shape,
     })
-}
-
-/// The row of a command's name, among all commands.
-fn take_known(words: &mut Words) -> Result<Form, LineFault>
-    ensures { TakesForm result words.new (row_at table words.old) }
-{
-    take_form(words, &FORMS)
 }
 
 /// The words of the reply: those behind so many arguments and `=>`.

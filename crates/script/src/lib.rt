@@ -15,8 +15,9 @@
 //! takes the words of a line that it is lent, and allocates for keys, values and bounds alone. A
 //! transcript is read line by line, and a fault in it is told with the number of its line.
 //!
-//! Cost: each byte of a line is looked at three times to read it, and once to write it; of a
-//! transcript's line once more, to find where it ends.
+//! Cost: each byte of a line is looked at three times to read it, as words are counted, cut and read,
+//! and once to write it; of a transcript's line twice more, to find where it ends and whether its
+//! bytes are printable.
 #![tactic(auto)]
 
 mod arguments;

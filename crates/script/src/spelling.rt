@@ -102,6 +102,7 @@ impl Spelled<'_> {
 
 /// The bytes that a word spells, or the fault `BadByte` where it is the spelling of none. It
 /// allocates only for a word with an escaped byte.
+#[inline(always)]
 #[tactic(auto, using(crate::proofs::Spellings::plain_word), unfolding(crate::specs::Spelling::bytes_of))]
 pub(crate) fn bytes_of<'a>(alloc: Global, word: &'a [u8]) -> Result<Spelled<'a>, ReadError>
     ensures { Gives spelled_bytes result (ok_or (bytes_of word.now) LineFault.BadByte) }
@@ -122,6 +123,8 @@ pub(crate) fn bytes_of<'a>(alloc: Global, word: &'a [u8]) -> Result<Spelled<'a>,
 }
 
 /// The bytes of a word, of which some are escaped.
+#[cold]
+#[inline(never)]
 fn unescaped(alloc: Global, word: &[u8]) -> Result<Vec<u8>, ReadError>
     ensures { Gives (λ bytes. bytes.items) result (ok_or (unspelled word.now) LineFault.BadByte) }
 {

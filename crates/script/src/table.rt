@@ -1,6 +1,6 @@
 //! The table of commands: the name of each, and how many arguments stand behind it.
 ghost use Rattle.std.specs.Prelude.{◌≡◌, map, option_map};
-ghost use Rattle.script.specs.Table.{row_of, row_view};
+ghost use Rattle.script.specs.Table.{row_of, row_view, table};
 
 /// Which command.
 #[derive(Clone, Copy, Debug, PartialEq, Eq)]
@@ -127,8 +127,14 @@ pub(crate) static FORMS: [Form; 18] = [
     },
 ];
 
-/// The row of a name among the rows.
-pub(crate) fn form_of(forms: &[Form], name: &[u8]) -> Option<Form>
+/// The row of a name.
+pub(crate) fn form_of(name: &[u8]) -> Option<Form>
+    ensures { option_map row_view result ≡ row_of table name.now }
+{
+    form_among(&FORMS, name)
+}
+
+fn form_among(forms: &[Form], name: &[u8]) -> Option<Form>
     ensures { option_map row_view result ≡ row_of (map row_view forms.now) name.now }
 {
     for form in forms {

@@ -1,10 +1,9 @@
 //! What no clause says: that lines are taken and written, by the tables of the format.
-use crate::commands::{read_among, read_command, write_command};
+use crate::commands::{read_command, write_command};
 use crate::events::{write_event, write_fault, write_spent};
 use crate::fault::{LineFault, ReadError};
 use crate::replies::write_reply;
 use crate::spelling::{bytes_of, put_spelling};
-use crate::table::FORMS;
 use spans::calls::{Cmd, Event, Message, Messages, Refusal, Reply, Rows};
 use std::alloc::AllocError;
 use std::process::Abort;
@@ -89,7 +88,7 @@ fn commands_come_back(rt: HostRuntime) -> Result<(), Fail> {
         b"1 cancel 1\n",
         b"0 stats\n",
     ] {
-        let (seat, cmd) = read_among(rt.alloc(), &FORMS, line, 64)?;
+        let (seat, cmd) = read_command(rt.alloc(), line, 64)?;
         let mut out = Vec::new(rt.alloc());
         write_command(&mut out, seat, &cmd)?;
         assert_eq!(rt; out.as_slice(), line);
@@ -128,7 +127,7 @@ fn faults_of_commands(rt: HostRuntime) {
         (b"x jump \r\n", 9),
     ] {
         assert_eq!(rt;
-            code_of(read_among(rt.alloc(), &FORMS, line, 64)),
+            code_of(read_command(rt.alloc(), line, 64)),
             code,
             "at {line:?}"
         );
@@ -173,7 +172,7 @@ fn limits(rt: HostRuntime) -> Result<(), Fail> {
         (b"0 put 1 a ", 4087, b"\n", 8),
     ] {
         let line = letters(&rt, front, count, end)?;
-        let result = read_among(rt.alloc(), &FORMS, &line, 64);
+        let result = read_command(rt.alloc(), &line, 64);
         assert_eq!(rt; code_of(result), code, "{count} letters behind {front:?}");
     }
     Ok(())

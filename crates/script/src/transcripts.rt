@@ -10,12 +10,13 @@
 //! The place of `=>` is known from the number of the command's arguments, so a value may be spelled
 //! so. A number of lines that follow asks for no room by itself: it is made line by line.
 //!
-//! Cost: each byte is looked at four times, and keys, values and bounds are copied once.
+//! Cost: each byte is looked at five times, and keys, values and bounds are copied once.
 ghost use Rattle.std.specs.Prelude.{◌≡◌, IfOk};
 ghost use Rattle.std.specs.List.{All};
 ghost use Rattle.script.specs.Events.{transcript_text};
 ghost use Rattle.script.specs.Limits.{IsEvent};
 ghost use Rattle.script.specs.EventLines.{heading_at};
+ghost use Rattle.script.specs.declared.words.TheConstants.{MAX_LINE_BYTES};
 ghost use Rattle.script.specs.Transcripts.{Tells, TakesLines, next_at, event_at, transcript_at};
 
 use crate::fault::{LineFault, ReadError, TranscriptError};
@@ -31,6 +32,7 @@ pub fn read_transcript(alloc: Global, text: &[u8]) -> Result<Vec<Event>, Transcr
     ensures found { IfOk result (λ events. (text.now ≡ transcript_text events.items) × All IsEvent events.items) }
     // Which fault it is, and in which line: the first from the top and from the left.
     ensures exact { Tells (λ events. events.items) result (transcript_at text.now) }
+    ensures limit { MAX_LINE_BYTES ≡ 4096 }
 {
     events_of(alloc, text)
 }

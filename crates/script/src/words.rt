@@ -1,6 +1,6 @@
 //! Lines cut into words.
 ghost use Rattle.std.specs.Prelude.{◌≡◌, ◌⊎◌, ◌∷◌, [], ◌<◌, length, position, IfSome, MatchOption, MatchResult};
-ghost use Rattle.script.specs.Words.{text_at, words, words_at, counted, is_printable, is_space};
+ghost use Rattle.script.specs.Words.{text_at, words, words_at, is_printable, is_space};
 
 use crate::fault::LineFault;
 use std::marker::Model;
@@ -28,23 +28,39 @@ pub(crate) fn text_of(line: &[u8]) -> Result<&[u8], LineFault>
 }
 
 /// The words of a text, all of its bytes printable and none of the words empty.
-#[tactic(auto, unfolding(crate::specs::Words::words_at))]
 pub(crate) fn words_of(text: &[u8]) -> Result<Words<'_>, LineFault>
     ensures { result ≡ words_at text.now }
 {
-    let count = count_words(text)?;
-    Ok(Words {
-        rest: text,
-        left: count,
-    })
+    check_words(text)?;
+    Ok(words_in(text))
 }
 
-/// How many words a text has, all of its bytes printable and none of the words empty.
-#[tactic(auto, unfolding(crate::specs::Words::words_at))]
-fn count_words(text: &[u8]) -> Result<usize, LineFault>
-    ensures { result ≡ counted (words_at text.now) }
+/// The words of a text as they stand: some may be empty, or have a byte that isn't printable.
+pub(crate) fn words_in(text: &[u8]) -> Words<'_>
+    ensures { result ≡ words text.now }
+{
+    Words {
+        rest: text,
+        left: count_words(text),
+    }
+}
+
+/// How many words a text has, the empty ones among them.
+fn count_words(text: &[u8]) -> usize
+    ensures { result ≡ length (words text.now) }
 {
     let mut spaces = 0usize;
+    for byte in text {
+        spaces += usize::from(*byte == b' ');
+    }
+    spaces + 1
+}
+
+/// Whether all bytes of a text are printable, and then whether none of its words is empty.
+#[tactic(auto, unfolding(crate::specs::Words::words_at))]
+pub(crate) fn check_words(text: &[u8]) -> Result<(), LineFault>
+    ensures { MatchResult result (λ _. words_at text.now ≡ Ok (words text.now)) (λ fault. words_at text.now ≡ Err fault) }
+{
     let mut after_space = true;
     let mut has_empty = false;
     for byte in text {
@@ -54,12 +70,11 @@ fn count_words(text: &[u8]) -> Result<usize, LineFault>
         let is_space = *byte == b' ';
         has_empty = has_empty | (after_space & is_space);
         after_space = is_space;
-        spaces += usize::from(is_space);
     }
     if has_empty | after_space {
         return Err(LineFault::WordCount);
     }
-    Ok(spaces + 1)
+    Ok(())
 }
 
 /// Whether a byte is the space or printable.

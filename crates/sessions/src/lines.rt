@@ -1,14 +1,13 @@
 //! The lines of an input, read in large blocks.
 ghost use Rattle.std.specs.Prelude.{◌≡◌, ◌≤◌, ◌<◌, ◌+◌, length, IfOk, vec_len};
 
+use memchr::memchr;
+use script::words::MAX_LINE_BYTES;
 use std::alloc::{AllocError, Global};
 use std::io::Read;
 
 /// How many bytes are asked for at once.
 pub(crate) const BLOCK: usize = 65536;
-
-/// A line that grows past this many bytes without a newline is handed out as it is.
-pub(crate) const LONGEST: usize = 4096;
 
 /// What the bytes that were read so far hold next.
 #[derive(Clone, Copy, Debug, PartialEq, Eq)]
@@ -58,10 +57,11 @@ impl<R: Read + Drop> Lines<R> {
     /// What comes next.
     pub(crate) fn next(&self) -> Next {
         let waiting = self.waiting();
-        if let Some(at) = waiting.iter().position(|b| *b == b'\n') {
+        if let Some(at) = memchr(b'\n', waiting) {
             return Next::Line(at + 1);
         }
-        if waiting.len() > LONGEST {
+        // a line that grows past its limit is handed out as it is
+        if waiting.len() > MAX_LINE_BYTES {
             return Next::Line(waiting.len());
         }
         if !self.ended {

@@ -30,32 +30,17 @@ impl<W: Write + Drop> Output<W> {
 
     /// Keeps the text of an event. Where memory is wanted, none of it.
     pub(crate) fn keep_event(&mut self, event: &Event) -> Result<(), AllocError> {
-        let before = self.pending.len();
-        let kept = write_event(&mut self.pending, event);
-        if kept.is_err() {
-            self.pending.truncate(before);
-        }
-        kept
+        write_event(&mut self.pending, event)
     }
 
     /// Keeps the last line of an output whose input has a faulty line.
     pub(crate) fn keep_fault(&mut self, line: u64, fault: LineFault) -> Result<(), AllocError> {
-        let before = self.pending.len();
-        let kept = write_fault(&mut self.pending, line, fault);
-        if kept.is_err() {
-            self.pending.truncate(before);
-        }
-        kept
+        write_fault(&mut self.pending, line, fault)
     }
 
     /// Keeps the last line of an output whose positions are used up.
     pub(crate) fn keep_spent(&mut self, line: u64) -> Result<(), AllocError> {
-        let before = self.pending.len();
-        let kept = write_spent(&mut self.pending, line);
-        if kept.is_err() {
-            self.pending.truncate(before);
-        }
-        kept
+        write_spent(&mut self.pending, line)
     }
 
     /// Writes what waits where that is a block or more.

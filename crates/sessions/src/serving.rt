@@ -95,6 +95,7 @@ impl<R: Read + Drop, W: Write + Drop> Run<R, W> {
         Ok(())
     }
 
+    #[inline(always)]
     fn call<T: Wait>(&mut self, rt: &T, seat: u8, cmd: Cmd) -> Result<(), End>
         requires there { seat < vec_len self.old.callers.seats }
     {

@@ -1,12 +1,10 @@
 //! Whole inputs and whole outputs, for a program that answers once it has read everything.
 
 use crate::ending::End;
+use crate::lines::BLOCK;
 use crate::output::write_all;
 use std::alloc::Global;
 use std::io::{Read, Write};
-
-/// How many bytes are asked for at once.
-const BLOCK: usize = 65536;
 
 /// Reads a source to its end. A read that fails in any way is not tried again.
 pub fn read_whole<R: Read>(alloc: Global, source: &mut R) -> Result<Vec<u8>, End> {

@@ -5,7 +5,7 @@ use super::{Ran, TRANSCRIPTS, random, run_of};
 use crate::check::check_io;
 use crate::command_line::{Job, command, job_of};
 use crate::ending::End;
-use std::alloc::Global;
+use std::alloc::{AllocError, Global};
 use std::test::Fail;
 
 /// Transcripts, each with how its check ends and what is written.
@@ -163,6 +163,53 @@ fn a_check_whose_devices_fail(rt: HostRuntime) {
         );
         assert_eq!(rt; sink.taken.as_slice(), b"ye".as_slice());
     }
+}
+
+/// A transcript of more than one block, whose last event alone is wrong: a check that leaves out its end
+/// says something else.
+fn long_transcript(alloc: Global) -> Result<Vec<u8>, AllocError> {
+    let mut transcript = Vec::new(alloc);
+    for position in 0..4000 {
+        let line = format!(in alloc; "{position} 0 get 7 a => notxn\n")?;
+        transcript.extend_from_slice(line.as_bytes())?;
+    }
+    transcript.extend_from_slice(b"4000 0 stats => started\n")?;
+    Ok(transcript)
+}
+
+#[test]
+fn a_check_reads_all_pieces(rt: HostRuntime) -> Result<(), Fail> {
+    let transcript = long_transcript(rt.alloc())?;
+    for piece in [1, 7, 4096, 65536, usize::MAX] {
+        let mut sink = Sink::new(rt.alloc());
+        let source = Source::new(transcript.as_slice()).in_pieces_of(piece);
+        let end = check_io(rt.alloc(), source, &mut sink);
+        assert_eq!(rt; end, End::No, "in pieces of {piece}");
+        assert_eq!(rt;
+            sink.taken.as_slice(),
+            b"no 4000\n".as_slice(),
+            "in pieces of {piece}"
+        );
+    }
+    Ok(())
+}
+
+#[test]
+fn a_check_whose_reads_fail_in_mid_stream(rt: HostRuntime) -> Result<(), Fail> {
+    let transcript = long_transcript(rt.alloc())?;
+    // within a line, behind a whole line, in the second block, and in the place of the end
+    for length in [5000, 21, 70000, transcript.len()] {
+        for piece in [7, 4096, usize::MAX] {
+            let mut sink = Sink::new(rt.alloc());
+            let source = Source::new(transcript.as_slice())
+                .in_pieces_of(piece)
+                .failing_after(length);
+            let end = check_io(rt.alloc(), source, &mut sink);
+            assert_eq!(rt; end, End::Input, "after {length} bytes");
+            assert!(rt; sink.taken.is_empty(), "after {length} bytes");
+        }
+    }
+    Ok(())
 }
 
 #[test]

@@ -1,5 +1,30 @@
 //! Feeds.
 
+/// The floor of a feed that lags.
+pub(crate) const LAGGING: &str = "0 0 begin 5 => started
+1 0 put 5 a 1 => written
+2 0 commit 5 => committed 1
+3 0 begin 10 => started
+4 0 put 10 a 2 => written
+5 0 commit 10 => committed 1
+6 0 begin 20 => started
+7 0 put 20 a 3 => written
+8 0 commit 20 => committed 1
+9 0 open - - 5 => opened 1
+10 0 close 30 => closed 30 0
+11 0 poll 1 1 => messages 1
+{\"after\":\"Mg==\",\"key\":\"YQ==\",\"updated\":\"10\"}
+12 0 collect 30 => collected 9 0
+13 0 poll 1 10 => messages 2
+{\"after\":\"Mw==\",\"key\":\"YQ==\",\"updated\":\"20\"}
+{\"resolved\":\"30\"}
+14 0 collect 30 => collected 30 2
+15 0 stats => stats 1 0 1 30 30
+16 0 readat 29 a => belowhorizon 30
+17 0 readat 30 a => value 3
+18 0 readat 31 a => notclosed 30
+";
+
 /// Transcripts of runs that end well.
 pub(crate) const TRANSCRIPTS: [&str; 7] = [
     // the order of commits is not that of the stream
@@ -51,30 +76,7 @@ pub(crate) const TRANSCRIPTS: [&str; 7] = [
 {\"after\":\"Mw==\",\"key\":\"Yw==\",\"updated\":\"12\"}
 {\"resolved\":\"15\"}
 ",
-    // the floor of a feed that lags
-    "0 0 begin 5 => started
-1 0 put 5 a 1 => written
-2 0 commit 5 => committed 1
-3 0 begin 10 => started
-4 0 put 10 a 2 => written
-5 0 commit 10 => committed 1
-6 0 begin 20 => started
-7 0 put 20 a 3 => written
-8 0 commit 20 => committed 1
-9 0 open - - 5 => opened 1
-10 0 close 30 => closed 30 0
-11 0 poll 1 1 => messages 1
-{\"after\":\"Mg==\",\"key\":\"YQ==\",\"updated\":\"10\"}
-12 0 collect 30 => collected 9 0
-13 0 poll 1 10 => messages 2
-{\"after\":\"Mw==\",\"key\":\"YQ==\",\"updated\":\"20\"}
-{\"resolved\":\"30\"}
-14 0 collect 30 => collected 30 2
-15 0 stats => stats 1 0 1 30 30
-16 0 readat 29 a => belowhorizon 30
-17 0 readat 30 a => value 3
-18 0 readat 31 a => notclosed 30
-",
+    LAGGING,
     // cancellation
     "0 0 open - - 0 => opened 1
 1 1 poll 1 1 => notowner

@@ -1,14 +1,9 @@
-use Rattle.std.proofs.Common.{◌≡◌, true, ◌+◌, ◌≤◌, length, drop}
-use Rattle.std.specs.Prelude.{◌||◌}
-use Rattle.std.specs.List.{list_all}
-use Rattle.script.specs.Words.{is_printable, words}
-use Rattle.script.proofs.Splitting.{some_empty}
+use Rattle.std.proofs.Common.{◌≡◌, ◌+◌, ◌≤◌, length, drop}
+use Rattle.script.specs.Words.{words}
 use Rattle.script.proofs.words.count_words.Given as goal
 
 abbrev pub invariant-loop-byte : goal.invariant-loop-byte
 invariant-loop-byte l = record {
   few : l.spaces ≤ l.byte-index;
-  printable : list_all is_printable (drop l.byte-index l.text) ≡ list_all is_printable l.text;
-  empty : (l.has_empty || some_empty l.after_space (drop l.byte-index l.text)) ≡ some_empty true l.text;
   counts : l.spaces + length (words (drop l.byte-index l.text)) ≡ length (words l.text);
 }
