@@ -1,4 +1,4 @@
-// The calls of `bench_calls` as a plain Rust program: the same lists, walked in the same way, under a
+// The calls of `bench_calls` as a plain Rust program: the same lists, searched in the same way, under a
 // `std::sync::Mutex` or under a ticket lock that spins. `calls LOCK THREADS CALLS` prints how many nanoseconds passed
 // from the first call to the end of the last.
 use std::cell::UnsafeCell;
@@ -149,7 +149,11 @@ impl Database {
     }
 
     fn find(&self, ts: u64) -> Option<Transaction> {
-        self.transactions.iter().find(|t| t.ts == ts).copied()
+        self.transactions.get(self.place_of(ts)).filter(|t| t.ts == ts).copied()
+    }
+
+    fn place_of(&self, ts: u64) -> usize {
+        self.transactions.partition_point(|t| t.ts < ts)
     }
 
     fn newest(&self, key: &[u8], ts: u64) -> Option<&Version> {
@@ -159,7 +163,10 @@ impl Database {
 
     fn record(&mut self, seat: u8, cmd: &Cmd, reply: &Reply) {
         match (cmd, reply) {
-            (Cmd::Begin { ts }, Reply::Started) => self.transactions.push(Transaction { ts: *ts, seat, state: State::Undecided }),
+            (Cmd::Begin { ts }, Reply::Started) => {
+                let place = self.place_of(*ts);
+                self.transactions.insert(place, Transaction { ts: *ts, seat, state: State::Undecided });
+            }
             (Cmd::Get { ts, key }, Reply::Found(_)) => {
                 let source = self.newest(key, *ts).map_or(0, |v| v.ts);
                 self.reads.push(Read { reader: *ts, key: key.clone(), source });
