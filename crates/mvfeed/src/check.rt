@@ -1,13 +1,10 @@
 //! `mvfeed check`.
 
 use crate::ending::End;
-use script::events::write_fault;
-use script::fault::TranscriptError;
-use script::transcripts::read_transcript;
+use crate::verdict::verdict;
 use sessions::{read_whole, write_whole};
 use std::alloc::{AllocError, Global};
 use std::io::{Read, Write};
-use trace_check::{Verdict, check};
 
 /// Reads a transcript, and writes `yes` where it is one that the database could have written, else `no P`
 /// with the position of the first event where it isn't. A transcript that can't be read gets its fault
@@ -30,25 +27,7 @@ pub fn check_io<R: Read + Drop, W: Write + Drop>(
 /// How the check ends, and what is to be written.
 fn answer<R: Read>(alloc: Global, input: &mut R) -> Result<(End, Vec<u8>), End> {
     let text = read_whole(alloc, input)?;
-    let mut answer = Vec::new(alloc);
-    match read_transcript(alloc, text.as_slice()) {
-        Err(TranscriptError::NoMemory) => Err(End::Memory),
-        Err(TranscriptError::Fault { line, fault }) => {
-            write_fault(&mut answer, line, fault)?;
-            Ok((End::Faulty, answer))
-        }
-        Ok(events) => match check(alloc, events.as_slice())? {
-            Verdict::Yes => {
-                answer.extend_from_slice(b"yes\n")?;
-                Ok((End::Done, answer))
-            }
-            Verdict::No { position } => {
-                let line = format!(in alloc; "no {position}\n")?;
-                answer.extend_from_slice(line.as_bytes())?;
-                Ok((End::No, answer))
-            }
-        },
-    }
+    Ok(verdict(alloc, text.as_slice())?)
 }
 
 impl From<AllocError> for End {

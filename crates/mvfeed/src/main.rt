@@ -20,6 +20,7 @@ mod run;
 mod status;
 #[cfg(test)]
 mod tests;
+mod verdict;
 
 use check::check_io;
 use command_line::{Job, command, job_of};
