@@ -17,3 +17,4 @@ pub mod ReadEvents
 pub mod WrittenWords
 pub mod CommandsAgain
 pub mod EventsAgain
+pub mod ScriptLines

@@ -17,3 +17,4 @@ pub mod Lines
 pub mod MessageReading
 pub mod EventLines
 pub mod Transcripts
+pub mod Scripts

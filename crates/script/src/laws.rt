@@ -1,5 +1,5 @@
 //! What holds of all texts, as the contracts of functions that do nothing.
-ghost use Rattle.std.specs.Prelude.{◌≡◌, ℕ, ◌<◌, ◌^◌, List, Some, Ok, decimal};
+ghost use Rattle.std.specs.Prelude.{◌≡◌, ℕ, ◌+◌, ◌<◌, ◌^◌, ◌++◌, List, length, Some, None, Ok, decimal};
 ghost use Rattle.std.specs.List.{All};
 ghost use Rattle.spans.specs.declared.calls.commands.Cmd.{Cmd};
 ghost use Rattle.spans.specs.declared.calls.events.Event.{Event};
@@ -12,6 +12,8 @@ ghost use Rattle.script.specs.MessageReading.{message_of};
 ghost use Rattle.script.specs.Messages.{message_line};
 ghost use Rattle.script.specs.Numbers.{number_of};
 ghost use Rattle.script.specs.Reading.{command_at};
+ghost use Rattle.script.specs.Lines.{lines_of};
+ghost use Rattle.script.specs.Scripts.{IsCall, above, script_at, script_of_lines, script_text};
 ghost use Rattle.script.specs.Spelling.{spelling, bytes_of, AreBytes};
 ghost use Rattle.script.specs.Table.{table};
 ghost use Rattle.script.specs.Transcripts.{transcript_at};
@@ -43,4 +45,11 @@ pub fn commands()
 /// line.
 pub fn transcripts()
     ensures { (events : List Event) → All IsEvent events → All KeepsLimit events → transcript_at (transcript_text events) ≡ Ok events }
+{}
+
+/// What was written of calls is read as these calls, for whatever number of seats, and what stands
+/// behind them as its own lines say, their count carried on.
+pub fn scripts()
+    ensures whole { (seats : ℕ) (calls : List (ℕ × Cmd)) → seats < 2 ^ 8 → All (IsCall seats) calls → script_at seats (script_text calls) ≡ record { calls = calls; fault = None } }
+    ensures behind { (seats : ℕ) (calls : List (ℕ × Cmd)) (rest : List ℕ) → seats < 2 ^ 8 → All (IsCall seats) calls → script_at seats (script_text calls ++ rest) ≡ above calls (script_of_lines seats (1 + length calls) (lines_of rest)) }
 {}

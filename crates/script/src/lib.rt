@@ -13,11 +13,12 @@
 //!
 //! A writer pushes into the caller's buffer, and where memory runs out leaves it as it was. A reader
 //! takes the words of a line that it is lent, and allocates for keys, values and bounds alone. A
-//! transcript is read line by line, and a fault in it is told with the number of its line.
+//! script or a transcript is read line by line, and a fault in it is told with the number of its
+//! line.
 //!
 //! Cost: each byte of a line is looked at three times to read it, as words are counted, cut and read,
-//! and once to write it; of a transcript's line twice more, to find where it ends and whether its
-//! bytes are printable.
+//! and once to write it; of a script's line once more, to find where it ends, and of a transcript's
+//! twice, for whether its bytes are printable too.
 #![tactic(auto)]
 
 mod arguments;
@@ -31,6 +32,9 @@ mod lines;
 pub mod replies;
 mod reply_reading;
 mod reply_table;
+#[cfg(test)]
+mod script_tests;
+pub mod scripts;
 mod spelling;
 mod table;
 #[cfg(test)]

@@ -1,0 +1,10 @@
+use Rattle.std.proofs.Common.{◌≡◌, length}
+use Rattle.script.specs.Scripts.{above, script_at}
+use Rattle.script.proofs.ScriptLines.{script_from}
+use Rattle.script.proofs.scripts.calls_of.Given as goal
+
+abbrev pub invariant-loop-line : goal.invariant-loop-line
+invariant-loop-line l = above l.calls.items (script_from l.seats l.lines) ≡ script_at l.seats l.text
+
+abbrev pub decreases-loop-line : goal.decreases-loop-line
+decreases-loop-line l = length l.lines.lines

@@ -1,0 +1,66 @@
+//! Scripts: the lines of commands, one after the other.
+//!
+//! ```text
+//! 1  0 begin 10
+//! 2  1 get 10 a
+//! 3  4 get 10 a                  session at line 3, where there are 4 seats
+//! ```
+//!
+//! A script is read to its end before any of its commands runs, and room is made call by call.
+//!
+//! Cost: each byte is looked at four times, and keys, values and bounds are copied once.
+ghost use Rattle.std.specs.Prelude.{◌≡◌, IfOk};
+ghost use Rattle.std.specs.List.{All};
+ghost use Rattle.script.specs.declared.words.TheConstants.{MAX_LINE_BYTES};
+ghost use Rattle.script.specs.Reading.{command_at};
+ghost use Rattle.script.specs.Scripts.{IsCall, TellsScript, script_text, script_at};
+ghost use Rattle.script.specs.Table.{table};
+ghost use Rattle.script.specs.Transcripts.{Tells, at_line};
+
+use crate::commands::read_command;
+use crate::fault::TranscriptError;
+use crate::lines::Lines;
+use spans::calls::Cmd;
+use std::alloc::Global;
+
+/// Reads a script: the session, below `seats`, and the command of each line, or the first line that
+/// is faulty. Lines are counted from 1, and the last one has to end in a newline too.
+pub fn read_script(alloc: Global, text: &[u8], seats: u8) -> Result<Vec<(u8, Cmd)>, TranscriptError>
+    // What is read is the text of these commands, byte for byte.
+    ensures found { IfOk result (λ calls. (text.now ≡ script_text calls.items) × All (IsCall seats) calls.items) }
+    // Which fault it is, and in which line: the first from the top and from the left.
+    ensures exact { TellsScript (λ calls. calls.items) result (script_at seats text.now) }
+    ensures limit { MAX_LINE_BYTES ≡ 4096 }
+{
+    calls_of(alloc, text, seats)
+}
+
+fn calls_of(alloc: Global, text: &[u8], seats: u8) -> Result<Vec<(u8, Cmd)>, TranscriptError>
+    ensures { TellsScript (λ calls. calls.items) result (script_at seats text.now) }
+{
+    let mut lines = Lines::of(text);
+    let mut calls = Vec::new(alloc);
+    loop {
+        let number = lines.number();
+        let Some(line) = lines.take_line() else {
+            return Ok(calls);
+        };
+        let call = read_call(alloc, number, line, seats)?;
+        calls.push(call)?;
+    }
+}
+
+/// Reads the line of this number.
+fn read_call(
+    alloc: Global,
+    number: u64,
+    line: &[u8],
+    seats: u8,
+) -> Result<(u8, Cmd), TranscriptError>
+    ensures { Tells (λ x. x) result (at_line number (command_at table seats line.now)) }
+{
+    match read_command(alloc, line, seats) {
+        Ok(call) => Ok(call),
+        Err(e) => Err(e.at_line(number)),
+    }
+}
