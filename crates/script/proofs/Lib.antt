@@ -18,3 +18,4 @@ pub mod WrittenWords
 pub mod CommandsAgain
 pub mod EventsAgain
 pub mod ScriptLines
+pub mod Counting

@@ -151,6 +151,22 @@ command_of rows seats words =
         c ← arguments_at row.0.verb row.1
         Ok (session.0, c.0)) else Err WordCount)
 
+-- the same tests but those of the arguments
+unfoldable pub counted_at : List Row → ℕ → List (List ℕ) → Result (Unit {0}) LineFault
+counted_at rows seats words =
+    if nat_lt (length words) 2 then Err WordCount else (do
+      session ← session_at seats words
+      row ← row_at rows session.1
+      if length row.1 == row.0.arguments then Ok tt else Err WordCount)
+
+-- the same with no word counted before the last argument was read
+unfoldable pub taken_of : List Row → ℕ → List (List ℕ) → Result (ℕ × Cmd) LineFault
+taken_of rows seats words = do
+  session ← session_at seats words
+  row ← row_at rows session.1
+  c ← arguments_at row.0.verb row.1
+  if length c.1 == 0 then Ok (session.0, c.0) else Err WordCount
+
 -- the session and the command of a line: the tests in the order in which they count
 unfoldable pub command_at : List Row → ℕ → List ℕ → Result (ℕ × Cmd) LineFault
 command_at rows seats line = do

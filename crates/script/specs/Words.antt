@@ -1,5 +1,6 @@
 -- Lines cut into words.
-use Rattle.std.specs.Prelude.{ℕ, ◌-◌, ◌==◌, nat_lt, nat_le, Bool, not, ◌&&◌, if◌then◌else◌, List, [], length, take, slice_index, Result, Ok, Err}
+use Rattle.std.specs.Prelude.{ℕ, ◌-◌, ◌==◌, nat_lt, nat_le, Bool, not, ◌&&◌, if◌then◌else◌, List, [], length, take, slice_index, Option, Some, None, Result, Ok, Err}
+use Rattle.std.specs.Borrow.{Bor}
 use Rattle.std.specs.List.{list_all, list_any, slice_split}
 use Rattle.script.specs.declared.fault.LineFault.{LineFault}
 use Rattle.script.specs.declared.fault.LineFault.TheVariants.{WordCount, NoNewline, LineTooLong, BadByte}
@@ -40,6 +41,7 @@ words_at text =
     else if list_any is_empty (words text) then Err WordCount
     else Ok (words text)
 
--- the words that are still to come: as many as are left
-abbrev pub words_left : ℕ → List ℕ → List (List ℕ)
-words_left left rest = if left == 0 then [] else words rest
+-- the words that are still to come
+abbrev pub words_left : Option (Bor (List ℕ)) → List (List ℕ)
+words_left None = []
+words_left (Some rest) = words rest.now

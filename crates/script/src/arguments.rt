@@ -22,7 +22,7 @@ pub(crate) fn take_number(words: &mut Words) -> Result<u64, ReadError>
     Ok(number)
 }
 
-/// A key. It is copied once.
+/// A key. Its bytes are copied once where each stands for itself, and else at most twice.
 #[inline(always)]
 #[tactic(auto, unfolding(crate::specs::Reading::key_at))]
 pub(crate) fn take_key(alloc: Global, words: &mut Words) -> Result<Key, ReadError>
@@ -37,7 +37,7 @@ pub(crate) fn take_key(alloc: Global, words: &mut Words) -> Result<Key, ReadErro
     }
 }
 
-/// A value. It is copied once.
+/// A value. Its bytes are copied as a key's are.
 #[tactic(auto, unfolding(crate::specs::Reading::value_at))]
 pub(crate) fn take_value(alloc: Global, words: &mut Words) -> Result<Value, ReadError>
     ensures { Takes result words.new (value_at words.old) }

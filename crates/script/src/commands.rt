@@ -1,7 +1,7 @@
 //! Commands as lines: the session's number, the command's name and its arguments.
 
 ghost use Rattle.std.specs.Prelude.{◌≡◌, ◌++◌, ◌∷◌, [], ◌<◌, decimal, IfOk, OnOk, OnErr};
-ghost use Rattle.script.specs.Reading.{Gives, Takes, TakesFree, TakesForm, session_at, row_at, arguments_at, command_of, command_at};
+ghost use Rattle.script.specs.Reading.{Gives, Takes, TakesFree, TakesForm, session_at, row_at, arguments_at, counted_at, taken_of, command_at};
 ghost use Rattle.script.specs.Table.{table};
 ghost use Rattle.script.specs.declared.words.TheConstants.{MAX_LINE_BYTES};
 ghost use Rattle.script.specs.Words.{words};
@@ -25,9 +25,10 @@ use std::alloc::{AllocError, Global};
 /// Reads a command's line, with its newline: the session, below `seats`, and the command. It
 /// allocates for the command's keys, values and bounds alone.
 ///
-/// A line that is read has only printable bytes and no empty word, since no command's text has
-/// others: so they are looked for only where there is another fault, before which they count.
-#[tactic(auto, unfolding(crate::specs::Reading::command_at))]
+/// A line that is read has only printable bytes, no empty word and as many words as its command
+/// takes, since every command's text has: so they are looked at and counted only where there is a
+/// fault, before which they may count.
+#[tactic(auto, using(crate::proofs::Counting::counted_right, crate::proofs::Counting::counted_fault), unfolding(crate::specs::Reading::command_at))]
 pub fn read_command(alloc: Global, line: &[u8], seats: u8) -> Result<(u8, Cmd), ReadError>
     // What is read is the text of this command, byte for byte.
     ensures found { IfOk result (λ x. (line.now ≡ command_line x.0 x.1) × (x.0 < seats) × IsCommand x.1) }
@@ -41,27 +42,43 @@ pub fn read_command(alloc: Global, line: &[u8], seats: u8) -> Result<(u8, Cmd), 
         Err(ReadError::NoMemory) => Err(ReadError::NoMemory),
         Err(ReadError::Fault(fault)) => {
             check_words(text)?;
+            check_count(text, seats)?;
             Err(ReadError::Fault(fault))
         }
     }
 }
 
-/// Reads a command from the words of a text.
-#[tactic(auto, unfolding(crate::specs::Reading::command_of))]
+/// Reads a command from the words of a text, which aren't counted before the last was read.
+#[tactic(auto, unfolding(crate::specs::Reading::taken_of))]
 fn take_command(alloc: Global, text: &[u8], seats: u8) -> Result<(u8, Cmd), ReadError>
-    ensures { Gives (λ x. x) result (command_of table seats (words text.now)) }
+    ensures { Gives (λ x. x) result (taken_of table seats (words text.now)) }
+{
+    let mut words = words_in(text);
+    let seat = take_seat(&mut words, seats)?;
+    let form = take_form(&mut words)?;
+    let cmd = take_arguments(alloc, form.verb, &mut words)?;
+    if !words.is_empty() {
+        return Err(ReadError::Fault(LineFault::WordCount));
+    }
+    Ok((seat, cmd))
+}
+
+/// Whether a text has as many words as its command takes, where it has a session and a command.
+#[cold]
+#[tactic(auto, unfolding(crate::specs::Reading::counted_at))]
+fn check_count(text: &[u8], seats: u8) -> Result<(), LineFault>
+    ensures { result ≡ counted_at table seats (words text.now) }
 {
     let mut words = words_in(text);
     if words.len() < 2 {
-        return Err(ReadError::Fault(LineFault::WordCount));
+        return Err(LineFault::WordCount);
     }
-    let seat = take_seat(&mut words, seats)?;
+    take_seat(&mut words, seats)?;
     let form = take_form(&mut words)?;
     if words.len() != form.arguments {
-        return Err(ReadError::Fault(LineFault::WordCount));
+        return Err(LineFault::WordCount);
     }
-    let cmd = take_arguments(alloc, form.verb, &mut words)?;
-    Ok((seat, cmd))
+    Ok(())
 }
 
 /// A session's number, below `seats`.

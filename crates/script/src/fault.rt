@@ -32,7 +32,7 @@ pub enum LineFault {
     /// Over 4096 bytes stand before the newline.
     #[error("linetoolong")]
     LineTooLong = 8,
-    /// A byte is no printable ASCII, or a word spells no bytes.
+    /// A byte is no printable ASCII, or a word isn't the spelling of any bytes.
     #[error("badbyte")]
     BadByte = 9,
     /// The words after `=>` are no reply.
@@ -111,7 +111,7 @@ impl<T: Drop> From<AllocFailed<T>> for ReadError {
 impl ReadError {
     ghost use Rattle.script.specs.Transcripts.{error_at_line};
 
-    /// The same of a line of a transcript.
+    /// The same, told of the line of this number.
     pub(crate) fn at_line(self, line: u64) -> TranscriptError
         ensures { result ≡ error_at_line line self }
     {
@@ -122,7 +122,7 @@ impl ReadError {
     }
 }
 
-/// Why a transcript was not read.
+/// Why a text of many lines, a script or a transcript, was not read.
 #[derive(Clone, Copy, Debug, PartialEq, Eq, Error)]
 pub enum TranscriptError {
     /// A line is faulty. Lines are counted from 1.

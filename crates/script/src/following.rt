@@ -113,7 +113,7 @@ fn pair_of(alloc: Global, text: &[u8]) -> Result<(Key, Value), ReadError>
 {
     let mut words = words_of(text)?;
     let pair = take_pair(alloc, &mut words)?;
-    if words.len() > 0 {
+    if !words.is_empty() {
         return Err(ReadError::Fault(LineFault::WordCount));
     }
     Ok(pair)

@@ -16,9 +16,10 @@
 //! script or a transcript is read line by line, and a fault in it is told with the number of its
 //! line.
 //!
-//! Cost: each byte of a line is looked at three times to read it, as words are counted, cut and read,
-//! and once to write it; of a script's line once more, to find where it ends, and of a transcript's
-//! twice, for whether its bytes are printable too.
+//! Cost: each byte of a line is looked at twice to read it, as words are cut and read, and once to
+//! write it; of a script's line once more, to find where it ends, and of a transcript's line up to
+//! four times more: for that, whether its bytes are printable, how many words there are and where
+//! `=>` stands.
 #![tactic(auto)]
 
 mod arguments;

@@ -37,7 +37,7 @@ fn read_named(alloc: Global, words: &mut Words) -> Result<Shape, ReadError>
     let name = words.take_word().ok_or(LineFault::WordCount)?;
     let kind = kind_of(&REPLIES, name).ok_or(LineFault::Reply)?;
     let shape = take_shape(alloc, kind, words)?;
-    if words.len() > 0 {
+    if !words.is_empty() {
         return Err(ReadError::Fault(LineFault::WordCount));
     }
     Ok(shape)

@@ -6,9 +6,10 @@
 //! 3  4 get 10 a                  session at line 3, where there are 4 seats
 //! ```
 //!
-//! A script is read to its end before any of its commands runs, and room is made call by call.
+//! A script is read whole, up to its first faulty line, and room is made call by call.
 //!
-//! Cost: each byte is looked at four times, and keys, values and bounds are copied once.
+//! Cost: each byte is looked at three times. Keys, values and bounds are copied once, and at most
+//! twice where bytes are escaped.
 ghost use Rattle.std.specs.Prelude.{◌≡◌, IfOk};
 ghost use Rattle.std.specs.List.{All};
 ghost use Rattle.script.specs.declared.words.TheConstants.{MAX_LINE_BYTES};

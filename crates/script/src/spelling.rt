@@ -79,7 +79,7 @@ fn hex_digit(value: u8) -> u8
     }
 }
 
-/// The bytes that a word spells: a part of the word where each byte stands for itself.
+/// The bytes that a word spells: lent where no memory is wanted for them.
 #[derive(Debug, Drop)]
 pub(crate) enum Spelled<'a> {
     Plain(&'a [u8]),
@@ -100,7 +100,7 @@ impl Spelled<'_> {
     }
 }
 
-/// The bytes that a word spells, or the fault `BadByte` where it is the spelling of none. It
+/// The bytes that a word spells, or the fault `BadByte` where it isn't the spelling of any. It
 /// allocates only for a word with an escaped byte.
 #[inline(always)]
 #[tactic(auto, using(crate::proofs::Spellings::plain_word), unfolding(crate::specs::Spelling::bytes_of))]

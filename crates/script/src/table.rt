@@ -128,12 +128,14 @@ pub(crate) static FORMS: [Form; 18] = [
 ];
 
 /// The row of a name.
+#[inline(always)]
 pub(crate) fn form_of(name: &[u8]) -> Option<Form>
     ensures { option_map row_view result ≡ row_of table name.now }
 {
     form_among(&FORMS, name)
 }
 
+#[inline(always)]
 fn form_among(forms: &[Form], name: &[u8]) -> Option<Form>
     ensures { option_map row_view result ≡ row_of (map row_view forms.now) name.now }
 {

@@ -154,15 +154,18 @@ fn letters(
 #[test]
 fn limits(rt: HostRuntime) -> Result<(), Fail> {
     for (front, count, end, code) in [
-        (b"0 get 1 ".as_slice(), 1, b"\n".as_slice(), 0),
+        (b"0 get 1 -".as_slice(), 0, b"\n".as_slice(), 4),
+        (b"0 get 1 ", 1, b"\n", 0),
         (b"0 get 1 ", 64, b"\n", 0),
         (b"0 get 1 ", 65, b"\n", 4),
+        (b"0 put 1 a -", 0, b"\n", 0),
         (b"0 put 1 a ", 1024, b"\n", 0),
         (b"0 put 1 a ", 1025, b"\n", 5),
         (b"0 put 1 a %00", 1023, b"\n", 0),
         (b"0 put 1 a %00", 1024, b"\n", 5),
         (b"0 open ", 65, b" - 0\n", 0),
         (b"0 open ", 66, b" - 0\n", 4),
+        (b"0 open - ", 65, b" 0\n", 0),
         (b"0 open - ", 66, b" 0\n", 4),
         (b"", 4096, b"", 7),
         (b"", 4097, b"", 8),
@@ -295,6 +298,36 @@ fn following_lines(rt: HostRuntime) -> Result<(), Fail> {
 {\"resolved\":\"30\"}
 ";
     assert_eq!(rt; out.as_slice(), text.as_slice());
+    Ok(())
+}
+
+/// Why a line or a text was not read, as a text: the name of its fault.
+#[test]
+fn errors_have_a_text(rt: HostRuntime) -> Result<(), Fail> {
+    for (fault, code, name) in [
+        (LineFault::WordCount, 1, "wordcount"),
+        (LineFault::UnknownCommand, 2, "unknowncommand"),
+        (LineFault::Number, 3, "number"),
+        (LineFault::KeyLength, 4, "keylength"),
+        (LineFault::ValueLength, 5, "valuelength"),
+        (LineFault::Session, 6, "session"),
+        (LineFault::NoNewline, 7, "nonewline"),
+        (LineFault::LineTooLong, 8, "linetoolong"),
+        (LineFault::BadByte, 9, "badbyte"),
+        (LineFault::Reply, 10, "reply"),
+        (LineFault::Follow, 11, "follow"),
+    ] {
+        assert_eq!(rt; fault.code(), code);
+        assert_eq!(rt; fault.name(), name);
+        let text = format!(in rt.alloc(); "{fault}")?;
+        assert_eq!(rt; text.as_str(), name);
+        let error = ReadError::Fault(fault);
+        let text = format!(in rt.alloc(); "{error}")?;
+        assert_eq!(rt; text.as_str(), name);
+    }
+    let memory = ReadError::NoMemory;
+    let text = format!(in rt.alloc(); "{memory}")?;
+    assert_eq!(rt; text.as_str(), "nomemory");
     Ok(())
 }
 

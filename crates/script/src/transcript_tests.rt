@@ -147,6 +147,28 @@ fn faults_of_following_lines(rt: HostRuntime) {
     }
 }
 
+#[test]
+fn faults_of_lines_of_json(rt: HostRuntime) {
+    for (text, fault) in [
+        (
+            b"{\"after\":null,\"key\":\"Yg==\",\"updated\":\"20\"}\n{\"resolved\":\"30\"}\n".as_slice(),
+            (0, 0),
+        ),
+        (b"", (2, 11)),
+        (b"{ \"resolved\":\"30\"}\n{\"resolved\":\"30\"}\n", (2, 11)),
+        (b"{\"resolved\":\"030\"}\n{\"resolved\":\"30\"}\n", (2, 11)),
+        (b"{\"resolved\":\"30\"}\n", (3, 11)),
+        (b"{\"resolved\":\"30\"}\n{\"resolved\":\"30\"", (3, 7)),
+        (b"{\"resolved\":\"30\"}\n{\"resolved\":\"30\"\n", (3, 11)),
+        (b"{\"resolved\":\"30\"}\n{\"resolved\":30}\n", (3, 11)),
+        (b"{\"resolved\":\"30\"}\nrow a 1\n", (3, 11)),
+        (b"{\"resolved\":\"30\"}\n\n", (3, 11)),
+    ] {
+        let read = with_front(&rt, b"0 0 poll 1 2 => messages 2\n", text);
+        assert_eq!(rt; read, Ok(fault), "at {text:?}");
+    }
+}
+
 /// What is told of the two texts together.
 fn with_front(
     alloc: &impl AllocGlobal,
@@ -158,14 +180,25 @@ fn with_front(
     Ok(fault_of(alloc, &whole))
 }
 
+/// No growth is asked for here, so that the first one that is refused changes nothing.
 #[test]
 fn a_number_of_lines_asks_for_no_room(rt: HostRuntime) {
-    let rows = b"0 0 scan 1 - - => rows 18446744073709551615\n";
-    assert_eq!(rt; fault_of(&rt, rows), (2, 11));
-    let messages = b"0 0 poll 1 1 => messages 18446744073709551615\n";
-    assert_eq!(rt; fault_of(&rt, messages), (2, 11));
-    let one = b"0 0 scan 1 - - => rows 18446744073709551615\nrow a 1\n";
-    assert_eq!(rt; fault_of(&rt, one), (3, 11));
+    for text in [
+        b"0 0 scan 1 - - => rows 1000000\n".as_slice(),
+        b"0 0 scan 1 - - => rows 18446744073709551615\n",
+        b"0 0 poll 1 1 => messages 1000000\n",
+        b"0 0 poll 1 1 => messages 18446744073709551615\n",
+    ] {
+        assert_eq!(rt; fault_of(&rt, text), (2, 11), "at {text:?}");
+    }
+}
+
+#[test]
+fn room_is_made_for_lines_that_came(rt: HostRuntime) {
+    let row = b"0 0 scan 1 - - => rows 18446744073709551615\nrow a 1\n";
+    assert_eq!(rt; fault_of(&rt, row), (3, 11));
+    let message = b"0 0 poll 1 1 => messages 18446744073709551615\n{\"resolved\":\"30\"}\n";
+    assert_eq!(rt; fault_of(&rt, message), (3, 11));
 }
 
 /// A line of a beginning, some letters `a` and an end.
@@ -188,11 +221,16 @@ fn lengths_at_their_limits(rt: HostRuntime) -> Result<(), Fail> {
     for (front, count, end, fault) in [
         (
             b"0 0 get 1 ".as_slice(),
-            64,
+            1,
             b" => none\n".as_slice(),
             (0, 0),
         ),
+        (b"0 0 get 1 ", 64, b" => none\n", (0, 0)),
         (b"0 0 get 1 ", 65, b" => none\n", (1, 4)),
+        (b"0 0 open ", 65, b" - 0 => opened 1\n", (0, 0)),
+        (b"0 0 open ", 66, b" - 0 => opened 1\n", (1, 4)),
+        (b"0 0 scan 1 - ", 65, b" => rows 0\n", (0, 0)),
+        (b"0 0 scan 1 - ", 66, b" => rows 0\n", (1, 4)),
         (b"0 0 put 1 a ", 1024, b" => written\n", (0, 0)),
         (b"0 0 put 1 a ", 1025, b" => written\n", (1, 5)),
         (b"0 0 get 1 a => value ", 1024, b"\n", (0, 0)),
@@ -211,6 +249,7 @@ fn lengths_at_their_limits(rt: HostRuntime) -> Result<(), Fail> {
         (b"0 0 scan 1 - - => rows 1\n", 4097, b"\n", (2, 8)),
         (b"0 0 poll 1 1 => messages 1\n", 4096, b"", (2, 7)),
         (b"0 0 poll 1 1 => messages 1\n", 4097, b"", (2, 8)),
+        (b"0 0 poll 1 1 => messages 1\n", 4096, b"\n", (2, 11)),
         (b"0 0 poll 1 1 => messages 1\n", 4097, b"\n", (2, 8)),
     ] {
         let text = letters(&rt, front, count, end)?;
@@ -220,6 +259,52 @@ fn lengths_at_their_limits(rt: HostRuntime) -> Result<(), Fail> {
             "{count} letters behind {front:?}"
         );
     }
+    Ok(())
+}
+
+/// Four letters `a` are the base64 of three bytes; one more byte stands in `aQ==`, and two in `aaY=`.
+#[test]
+fn lengths_in_json_at_their_limits(rt: HostRuntime) -> Result<(), Fail> {
+    let key = b"0 0 poll 1 1 => messages 1\n{\"after\":null,\"key\":\"";
+    let value = b"0 0 poll 1 1 => messages 1\n{\"after\":\"";
+    let behind_key = b"\",\"updated\":\"7\"}\n";
+    let behind_value = b"\",\"key\":\"Yg==\",\"updated\":\"7\"}\n";
+    for (front, count, last, end, fault) in [
+        (
+            key.as_slice(),
+            0,
+            b"".as_slice(),
+            behind_key.as_slice(),
+            (2, 11),
+        ),
+        (key, 0, b"aQ==", behind_key, (0, 0)),
+        (key, 84, b"aQ==", behind_key, (0, 0)),
+        (key, 84, b"aaY=", behind_key, (2, 11)),
+        (value, 0, b"", behind_value, (0, 0)),
+        (value, 1364, b"aQ==", behind_value, (0, 0)),
+        (value, 1364, b"aaY=", behind_value, (2, 11)),
+    ] {
+        let mut text = letters(&rt, front, count, last)?;
+        text.extend_from_slice(end)?;
+        assert_eq!(rt; fault_of(&rt, &text), fault, "{count} letters and {last:?}");
+    }
+    Ok(())
+}
+
+/// The longest line that is read has 4096 bytes: with a value of 1024 bytes, each escaped, and
+/// another in its reply.
+#[test]
+fn a_line_at_the_limit_is_read(rt: HostRuntime) -> Result<(), Fail> {
+    let mut front = Vec::from_slice(rt.alloc(), b"0 0 put 1 a ")?;
+    for _ in 0..1024 {
+        front.extend_from_slice(b"%00")?;
+    }
+    front.extend_from_slice(b" => value ")?;
+    assert_eq!(rt; front.len(), 3094);
+    let longest = letters(&rt, &front, 1002, b"\n")?;
+    assert_comes_back(&rt, &longest)?;
+    let longer = letters(&rt, &front, 1003, b"\n")?;
+    assert_eq!(rt; fault_of(&rt, &longer), (1, 8));
     Ok(())
 }
 

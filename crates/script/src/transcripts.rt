@@ -10,7 +10,8 @@
 //! The place of `=>` is known from the number of the command's arguments, so a value may be spelled
 //! so. A number of lines that follow asks for no room by itself: it is made line by line.
 //!
-//! Cost: each byte is looked at five times, and keys, values and bounds are copied once.
+//! Cost: each byte is looked at six times at most. Keys, values and bounds are copied once, and at
+//! most twice where bytes are escaped or stand in a line of JSON.
 ghost use Rattle.std.specs.Prelude.{◌≡◌, IfOk};
 ghost use Rattle.std.specs.List.{All};
 ghost use Rattle.script.specs.Events.{transcript_text};

@@ -1,6 +1,6 @@
 //! Lines cut into words.
-ghost use Rattle.std.specs.Prelude.{◌≡◌, ◌⊎◌, ◌∷◌, [], ◌<◌, length, position, IfSome, MatchOption, MatchResult};
-ghost use Rattle.script.specs.Words.{text_at, words, words_at, is_printable, is_space};
+ghost use Rattle.std.specs.Prelude.{◌≡◌, ◌==◌, ◌∷◌, [], ◌<◌, length, position, IfSome, MatchOption, MatchResult};
+ghost use Rattle.script.specs.Words.{text_at, words, words_at, words_left, is_printable, is_space};
 
 use crate::fault::LineFault;
 use std::marker::Model;
@@ -39,10 +39,7 @@ pub(crate) fn words_of(text: &[u8]) -> Result<Words<'_>, LineFault>
 pub(crate) fn words_in(text: &[u8]) -> Words<'_>
     ensures { result ≡ words text.now }
 {
-    Words {
-        rest: text,
-        left: count_words(text),
-    }
+    Words { rest: Some(text) }
 }
 
 /// How many words a text has, the empty ones among them.
@@ -84,63 +81,64 @@ fn is_printable(byte: u8) -> bool
     b' ' <= byte && byte <= b'~'
 }
 
-/// The words of a text that are still to come, lent.
+/// The words of a text that are still to come, lent. They are cut as they are taken, and aren't
+/// counted before.
 #[derive(Debug, Drop)]
 pub(crate) struct Words<'a> {
-    rest: &'a [u8],
-    left: usize,
+    rest: Option<&'a [u8]>,
 }
 
 impl<'a> Model for Words<'a> {
-    ghost use Rattle.std.specs.Prelude.{List, ℕ, ◌≡◌, length};
+    ghost use Rattle.std.specs.Prelude.{List, ℕ};
     ghost use Rattle.script.specs.Words.{words_left};
 
     ghost Value = { List (List ℕ) };
 
-    ghost view = { λ w. words_left w.left w.rest.now };
-
-    ghost invariant = { λ w. length (words_left w.left w.rest.now) ≡ w.left };
+    ghost view = { λ w. words_left w.rest };
 }
 
 impl<'a> Words<'a> {
-    /// How many words are still to come.
+    /// How many words are still to come. They are walked.
     pub(crate) fn len(&self) -> usize
         ensures { result ≡ length self.now }
     {
-        self.left
+        match self.rest {
+            None => 0,
+            Some(rest) => count_words(rest),
+        }
+    }
+
+    /// Whether no word is left.
+    pub(crate) fn is_empty(&self) -> bool
+        ensures { result ≡ (length self.now == 0) }
+    {
+        self.rest.is_none()
     }
 
     /// The same words once more, to look ahead.
     pub(crate) fn fork(&self) -> Words<'a>
         ensures { result ≡ self.now }
     {
-        Words {
-            rest: self.rest,
-            left: self.left,
-        }
+        Words { rest: self.rest }
     }
 
     /// Takes the next word, if there is one.
     pub(crate) fn take_word(&mut self) -> Option<&'a [u8]>
         ensures { MatchOption result ((self.old ≡ []) × (self.new ≡ [])) (λ word. self.old ≡ word.now ∷ self.new) }
     {
-        if self.left == 0 {
-            return None;
-        }
-        let (word, others) = first_word(self.rest);
+        let (word, others) = first_word(self.rest?);
         self.rest = others;
-        self.left -= 1;
         Some(word)
     }
 }
 
-/// The first word of a text, and what stands behind the space after it.
-fn first_word(text: &[u8]) -> (&[u8], &[u8])
-    ensures { (words text.now ≡ result.0.now ∷ words result.1.now) ⊎ ((words text.now ≡ result.0.now ∷ []) × (result.1.now ≡ [])) }
+/// The first word of a text, and what stands behind the space after it, where there is one.
+fn first_word(text: &[u8]) -> (&[u8], Option<&[u8]>)
+    ensures { words text.now ≡ result.0.now ∷ words_left result.1 }
 {
     match space_at(text) {
-        None => (text, &[]),
-        Some(at) => (&text[..at], &text[at + 1..]),
+        None => (text, None),
+        Some(at) => (&text[..at], Some(&text[at + 1..])),
     }
 }
 

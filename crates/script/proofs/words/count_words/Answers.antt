@@ -1,4 +1,4 @@
-use Rattle.std.proofs.Common.{◌≡◌, ◌+◌, length, get_or, ap, sym, ◌∙◌, arith}
+use Rattle.std.proofs.Common.{◌+◌, length, get_or, ap, sym, ◌∙◌, arith}
 use Rattle.script.specs.Words.{is_space, words}
 use Rattle.script.proofs.Splitting.{count_more, at_most_one, at_end}
 use Rattle.script.proofs.words.count_words.Goals as goal
