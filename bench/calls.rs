@@ -245,25 +245,30 @@ fn versions(lock: &impl Lock, seat: u8) {
     }
 }
 
-fn work(lock: &impl Lock, gate: &AtomicU64, seat: u64, threads: u64, pairs: u64) -> (Instant, Instant) {
-    gate.fetch_add(1, SeqCst);
-    while gate.load(SeqCst) < threads {
+struct Gate {
+    arrived: AtomicU64,
+    next: AtomicU64,
+}
+
+fn work(lock: &impl Lock, gate: &Gate, seat: u64, threads: u64, pairs: u64) -> (Instant, Instant) {
+    gate.arrived.fetch_add(1, SeqCst);
+    while gate.arrived.load(SeqCst) < threads {
         yield_now();
     }
     let from = Instant::now();
-    let mut ts = 1 + VERSIONS + seat;
     for _ in 0..pairs {
+        let ts = gate.next.fetch_add(1, SeqCst);
         black_box(lock.call(seat as u8, Cmd::Begin { ts }));
         let key = b"a".to_vec();
         black_box(lock.call(seat as u8, Cmd::Get { ts, key }));
-        ts += threads;
     }
     (from, Instant::now())
 }
 
 fn nanoseconds<L: Lock>(threads: u64, calls: u64) -> u128 {
     let lock = L::new(Database::default());
-    let (lock, gate) = (&lock, &AtomicU64::new(0));
+    let gate = &Gate { arrived: AtomicU64::new(0), next: AtomicU64::new(1 + VERSIONS) };
+    let lock = &lock;
     versions(lock, (threads - 1) as u8);
     let pairs = calls / 2 / threads;
     let spans: Vec<(Instant, Instant)> = scope(|s| {

@@ -17,9 +17,9 @@
 //! finish with both seats              the engine, which stands for the whole history
 //! ```
 //!
-//! Cost: a call costs what its step of the engine does, and six steps on the lock's words where no
-//! other seat calls: two each on the ticket word and the serving word, one on the floor word, and a
-//! look at a bed. A granted `try_call` makes one more, and one that is `Busy` two or three in all.
+//! Cost: a call costs what its step of the engine does, and seven steps on the lock's words where no
+//! other seat calls: two on the ticket word, three on the serving word, one on the floor word, and a
+//! look at a bed. A granted `try_call` makes as many, and one that is `Busy` two or three in all.
 //! `floor` is one load, `draw` a load and a compare-exchange, `meet` six loads and `meet_passes` five;
 //! none of them waits. Only `open` and the engine's steps take memory, and only `call` waits.
 #![tactic(auto)]

@@ -8,6 +8,24 @@ use crate::{Db, Seat};
 use spans::calls::Cmd;
 use std::process::Abort;
 use std::sync::Wait;
+use std::sync::atomic::AtomicU64;
+use std::sync::atomic::Ordering::SeqCst;
+use std::thread::yield_now;
+
+/// How often a thread looks for what another does, giving way between two looks.
+const PATIENCE: u64 = 1_000_000;
+
+/// Waits until so many threads are done. One whose call nobody wakes would sleep for ever, so after
+/// the limit the test ends here.
+fn watch(rt: &impl Abort, done: &AtomicU64, threads: u64) {
+    for _ in 0..PATIENCE {
+        if done.load(SeqCst) == threads {
+            return;
+        }
+        yield_now();
+    }
+    panic!(rt; "a call was not answered within the limit");
+}
 
 /// The last of the new seats.
 fn last(rt: &impl Abort, db: &Db, seats: &mut Vec<Seat>) -> Seat

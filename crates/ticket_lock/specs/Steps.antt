@@ -68,3 +68,8 @@ module _ {T E : Type 0} where
 abbrev pub DeniedAt : {T E : Type 0} → SeatState T E → Denied → SeatState T E → Type 0
 DeniedAt m (Busy served next) m' = (served < next) × (m.0.kept.first + length m.0.kept.seen ≤ served) × (m.0.kept.spent ≡ false) × HasLooked m.0.looks served next m'.0.looks × (m' ≡ (looking (looked m.0 served) m'.0.looks, m.1))
 DeniedAt m Spent m' = (n : ℕ) × (m' ≡ (met_spent (looking (looked m.0 n) m'.0.looks), m.1))
+
+-- what a seat knows that looked for a free turn in vain, or found that no ticket is left
+abbrev pub PutOffAt : {T E : Type 0} → SeatState T E → Denied → SeatState T E → Type 0
+PutOffAt m (Busy served next) m' = (m.0.kept.spent ≡ false) × (m' ≡ (looking (looked m.0 m'.0.loaded) m'.0.looks, m.1))
+PutOffAt m Spent m' = DeniedAt m Spent m'

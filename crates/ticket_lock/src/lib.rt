@@ -18,12 +18,13 @@
 //! seat 1 has its turn   7      6     40    seat 1   a            what it found: a
 //! ```
 //!
-//! Where no other seat draws, a turn costs a load and a compare-exchange of the ticket word and a load
-//! of the serving word, and its end a store of that word and a look at the bed of the next ticket. A
-//! seat that waits long, or whose turn is far, sleeps on a word of its own, its bed, and whoever ends
-//! the turn before wakes that seat alone. `try_turn` makes four steps, or two or three where it is
-//! `Busy`; `floor` and `raise_floor` one each, and `meet` six loads. Only `new` takes memory, and only
-//! `turn` waits.
+//! Where no other seat draws, a turn costs a load and a compare-exchange of the ticket word and two
+//! loads of the serving word, and its end a store of that word and a look at the bed of the next
+//! ticket. Where others draw, it looks a number of times for a turn that is free before it draws a
+//! ticket and waits in line. Who waits in line for long, or whose turn is far, sleeps on a word of its
+//! own, its bed, and whoever ends the turn before wakes that seat alone. `try_turn` makes four steps,
+//! or two or three where it is `Busy`; `floor` and `raise_floor` one each, and `meet` six loads. Only
+//! `new` takes memory, and only `turn` waits.
 #![tactic(auto)]
 
 mod chronicle;

@@ -2,14 +2,14 @@
 ghost use Rattle.std.specs.Prelude.{◌≡◌, List, ◌≤◌, ◌<◌, ◌+◌, ◌-◌, ◌^◌, ◌++◌, [], ◌∷◌, length, true, false, Some, None, IfSome, IfNone, IfOk, IfErr};
 ghost use Rattle.ticket_lock.specs.Lists.{of_seat, StartsWith};
 ghost use Rattle.ticket_lock.specs.Views.{drawn, met_spent, looked, looking, holding, ended};
-ghost use Rattle.ticket_lock.specs.Steps.{DeniedAt, HasDrawn, Took};
+ghost use Rattle.ticket_lock.specs.Steps.{DeniedAt, PutOffAt, HasDrawn, Took};
 ghost use Rattle.ticket_lock.specs.Proper.{IsSamePass};
 
 use crate::chronicle::Chronicle;
 use crate::denied::Denied;
 use crate::lock::TicketLock;
 use crate::plays::{AwaitTurn, DrawTicket, EndTurn, EndsWith, LoadServing, LoadTicket, MarkBed};
-use crate::rule::{ASLEEP, AWAKE, BEDS, HOME, NEAR, Pass, SERVING, TICKET};
+use crate::rule::{ASLEEP, AWAKE, BEDS, HOME, LOOKS, NEAR, Pass, SERVING, TICKET};
 use crossbeam_utils::Backoff;
 use std::sync::Wait;
 
@@ -62,6 +62,25 @@ impl<T: Chronicle> TicketLock<T> {
                 next: found,
             })
         }
+    }
+
+    // Draws a ticket that is served at once, unless others keep the turn for long. Meanwhile it has
+    // none, so that no other seat waits for a thread that isn't running.
+    pub(crate) fn draw_served(&self, pass: &mut Pass<T, T::Entry>) -> Result<u64, Denied>
+        requires own { pass.old.table_id ≡ self.now.board.shared.table_id }
+        requires free { (pass.old.me.0.sits ≡ true) × (pass.old.me.0.ticket ≡ None) }
+        ensures same { IsSamePass pass.old pass.new }
+        ensures ok { IfOk result (λ n. (n < 2 ^ 64 - 1) × (pass.new.me ≡ (drawn (looking (looked pass.old.me.0 n) pass.new.me.0.looks) n, pass.old.me.1)) × (pass.old.me.0.kept.spent ≡ false)) }
+        ensures err { IfErr result (λ d. PutOffAt pass.old.me d pass.new.me) }
+    {
+        let backoff = Backoff::new();
+        for _ in 1..LOOKS {
+            match self.try_draw(pass) {
+                Err(Denied::Busy { .. }) => backoff.snooze(),
+                settled => return settled,
+            }
+        }
+        self.try_draw(pass)
     }
 
     // Takes the value, where the ticket was drawn at its turn.

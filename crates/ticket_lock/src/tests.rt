@@ -8,12 +8,42 @@ use crate::{Denied, Seat, Spent, TicketLock};
 use counter::{Counter, Mark};
 use std::process::Abort;
 use std::sync::Wait;
-use std::sync::atomic::AtomicBool;
 use std::sync::atomic::Ordering::SeqCst;
+use std::sync::atomic::{AtomicBool, AtomicU64};
 use std::test::Fail;
 use std::thread::{Threads, join, yield_now};
 
 const PATIENCE: u64 = 1_000_000;
+
+/// How far the seats of a test are.
+#[derive(Drop)]
+struct Progress {
+    /// The first turn has begun.
+    begun: AtomicBool,
+    /// How many seats have had all their turns.
+    done: AtomicU64,
+}
+
+impl Progress {
+    fn new() -> Progress {
+        Progress {
+            begun: AtomicBool::new(false),
+            done: AtomicU64::new(0),
+        }
+    }
+
+    /// Waits until so many seats have had their turns. One that nobody wakes would sleep for ever, so
+    /// after the limit the test ends here.
+    fn watch(&self, rt: &impl Abort, seats: u64) {
+        for _ in 0..PATIENCE {
+            if self.done.load(SeqCst) == seats {
+                return;
+            }
+            yield_now();
+        }
+        panic!(rt; "a seat had no turn within the limit");
+    }
+}
 
 /// The last of the new seats.
 fn last(
@@ -156,13 +186,43 @@ fn a_held_turn_keeps_others_busy(rt: HostRuntime) -> Result<(), Fail> {
     Ok(())
 }
 
+/// One turn, which raises the floor by one.
+fn raises<R: Wait>(rt: &R, lock: &TicketLock<Counter>, seat: &mut Seat<Counter>) -> bool
+    requires own { IsOf lock.now seat.old × (ticket seat.old ≡ None) }
+    ensures own { IsOf lock.now seat.new × (ticket seat.new ≡ None) }
+{
+    let Ok(mut held) = lock.turn(rt, seat) else {
+        return false;
+    };
+    held.value.count += 1;
+    lock.raise_floor(seat, &held);
+    let mark = Mark {
+        seat: seat.number(),
+    };
+    lock.end(seat, held, &mark);
+    true
+}
+
+#[test]
+fn a_floor_is_read_anew(rt: HostRuntime) -> Result<(), Fail> {
+    let (lock, mut seats) = TicketLock::new(rt.alloc(), Counter { count: 0 }, 0, 2)?;
+    let mut second = last(&rt, &lock, &mut seats);
+    let mut first = last(&rt, &lock, &mut seats);
+    assert_eq!(rt; lock.floor(&mut second), 0);
+    assert!(rt; raises(&rt, &lock, &mut first));
+    assert_eq!(rt; lock.floor(&mut second), 1);
+    assert!(rt; raises(&rt, &lock, &mut first));
+    assert_eq!(rt; lock.floor(&mut second), 2);
+    Ok(())
+}
+
 /// The first turn, in which another seat asks for one. Whether that was refused as it should be.
-fn asks_meanwhile<R: Wait>(
+fn asks_meanwhile<R: Wait + Abort>(
     rt: &R,
     lock: &TicketLock<Counter>,
     mut seat: Seat<Counter>,
     mut asking: Seat<Counter>,
-    begun: &AtomicBool,
+    progress: &Progress,
 ) -> (Seat<Counter>, Seat<Counter>, bool)
     requires own { IsOf lock.now seat × (ticket seat ≡ None) }
     requires asks { IsOf lock.now asking × (ticket asking ≡ None) }
@@ -173,12 +233,13 @@ fn asks_meanwhile<R: Wait>(
         return (seat, asking, false);
     };
     held.value.count += 1;
-    begun.store(true, SeqCst);
+    progress.begun.store(true, SeqCst);
     let told = told_of_two(lock, &mut asking);
     let mark = Mark {
         seat: seat.number(),
     };
     lock.end(&mut seat, held, &mark);
+    progress.watch(rt, 1);
     (seat, asking, told)
 }
 
@@ -203,15 +264,16 @@ fn follow<R: Wait>(
     rt: &R,
     lock: &TicketLock<Counter>,
     mut seat: Seat<Counter>,
-    begun: &AtomicBool,
+    progress: &Progress,
 ) -> (Seat<Counter>, Option<u64>)
     requires own { IsOf lock.now seat × (ticket seat ≡ None) }
     ensures own { IsOf lock.now result.0 × (ticket result.0 ≡ None) }
 {
-    if !saw(begun) {
+    if !saw(&progress.begun) {
         return (seat, None);
     }
     let ticket = tick(rt, lock, &mut seat).ok();
+    progress.done.fetch_add(1, SeqCst);
     (seat, ticket)
 }
 
@@ -221,18 +283,18 @@ fn a_refusal_counts_the_tickets_that_are_out(rt: HostRuntime) -> Result<(), Fail
     let third = last(&rt, &lock, &mut seats);
     let second = last(&rt, &lock, &mut seats);
     let first = last(&rt, &lock, &mut seats);
-    let begun = AtomicBool::new(false);
-    let (shared, host, flag) = (&lock, &rt, &begun);
+    let progress = Progress::new();
+    let (shared, host, progress) = (&lock, &rt, &progress);
     let ((_first, mut third, told), (_second, ticket)) = join(
         &rt,
         || -> (Seat<Counter>, Seat<Counter>, bool)
             requires { (IsOf shared.now first × (ticket first ≡ None)) × (IsOf shared.now third × (ticket third ≡ None)) }
             ensures { (IsOf shared.entry.now result.0 × (ticket result.0 ≡ None)) × (IsOf shared.entry.now result.1 × (ticket result.1 ≡ None)) }
-        { asks_meanwhile(host, shared, first, third, flag) },
+        { asks_meanwhile(host, shared, first, third, progress) },
         || -> (Seat<Counter>, Option<u64>)
             requires { IsOf shared.now second × (ticket second ≡ None) }
             ensures { IsOf shared.entry.now result.0 × (ticket result.0 ≡ None) }
-        { follow(host, shared, second, flag) },
+        { follow(host, shared, second, progress) },
     );
     assert_eq!(rt; (told, ticket), (true, Some(1)));
     assert_eq!(rt; try_tick(&lock, &mut third).ok(), Some(2));
@@ -259,12 +321,12 @@ fn all_sleep(lock: &TicketLock<Counter>, sleepers: u64) -> bool {
     false
 }
 
-/// The first turn, which lasts until the seats that follow sleep.
-fn lead<R: Wait>(
+/// The first turn, which lasts until the seats that follow sleep. Then they have to be woken.
+fn lead<R: Wait + Abort>(
     rt: &R,
     lock: &TicketLock<Counter>,
     mut seat: Seat<Counter>,
-    begun: &AtomicBool,
+    progress: &Progress,
     sleepers: u64,
 ) -> (Seat<Counter>, bool)
     requires own { IsOf lock.now seat × (ticket seat ≡ None) }
@@ -274,12 +336,13 @@ fn lead<R: Wait>(
         return (seat, false);
     };
     held.value.count += 1;
-    begun.store(true, SeqCst);
+    progress.begun.store(true, SeqCst);
     let asleep = all_sleep(lock, sleepers);
     let mark = Mark {
         seat: seat.number(),
     };
     lock.end(&mut seat, held, &mark);
+    progress.watch(rt, sleepers);
     (seat, asleep)
 }
 
@@ -288,18 +351,18 @@ fn a_seat_that_sleeps_is_woken(rt: HostRuntime) -> Result<(), Fail> {
     let (lock, mut seats) = TicketLock::new(rt.alloc(), Counter { count: 0 }, 0, 2)?;
     let second = last(&rt, &lock, &mut seats);
     let first = last(&rt, &lock, &mut seats);
-    let begun = AtomicBool::new(false);
-    let (shared, host, flag) = (&lock, &rt, &begun);
+    let progress = Progress::new();
+    let (shared, host, progress) = (&lock, &rt, &progress);
     let ((mut first, asleep), (_, told)) = join(
         &rt,
         || -> (Seat<Counter>, bool)
             requires { IsOf shared.now first × (ticket first ≡ None) }
             ensures { IsOf shared.entry.now result.0 × (ticket result.0 ≡ None) }
-        { lead(host, shared, first, flag, 1) },
+        { lead(host, shared, first, progress, 1) },
         || -> (Seat<Counter>, Option<u64>)
             requires { IsOf shared.now second × (ticket second ≡ None) }
             ensures { IsOf shared.entry.now result.0 × (ticket result.0 ≡ None) }
-        { follow(host, shared, second, flag) },
+        { follow(host, shared, second, progress) },
     );
     assert_eq!(rt; (asleep, told), (true, Some(1)));
     assert_eq!(rt; tick(&rt, &lock, &mut first).ok(), Some(2));
@@ -312,7 +375,7 @@ fn follow_both<R: Threads + Wait + Sync>(
     lock: &TicketLock<Counter>,
     one: Seat<Counter>,
     two: Seat<Counter>,
-    begun: &AtomicBool,
+    progress: &Progress,
 ) -> Option<u64>
     requires one { IsOf lock.now one × (ticket one ≡ None) }
     requires two { IsOf lock.now two × (ticket two ≡ None) }
@@ -321,10 +384,10 @@ fn follow_both<R: Threads + Wait + Sync>(
         rt,
         || -> (Seat<Counter>, Option<u64>)
             requires { IsOf lock.now one × (ticket one ≡ None) }
-        { follow(rt, lock, one, begun) },
+        { follow(rt, lock, one, progress) },
         || -> (Seat<Counter>, Option<u64>)
             requires { IsOf lock.now two × (ticket two ≡ None) }
-        { follow(rt, lock, two, begun) },
+        { follow(rt, lock, two, progress) },
     );
     Some(by_one?.saturating_add(by_two?))
 }
@@ -337,14 +400,14 @@ fn many_seats_that_sleep_are_woken_in_turn(rt: HostRuntime) -> Result<(), Fail> 
     let c = last(&rt, &lock, &mut seats);
     let b = last(&rt, &lock, &mut seats);
     let a = last(&rt, &lock, &mut seats);
-    let begun = AtomicBool::new(false);
-    let (shared, host, flag) = (&lock, &rt, &begun);
+    let progress = Progress::new();
+    let (shared, host, progress) = (&lock, &rt, &progress);
     let ((mut a, asleep), (by_two, by_others)) = join(
         &rt,
         || -> (Seat<Counter>, bool)
             requires { IsOf shared.now a × (ticket a ≡ None) }
             ensures { IsOf shared.entry.now result.0 × (ticket result.0 ≡ None) }
-        { lead(host, shared, a, flag, 4) },
+        { lead(host, shared, a, progress, 4) },
         || -> (Option<u64>, Option<u64>)
             requires { (IsOf shared.now b × (ticket b ≡ None)) × (IsOf shared.now c × (ticket c ≡ None)) × (IsOf shared.now d × (ticket d ≡ None)) × (IsOf shared.now e × (ticket e ≡ None)) }
         {
@@ -352,10 +415,10 @@ fn many_seats_that_sleep_are_woken_in_turn(rt: HostRuntime) -> Result<(), Fail> 
                 host,
                 || -> Option<u64>
                     requires { (IsOf shared.now b × (ticket b ≡ None)) × (IsOf shared.now c × (ticket c ≡ None)) }
-                { follow_both(host, shared, b, c, flag) },
+                { follow_both(host, shared, b, c, progress) },
                 || -> Option<u64>
                     requires { (IsOf shared.now d × (ticket d ≡ None)) × (IsOf shared.now e × (ticket e ≡ None)) }
-                { follow_both(host, shared, d, e, flag) },
+                { follow_both(host, shared, d, e, progress) },
             )
         },
     );
@@ -373,6 +436,7 @@ fn spend<R: Wait + Abort>(
     rt: &R,
     lock: &TicketLock<Counter>,
     mut seat: Seat<Counter>,
+    progress: &Progress,
 ) -> (Seat<Counter>, u64)
     requires own { IsOf lock.now seat × (ticket seat ≡ None) }
     ensures own { IsOf lock.now result.0 × (ticket result.0 ≡ None) }
@@ -380,6 +444,7 @@ fn spend<R: Wait + Abort>(
     for made in 0..PATIENCE {
         if tick(rt, lock, &mut seat).is_err() {
             assert!(rt; tick(rt, lock, &mut seat).is_err());
+            progress.done.fetch_add(1, SeqCst);
             return (seat, made);
         }
     }
@@ -392,6 +457,7 @@ fn spend_both<R: Threads + Wait + Abort + Sync>(
     lock: &TicketLock<Counter>,
     one: Seat<Counter>,
     two: Seat<Counter>,
+    progress: &Progress,
 ) -> ((Seat<Counter>, u64), (Seat<Counter>, u64))
     requires one { IsOf lock.now one × (ticket one ≡ None) }
     requires two { IsOf lock.now two × (ticket two ≡ None) }
@@ -403,11 +469,40 @@ fn spend_both<R: Threads + Wait + Abort + Sync>(
         || -> (Seat<Counter>, u64)
             requires { IsOf lock.now one × (ticket one ≡ None) }
             ensures { IsOf lock.entry.now result.0 × (ticket result.0 ≡ None) }
-        { spend(rt, lock, one) },
+        { spend(rt, lock, one, progress) },
         || -> (Seat<Counter>, u64)
             requires { IsOf lock.now two × (ticket two ≡ None) }
             ensures { IsOf lock.entry.now result.0 × (ticket result.0 ≡ None) }
-        { spend(rt, lock, two) },
+        { spend(rt, lock, two, progress) },
+    )
+}
+
+/// Four seats do so.
+fn spend_all<R: Threads + Wait + Abort + Sync>(
+    rt: &R,
+    lock: &TicketLock<Counter>,
+    a: Seat<Counter>,
+    b: Seat<Counter>,
+    c: Seat<Counter>,
+    d: Seat<Counter>,
+    progress: &Progress,
+) -> (
+    ((Seat<Counter>, u64), (Seat<Counter>, u64)),
+    ((Seat<Counter>, u64), (Seat<Counter>, u64)),
+)
+    requires { (IsOf lock.now a × (ticket a ≡ None)) × (IsOf lock.now b × (ticket b ≡ None)) × (IsOf lock.now c × (ticket c ≡ None)) × (IsOf lock.now d × (ticket d ≡ None)) }
+    ensures { (IsOf lock.now result.0.0.0 × (ticket result.0.0.0 ≡ None)) × (IsOf lock.now result.0.1.0 × (ticket result.0.1.0 ≡ None)) × (IsOf lock.now result.1.0.0 × (ticket result.1.0.0 ≡ None)) × (IsOf lock.now result.1.1.0 × (ticket result.1.1.0 ≡ None)) }
+{
+    join(
+        rt,
+        || -> ((Seat<Counter>, u64), (Seat<Counter>, u64))
+            requires { (IsOf lock.now a × (ticket a ≡ None)) × (IsOf lock.now b × (ticket b ≡ None)) }
+            ensures { (IsOf lock.entry.now result.0.0 × (ticket result.0.0 ≡ None)) × (IsOf lock.entry.now result.1.0 × (ticket result.1.0 ≡ None)) }
+        { spend_both(rt, lock, a, b, progress) },
+        || -> ((Seat<Counter>, u64), (Seat<Counter>, u64))
+            requires { (IsOf lock.now c × (ticket c ≡ None)) × (IsOf lock.now d × (ticket d ≡ None)) }
+            ensures { (IsOf lock.entry.now result.0.0 × (ticket result.0.0 ≡ None)) × (IsOf lock.entry.now result.1.0 × (ticket result.1.0 ≡ None)) }
+        { spend_both(rt, lock, c, d, progress) },
     )
 }
 
@@ -419,17 +514,18 @@ fn four_threads_spend_all_tickets(rt: HostRuntime) -> Result<(), Fail> {
     let b = last(&rt, &lock, &mut seats);
     let c = last(&rt, &lock, &mut seats);
     let d = last(&rt, &lock, &mut seats);
-    let (shared, host) = (&lock, &rt);
-    let (((a, by_a), (b, by_b)), ((c, by_c), (d, by_d))) = join(
+    let progress = Progress::new();
+    let (shared, host, progress) = (&lock, &rt, &progress);
+    let ((((a, by_a), (b, by_b)), ((c, by_c), (d, by_d))), ()) = join(
         &rt,
-        || -> ((Seat<Counter>, u64), (Seat<Counter>, u64))
-            requires { (IsOf shared.now a × (ticket a ≡ None)) × (IsOf shared.now b × (ticket b ≡ None)) }
-            ensures { (IsOf shared.entry.now result.0.0 × (ticket result.0.0 ≡ None)) × (IsOf shared.entry.now result.1.0 × (ticket result.1.0 ≡ None)) }
-        { spend_both(host, shared, a, b) },
-        || -> ((Seat<Counter>, u64), (Seat<Counter>, u64))
-            requires { (IsOf shared.now c × (ticket c ≡ None)) × (IsOf shared.now d × (ticket d ≡ None)) }
-            ensures { (IsOf shared.entry.now result.0.0 × (ticket result.0.0 ≡ None)) × (IsOf shared.entry.now result.1.0 × (ticket result.1.0 ≡ None)) }
-        { spend_both(host, shared, c, d) },
+        || -> (
+            ((Seat<Counter>, u64), (Seat<Counter>, u64)),
+            ((Seat<Counter>, u64), (Seat<Counter>, u64)),
+        )
+            requires { (IsOf shared.now a × (ticket a ≡ None)) × (IsOf shared.now b × (ticket b ≡ None)) × (IsOf shared.now c × (ticket c ≡ None)) × (IsOf shared.now d × (ticket d ≡ None)) }
+            ensures { (IsOf shared.entry.now result.0.0.0 × (ticket result.0.0.0 ≡ None)) × (IsOf shared.entry.now result.0.1.0 × (ticket result.0.1.0 ≡ None)) × (IsOf shared.entry.now result.1.0.0 × (ticket result.1.0.0 ≡ None)) × (IsOf shared.entry.now result.1.1.0 × (ticket result.1.1.0 ≡ None)) }
+        { spend_all(host, shared, a, b, c, d, progress) },
+        || progress.watch(host, 4),
     );
     let made = by_a
         .saturating_add(by_b)

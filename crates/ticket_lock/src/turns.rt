@@ -11,7 +11,11 @@ use std::marker::Brand;
 use std::sync::Wait;
 
 impl<T: Chronicle> TicketLock<T> {
-    /// Draws the next ticket and waits until it is served.
+    /// The turn of the next ticket, for which it may wait.
+    ///
+    /// While others have theirs it looks again a number of times, giving way in between, and draws a
+    /// ticket once that is served at once. Where that takes long it draws the next ticket all the same
+    /// and waits in line: who draws later has the turn later.
     ///
     /// `Spent` comes exactly where the next ticket would be 18446744073709551615, and at each later
     /// call for a turn of this seat too. That the wait ends is not promised: it takes as long as the
@@ -23,11 +27,20 @@ impl<T: Chronicle> TicketLock<T> {
         ensures err { IfErr result (λ _. IsSpent seat.old seat.new) }
         ensures own { mine seat.old ≡ of_seat T.seat_of (number seat.old) (seen seat.old) }
     {
-        let Some(ticket) = self.draw(rt, &mut seat.pass) else {
-            return Err(Spent);
-        };
-        let value = self.await_turn(rt, &mut seat.pass, ticket);
-        Ok(Held { value, ticket })
+        match self.draw_served(&mut seat.pass) {
+            Ok(ticket) => {
+                let value = self.take_turn(&mut seat.pass, ticket);
+                Ok(Held { value, ticket })
+            }
+            Err(Denied::Spent) => Err(Spent),
+            Err(Denied::Busy { .. }) => {
+                let Some(ticket) = self.draw(rt, &mut seat.pass) else {
+                    return Err(Spent);
+                };
+                let value = self.await_turn(rt, &mut seat.pass, ticket);
+                Ok(Held { value, ticket })
+            }
+        }
     }
 
     /// The turn of the next ticket, if it is served at once. It waits for nobody, and draws a ticket

@@ -1,20 +1,17 @@
 //! Threads whose calls make one history, of which each sees what the others left.
 ghost use Rattle.shared_db.specs.Seats.{IsOf};
 
-use super::{closes, last};
+use super::{PATIENCE, closes, last, watch};
 use crate::{Config, Db, Seat};
 use spans::calls::{Cmd, Event, Reply};
 use std::alloc::{AllocError, Global};
 use std::sync::Wait;
-use std::sync::atomic::AtomicBool;
 use std::sync::atomic::Ordering::SeqCst;
+use std::sync::atomic::{AtomicBool, AtomicU64};
 use std::test::Fail;
-use std::thread::{join, yield_now};
+use std::thread::{Threads, join, yield_now};
 use timestamps::key::Key;
 use timestamps::value::Value;
-
-/// How often a thread looks for another's flag, giving way between two looks.
-const PATIENCE: u64 = 1_000_000;
 
 fn saw(flag: &AtomicBool) -> bool {
     for _ in 0..PATIENCE {
@@ -46,6 +43,7 @@ fn begins<R: Wait>(
     from: u64,
     begun: &AtomicBool,
     other: &AtomicBool,
+    done: &AtomicU64,
 ) -> (Seat, u64, bool)
     requires own { IsOf db.now seat }
     ensures own { IsOf db.now result.0 }
@@ -58,7 +56,34 @@ fn begins<R: Wait>(
             started += 1;
         }
     }
+    done.fetch_add(1, SeqCst);
     (seat, started, both)
+}
+
+/// Two seats do so, each in a thread.
+fn begin_both<R: Threads + Wait + Sync>(
+    rt: &R,
+    db: &Db,
+    one: Seat,
+    two: Seat,
+    first: &AtomicBool,
+    second: &AtomicBool,
+    done: &AtomicU64,
+) -> ((Seat, u64, bool), (Seat, u64, bool))
+    requires own { IsOf db.now one × IsOf db.now two }
+    ensures own { IsOf db.now result.0.0 × IsOf db.now result.1.0 }
+{
+    join(
+        rt,
+        || -> (Seat, u64, bool)
+            requires { IsOf db.now one }
+            ensures { IsOf db.entry.now result.0 }
+        { begins(rt, db, one, 1, first, second, done) },
+        || -> (Seat, u64, bool)
+            requires { IsOf db.now two }
+            ensures { IsOf db.entry.now result.0 }
+        { begins(rt, db, two, 1001, second, first, done) },
+    )
 }
 
 #[test]
@@ -73,16 +98,15 @@ fn two_threads_make_one_history(rt: HostRuntime) -> Result<(), Fail> {
     let one = last(&rt, &db, &mut seats);
     let (flag_of_one, flag_of_two) = (AtomicBool::new(false), AtomicBool::new(false));
     let (shared, host, first, second) = (&db, &rt, &flag_of_one, &flag_of_two);
-    let ((mut one, by_one, one_saw), (mut two, by_two, two_saw)) = join(
+    let ended = AtomicU64::new(0);
+    let done = &ended;
+    let (((mut one, by_one, one_saw), (mut two, by_two, two_saw)), ()) = join(
         &rt,
-        || -> (Seat, u64, bool)
-            requires { IsOf shared.now one }
-            ensures { IsOf shared.entry.now result.0 }
-        { begins(host, shared, one, 1, first, second) },
-        || -> (Seat, u64, bool)
-            requires { IsOf shared.now two }
-            ensures { IsOf shared.entry.now result.0 }
-        { begins(host, shared, two, 1001, second, first) },
+        || -> ((Seat, u64, bool), (Seat, u64, bool))
+            requires { IsOf shared.now one × IsOf shared.now two }
+            ensures { IsOf shared.entry.now result.0.0 × IsOf shared.entry.now result.1.0 }
+        { begin_both(host, shared, one, two, first, second, done) },
+        || watch(host, done, 2),
     );
     assert!(rt; one_saw && two_saw, "both ran at once");
     assert_eq!(rt; (by_one, by_two), (100, 100));
@@ -193,6 +217,24 @@ fn closes_to_ten<R: Wait>(rt: &R, db: &Db, mut seat: Seat) -> (Seat, bool)
 {
     let closed = closes(rt, db, &mut seat, 10);
     (seat, closed)
+}
+
+#[test]
+fn a_floor_is_read_anew(rt: HostRuntime) -> Result<(), Fail> {
+    let config = Config {
+        seats: 2,
+        ring: 16,
+        first: 0,
+    };
+    let (db, mut seats, _passes) = Db::open(rt.alloc(), config)?;
+    let mut two = last(&rt, &db, &mut seats);
+    let mut one = last(&rt, &db, &mut seats);
+    assert_eq!(rt; db.floor(&mut two), 0);
+    assert!(rt; closes(&rt, &db, &mut one, 10));
+    assert_eq!(rt; db.floor(&mut two), 10);
+    assert!(rt; closes(&rt, &db, &mut one, 20));
+    assert_eq!(rt; db.floor(&mut two), 20);
+    Ok(())
 }
 
 fn floor_of(db: &Db, mut seat: Seat) -> u64

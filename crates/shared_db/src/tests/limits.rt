@@ -2,11 +2,13 @@
 ghost use Rattle.shared_db.specs.Seats.{IsOf};
 ghost use Rattle.timestamps.specs.Passes.{IsOf as IsPassOf};
 
-use super::{closes, last};
+use super::{closes, last, watch};
 use crate::{CallDenied, Config, Db, OpenError, Seat};
 use spans::calls::{Cmd, Reply};
 use std::process::Abort;
 use std::sync::Wait;
+use std::sync::atomic::AtomicU64;
+use std::sync::atomic::Ordering::SeqCst;
 use std::test::Fail;
 use std::thread::{Threads, join};
 use timestamps::oracle::OraclePass;
@@ -20,6 +22,8 @@ fn limits(rt: HostRuntime) -> Result<(), Fail> {
         (0, 0, Err(OpenError::SeatCount)),
         (65, 1, Err(OpenError::SeatCount)),
         (64, 0, Err(OpenError::RingSize)),
+        (1, 0, Err(OpenError::RingSize)),
+        (0, 1, Err(OpenError::SeatCount)),
         (1, 65537, Err(OpenError::RingSize)),
         (64, 65536, Ok(64)),
         (1, 1, Ok(1)),
@@ -56,7 +60,7 @@ fn a_lone_seat_waits_for_nobody(rt: HostRuntime) -> Result<(), Fail> {
 }
 
 /// Calls until no position is left, and then twice more. How many calls were answered.
-fn spends<R: Wait + Abort>(rt: &R, db: &Db, mut seat: Seat) -> (Seat, u64)
+fn spends<R: Wait + Abort>(rt: &R, db: &Db, mut seat: Seat, done: &AtomicU64) -> (Seat, u64)
     requires own { IsOf db.now seat }
     ensures own { IsOf db.now result.0 }
 {
@@ -72,6 +76,7 @@ fn spends<R: Wait + Abort>(rt: &R, db: &Db, mut seat: Seat) -> (Seat, u64)
                     })
                 )
             );
+            done.fetch_add(1, SeqCst);
             return (seat, made);
         }
     }
@@ -84,6 +89,7 @@ fn spend_both<R: Threads + Wait + Abort + Sync>(
     db: &Db,
     one: Seat,
     two: Seat,
+    done: &AtomicU64,
 ) -> ((Seat, u64), (Seat, u64))
     requires own { IsOf db.now one × IsOf db.now two }
     ensures own { IsOf db.now result.0.0 × IsOf db.now result.1.0 }
@@ -93,11 +99,37 @@ fn spend_both<R: Threads + Wait + Abort + Sync>(
         || -> (Seat, u64)
             requires { IsOf db.now one }
             ensures { IsOf db.entry.now result.0 }
-        { spends(rt, db, one) },
+        { spends(rt, db, one, done) },
         || -> (Seat, u64)
             requires { IsOf db.now two }
             ensures { IsOf db.entry.now result.0 }
-        { spends(rt, db, two) },
+        { spends(rt, db, two, done) },
+    )
+}
+
+/// Four seats do so.
+fn spend_all<R: Threads + Wait + Abort + Sync>(
+    rt: &R,
+    db: &Db,
+    a: Seat,
+    b: Seat,
+    c: Seat,
+    d: Seat,
+    done: &AtomicU64,
+) -> (((Seat, u64), (Seat, u64)), ((Seat, u64), (Seat, u64)))
+    requires own { IsOf db.now a × IsOf db.now b × IsOf db.now c × IsOf db.now d }
+    ensures own { IsOf db.now result.0.0.0 × IsOf db.now result.0.1.0 × IsOf db.now result.1.0.0 × IsOf db.now result.1.1.0 }
+{
+    join(
+        rt,
+        || -> ((Seat, u64), (Seat, u64))
+            requires { IsOf db.now a × IsOf db.now b }
+            ensures { IsOf db.entry.now result.0.0 × IsOf db.entry.now result.1.0 }
+        { spend_both(rt, db, a, b, done) },
+        || -> ((Seat, u64), (Seat, u64))
+            requires { IsOf db.now c × IsOf db.now d }
+            ensures { IsOf db.entry.now result.0.0 × IsOf db.entry.now result.1.0 }
+        { spend_both(rt, db, c, d, done) },
     )
 }
 
@@ -114,16 +146,15 @@ fn four_threads_use_up_the_positions(rt: HostRuntime) -> Result<(), Fail> {
     let b = last(&rt, &db, &mut seats);
     let a = last(&rt, &db, &mut seats);
     let (shared, host) = (&db, &rt);
-    let (((a, by_a), (b, by_b)), ((c, by_c), (d, by_d))) = join(
+    let ended = AtomicU64::new(0);
+    let done = &ended;
+    let ((((a, by_a), (b, by_b)), ((c, by_c), (d, by_d))), ()) = join(
         &rt,
-        || -> ((Seat, u64), (Seat, u64))
-            requires { IsOf shared.now a × IsOf shared.now b }
-            ensures { IsOf shared.entry.now result.0.0 × IsOf shared.entry.now result.1.0 }
-        { spend_both(host, shared, a, b) },
-        || -> ((Seat, u64), (Seat, u64))
-            requires { IsOf shared.now c × IsOf shared.now d }
-            ensures { IsOf shared.entry.now result.0.0 × IsOf shared.entry.now result.1.0 }
-        { spend_both(host, shared, c, d) },
+        || -> (((Seat, u64), (Seat, u64)), ((Seat, u64), (Seat, u64)))
+            requires { IsOf shared.now a × IsOf shared.now b × IsOf shared.now c × IsOf shared.now d }
+            ensures { IsOf shared.entry.now result.0.0.0 × IsOf shared.entry.now result.0.1.0 × IsOf shared.entry.now result.1.0.0 × IsOf shared.entry.now result.1.1.0 }
+        { spend_all(host, shared, a, b, c, d, done) },
+        || watch(host, done, 4),
     );
     let made = by_a
         .saturating_add(by_b)
