@@ -23,7 +23,7 @@ AreMade forgotten ts ps [] (f ∷ fs) = ⊥
 AreMade forgotten ts ps (e ∷ es) [] = ⊥
 AreMade forgotten ts ps (e ∷ es) (f ∷ fs) = (f.0 ≡ e.0) × AreEdited (λ p. picks p e.0) ts ps (is_kept forgotten e.1) (is_kept forgotten f.1) × AreMade forgotten ts ps es fs
 
-none_made : (forgotten ts : ℕ) (es : Entries) → AreMade forgotten ts [] es es
+pub none_made : (forgotten ts : ℕ) (es : Entries) → AreMade forgotten ts [] es es
 none_made forgotten ts [] = tt
 none_made forgotten ts (e ∷ es) = (refl, λ j. refl, none_made forgotten ts es)
 
@@ -70,7 +70,7 @@ module _ (forgotten : ℕ) (p : Patch) (ts : ℕ) where
       rw skip (made.0, (λ yes. absurd (cc (is, yes)), λ _. made.1), ih gs h)
 
   -- put in, the new readers of one patch more stand at their starts
-  puts_made : (ps : List Patch) (es fs gs : Entries) → IsStrictlySortedBy key_cmp (keys_of es) → AreMade forgotten ts ps es fs → Fresh (picked es) gs → AreMade forgotten ts (p ∷ ps) es (puts fs gs)
+  pub puts_made : (ps : List Patch) (es fs gs : Entries) → IsStrictlySortedBy key_cmp (keys_of es) → AreMade forgotten ts ps es fs → Fresh (picked es) gs → AreMade forgotten ts (p ∷ ps) es (puts fs gs)
   unfolding IsStrictlySortedBy
   puts_made ps [] [] [] s made h = tt
   puts_made ps [] [] (g ∷ gs) s made h = absurd h

@@ -1,13 +1,36 @@
 -- The readers of one segment, where those of a gap become one.
-use Rattle.std.proofs.Common.{ℕ, List, [], ◌∷◌, ◌++◌, Bool, true, false, ◌≡◌, ◌<◌, ◌≤◌, ◌-◌, ◌+◌, ◌⊎◌, inl, inr, length, get_or, take, drop, leb, leb-true, leb-false, arith, refl, sym, length-append, max, subst}
-use Rattle.std.specs.List.{Contains}
+use Rattle.std.proofs.Common.{ℕ, List, [], ◌∷◌, ◌++◌, Bool, true, false, ◌≡◌, ◌<◌, ◌≤◌, ◌-◌, ◌+◌, ◌⊎◌, inl, inr, length, get_or, take, drop, leb, leb-true, leb-false, arith, refl, sym, length-append, append_assoc, max, set, subst}
+use Rattle.std.specs.List.{Contains, insert}
 use Rattle.std.specs.List.Sorted.{IsNonDecreasing}
-use Rattle.std.proofs.lemmas.List.{get_or_default, get_or-append_right, get_or_append_left}
+use Rattle.std.proofs.lemmas.List.{get_or_default, get_or-append_right, get_or_append_left, take_more_set, drop-set-lt}
 use Rattle.std.proofs.lemmas.List.Sorted.{IsNonDecreasingBy-push, IsNonDecreasingBy-take, IsNonDecreasingBy-drop}
 use Rattle.std.proofs.lemmas.List.Elements.{Contains-get_or, Contains-append_left, Contains-append_right, Contains-append_cases, Contains-push, Contains-push_cases}
 use Rattle.kept.specs.Marks.{IsPiece}
-use Rattle.read_marks.specs.Readers.{is_reader, IsGreatest, SplitsAt}
+use Rattle.read_marks.specs.Readers.{is_reader, SplitsAt}
 use Rattle.read_marks.proofs.Splitting.{from_place, reader_is, in_front, in_back, to_front, to_back}
+
+-- of the readers above `above` and up to `until`, with ts, the greatest one
+pub record IsGreatest (xs : List ℕ) (above until ts top : ℕ) : Type 0 where
+  pub low : above < top
+  pub high : top ≤ until
+  pub one : (top ≡ ts) ⊎ Contains xs top
+  pub past_ts : ts ≤ top
+  pub past : (i : ℕ) → Contains xs i → above < i → i ≤ until → i ≤ top
+
+-- the first reader of the gap overwritten, and the others taken out
+pub written : (xs : List ℕ) (a b top : ℕ) → a < b → a < length xs → take (a + 1) (set xs a top) ++ drop b (set xs a top) ≡ (take a xs ++ top ∷ []) ++ drop b xs
+written xs a b top ab lt = rw (take_more_set xs a top lt, drop-set-lt b xs a top ab) refl
+
+-- one put into a gap that has none
+pub put_in : (xs : List ℕ) (a b top : ℕ) → a ≡ b → insert xs a top ≡ (take a xs ++ top ∷ []) ++ drop b xs
+put_in xs a b top same = rw (← same) (sym (append_assoc (take a xs) (top ∷ []) (drop a xs)))
+
+-- where none stands in the gap its ends are one place
+pub same_place : (xs : List ℕ) (above until a b : ℕ) → SplitsAt xs above a → SplitsAt xs until b → above ≤ until → a ≤ length xs → b ≤ a → a ≡ b
+same_place xs above until a b p q le bound none =
+    let low : b < a → get_or xs b 0 ≤ above = λ lt. leb-true _ _ (p.0 b 0 (omega arith) lt) in
+    let high : b < a → until < get_or xs b 0 = λ lt. leb-false _ _ (q.1 b 0 (omega arith) (omega arith)) in
+    grind (arith, low, high)
 
 -- two tests that pass for the same
 same_test : (a b : Bool) → (a ≡ true → b ≡ true) → (b ≡ true → a ≡ true) → b ≡ a

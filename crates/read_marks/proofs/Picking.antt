@@ -1,22 +1,28 @@
 -- Whether the segment of a key lies in a patch, at both ends of which segments start.
-use Rattle.std.proofs.Common.{ℕ, List, [], ◌∷◌, ◌++◌, Bool, true, false, cond, not, ◌&&◌, ◌≡◌, refl, sym, ap, ◌∙◌, Option, Some, None, IsSome}
-use Rattle.std.specs.List.{AllByRecursion, filter}
+use Rattle.std.proofs.Common.{ℕ, List, [], ◌∷◌, ◌++◌, Bool, true, false, cond, not, ◌&&◌, ◌≡◌, refl, sym, ap, subst, ◌∙◌, bytes_eq, Option, Some, None, IsSome}
+use Rattle.std.specs.List.{All, AllByRecursion, filter}
 use Rattle.std.specs.List.Sorted.{IsStrictlySortedBy}
-use Rattle.std.specs.Map.{keys_of, lookup}
+use Rattle.std.specs.Map.{keys_of, lookup, set_value}
 use Rattle.std.specs.Ordering.{ordering_reverse, is_eq, is_lt, is_le}
-use Rattle.std.specs.BTreeMap.{BTreeMap, is_at}
+use Rattle.std.specs.BTreeMap.{BTreeMap, is_at, get}
 use Rattle.std.specs.declared.cmp.Ordering.{Ordering}
 use Rattle.std.specs.declared.cmp.Ordering.TheVariants.{Less, Equal, Greater}
-use Rattle.std.specs.Cmp.{alike_right}
+use Rattle.std.specs.BTreeMap.Range.{range_contains, IsEntryInRange}
+use Rattle.std.specs.declared.ops.Bound.TheVariants.{Included, Unbounded}
+use Rattle.std.specs.Cmp.{alike_right, tied_itself}
+use Rattle.std.proofs.lemmas.List.Kept.{IsStrictlySortedBy-filter}
+use Rattle.std.proofs.lemmas.List.Elements.{All-head, All-tail}
+use Rattle.std.proofs.lemmas.Slice.Eq.{bytes_eq-Decides}
+use Rattle.kept.specs.Marks.{IsPiece}
 use Rattle.std.specs.Cmp.Lexicographic.{nat_list_cmp_total}
 use Rattle.timestamps.specs.Bytes.{key_cmp}
 use Rattle.spans.specs.KeyOrder.{below_high}
 use Rattle.read_marks.specs.Readers.{is_kept}
 use Rattle.read_marks.specs.Segments.{reaches, step_at}
 use Rattle.read_marks.specs.Patches.{AreEdited, holds}
-use Rattle.read_marks.specs.Editing.{Entries, IsStart, IsEnd, HasEnds, IsPart, AreStarts, AreParts, picks, puts_parts}
+use Rattle.read_marks.specs.Editing.{Entries, IsStart, IsEnd, IsSegment, HasEnds, IsPart, AreStarts, AreParts, picks, puts_parts}
 use Rattle.read_marks.specs.declared.patch.Patch.{Patch}
-use Rattle.read_marks.proofs.Editing.{picked_at, parts_made, step_made}
+use Rattle.read_marks.proofs.Editing.{AreMade, picked_at, none_made, parts_made, puts_made, step_made}
 use Rattle.read_marks.proofs.Steps.{less-from, none-found}
 
 true-turn : (t : Bool) (w : Bool) → w ≡ true → cond t w true ≡ true
@@ -94,12 +100,25 @@ no_edit : (ts : ℕ) (ps : List Patch) (m : ℕ → Bool) → AreEdited (λ _. f
 no_edit ts [] m = λ j. refl
 no_edit ts (p ∷ ps) m = (λ yes. cc yes, λ _. no_edit ts ps m)
 
+-- an edit of the starts, at a key
+edited_at : (forgotten ts : ℕ) (ps : List Patch) (m : BTreeMap (List ℕ) (List ℕ)) (fs : Entries) (x : List ℕ) → IsStrictlySortedBy key_cmp (keys_of m.entries) → AreStarts m ps → AreMade forgotten ts ps m.entries fs
+    → AreEdited (λ p. holds p x) ts ps (is_kept forgotten (step_at (reaches x) [] m.entries)) (is_kept forgotten (step_at (reaches x) [] fs))
+edited_at forgotten ts ps m fs x s starts made =
+    edited_alike (λ p. picked_at (picks p) (reaches x) false m.entries) (λ p. holds p x) ts ps _ _ (all_picked x m ps s starts)
+    (step_made forgotten (reaches x) ts ps (λ _. false) [] [] m.entries fs (no_edit ts ps (is_kept forgotten [])) made)
+
+-- that of one segment
+pub segment_edited : (forgotten ts : ℕ) (p : Patch) (m : BTreeMap (List ℕ) (List ℕ)) (fresh x : List ℕ) → IsStrictlySortedBy key_cmp (keys_of m.entries) → (one : IsSegment m p) → IsPiece (is_kept forgotten one.readers) (is_kept forgotten fresh) ts p.above p.until
+    → AreEdited (λ q. holds q x) ts (p ∷ []) (is_kept forgotten (step_at (reaches x) [] m.entries)) (is_kept forgotten (step_at (reaches x) [] (set_value (is_at (key_cmp p.lo)) m.entries fresh)))
+segment_edited forgotten ts p m fresh x s one piece =
+    let start : IsStart m p.lo = rw one.start refl in
+    edited_at forgotten ts (p ∷ []) m _ x s ((start, one.end), tt)
+    (puts_made forgotten p ts [] m.entries m.entries ((p.lo, fresh) ∷ []) s (none_made forgotten ts m.entries) (rw one.alone (refl, piece, tt)))
+
 -- the whole edit, at a key
 pub edit_done : (forgotten ts : ℕ) (ps : List Patch) (m : BTreeMap (List ℕ) (List ℕ)) (gs : List _) (x : List ℕ) → IsStrictlySortedBy key_cmp (keys_of m.entries) → AreStarts m ps → AreParts forgotten ts m.entries ps gs
     → AreEdited (λ p. holds p x) ts ps (is_kept forgotten (step_at (reaches x) [] m.entries)) (is_kept forgotten (step_at (reaches x) [] (puts_parts m.entries gs)))
-edit_done forgotten ts ps m gs x s starts parts =
-    edited_alike (λ p. picked_at (picks p) (reaches x) false m.entries) (λ p. holds p x) ts ps _ _ (all_picked x m ps s starts)
-    (step_made forgotten (reaches x) ts ps (λ _. false) [] [] m.entries (puts_parts m.entries gs) (no_edit ts ps (is_kept forgotten [])) (parts_made forgotten ts ps m.entries gs s parts))
+edit_done forgotten ts ps m gs x s starts parts = edited_at forgotten ts ps m (puts_parts m.entries gs) x s starts (parts_made forgotten ts ps m.entries gs s parts)
 
 -- where the end is not above the beginning no start lies between
 after-turn : (lo hi x : List ℕ) (r : Ordering) → key_cmp hi lo ≡ Less → key_cmp lo x ≡ r → (is_le r && not (is_le (key_cmp hi x))) ≡ false
@@ -125,6 +144,85 @@ none_picked p (e ∷ es) h = rw (h e.0) (none_picked p es h)
 
 pub empty_part : (forgotten : ℕ) (p : Patch) (ts : ℕ) (es fs : Entries) → ((x : List ℕ) → picks p x ≡ false) → fs ≡ [] → IsPart forgotten ts es p fs
 empty_part forgotten p ts es fs h none = rw (none, none_picked p es h) tt
+
+-- a filter by two tests is one by the second of what passes the first
+both-filtered : (q : List ℕ → Bool) (e : List ℕ × List ℕ) (xs ys : Entries) (t : Bool) → xs ≡ filter (λ f. q f.0) ys → cond (t && q e.0) (e ∷ xs) xs ≡ filter (λ f. q f.0) (cond t (e ∷ ys) ys)
+both-filtered q e xs ys true h = ap (λ zs. cond (q e.0) (e ∷ zs) zs) h
+both-filtered q e xs ys false h = h
+
+filter-both : (p q r : List ℕ → Bool) (es : Entries) → ((k : List ℕ) → r k ≡ (p k && q k)) → filter (λ e. r e.0) es ≡ filter (λ e. q e.0) (filter (λ e. p e.0) es)
+filter-both p q r [] h = refl
+filter-both p q r (e ∷ es) h = rw (h e.0) (both-filtered q e _ _ (p e.0) (filter-both p q r es h))
+
+keys-turn : (e : List ℕ × List ℕ) (es : Entries) (ks : List (List ℕ)) (t : Bool) → keys_of es ≡ ks → keys_of (cond t (e ∷ es) es) ≡ cond t (e.0 ∷ ks) ks
+keys-turn e es ks true h = ap (λ ks. e.0 ∷ ks) h
+keys-turn e es ks false h = h
+
+keys-filter : (p : List ℕ → Bool) (es : Entries) → keys_of (filter (λ e. p e.0) es) ≡ filter p (keys_of es)
+keys-filter p [] = refl
+keys-filter p (e ∷ es) = keys-turn e _ _ (p e.0) (keys-filter p es)
+
+past-none : (hi : List ℕ) (es : Entries) → AllByRecursion (λ k. key_cmp hi k ≡ Less) (keys_of es) → filter (λ e. not (is_le (key_cmp hi e.0))) es ≡ []
+past-none hi [] h = refl
+past-none hi (e ∷ es) h = rw h.0 (past-none hi es h.1)
+
+first-below : (lo v : List ℕ) (f : List ℕ × List ℕ) (es : Entries) → IsStrictlySortedBy key_cmp (keys_of ((lo, v) ∷ f ∷ es)) → filter (λ e. not (is_le (key_cmp f.0 e.0))) ((lo, v) ∷ f ∷ es) ≡ (lo, v) ∷ []
+unfolding IsStrictlySortedBy
+first-below lo v f es s =
+    let past : key_cmp f.0 lo ≡ Greater = nat_list_cmp_total.antisymm f.0 lo ∙ ap ordering_reverse s.0.0 in
+    rw (past, tied_itself nat_list_cmp_total f.0, past-none f.0 es s.1.0) refl
+
+and-true : (a b : Bool) → (a && b) ≡ ((a && true) && b)
+and-true true b = refl
+and-true false b = refl
+
+-- a start from which on the next is where the patch ends, or there is none, lies in it alone
+abbrev pub starts_from : List ℕ → Entries → Entries
+starts_from lo es = filter (λ e. range_contains key_cmp (Included lo) Unbounded e.0) es
+
+alone_before : (p : Patch) (m : BTreeMap (List ℕ) (List ℕ)) (v hi : List ℕ) (f : List ℕ × List ℕ) (es : Entries) → IsStrictlySortedBy key_cmp (keys_of m.entries) → p.hi ≡ Some hi → f.0 ≡ hi → starts_from p.lo m.entries ≡ (p.lo, v) ∷ f ∷ es
+    → filter (λ e. picks p e.0) m.entries ≡ (p.lo, v) ∷ []
+alone_before p m v hi f es s end same is =
+    let from : List ℕ → Bool = λ k. range_contains key_cmp (Included p.lo) Unbounded k in
+    let stays : IsStrictlySortedBy key_cmp (keys_of (starts_from p.lo m.entries)) = rw (keys-filter from m.entries) (IsStrictlySortedBy-filter key_cmp from (keys_of m.entries) s) in
+    let sorted : IsStrictlySortedBy key_cmp (keys_of ((p.lo, v) ∷ f ∷ es)) = subst (λ (gs : Entries). IsStrictlySortedBy key_cmp (keys_of gs)) is stays in
+    let both : filter (λ e. picks p e.0) m.entries ≡ filter (λ e. not (is_le (key_cmp f.0 e.0))) (starts_from p.lo m.entries) = filter-both from (λ k. not (is_le (key_cmp f.0 k))) (picks p) m.entries (λ k. rw (end, same) (and-true (is_le (key_cmp p.lo k)) _)) in
+    both ∙ ap (λ gs. filter (λ e. not (is_le (key_cmp f.0 e.0))) gs) is ∙ first-below p.lo v f es sorted
+
+pub segment_before : (p : Patch) (m : BTreeMap (List ℕ) (List ℕ)) (r s : Entries) (k v : List ℕ) (f : List ℕ × List ℕ) (hi : List ℕ) → IsStrictlySortedBy key_cmp (keys_of m.entries) → r ≡ starts_from p.lo m.entries → All (IsEntryInRange key_cmp (Included p.lo) Unbounded m) r
+    → r ≡ (k, v) ∷ f ∷ s → k ≡ p.lo → p.hi ≡ Some hi → f.0 ≡ hi → IsSegment m p
+segment_before p m r s k v f hi sorted from all is low end high =
+    let entry : List ℕ × List ℕ → Type 0 = IsEntryInRange key_cmp (Included p.lo) Unbounded m in
+    let there = rw is at all in
+    let found : get key_cmp m k ≡ Some v = (All-head entry (k, v) (f ∷ s) there).1 in
+    let last : get key_cmp m f.0 ≡ Some f.1 = (All-head entry f s (All-tail entry (k, v) (f ∷ s) there)).1 in
+    let at_end : IsStart m hi = rw (← high, last) refl in
+    record {
+      readers = v;
+      start = rw (← low) found;
+      end = rw end at_end;
+      alone = alone_before p m v hi f s sorted end high (sym from ∙ is ∙ ap (λ q. (q, v) ∷ f ∷ s) low);
+    }
+
+pub segment_last : (p : Patch) (m : BTreeMap (List ℕ) (List ℕ)) (r : Entries) (k v : List ℕ) → r ≡ starts_from p.lo m.entries → All (IsEntryInRange key_cmp (Included p.lo) Unbounded m) r → r ≡ (k, v) ∷ [] → k ≡ p.lo → p.hi ≡ None → IsSegment m p
+segment_last p m r k v from all is low end =
+    let entry : List ℕ × List ℕ → Type 0 = IsEntryInRange key_cmp (Included p.lo) Unbounded m in
+    let there = rw is at all in
+    let found : get key_cmp m k ≡ Some v = (All-head entry (k, v) [] there).1 in
+    record {
+      readers = v;
+      start = rw (← low) found;
+      end = rw end tt;
+      alone = rw end (sym from ∙ is ∙ ap (λ q. (q, v) ∷ []) low);
+    }
+
+told-apart : (b : Bool) → false ≡ not b → b ≡ true
+told-apart true h = refl
+told-apart false h = cc
+
+-- bytes that no test tells apart
+pub same_bytes : (a b : List ℕ) → false ≡ not (bytes_eq a b) → a ≡ b
+same_bytes a b h = (bytes_eq-Decides a b).0 (told-apart (bytes_eq a b) h)
 
 -- starts at the ends of one patch more
 pub starts_stay : (m n : BTreeMap (List ℕ) (List ℕ)) (ps : List Patch) → ((q : List ℕ) → IsStart m q → IsStart n q) → AreStarts m ps → AreStarts n ps

@@ -40,6 +40,13 @@ AreStarts m ps = AllByRecursion (HasEnds m) ps
 abbrev pub picks : Patch → List ℕ → Bool
 picks p start = range_contains key_cmp (Included p.lo) (end_at p.hi) start
 
+-- one segment is a patch: it starts where the patch begins, ends where the patch ends, and no other lies between
+pub record IsSegment (m : BTreeMap (List ℕ) (List ℕ)) (p : Patch) : Type 0 where
+  pub readers : List ℕ
+  pub start : get key_cmp m p.lo ≡ Some readers
+  pub end : IsEnd m p.hi
+  pub alone : filter (λ e. picks p e.0) m.entries ≡ (p.lo, readers) ∷ []
+
 -- for each entry, its start once more, and its readers merged, less those that are forgotten
 abbrev pub AreFresh : (forgotten above until ts : ℕ) → Entries → Entries → Type 0
 AreFresh forgotten above until ts [] [] = Unit {0}

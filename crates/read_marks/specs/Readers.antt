@@ -1,6 +1,5 @@
 -- Readers of one segment of keys, as a list.
-use Rattle.std.specs.Prelude.{ℕ, List, Bool, true, false, nat_eq, nat_le, nat_lt, ◌&&◌, ◌≡◌, ◌<◌, ◌≤◌, ◌⊎◌}
-use Rattle.std.specs.List.{Contains}
+use Rattle.std.specs.Prelude.{ℕ, List, Bool, true, false, nat_eq, nat_le, nat_lt, ◌&&◌, ◌≡◌}
 use Rattle.std.specs.List.Sorted.{IsPartitionPoint}
 use Rattle.std.specs.Set.{is_member}
 
@@ -15,11 +14,3 @@ is_kept forgotten xs j = nat_lt forgotten j && is_reader xs j
 -- the readers before the place are at or below t, and those from it on are above t
 abbrev pub SplitsAt : List ℕ → ℕ → ℕ → Type 0
 SplitsAt xs t at = IsPartitionPoint (λ y. nat_le y t ≡ true) (λ y. nat_le y t ≡ false) xs at
-
--- of the readers above `above` and up to `until`, with ts, the greatest one
-pub record IsGreatest (xs : List ℕ) (above until ts top : ℕ) : Type 0 where
-  pub low : above < top
-  pub high : top ≤ until
-  pub one : (top ≡ ts) ⊎ Contains xs top
-  pub past_ts : ts ≤ top
-  pub past : (i : ℕ) → Contains xs i → above < i → i ≤ until → i ≤ top

@@ -1,8 +1,8 @@
 //! The readers of one segment.
-ghost use Rattle.std.specs.Prelude.{◌≡◌, ℕ, List, [], ◌<◌, ◌≤◌, ◌↔◌, IfOk, IsTrue, length, nat_lt, filter};
+ghost use Rattle.std.specs.Prelude.{◌≡◌, ℕ, List, [], ◌<◌, ◌≤◌, ◌↔◌, IfOk, OnOk, OnErr, IsTrue, length, nat_lt, filter};
 ghost use Rattle.std.specs.List.Sorted.{IsNonDecreasing};
 ghost use Rattle.kept.specs.Marks.{IsBetween, IsPiece};
-ghost use Rattle.read_marks.specs.Readers.{is_kept, is_reader, IsGreatest, SplitsAt};
+ghost use Rattle.read_marks.specs.Readers.{is_kept, is_reader, SplitsAt};
 
 use crate::patch::Patch;
 use std::alloc::{AllocError, Global};
@@ -46,7 +46,8 @@ impl Readers {
     pub(crate) fn is_same(&self, other: &Readers) -> bool
         ensures { IsTrue result → self.now ≡ other.now }
     {
-        self.list.as_slice() == other.list.as_slice()
+        // most differ in the latest
+        self.list.last() == other.list.last() && self.list.as_slice() == other.list.as_slice()
     }
 
     /// The same readers once more.
@@ -80,41 +81,41 @@ impl Readers {
         }
     }
 
-    // The greatest of `ts` and those above `above` and up to `until`.
-    fn greatest(&self, above: u64, until: u64, ts: u64) -> u64
+    // Those above `above` and up to `until`, and `ts`, become their greatest one.
+    fn merge(&mut self, above: u64, until: u64, ts: u64) -> Result<(), AllocError>
         requires low { above < ts }
         requires high { ts ≤ until }
-        ensures { IsGreatest self.now above until ts result }
+        ensures ok { OnOk result (IsPiece (is_reader self.old) (is_reader self.new) ts above until) }
+        ensures err { OnErr result (self.new ≡ self.old) }
     {
         let from = self.count_through(above);
         let to = self.count_through(until);
         if from < to {
-            self.list[to - 1].max(ts)
+            self.list[from] = self.list[to - 1].max(ts);
+            self.list.drain(from + 1..to);
+            Ok(())
         } else {
-            ts
+            self.list.insert(from, ts)?;
+            Ok(())
         }
     }
 
-    // The readers once more, where those above `above` and up to `until`, and `ts`, become their
-    // greatest one.
-    fn merged(&self, alloc: Global, above: u64, until: u64, ts: u64) -> Result<Readers, AllocError>
-        requires low { above < ts }
-        requires high { ts ≤ until }
-        ensures { IfOk result (λ r. IsPiece (is_reader self.now) (is_reader r) ts above until) }
+    /// The readers as `ts` leaves them in a patch; of those that are forgotten some may stay.
+    pub(crate) fn edit(&mut self, patch: &Patch, ts: u64, forgotten: u64) -> Result<(), AllocError>
+        requires late { forgotten < ts }
+        requires low { patch.now.above < ts }
+        requires high { ts ≤ patch.now.until }
+        ensures ok { OnOk result (IsPiece (is_kept forgotten self.old) (is_kept forgotten self.new) ts patch.now.above patch.now.until) }
+        ensures err { OnErr result (self.new ≡ self.old) }
     {
-        let from = self.count_through(above);
-        let to = self.count_through(until);
-        let mut list = Vec::new(alloc);
-        list.extend_from_slice(&self.list[..from])?;
-        list.push(self.greatest(above, until, ts))?;
-        list.extend_from_slice(&self.list[to..])?;
-        Ok(Readers { list })
+        self.merge(patch.above, patch.until, ts)?;
+        self.trim(forgotten);
+        Ok(())
     }
 
-    /// The readers once more, as `ts` leaves them in a patch, less those that are forgotten.
+    /// The same in a copy, less those that are forgotten.
     pub(crate) fn edited(
         &self,
-        alloc: Global,
         patch: &Patch,
         ts: u64,
         forgotten: u64,
@@ -124,9 +125,19 @@ impl Readers {
         requires high { ts ≤ patch.now.until }
         ensures { IfOk result (λ r. IsPiece (is_kept forgotten self.now) (is_kept forgotten r) ts patch.now.above patch.now.until) }
     {
-        let mut readers = self.merged(alloc, patch.above, patch.until, ts)?;
+        let mut readers = self.copy()?;
+        readers.merge(patch.above, patch.until, ts)?;
         readers.forget_through(forgotten);
         Ok(readers)
+    }
+
+    // Those up to `through` go where they are half of all: not at each edit, since the rest moves.
+    fn trim(&mut self, through: u64)
+        ensures { (j : ℕ) → is_kept through self.new j ≡ is_kept through self.old j }
+    {
+        if self.count_through(through) >= self.list.len() / 2 {
+            self.forget_through(through);
+        }
     }
 
     /// Those up to `through` go.

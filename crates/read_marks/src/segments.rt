@@ -1,12 +1,12 @@
 //! A step function from keys to readers.
-ghost use Rattle.std.specs.Prelude.{◌≡◌, ◌<◌, ◌≤◌, ℕ, List, [], IfOk, OnOk, OnErr, IsTrue, IsSome, Some, MatchOption, nat_lt};
+ghost use Rattle.std.specs.Prelude.{◌≡◌, ◌<◌, ◌≤◌, ℕ, List, [], ◌∷◌, IfOk, OnOk, OnErr, IsTrue, IsSome, Some, MatchOption, nat_lt};
 ghost use Rattle.std.specs.List.{filter};
 ghost use Rattle.std.specs.BTreeMap.{get, IsOrdered};
 ghost use Rattle.timestamps.specs.Bytes.{key_cmp};
 ghost use Rattle.read_marks.specs.Readers.{is_kept};
 ghost use Rattle.read_marks.specs.Segments.{readers_at, readers_before, segment_count};
 ghost use Rattle.read_marks.specs.Patches.{AreEdited, HaveGaps, holds};
-ghost use Rattle.read_marks.specs.Editing.{AreParts, AreStarts, HasEnds, IsPart, IsStart, puts, puts_parts};
+ghost use Rattle.read_marks.specs.Editing.{AreParts, AreStarts, HasEnds, IsPart, IsSegment, IsStart, puts, puts_parts};
 
 use crate::patch::Patch;
 use crate::readers::Readers;
@@ -118,7 +118,7 @@ impl Segments {
             Some(hi) => Bound::Excluded(hi),
         };
         for (start, readers) in self.starts.range((Bound::Included(&patch.lo), end)) {
-            let readers = readers.edited(self.alloc, patch, ts, forgotten)?;
+            let readers = readers.edited(patch, ts, forgotten)?;
             part.push((start.copy(), readers))?;
         }
         Ok(part)
@@ -167,14 +167,16 @@ impl Segments {
     fn is_repeated(&self, start: &Start) -> bool
         ensures { IsTrue result → get key_cmp self.now.starts start.now ≡ Some (readers_before self.now start.now) }
     {
-        let Some(readers) = self.starts.get(start) else {
+        let mut back = self
+            .starts
+            .range((Bound::Unbounded, Bound::Included(start)));
+        let Some((last, readers)) = back.next_back() else {
             return false;
         };
-        let before = self
-            .starts
-            .range((Bound::Unbounded, Bound::Excluded(start)))
-            .next_back();
-        match before {
+        if last != start {
+            return false;
+        }
+        match back.next_back() {
             None => readers.is_empty(),
             Some((_, before)) => readers.is_same(before),
         }
@@ -202,20 +204,28 @@ impl Segments {
         Some(next.copy())
     }
 
-    // Joins the segments that start in a patch or at its end. In which order makes no difference.
-    fn join(&mut self, patch: &Patch)
+    // Joins the segments that start at the ends of a patch.
+    fn join_ends(&mut self, patch: &Patch)
         ensures { (x : List ℕ) → readers_at self.new x ≡ readers_at self.old x }
     {
         if let Some(hi) = &patch.hi {
             self.join_at(hi);
         }
+        self.join_at(&patch.lo);
+    }
+
+    // Joins those that start between them too. In which order makes no difference.
+    fn join(&mut self, patch: &Patch)
+        ensures { (x : List ℕ) → readers_at self.new x ≡ readers_at self.old x }
+    {
+        self.join_ends(patch);
         let mut start = patch.lo.copy();
-        for _ in 0..=self.starts.len() {
-            self.join_at(&start);
+        for _ in 0..self.starts.len() {
             match self.next_start(&start, patch) {
                 None => return,
                 Some(next) => start = next,
             }
+            self.join_at(&start);
         }
     }
 
@@ -242,6 +252,41 @@ impl Segments {
         Ok(())
     }
 
+    // Whether a patch is one segment: one starts where it begins, and the next where it ends.
+    fn is_segment(&self, patch: &Patch) -> bool
+        ensures { IsTrue result → IsSegment self.now.starts patch.now }
+    {
+        let mut from = self
+            .starts
+            .range((Bound::Included(&patch.lo), Bound::Unbounded));
+        let Some((first, _)) = from.next() else {
+            return false;
+        };
+        if *first != patch.lo {
+            return false;
+        }
+        match (from.next(), &patch.hi) {
+            (None, None) => true,
+            (Some((next, _)), Some(hi)) => next == hi,
+            _ => false,
+        }
+    }
+
+    // The readers of a patch that is one segment are edited in place.
+    fn edit_segment(&mut self, patch: &Patch, ts: u64, forgotten: u64) -> Result<(), AllocError>
+        requires late { forgotten < ts }
+        requires low { patch.now.above < ts }
+        requires high { ts ≤ patch.now.until }
+        requires segment { IsSegment self.old.starts patch.now }
+        ensures ok { OnOk result ((x : List ℕ) → AreEdited (λ p. holds p x) ts (patch.now ∷ []) (is_kept forgotten (readers_at self.old x)) (is_kept forgotten (readers_at self.new x))) }
+        ensures err { OnErr result ((x : List ℕ) → readers_at self.new x ≡ readers_at self.old x) }
+    {
+        match self.starts.get_mut(&patch.lo) {
+            None => Ok(()),
+            Some(readers) => readers.edit(patch, ts, forgotten),
+        }
+    }
+
     /// The readers of the patches' keys are edited, and neighbours with the same readers joined.
     pub(crate) fn edit(
         &mut self,
@@ -254,9 +299,18 @@ impl Segments {
         ensures ok { OnOk result ((x : List ℕ) → AreEdited (λ p. holds p x) ts patches.now (is_kept forgotten (readers_at self.old x)) (is_kept forgotten (readers_at self.new x))) }
         ensures err { OnErr result ((x : List ℕ) → readers_at self.new x ≡ readers_at self.old x) }
     {
-        let result = self.edit_split(patches, ts, forgotten);
-        self.join_all(patches);
-        result
+        match patches {
+            [patch] if self.is_segment(patch) => {
+                self.edit_segment(patch, ts, forgotten)?;
+                self.join_ends(patch);
+                Ok(())
+            }
+            _ => {
+                let result = self.edit_split(patches, ts, forgotten);
+                self.join_all(patches);
+                result
+            }
+        }
     }
 
     /// How many starts there are.

@@ -166,6 +166,36 @@ fn a_piece_has_one_reader_in_its_gap(rt: HostRuntime) -> Result<(), Fail> {
 }
 
 #[test]
+fn a_key_has_a_reader_in_each_gap(rt: HostRuntime) -> Result<(), Fail> {
+    let alloc = rt.alloc();
+    let mut marks = Marks::new(alloc);
+    // versions at 0, 10, .. and a read between any two, in no order
+    for step in 0..100 {
+        let version = step * 37 % 100 * 10;
+        add_piece(
+            &mut marks,
+            span(alloc, b"k", b"k\0")?,
+            version,
+            version + 10,
+            version + 5,
+        )?;
+    }
+    assert_eq!(rt; marks.spans(), 1);
+    // one gap is read once more, later and earlier
+    add_piece(&mut marks, span(alloc, b"k", b"k\0")?, 500, 510, 508)?;
+    add_piece(&mut marks, span(alloc, b"k", b"k\0")?, 500, 510, 502)?;
+    let key = Key::new(alloc, b"k")?;
+    for gap in 0..100 {
+        let version = gap * 10;
+        let reader = if gap == 50 { 508 } else { version + 5 };
+        assert!(rt; marks.any_between(&key, version, Some(reader)));
+        assert!(rt; !marks.any_between(&key, version, Some(reader - 1)));
+        assert!(rt; !marks.any_between(&key, reader, Some(version + 10)));
+    }
+    Ok(())
+}
+
+#[test]
 fn what_is_forgotten_may_be_marked_again(rt: HostRuntime) -> Result<(), Fail> {
     let alloc = rt.alloc();
     let mut marks = Marks::new(alloc);

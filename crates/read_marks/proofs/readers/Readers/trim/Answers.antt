@@ -1,0 +1,7 @@
+use Rattle.std.proofs.Common.{ap, ◌∙◌}
+use Rattle.read_marks.specs.Readers.{is_kept}
+use Rattle.read_marks.proofs.Keeping.{kept_filter}
+use Rattle.read_marks.proofs.readers.Readers.trim.Goals as goal
+
+pub returns-then-count_through-len : goal.returns-then-count_through-len
+returns-then-count_through-len c = λ j. ap (λ ys. is_kept c.args.through ys j) c.forget_through.ensures ∙ kept_filter c.args.through c.args.self.now j
