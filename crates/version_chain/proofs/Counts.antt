@@ -1,12 +1,16 @@
 -- How many versions there are after one came or went.
-use Rattle.std.proofs.Common.{◌≡◌, ℕ, suc, ◌≤◌, ◌-◌, ◌+◌, ◌==◌, Bool, true, false, ◌&&◌, List, ◌∷◌, length, Option, Some, None, refl, sym, ◌∙◌, ap, subst, inl, inr, arith, eq-eqb}
-use Rattle.std.specs.Prelude.{bytes_eq, is_some, is_none, not, filter}
+use Rattle.std.proofs.Common.{◌≡◌, ℕ, suc, ◌<◌, ◌≤◌, ◌-◌, ◌+◌, ◌==◌, Bool, true, false, ◌&&◌, List, [], ◌∷◌, length, map, cond, Option, Some, None, refl, sym, ◌∙◌, ap, subst, inl, inr, arith, eq-eqb}
+use Rattle.std.specs.Prelude.{bytes_eq, is_some, is_none, not, ◌↔◌}
+use Rattle.std.specs.List.{filter}
+use Rattle.std.proofs.lemmas.List.{length-map}
+use Rattle.std.proofs.lemmas.List.Filters.{length-filter_both}
 use Rattle.std.proofs.lemmas.Bool.{eqb-true}
 use Rattle.spans.specs.Collection.{VersionName, version_name}
 use Rattle.spans.proofs.Steps.{by_test, same_key, key_itself}
 use Rattle.spans.proofs.Members.{Has, AreDistinct, same_length, has_filter, distinct_filter}
 use Rattle.version_chain.specs.declared.chain.Version.{Version}
-use Rattle.version_chain.specs.Chains.{found_in, IsChangedAt}
+use Rattle.version_chain.specs.Versions.{AreAbove, DoRise, version_of}
+use Rattle.version_chain.specs.Chains.{chain_of, found_in, IsChangedAt}
 use Rattle.version_chain.specs.Stores.{Stored, after_of, version_in, IsCountOf}
 
 abbrev is_there : Stored → VersionName → Bool
@@ -95,3 +99,134 @@ counted_less es fs x t n h some c =
         count = omega arith;
       },
     )
+
+-- what is there is as it was
+pub counted_alike : (es fs : Stored) (n : ℕ) → ((v : VersionName) → is_some (after_of (found_in fs v.key v.ts)) ≡ is_some (after_of (found_in es v.key v.ts))) → IsCountOf es n → IsCountOf fs n
+counted_alike es fs n same c = record {
+  versions = c.versions;
+  all = record { distinct = c.all.distinct; each = λ v. (λ i. same v ∙ (c.all.each v).0 i, λ there. (c.all.each v).1 (sym (same v) ∙ there)) };
+  count = c.count;
+}
+
+pub counted_replaced : (es fs : Stored) (x : List ℕ) (t n : ℕ) (a : Version) → IsChangedAt es fs x t (λ _. Some a) → is_none (found_in es x t) ≡ false → IsCountOf es n → IsCountOf fs n
+counted_replaced es fs x t n a h some c = counted_alike es fs n (λ v. by_test (is_named x t v)
+    (λ here. there_at es fs x t (λ _. Some a) v h here ∙ sym (subst (λ w. is_there es w ≡ true) (named x t v here) (some_there (found_in es x t) some)))
+    (λ off. there_off es fs x t (λ _. Some a) v h off)) c
+  where
+    some_there : (o : Option Version) → is_none o ≡ false → is_some (after_of o) ≡ true
+    some_there None e = (let no : true ≡ false = e in cc)
+    some_there (Some v) e = refl
+
+-- ---- many versions of one key go
+
+-- the versions of x, by name
+abbrev names_of : List ℕ → List Version → List VersionName
+names_of x vs = map (λ (v : Version). version_name x v.ts) vs
+
+named_high : (x : List ℕ) (t : ℕ) (q : Version → Bool) (vs : List Version) (v : VersionName) → AreAbove t vs → Has v (names_of x (filter q vs)) → t < v.ts
+named_high x t q [] v a i = absurd i
+named_high x t q (w ∷ vs) v a i = by_test (q w)
+    (λ on. elim (subst (λ b. Has v (names_of x (cond b (w ∷ filter q vs) (filter q vs)))) on i) [
+      | inl here ↦ subst (λ (u : VersionName). t < u.ts) here a.0
+      | inr there ↦ named_high x t q vs v a.1 there
+    ])
+    (λ off. named_high x t q vs v a.1 (subst (λ b. Has v (names_of x (cond b (w ∷ filter q vs) (filter q vs)))) off i))
+
+distinct_names : (x : List ℕ) (q : Version → Bool) (vs : List Version) → DoRise vs → AreDistinct (names_of x (filter q vs))
+distinct_names x q [] r = tt
+distinct_names x q (w ∷ vs) r = by_test (q w)
+    (λ on. rw on (λ i. (let high : w.ts < w.ts = named_high x w.ts q vs (version_name x w.ts) r.0 i in absurd (omega arith)), distinct_names x q vs r.1))
+    (λ off. rw off (distinct_names x q vs r.1))
+
+-- whether there is one that passes
+abbrev passes : (Version → Bool) → Option Version → Bool
+passes q None = false
+passes q (Some v) = q v
+
+abbrev is_gone : Stored → List ℕ → (Version → Bool) → VersionName → Bool
+is_gone es x q v = bytes_eq x v.key && passes q (found_in es v.key v.ts)
+
+has_names : (x : List ℕ) (q : Version → Bool) (vs : List Version) (v : VersionName) → DoRise vs → Has v (names_of x (filter q vs)) ↔ ((bytes_eq x v.key && passes q (version_of vs v.ts)) ≡ true)
+has_names x q [] v r = (λ i. absurd i, λ e. absurd (never (bytes_eq x v.key) e))
+  where
+    never : (b : Bool) → (b && false) ≡ true → ⊥
+    never true e = (let no : false ≡ true = e in cc)
+    never false e = (let no : false ≡ true = e in cc)
+has_names x q (w ∷ vs) v r =
+    let more = names_of x (filter q vs) in
+    let rest = has_names x q vs v r.1 in
+    by_test (q w)
+    (λ on. subst (λ b. Has v (names_of x (cond b (w ∷ filter q vs) (filter q vs))) ↔ ((bytes_eq x v.key && passes q (version_of (w ∷ vs) v.ts)) ≡ true)) (sym on) (by_test (w.ts == v.ts)
+    (λ here. subst (λ b. Has v (version_name x w.ts ∷ more) ↔ ((bytes_eq x v.key && passes q (cond b (Some w) (version_of vs v.ts))) ≡ true)) (sym here) (
+      λ i. elim i [
+        | inl e ↦ key_in v e on
+        | inr k ↦ absurd (none_high v here k)
+      ],
+      λ e. inl (name_is v (and_true (bytes_eq x v.key) (q w) e).0 (eqb-true w.ts v.ts here)),
+    ))
+    (λ there. subst (λ b. Has v (version_name x w.ts ∷ more) ↔ ((bytes_eq x v.key && passes q (cond b (Some w) (version_of vs v.ts))) ≡ true)) (sym there) (
+      λ i. elim i [
+        | inl e ↦ absurd (let same : w.ts ≡ v.ts = ap (λ (u : VersionName). u.ts) e in let yes : (w.ts == v.ts) ≡ true = eq-eqb _ _ same in (let no : true ≡ false = sym yes ∙ there in cc))
+        | inr k ↦ rest.0 k
+      ],
+      λ e. inr (rest.1 e),
+    ))))
+    (λ off. subst (λ b. Has v (names_of x (cond b (w ∷ filter q vs) (filter q vs))) ↔ ((bytes_eq x v.key && passes q (version_of (w ∷ vs) v.ts)) ≡ true)) (sym off) (by_test (w.ts == v.ts)
+    (λ here. subst (λ b. Has v more ↔ ((bytes_eq x v.key && passes q (cond b (Some w) (version_of vs v.ts))) ≡ true)) (sym here) (
+      λ i. absurd (none_high v here i),
+      λ e. absurd (let yes = (and_true (bytes_eq x v.key) (q w) e).1 in let no : true ≡ false = sym yes ∙ off in (let n : true ≡ false = no in cc)),
+    ))
+    (λ there. subst (λ b. Has v more ↔ ((bytes_eq x v.key && passes q (cond b (Some w) (version_of vs v.ts))) ≡ true)) (sym there) rest)))
+  where
+    none_high : (v : VersionName) → (w.ts == v.ts) ≡ true → Has v (names_of x (filter q vs)) → ⊥
+    none_high v here i = (let high : w.ts < v.ts = named_high x w.ts q vs v r.0 i in let same : w.ts ≡ v.ts = eqb-true w.ts v.ts here in absurd (omega arith))
+
+    key_in : (v : VersionName) → version_name x w.ts ≡ v → q w ≡ true → (bytes_eq x v.key && q w) ≡ true
+    key_in v e on = let k : x ≡ v.key = ap (λ (u : VersionName). u.key) e in let same : bytes_eq x v.key ≡ true = subst (λ y. bytes_eq x y ≡ true) k (key_itself x) in rw (same, on) refl
+
+    name_is : (v : VersionName) → bytes_eq x v.key ≡ true → w.ts ≡ v.ts → version_name x w.ts ≡ v
+    name_is v key at = let k : x ≡ v.key = same_key x v.key key in ap (λ t. version_name x t) at ∙ ap (λ y. version_name y v.ts) k
+
+-- r versions of x that pass are gone
+pub counted_thinned : (es fs : Stored) (x : List ℕ) (q : Version → Bool) (r n : ℕ) → ((y : List ℕ) (i : ℕ) → is_some (after_of (found_in fs y i)) ≡ (not (bytes_eq x y && passes q (found_in es y i)) && is_some (after_of (found_in es y i))))
+    → DoRise (chain_of es x) → r ≡ length (filter q (chain_of es x)) → IsCountOf es n → (r ≤ n) × IsCountOf fs (n - r)
+counted_thinned es fs x q r n less rises is c =
+    let gone = filter (is_gone es x q) c.versions in
+    let kept = filter (λ v. not (is_gone es x q v)) c.versions in
+    let both : length gone + length kept ≡ length c.versions = length-filter_both (is_gone es x q) (λ v. not (is_gone es x q v)) (λ v. refl) c.versions in
+    let same : length gone ≡ length (names_of x (filter q (chain_of es x))) = same_length gone (names_of x (filter q (chain_of es x))) (distinct_filter (is_gone es x q) c.versions c.all.distinct) (distinct_names x q (chain_of es x) rises)
+    (λ v. let h = has_filter (is_gone es x q) v c.versions in let k = has_names x q (chain_of es x) v rises in (
+      λ i. k.1 (at_key v (h.0 i).0),
+      λ i. (let g : is_gone es x q v ≡ true = from_key v (k.0 i) in h.1 (g, (c.all.each v).1 (there_gone v g))),
+    )) in
+    let named : length (names_of x (filter q (chain_of es x))) ≡ length (filter q (chain_of es x)) = length-map _ _ in
+    let before : length c.versions ≡ n = c.count in (
+      omega arith,
+      record {
+        versions = kept;
+        all = record {
+          distinct = distinct_filter (λ v. not (is_gone es x q v)) c.versions c.all.distinct;
+          each = λ v. let h = has_filter (λ v. not (is_gone es x q v)) v c.versions in (
+            λ i. less v.key v.ts ∙ and_both (not (is_gone es x q v)) (is_there es v) (h.0 i).0 ((c.all.each v).0 (h.0 i).1),
+            λ there. (let b = and_true (not (is_gone es x q v)) (is_there es v) (sym (less v.key v.ts) ∙ there) in h.1 (b.0, (c.all.each v).1 b.1)),
+          );
+        };
+        count = omega arith;
+      },
+    )
+  where
+    and_both : (a b : Bool) → a ≡ true → b ≡ true → (a && b) ≡ true
+    and_both a b e f = rw (e, f) refl
+
+    at_key : (v : VersionName) → is_gone es x q v ≡ true → (bytes_eq x v.key && passes q (version_of (chain_of es x) v.ts)) ≡ true
+    at_key v e = let key : x ≡ v.key = same_key x v.key (and_true (bytes_eq x v.key) (passes q (found_in es v.key v.ts)) e).0 in subst (λ y. (bytes_eq x v.key && passes q (version_of (chain_of es y) v.ts)) ≡ true) (sym key) e
+
+    from_key : (v : VersionName) → (bytes_eq x v.key && passes q (version_of (chain_of es x) v.ts)) ≡ true → is_gone es x q v ≡ true
+    from_key v e = let key : x ≡ v.key = same_key x v.key (and_true (bytes_eq x v.key) (passes q (version_of (chain_of es x) v.ts)) e).0 in subst (λ y. (bytes_eq x v.key && passes q (version_of (chain_of es y) v.ts)) ≡ true) key e
+
+    some_passes : (o : Option Version) → passes q o ≡ true → is_some (after_of o) ≡ true
+    some_passes None e = (let no : false ≡ true = e in cc)
+    some_passes (Some v) e = refl
+
+    there_gone : (v : VersionName) → is_gone es x q v ≡ true → is_there es v ≡ true
+    there_gone v e = some_passes (found_in es v.key v.ts) (and_true (bytes_eq x v.key) (passes q (found_in es v.key v.ts)) e).1

@@ -4,3 +4,10 @@ pub mod Edits
 pub mod Changes
 pub mod Meaning
 pub mod Counts
+pub mod InSpans
+pub mod Indexes
+pub mod Soundness
+pub mod Spent
+pub mod Chained
+pub mod Thinning
+pub mod Listing

@@ -1,3 +1,6 @@
 pub mod Versions
 pub mod Chains
 pub mod Stores
+pub mod InSpans
+pub mod Spent
+pub mod Indexes

@@ -1,7 +1,9 @@
 //! The versions of one key.
-ghost use Rattle.std.specs.Prelude.{◌≡◌, ℕ, ◌<◌, ◌≤◌, ◌+◌, ◌^◌, ◌==◌, ◌↔◌, [], ◌∷◌, suc, length, slice_index_or, if◌then◌else◌, MatchOption, MatchResult, Some, None, IsTrue, IfOk, OnOk, OnErr, is_some, is_none, option_map};
+ghost use Rattle.std.specs.Prelude.{◌≡◌, ℕ, ◌<◌, ◌≤◌, ◌+◌, ◌^◌, ◌==◌, ◌↔◌, [], ◌∷◌, suc, length, slice_index_or, if◌then◌else◌, MatchOption, MatchResult, Some, None, IsTrue, IfOk, OnOk, OnErr, is_some, is_none, option_map, nat_le, not, true, take, drop, ◌++◌};
 ghost use Rattle.version_chain.specs.declared.chain.Version.{Version};
-ghost use Rattle.version_chain.specs.Versions.{version_of, committed, IsPlaceAbove, IsNoneUpTo, IsNewestOf, IsNoneAbove, IsLeastAbove, IsPlaceOf, IsFreePlace};
+ghost use Rattle.std.specs.List.{filter};
+ghost use Rattle.version_chain.specs.Spent.{is_spent_version, newest_of, is_spent_at};
+ghost use Rattle.version_chain.specs.Versions.{DoRise, version_of, committed, IsPlaceAbove, IsNoneUpTo, IsNewestOf, IsNoneAbove, IsLeastAbove, IsPlaceOf, IsFreePlace};
 
 use crate::steps::Steps;
 use std::alloc::{AllocError, Global};
@@ -17,6 +19,17 @@ pub struct Version {
     pub after: Option<Value>,
     /// Whether the transaction has committed.
     pub decided: bool,
+}
+
+impl Version {
+    /// Whether it is dead by the horizon, where `top` is the timestamp of the newest committed version of
+    /// its key at or below that.
+    pub(crate) fn is_spent(&self, horizon: u64, top: u64) -> bool
+        ensures { result ≡ is_spent_version horizon top self.now }
+    {
+        let ts = self.ts.get();
+        self.decided && (ts <= horizon && (self.after.is_none() || ts < top))
+    }
 }
 
 /// The versions of a key, by rising timestamp.
@@ -165,4 +178,67 @@ impl Chain {
             }
         }
     }
+
+    /// The versions at or below `t`.
+    pub(crate) fn through(&self, t: u64) -> &[Version]
+        ensures { result.now ≡ filter (λ (v : Version). nat_le v.ts t) self.now }
+    {
+        let place = self.place_above(t, &mut Steps::new());
+        &self.versions[..place]
+    }
+
+    /// The timestamp of the newest committed version at or below the horizon, 0 where there is none.
+    pub(crate) fn newest_committed(&self, horizon: u64) -> u64
+        ensures { result ≡ newest_of self.now horizon }
+    {
+        let mut place = self.place_above(horizon, &mut Steps::new());
+        while place > 0 {
+            place -= 1;
+            if self.versions[place].decided {
+                return self.versions[place].ts.get();
+            }
+        }
+        0
+    }
+
+    /// Whether a version is dead by the horizon, where `top` is the timestamp of the newest committed
+    /// one at or below that.
+    pub(crate) fn has_spent(&self, horizon: u64, top: u64) -> bool
+        ensures { (i : ℕ) → is_spent_at horizon top self.now i ≡ true → IsTrue result }
+    {
+        for version in self.through(horizon) {
+            if version.is_spent(horizon, top) {
+                return true;
+            }
+        }
+        false
+    }
+
+    /// Drops the versions that are dead by the horizon, and says how many. Those above it are only
+    /// moved.
+    pub(crate) fn drop_spent(&mut self, horizon: u64, top: u64) -> u64
+        ensures left { self.new ≡ filter (λ (v : Version). not (is_spent_version horizon top v)) self.old }
+        ensures count { result ≡ length (filter (is_spent_version horizon top) self.old) }
+        ensures rising { DoRise self.old }
+    {
+        let before = self.versions.len();
+        let place = self.place_above(horizon, &mut Steps::new());
+        drop_before(&mut self.versions, place, horizon, top);
+        (before - self.versions.len()) as u64
+    }
+}
+
+/// Drops those before the place that are dead by the horizon.
+fn drop_before(versions: &mut Vec<Version>, place: usize, horizon: u64, top: u64)
+    requires { place ≤ length versions.old.items }
+    ensures { versions.new.items ≡ filter (λ (v : Version). not (is_spent_version horizon top v)) (take place versions.old.items) ++ drop place versions.old.items }
+{
+    let mut kept = 0;
+    for i in 0..place {
+        if !versions[i].is_spent(horizon, top) {
+            versions.swap(kept, i);
+            kept += 1;
+        }
+    }
+    versions.drain(kept..place);
 }

@@ -1,14 +1,25 @@
 //! The chains of all keys.
-ghost use Rattle.std.specs.Prelude.{◌≡◌, ℕ, List, [], Some, None, MatchOption, IfOk, OnOk, OnErr, is_some, is_none, option_map};
+ghost use Rattle.std.specs.Prelude.{◌≡◌, ℕ, List, [], Some, None, MatchOption, IfOk, OnOk, OnErr, is_some, is_none, option_map, length, true, IsTrue};
 ghost use Rattle.version_chain.specs.declared.chain.Version.{Version};
-ghost use Rattle.version_chain.specs.Versions.{committed, IsNoneUpTo, IsNewestOf, IsNoneAbove, IsLeastAbove};
-ghost use Rattle.version_chain.specs.Chains.{found_in, chain_of, IsChangedAt};
+ghost use Rattle.version_chain.specs.Versions.{DoRise, committed, IsNoneUpTo, IsNewestOf, IsNoneAbove, IsLeastAbove};
+ghost use Rattle.version_chain.specs.Chains.{AreFilled, found_in, chain_of, IsChangedAt};
+ghost use Rattle.version_chain.specs.InSpans.{AreFound, AreFrom};
+ghost use Rattle.version_chain.specs.Spent.{is_spent_version, is_spent_at, newest_of, IsThinnedAt};
+ghost use Rattle.std.specs.List.{filter};
+ghost use Rattle.std.specs.BTreeSet.{contains};
+ghost use Rattle.timestamps.specs.Bytes.{key_cmp};
+ghost use Rattle.spans.proofs.WriteSets.{has};
 
 use crate::chain::{Chain, Version};
+use crate::in_span::{InSpan, start_at, walk_to};
 use crate::steps::Steps;
+use spans::bound::Bound;
+use spans::span::Span;
 use std::alloc::{AllocError, Global};
-use std::collections::BTreeMap;
+use std::collections::btree_map::Range;
+use std::collections::{BTreeMap, BTreeSet};
 use std::marker::Model;
+use std::ops;
 use timestamps::key::Key;
 
 /// The keys with a version, each with its chain.
@@ -40,6 +51,11 @@ impl Chains {
         }
     }
 
+    /// Where it takes its memory from.
+    pub(crate) fn alloc(&self) -> Global {
+        self.alloc
+    }
+
     /// The version of the key with the greatest timestamp at or below `t`.
     pub(crate) fn newest_at(&self, key: &Key, t: u64) -> Option<&Version>
         ensures { MatchOption result (IsNoneUpTo (chain_of self.now key.now) t)
@@ -59,6 +75,27 @@ impl Chains {
         match self.map.get(key) {
             None => None,
             Some(chain) => chain.next_above(t, &mut Steps::new()),
+        }
+    }
+
+    /// The keys of the span that have a version, rising, each with its chain.
+    pub(crate) fn in_span<'a>(&'a self, span: &'a Span) -> InSpan<'a>
+        ensures { AreFound span.now self.now result }
+    {
+        InSpan::of(span, self.ahead_of(&span.lo))
+    }
+
+    /// The entries from a bound on. It goes straight to the first.
+    fn ahead_of(&self, low: &Option<Bound>) -> Range<'_, Key, Chain>
+        ensures rest { AreFrom low.now self.now result }
+        ensures filled { AreFilled result }
+    {
+        match start_at(self.alloc, low) {
+            Ok(start) => self.map.range((start, ops::Bound::Unbounded)),
+            // a walk finds the start without the key that a search asks for
+            Err(_) => self
+                .map
+                .range((walk_to(&self.map, low), ops::Bound::Unbounded)),
         }
     }
 
@@ -112,5 +149,62 @@ impl Chains {
             self.map.remove(key);
         }
         was
+    }
+
+    /// The chain of a key.
+    pub(crate) fn get(&self, key: &Key) -> Option<&Chain>
+        ensures { MatchOption result (chain_of self.now key.now ≡ []) (λ c. chain_of self.now key.now ≡ c.now) }
+    {
+        self.map.get(key)
+    }
+
+    /// Drops the versions of a key that are dead by the horizon, where `top` is the timestamp of the
+    /// newest committed one at or below that, and says how many.
+    pub(crate) fn drop_spent(&mut self, key: &Key, horizon: u64, top: u64) -> u64
+        ensures left { IsThinnedAt self.old self.new key.now horizon top }
+        ensures count { result ≡ length (filter (is_spent_version horizon top) (chain_of self.old key.now)) }
+        ensures rising { DoRise (chain_of self.old key.now) }
+    {
+        let Some(chain) = self.map.get_mut(key) else {
+            return 0;
+        };
+        let dropped = chain.drop_spent(horizon, top);
+        if chain.is_empty() {
+            self.map.remove(key);
+        }
+        dropped
+    }
+
+    /// Adds those of the keys whose newest committed version at or below the horizon is of `ts`, and
+    /// of which a version is dead by the horizon.
+    pub(crate) fn add_spent(
+        &self,
+        spent: &mut Vec<Key>,
+        keys: &BTreeSet<Key>,
+        ts: u64,
+        horizon: u64,
+    ) -> Result<(), AllocError>
+        ensures keeps { OnOk result ((y : List ℕ) → has y spent.old.items ≡ true → has y spent.new.items ≡ true) }
+        ensures adds { OnOk result ((y : List ℕ) (i : ℕ) → contains key_cmp keys.now y ≡ true → newest_of (chain_of self.now y) horizon ≡ ts
+            → is_spent_at horizon ts (chain_of self.now y) i ≡ true → has y spent.new.items ≡ true) }
+    {
+        for key in keys {
+            if self.has_spent(key, ts, horizon) {
+                let key = key.copy()?;
+                spent.push(key)?;
+            }
+        }
+        Ok(())
+    }
+
+    /// Whether the newest committed version at or below the horizon is of `ts`, and a version of the
+    /// key is dead by the horizon.
+    fn has_spent(&self, key: &Key, ts: u64, horizon: u64) -> bool
+        ensures { (i : ℕ) → newest_of (chain_of self.now key.now) horizon ≡ ts → is_spent_at horizon ts (chain_of self.now key.now) i ≡ true → IsTrue result }
+    {
+        match self.map.get(key) {
+            None => false,
+            Some(chain) => chain.newest_committed(horizon) == ts && chain.has_spent(horizon, ts),
+        }
     }
 }

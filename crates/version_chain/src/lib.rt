@@ -1,21 +1,30 @@
 //! The versions of every key: what each transaction wrote there, and whether it has committed.
 //!
 //! A [`Store`] is an ordered map from keys to chains, a [`Chain`](chain::Chain) a list of versions by
-//! rising timestamp. A key without a version isn't in the map. A star marks what is committed:
+//! rising timestamp. A key without a version isn't in the map. Beside the chains an index has, for each
+//! timestamp, the keys with a version there. A star marks what is committed:
 //! ```text
-//!                            "apple"     "pear"     versions
-//! write apple, pear at 30    30          30         2
-//! write apple at 10          10  30      30         3
-//! commit apple at 10         10* 30      30         3        newest_at apple, 29 is 10*
-//! abort apple, pear at 30    10*                    1        next_above apple, 10 is none
+//!                            "apple"     "pear"     index                        versions
+//! write apple, pear at 30    30          30         30 apple pear                2
+//! write apple at 10          10  30      30         10 apple, 30 apple pear      3
+//! commit apple at 10         10* 30      30         10 apple, 30 apple pear      3    newest_at apple, 29 is 10*
+//! commit both at 30          10* 30*     30*        10 apple, 30 apple pear      3    next_above apple, 10 is 30
+//! drop what is dead by 30    30*         30*        30 apple pear                2    in_span - p is apple
 //! ```
 //! Of k keys and v versions of one, each search compares about log k keys and reads at most as many
-//! timestamps as v has binary digits; a commit and an abort do so for each key that they are given. A
-//! write also moves the versions above its own, and alone takes memory. The count is one read.
+//! timestamps as v has binary digits; a commit and an abort do so for each key that they are given, and
+//! go to the index. A write also moves the versions above its own. A collection looks at what was
+//! written between the last horizon and its own, and at what is at or below its own in the chains in
+//! which something is dead; the versions above are moved once. The count is one read.
+//!
+//! A write and the list of what is dead alone need memory, and take it before anything changes. The
+//! start of a span takes some too; where there is none, the keys before the span are walked over.
 #![tactic(auto)]
 
 pub mod chain;
 mod chains;
+pub mod in_span;
+mod index;
 mod steps;
 mod store;
 #[cfg(test)]

@@ -1,34 +1,47 @@
 //! The versions of all keys, by key.
-ghost use Rattle.std.specs.Prelude.{◌≡◌, ℕ, List, ◌≤◌, None, MatchOption, IfOk, OnOk, OnErr, option_map};
+ghost use Rattle.std.specs.Prelude.{◌≡◌, ℕ, List, ◌≤◌, None, MatchOption, IfOk, OnOk, OnErr, option_map, bytes_eq, true};
 ghost use Rattle.std.specs.Option.{option_copied};
+ghost use Rattle.std.specs.List.{filter};
+ghost use Rattle.std.specs.Map.{keys_of};
+ghost use Rattle.spans.specs.Keys.{in_span};
+ghost use Rattle.spans.proofs.Keyed.{RisingKeys};
 ghost use Rattle.kept.specs.Finding.{IsNextAbove};
 ghost use Rattle.version_chain.specs.Versions.{committed};
-ghost use Rattle.version_chain.specs.Chains.{IsChangedAt};
+ghost use Rattle.version_chain.specs.Chains.{Entry, AreFilled, IsChangedAt};
+ghost use Rattle.spans.proofs.WriteSets.{has};
+ghost use Rattle.version_chain.specs.Spent.{is_spent_in, IsCollectedIn, AreThinned};
 ghost use Rattle.version_chain.specs.Stores.{version_in, IsCountOf, IsNewestIn, IsAsBefore, IsWrittenTo, IsCommittedIn, IsAbortedIn};
 
 use crate::chain::Version;
 use crate::chains::Chains;
+use crate::in_span::InSpan;
+use crate::index::Index;
+use spans::span::Span;
 use std::alloc::{AllocError, Global};
 use std::marker::Model;
 use timestamps::key::Key;
 use timestamps::ts::Ts;
 use timestamps::value::Value;
 
-/// Versions by key and timestamp.
+/// Versions by key and timestamp, and which keys have one at each timestamp.
 #[derive(Drop)]
 pub struct Store {
     chains: Chains,
+    index: Index,
     count: u64,
+    /// No version is dead by it.
+    dropped_through: u64,
 }
 
 impl Model for Store {
-    ghost use Rattle.version_chain.specs.Stores.{Stored, IsCountOf};
+    ghost use Rattle.version_chain.specs.Stores.{Stored};
+    ghost use Rattle.version_chain.specs.Indexes.{IsSound};
 
     ghost Value = { Stored };
 
     ghost view = { λ s. s.chains };
 
-    ghost invariant = { λ s. IsCountOf s.chains s.count };
+    ghost invariant = { λ s. IsSound s.chains s.index s.count s.dropped_through };
 }
 
 impl Store {
@@ -38,7 +51,9 @@ impl Store {
     {
         Store {
             chains: Chains::new(alloc),
+            index: Index::new(alloc),
             count: 0,
+            dropped_through: 0,
         }
     }
 
@@ -67,6 +82,17 @@ impl Store {
         }
     }
 
+    /// The keys of the span that have a version, rising, each with its chain, which has at least one
+    /// version. It goes straight to the first; only where there is no memory to ask for it is that
+    /// walked to.
+    pub fn in_span<'a>(&'a self, span: &'a Span) -> InSpan<'a>
+        ensures found { result ≡ filter (λ (e : Entry). in_span span.now e.0) self.now }
+        ensures rising { RisingKeys (keys_of result) }
+        ensures filled { AreFilled result }
+    {
+        self.chains.in_span(span)
+    }
+
     /// Puts an undecided version in, in whose place one of the same transaction may stand. Its memory
     /// is there before anything changes.
     pub fn write(&mut self, key: &Key, ts: Ts, after: Option<&Value>) -> Result<(), AllocError>
@@ -83,10 +109,21 @@ impl Store {
             after,
             decided: false,
         };
-        if self.chains.write(key, version)? {
-            self.count += 1;
+        let added = self.index.add(ts.get(), key)?;
+        match self.chains.write(key, version) {
+            Ok(new) => {
+                if new {
+                    self.count += 1;
+                }
+                Ok(())
+            }
+            Err(refused) => {
+                if added {
+                    self.index.remove(ts.get(), key);
+                }
+                Err(refused)
+            }
         }
-        Ok(())
     }
 
     /// Marks the versions of `ts` at these keys as committed. It takes no memory.
@@ -102,6 +139,8 @@ impl Store {
     fn commit_at(&mut self, key: &Key, ts: Ts)
         ensures { IsChangedAt self.old self.new key.now ts (option_map committed) }
     {
+        // a version that commits below it may be dead by it, or make others so
+        self.dropped_through = self.dropped_through.min(ts.get() - 1);
         self.chains.commit(key, ts.get());
     }
 
@@ -119,8 +158,61 @@ impl Store {
         ensures { IsChangedAt self.old self.new key.now ts (λ _. None) }
     {
         if self.chains.remove(key, ts.get()) {
+            self.index.remove(ts.get(), key);
             self.count -= 1;
         }
+    }
+
+    /// Drops the versions that are dead by the horizon, and says how many: a committed one at or below
+    /// it is dead where it is a delete or where a newer one of its key is committed at or below it. It
+    /// looks at what was written above the horizon of the last collection, and at chains where something
+    /// is dead. What is dead is listed before anything goes; without room for that list nothing goes.
+    pub fn drop_dead(&mut self, horizon: u64) -> Result<u64, AllocError>
+        ensures ok { IfOk result (λ count. IsCollectedIn self.old self.new horizon count) }
+        ensures err { OnErr result (IsAsBefore self.old self.new) }
+    {
+        let keys = self.spent_keys(horizon)?;
+        Ok(self.thin_all(keys.as_slice(), horizon))
+    }
+
+    /// The keys of which a version is dead by the horizon.
+    fn spent_keys(&self, horizon: u64) -> Result<Vec<Key>, AllocError>
+        ensures { IfOk result (λ keys. (y : List ℕ) (i : ℕ) → is_spent_in self.now horizon y i ≡ true → has y keys.items ≡ true) }
+    {
+        let mut keys = Vec::new(self.chains.alloc());
+        if horizon <= self.dropped_through {
+            return Ok(keys);
+        }
+        for (ts, written) in self.index.between(self.dropped_through, horizon) {
+            self.chains.add_spent(&mut keys, written, *ts, horizon)?;
+        }
+        Ok(keys)
+    }
+
+    /// Drops what is dead by the horizon, which the keys have, and says how many versions that was.
+    fn thin_all(&mut self, keys: &[Key], horizon: u64) -> u64
+        requires all { (y : List ℕ) (i : ℕ) → is_spent_in self.old horizon y i ≡ true → has y keys.now ≡ true }
+        ensures { IsCollectedIn self.old self.new horizon result }
+    {
+        let before = self.count;
+        for key in keys {
+            self.thin(key, horizon);
+        }
+        self.dropped_through = self.dropped_through.max(horizon);
+        before - self.count
+    }
+
+    /// Drops the versions of a key that are dead by the horizon.
+    fn thin(&mut self, key: &Key, horizon: u64)
+        ensures { AreThinned self.old self.new (bytes_eq key.now) horizon }
+    {
+        let Some(chain) = self.chains.get(key) else {
+            return;
+        };
+        let top = chain.newest_committed(horizon);
+        self.index
+            .remove_spent(key, chain.through(horizon), horizon, top);
+        self.count -= self.chains.drop_spent(key, horizon, top);
     }
 }
 

@@ -1,7 +1,12 @@
 //! What no clause says: that writes are taken where memory is there, and that the clauses mean what was meant.
 use crate::chain::{Chain, Version};
+use crate::in_span::{start_at, walk_to};
 use crate::{Steps, Store};
+use spans::bound::Bound;
+use spans::span::Span;
 use std::alloc::Global;
+use std::collections::BTreeMap;
+use std::ops;
 use std::test::Fail;
 use timestamps::key::Key;
 use timestamps::ts::Ts;
@@ -151,5 +156,159 @@ fn a_chain_is_searched_by_halves(rt: HostRuntime) -> Result<(), Fail> {
         }
     }
     assert!(rt; chain.next_above(990, &mut steps).is_none());
+    Ok(())
+}
+
+fn bound(alloc: Global, bytes: Option<&[u8]>) -> Result<Option<Bound>, Fail> {
+    match bytes {
+        None => Ok(None),
+        Some(bytes) => Ok(Some(Bound::new(alloc, bytes)?)),
+    }
+}
+
+/// The last bytes of the keys of a span that have a version.
+fn last_bytes(
+    alloc: Global,
+    store: &Store,
+    lo: Option<&[u8]>,
+    hi: Option<&[u8]>,
+) -> Result<Vec<u8>, Fail> {
+    let span = Span {
+        lo: bound(alloc, lo)?,
+        hi: bound(alloc, hi)?,
+    };
+    let mut bytes = Vec::new(alloc);
+    for (key, chain) in store.in_span(&span) {
+        if chain.newest_at(99, &mut Steps::new()).is_none() {
+            return Err(Fail::new("an empty chain"));
+        }
+        let last = *key.bytes().last().ok_or("no byte")?;
+        bytes.push(last)?;
+    }
+    Ok(bytes)
+}
+
+#[test]
+fn a_span_has_the_keys_from_its_start_to_its_end(rt: HostRuntime) -> Result<(), Fail> {
+    let alloc = rt.alloc();
+    let mut store = Store::new(alloc);
+    for key in [b"c", b"a", b"e", b"b", b"d"] {
+        store.write(&Key::new(alloc, key.as_slice())?, at(10)?, None)?;
+    }
+    store.write(&Key::new(alloc, b"ab")?, at(20)?, None)?;
+    assert_eq!(rt;
+        last_bytes(alloc, &store, None, None)?.as_slice(),
+        b"abbcde".as_slice()
+    );
+    assert_eq!(rt;
+        last_bytes(alloc, &store, Some(b"b"), Some(b"d"))?.as_slice(),
+        b"bc".as_slice()
+    );
+    assert_eq!(rt;
+        last_bytes(alloc, &store, Some(b"aa"), Some(b"b"))?.as_slice(),
+        b"b".as_slice()
+    );
+    assert_eq!(rt;
+        last_bytes(alloc, &store, Some(b"d"), None)?.as_slice(),
+        b"de".as_slice()
+    );
+    assert_eq!(rt; last_bytes(alloc, &store, Some(b"d"), Some(b"d"))?.len(), 0);
+    assert_eq!(rt; last_bytes(alloc, &store, Some(b"d"), Some(b"b"))?.len(), 0);
+    assert_eq!(rt; last_bytes(alloc, &store, Some(b"f"), None)?.len(), 0);
+    Ok(())
+}
+
+#[test]
+fn a_bound_of_one_byte_more_than_a_key_is_above_it(rt: HostRuntime) -> Result<(), Fail> {
+    let alloc = rt.alloc();
+    let mut store = Store::new(alloc);
+    store.write(&Key::new(alloc, &[b'k'; 64])?, at(10)?, None)?;
+    store.write(&Key::new(alloc, b"m")?, at(10)?, None)?;
+    assert_eq!(rt;
+        last_bytes(alloc, &store, Some(&[b'k'; 64]), None)?.as_slice(),
+        b"km".as_slice()
+    );
+    assert_eq!(rt;
+        last_bytes(alloc, &store, Some(&[b'k'; 65]), None)?.as_slice(),
+        b"m".as_slice()
+    );
+    assert_eq!(rt;
+        last_bytes(alloc, &store, None, Some(&[b'k'; 65]))?.as_slice(),
+        b"k".as_slice()
+    );
+    assert_eq!(rt;
+        last_bytes(alloc, &store, None, Some(&[b'k'; 64]))?.len(),
+        0
+    );
+    Ok(())
+}
+
+#[test]
+fn a_walk_finds_the_start_that_a_search_finds(rt: HostRuntime) -> Result<(), Fail> {
+    let alloc = rt.alloc();
+    let keys: [&[u8]; 4] = [b"b", &[b'k'; 64], b"kl", b"m"];
+    let mut map = BTreeMap::new(alloc);
+    for bytes in keys {
+        let version = Version {
+            ts: at(10)?,
+            after: None,
+            decided: false,
+        };
+        map.insert(Key::new(alloc, bytes)?, Chain::of(alloc, version)?)?;
+    }
+    // how many keys are at or above each
+    let lows: [(&[u8], usize); 7] = [
+        (b"a", 4),
+        (b"b", 4),
+        (b"c", 3),
+        (&[b'k'; 64], 3),
+        (&[b'k'; 65], 2),
+        (b"m", 1),
+        (b"n", 0),
+    ];
+    for (bytes, want) in lows {
+        let low = bound(alloc, Some(bytes))?;
+        let searched = start_at(alloc, &low)?;
+        let walked = walk_to(&map, &low);
+        assert_eq!(rt; map.range((searched, ops::Bound::Unbounded)).count(), want);
+        assert_eq!(rt; map.range((walked, ops::Bound::Unbounded)).count(), want);
+    }
+    let first = walk_to(&map, &None);
+    assert_eq!(rt; map.range((first, ops::Bound::Unbounded)).count(), 4);
+    Ok(())
+}
+
+#[test]
+fn what_is_dead_goes(rt: HostRuntime) -> Result<(), Fail> {
+    let alloc = rt.alloc();
+    let apple = Key::new(alloc, b"apple")?;
+    let pear = Key::new(alloc, b"pear")?;
+    let value = Value::new(alloc, b"7")?;
+    let mut store = Store::new(alloc);
+    for number in [10, 20, 30, 40, 60] {
+        store.write(&apple, at(number)?, Some(&value))?;
+    }
+    store.write(&pear, at(30)?, None)?;
+    for number in [10, 20, 40, 60] {
+        store.commit(at(number)?, one(alloc, b"apple")?.as_slice());
+    }
+    store.commit(at(30)?, one(alloc, b"pear")?.as_slice());
+    // 10 and 20 lie below 40; 30 is undecided, 60 above the horizon, and the delete is dead
+    assert_eq!(rt; store.drop_dead(5)?, 0);
+    assert_eq!(rt; store.drop_dead(15)?, 0);
+    assert_eq!(rt; store.drop_dead(50)?, 3);
+    assert_eq!(rt; store.versions(), 3);
+    assert_eq!(rt; newest(&store, &apple, 29), 0);
+    assert_eq!(rt; newest(&store, &apple, 39), 30);
+    assert_eq!(rt; newest(&store, &apple, 50), 1040);
+    assert_eq!(rt; newest(&store, &apple, 99), 1060);
+    assert_eq!(rt; newest(&store, &pear, 99), 0);
+    assert_eq!(rt; store.drop_dead(50)?, 0);
+    assert_eq!(rt; store.drop_dead(10)?, 0);
+    // a late commit is dead at once
+    store.commit(at(30)?, one(alloc, b"apple")?.as_slice());
+    assert_eq!(rt; store.drop_dead(50)?, 1);
+    assert_eq!(rt; store.drop_dead(60)?, 1);
+    assert_eq!(rt; store.versions(), 1);
     Ok(())
 }

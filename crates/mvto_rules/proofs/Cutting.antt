@@ -1,0 +1,241 @@
+-- A span cut into pieces, key by key.
+use Rattle.std.proofs.Common.{Bool, List, None, Option, Some, ap, arith, false, inl, inr, refl, subst, sym, true, ℕ, ◌<◌, ◌≤◌, ◌⊎◌, ◌&&◌, ◌++◌, ◌∷◌, ◌≡◌, ◌∙◌, []}
+use Rattle.std.specs.Prelude.{bytes_eq, not}
+use Rattle.std.specs.Ordering.{is_eq, is_lt, ordering_reverse}
+use Rattle.std.specs.declared.cmp.Ordering.{Ordering}
+use Rattle.std.specs.declared.cmp.Ordering.TheVariants.{Equal, Greater, Less}
+use Rattle.std.proofs.lemmas.Bool.{both_ways}
+use Rattle.std.proofs.lemmas.Cmp.{nat_list_cmp_total}
+use Rattle.std.proofs.lemmas.Map.Text.{is_eq-slice_cmp}
+use Rattle.timestamps.specs.Bytes.{key_cmp}
+use Rattle.timestamps.specs.declared.ts.TheConstants.{MAX}
+use Rattle.spans.specs.KeyOrder.{below_high, from_low, key_lt}
+use Rattle.spans.specs.Keys.{in_span}
+use Rattle.spans.specs.Successors.{successor}
+use Rattle.spans.specs.declared.span.Span.{Span}
+use Rattle.spans.proofs.Members.{Has, has_append}
+use Rattle.spans.proofs.Steps.{by_test, newest_only, same_key}
+use Rattle.spans.proofs.Succeeding.{above_successor}
+use Rattle.read_marks.specs.Marks.{HaveGaps}
+use Rattle.read_marks.specs.declared.piece.Piece.{Piece}
+use Rattle.version_chain.specs.Chains.{Entry, chain_of}
+use Rattle.version_chain.specs.Stores.{Stored, after_of, version_in}
+use Rattle.version_chain.specs.Versions.{version_of}
+use Rattle.version_chain.specs.declared.chain.Version.{Version}
+use Rattle.mvto_rules.specs.Pieces.{without_version}
+use Rattle.mvto_rules.specs.Scans.{AreAhead, AreMade, IsGap, is_below, newest_in}
+
+-- ---- the order of keys
+
+and_left : (a b : Bool) → (a && b) ≡ true → a ≡ true
+and_left true b e = refl
+and_left false b e = cc
+
+and_right : (a b : Bool) → (a && b) ≡ true → b ≡ true
+and_right true b e = e
+and_right false b e = cc
+
+both_true : (a b : Bool) → a ≡ true → b ≡ true → (a && b) ≡ true
+both_true true b e f = f
+both_true false b e f = cc
+
+not_not : (b : Bool) → not (not b) ≡ b
+not_not true = refl
+not_not false = refl
+
+not_true : (b : Bool) → not b ≡ true → b ≡ false
+not_true true e = cc
+not_true false e = refl
+
+less_is : (o : Ordering) → is_lt o ≡ true → o ≡ Less
+less_is Less e = refl
+less_is Equal e = cc
+less_is Greater e = cc
+
+turned : (x y : List ℕ) (o : Ordering) → key_cmp y x ≡ o → key_cmp x y ≡ ordering_reverse o
+turned x y o e = nat_list_cmp_total.antisymm x y ∙ ap ordering_reverse e
+
+not_itself : (x : List ℕ) → key_lt x x ≡ false
+not_itself x = by_order (key_cmp x x) refl
+  where
+    by_order : (o : Ordering) → key_cmp x x ≡ o → is_lt (key_cmp x x) ≡ false
+    by_order Less e = (let g : key_cmp x x ≡ Greater = turned x x Less e in cc)
+    by_order Equal e = ap is_lt e
+    by_order Greater e = ap is_lt e
+
+lt_trans : (x y z : List ℕ) → key_lt x y ≡ true → key_lt y z ≡ true → key_lt x z ≡ true
+lt_trans x y z l h = ap is_lt (nat_list_cmp_total.trans x y z (less_is _ l) (less_is _ h))
+
+not_both : (x y : List ℕ) → key_lt x y ≡ true → key_lt y x ≡ false
+not_both x y l = ap is_lt (turned y x Less (less_is _ l))
+
+-- neither below nor above is the same
+same_place : (k x : List ℕ) → key_lt x k ≡ false → key_lt k x ≡ false → bytes_eq k x ≡ true
+same_place k x l h = by_order (key_cmp k x) refl
+  where
+    by_order : (o : Ordering) → key_cmp k x ≡ o → bytes_eq k x ≡ true
+    by_order Less e = (let no : true ≡ false = sym (ap is_lt e) ∙ h in cc)
+    by_order Equal e = sym (is_eq-slice_cmp k x) ∙ ap is_eq e
+    by_order Greater e = (let no : true ≡ false = sym (ap is_lt (turned x k Greater e)) ∙ l in cc)
+
+-- at or above the successor is above the key
+from_successor : (k x : List ℕ) → from_low (Some (successor k)) x ≡ key_lt k x
+from_successor k x = above_successor k x
+
+stays_from : (lo : Option (List ℕ)) (k x : List ℕ) → from_low lo k ≡ true → key_lt k x ≡ true → from_low lo x ≡ true
+stays_from None k x from above = refl
+stays_from (Some low) k x from above = by_test (key_lt x low)
+    (λ is. (let no : true ≡ false = sym (lt_trans k x low above is) ∙ not_true _ from in cc))
+    (λ isnt. ap not isnt)
+
+stays_below : (hi : Option (List ℕ)) (k x : List ℕ) → below_high hi k ≡ true → key_lt x k ≡ true → below_high hi x ≡ true
+stays_below None k x below less = refl
+stays_below (Some high) k x below less = lt_trans x k high less below
+
+-- ---- what a piece more does
+
+gaps_more : (t : ℕ) (ps : List Piece) (p : Piece) → HaveGaps t ps → p.above < t → t ≤ p.until → HaveGaps t (ps ++ p ∷ [])
+gaps_more t [] p gaps low high = ((low, high), tt)
+gaps_more t (q ∷ ps) p gaps low high = (gaps.0, gaps_more t ps p gaps.1 low high)
+
+-- a piece of keys that were not past the point before
+pub one_more : (s : Stored) (t : ℕ) (span : Span) (before after : List ℕ → Bool) (ps : List Piece) (p : Piece) → AreMade s t span before ps → p.above < t → t ≤ p.until → ((x : List ℕ) → before x ≡ true → after x ≡ true)
+    → ((x : List ℕ) → in_span p.span x ≡ true → (in_span span x ≡ true) × (before x ≡ false) × (after x ≡ true) × IsGap s t x p.above p.until)
+    → ((x : List ℕ) → in_span span x ≡ true → before x ≡ false → after x ≡ true → in_span p.span x ≡ true)
+    → AreMade s t span after (ps ++ p ∷ [])
+one_more s t span before after ps p made low high more inside all = record {
+  apart = λ q r i j x q_has r_has. elim (split q i) [
+    | inl q_old ↦ elim (split r j) [ inl r_old ↦ made.apart q r q_old r_old x q_has r_has | inr r_new ↦ absurd (not_new q r q_old r_new x q_has r_has) ]
+    | inr q_new ↦ elim (split r j) [ inl r_old ↦ absurd (not_new r q r_old q_new x r_has q_has) | inr r_new ↦ sym q_new ∙ r_new ]
+  ];
+  gaps = gaps_more t ps p made.gaps low high;
+  within = λ q i x has. elim (split q i) [
+    | inl old ↦ (let w = made.within q old x has in (w.0, more x w.1, w.2))
+    | inr new ↦ (let w = inside x (subst (λ r. in_span r.span x ≡ true) (sym new) has) in (w.0, w.2, subst (λ r. IsGap s t x r.above r.until) new w.3))
+  ];
+  each = λ x in' past. by_test (before x)
+      (λ was. elim (made.each x in' was) [ inl own ↦ inl own | inr of ↦ inr (of.0, (has_append of.0 ps (p ∷ [])).1 (inl of.1), of.2) ])
+      (λ wasnt. inr (p, (has_append p ps (p ∷ [])).1 (inr (inl refl)), all x in' wasnt past));
+}
+  where
+    split : (q : Piece) → Has q (ps ++ p ∷ []) → Has q ps ⊎ (p ≡ q)
+    split q i = elim ((has_append q ps (p ∷ [])).0 i) [ inl old ↦ inl old | inr new ↦ elim new [ inl e ↦ inr e | inr none ↦ absurd none ] ]
+
+    not_new : (q r : Piece) → Has q ps → p ≡ r → (x : List ℕ) → in_span q.span x ≡ true → in_span r.span x ≡ true → ⊥
+    not_new q r old new x q_has r_has =
+        both_ways (before x) (inside x (subst (λ w. in_span w.span x ≡ true) (sym new) r_has)).1 (made.within q old x q_has).1
+
+-- the point moves over keys where t reads its own
+pub none_more : (s : Stored) (t : ℕ) (span : Span) (before after : List ℕ → Bool) (ps : List Piece) → AreMade s t span before ps → ((x : List ℕ) → before x ≡ true → after x ≡ true)
+    → ((x : List ℕ) → in_span span x ≡ true → before x ≡ false → after x ≡ true → (newest_in s t x).ts ≡ t) → AreMade s t span after ps
+none_more s t span before after ps made more own = record {
+  apart = made.apart;
+  gaps = made.gaps;
+  within = λ q i x has. (let w = made.within q i x has in (w.0, more x w.1, w.2));
+  each = λ x in' past. by_test (before x)
+      (λ was. made.each x in' was)
+      (λ wasnt. inl (own x in' wasnt past));
+}
+
+pub none_made : (s : Stored) (t : ℕ) (span : Span) → AreMade s t span (is_below span.lo) []
+none_made s t span = record {
+  apart = λ p q i j x a b. absurd i;
+  gaps = tt;
+  within = λ p i x a. absurd i;
+  each = λ x in' past. (let no : true ≡ false = sym (and_left _ _ in') ∙ not_true _ past in cc);
+}
+
+-- ---- keys without a version
+
+nothing_there : (s : Stored) (t : ℕ) (x : List ℕ) → 0 < t → chain_of s x ≡ [] → IsGap s t x 0 18446744073709551615
+nothing_there s t x low none =
+    let empty = λ (i : ℕ). ap (λ vs. after_of (version_of vs i)) none in
+    record {
+      at = ap (λ v. v.ts) (newest_only (version_in s x) t 0 None (record { at_most = omega arith; gap = λ i l h. empty i; has = inl (refl, refl) }));
+      low = low;
+      next = None;
+      is_next = λ n l. empty n;
+      to = refl;
+    }
+
+-- ---- the walk
+
+-- up to the next entry no key of the span has a version
+pub passed : (s : Stored) (t : ℕ) (span : Span) (lo : Option (List ℕ)) (k : List ℕ) (vs : List Version) (rest : List Entry) (ps : List Piece) → 0 < t → t ≤ MAX → AreAhead s span lo ((k, vs) ∷ rest) → AreMade s t span (is_below lo) ps
+    → AreMade s t span (λ x. key_lt x k) (ps ++ without_version lo (Some k) ∷ [])
+passed s t span lo k vs rest ps low high ahead made =
+    one_more s t span (is_below lo) (λ x. key_lt x k) ps (without_version lo (Some k)) made low (omega arith)
+    (λ x below. before x (not_true _ below))
+    (λ x has.
+    let from : from_low lo x ≡ true = and_left _ _ has in
+    let less : key_lt x k ≡ true = and_right (from_low lo x) _ has in
+    let inside : in_span span x ≡ true = both_true _ _ (ahead.inner x from) (stays_below span.hi k x (and_right (from_low span.lo k) _ ahead.each.0.0) less) in (
+      inside,
+      ap not from,
+      less,
+      nothing_there s t x low (ahead.nowhere x inside from (λ i. elim i [
+        | inl here ↦ both_ways (key_lt x k) (subst (λ y. key_lt y k ≡ false) here (not_itself k)) less
+        | inr there ↦ both_ways (key_lt x k) (not_both k x (ap is_lt (ahead.rising.0 x there))) less
+      ])),
+    ))
+    (λ x inside from less. both_true _ _ (sym (not_not _) ∙ ap not from) less)
+  where
+    before : (x : List ℕ) → from_low lo x ≡ false → key_lt x k ≡ true
+    before x off = by_test (key_lt x k)
+        (λ on. on)
+        (λ at. by_test (key_lt k x)
+        (λ above. (let no : true ≡ false = sym (stays_from lo k x (ahead.from k (inl refl)) above) ∙ off in cc))
+        (λ same. (let no : true ≡ false = sym (subst (λ y. from_low lo y ≡ true) (same_key k x (same_place k x at same)) (ahead.from k (inl refl))) ∙ off in cc)))
+
+-- past the key
+past_key : (k x : List ℕ) → is_below (Some (successor k)) x ≡ not (key_lt k x)
+past_key k x = ap not (from_successor k x)
+
+past_below : (k x : List ℕ) → key_lt x k ≡ true → is_below (Some (successor k)) x ≡ true
+past_below k x less = past_key k x ∙ ap not (not_both x k less)
+
+past_here : (k x : List ℕ) → key_lt x k ≡ false → is_below (Some (successor k)) x ≡ true → bytes_eq k x ≡ true
+past_here k x at past = same_place k x at (not_true _ (sym (past_key k x) ∙ past))
+
+-- the key that has the reader's own version is in no piece
+pub own_passed : (s : Stored) (t : ℕ) (span : Span) (k : List ℕ) (ps : List Piece) → AreMade s t span (λ x. key_lt x k) ps → (newest_in s t k).ts ≡ t → AreMade s t span (is_below (Some (successor k))) ps
+own_passed s t span k ps made own = none_more s t span (λ x. key_lt x k) (is_below (Some (successor k))) ps made (past_below k)
+    (λ x inside at past. subst (λ y. (newest_in s t y).ts ≡ t) (same_key k x (past_here k x at past)) own)
+
+-- any other key is in its own piece
+pub other_passed : (s : Stored) (t : ℕ) (span : Span) (k : List ℕ) (ps : List Piece) (p : Piece) → in_span span k ≡ true → AreMade s t span (λ x. key_lt x k) ps → IsGap s t k p.above p.until → t ≤ p.until → ((x : List ℕ) → in_span p.span x ≡ bytes_eq k x)
+    → AreMade s t span (is_below (Some (successor k))) (ps ++ p ∷ [])
+other_passed s t span k ps p inside made gap high alone =
+    one_more s t span (λ x. key_lt x k) (is_below (Some (successor k))) ps p made gap.low high (past_below k)
+    (λ x has.
+    let same : k ≡ x = same_key k x (sym (alone x) ∙ has) in
+    subst (λ y. (in_span span y ≡ true) × (key_lt y k ≡ false) × (is_below (Some (successor k)) y ≡ true) × IsGap s t y p.above p.until) same
+    (inside, not_itself k, past_key k k ∙ ap not (not_itself k), gap))
+    (λ x in' at past. alone x ∙ past_here k x at past)
+
+-- the entries behind the next one
+pub ahead_of : (s : Stored) (span : Span) (lo : Option (List ℕ)) (k : List ℕ) (vs : List Version) (rest : List Entry) → AreAhead s span lo ((k, vs) ∷ rest) → AreAhead s span (Some (successor k)) rest
+ahead_of s span lo k vs rest ahead = record {
+  rising = ahead.rising.1;
+  each = ahead.each.1;
+  from = λ x i. from_successor k x ∙ ap is_lt (ahead.rising.0 x i);
+  inner = λ x from. ahead.inner x (above x from);
+  nowhere = λ x inside from none. ahead.nowhere x inside (above x from) (λ i. elim i [
+    | inl here ↦ both_ways (key_lt k x) (subst (λ y. key_lt k y ≡ false) here (not_itself k)) (sym (from_successor k x) ∙ from)
+    | inr there ↦ none there
+  ]);
+}
+  where
+    above : (x : List ℕ) → from_low (Some (successor k)) x ≡ true → from_low lo x ≡ true
+    above x from = stays_from lo k x (ahead.from k (inl refl)) (sym (from_successor k x) ∙ from)
+
+-- behind the last entry no key has a version
+pub all_made : (s : Stored) (t : ℕ) (span : Span) (lo : Option (List ℕ)) (ps : List Piece) → 0 < t → t ≤ MAX → AreAhead s span lo [] → AreMade s t span (is_below lo) ps
+    → AreMade s t span (λ x. true) (ps ++ without_version lo span.hi ∷ [])
+all_made s t span lo ps low high ahead made =
+    one_more s t span (is_below lo) (λ x. true) ps (without_version lo span.hi) made low (omega arith) (λ x is. refl)
+    (λ x has.
+    let from : from_low lo x ≡ true = and_left _ _ has in
+    let inside : in_span span x ≡ true = both_true _ _ (ahead.inner x from) (and_right (from_low lo x) _ has) in
+    (inside, ap not from, refl, nothing_there s t x low (ahead.nowhere x inside from (λ i. absurd i))))
+    (λ x inside from past. both_true _ _ (sym (not_not _) ∙ ap not from) (and_right (from_low span.lo x) _ inside))

@@ -1,0 +1,8 @@
+-- What the rules ask of the table of transactions.
+use Rattle.std.specs.Prelude.{is_some, true, ℕ, ◌≡◌, ◌≤◌}
+use Rattle.timestamps.specs.declared.ts.TheConstants.{MAX}
+use Rattle.txn_table.specs.TransactionIn.{Table, transaction_in}
+
+-- only a number that is a timestamp has a transaction
+abbrev pub AreInRange : Table → Type 0
+AreInRange table = (t : ℕ) → is_some (transaction_in table t) ≡ true → t ≤ MAX

@@ -1,0 +1,97 @@
+//! A walk through the keys of a span that have a version.
+ghost use Rattle.std.specs.Prelude.{◌≡◌, ◌++◌, ◌∷◌, [], ℕ, List, Option, None, Some, IfOk, OnOk};
+ghost use Rattle.std.specs.Option.{option_copied};
+ghost use Rattle.spans.specs.Keys.{with_value};
+ghost use Rattle.spans.specs.declared.span.Span.{Span};
+ghost use Rattle.kept.specs.Finding.{IsNextAbove};
+ghost use Rattle.kept.specs.Marks as marking;
+ghost use Rattle.version_chain.specs.Chains.{Entry};
+ghost use Rattle.version_chain.specs.Stores.{Stored, after_of};
+ghost use Rattle.version_chain.specs.Versions.{version_of};
+ghost use Rattle.mvto_rules.specs.Sights.{value_in};
+
+use crate::cut::Cut;
+use crate::sight::{Sight, value_of};
+use spans::span::Span;
+use std::alloc::{AllocError, Global};
+use timestamps::key::Key;
+use timestamps::ts::Ts;
+use timestamps::value::Value;
+use version_chain::Steps;
+use version_chain::chain::{Chain, Version};
+
+/// What a scan has found so far: its rows, and the pieces that it will mark.
+#[derive(Drop)]
+pub(crate) struct Walk {
+    alloc: Global,
+    pub(crate) rows: Vec<(Key, Value)>,
+    pub(crate) cut: Cut,
+}
+
+impl Walk {
+    ghost use Rattle.mvto_rules.specs.Scans.{DoesStep, IsWalking};
+
+    /// Nothing found yet of the span.
+    pub(crate) fn new(alloc: Global, span: &Span) -> Result<Walk, AllocError>
+        ensures { IfOk result (λ walk. (walk.rows.items ≡ []) × (walk.cut.pieces.items ≡ []) × (walk.cut.lo ≡ span.now.lo)) }
+    {
+        let cut = Cut::new(alloc, span)?;
+        Ok(Walk {
+            alloc,
+            rows: Vec::new(alloc),
+            cut,
+        })
+    }
+
+    /// Takes the next key in, or answers the timestamp of what stops the reader there.
+    pub(crate) fn visit(
+        &mut self,
+        key: &Key,
+        chain: &Chain,
+        ts: Ts,
+    ) -> Result<Option<u64>, AllocError>
+        ensures { IfOk result (λ by. (s : Stored) (span : Span) (rest : List Entry) → IsWalking s ts span ((key.now, chain.now) ∷ rest) self.old → DoesStep s ts span rest self.new by) }
+    {
+        let newest = chain.newest_at(ts.get(), &mut Steps::new());
+        match Sight::of(newest, ts) {
+            Sight::Blocked(by) => Ok(Some(by)),
+            Sight::Own => {
+                self.cut.pass(self.alloc, key)?;
+                add_row(&mut self.rows, key, newest)?;
+                Ok(None)
+            }
+            Sight::Other(above) => {
+                let until = until_of(chain, ts);
+                self.cut.pass(self.alloc, key)?;
+                self.cut.add(self.alloc, key, above, until)?;
+                add_row(&mut self.rows, key, newest)?;
+                Ok(None)
+            }
+        }
+    }
+}
+
+/// Adds the row of a key, where the version has a value.
+fn add_row(
+    rows: &mut Vec<(Key, Value)>,
+    key: &Key,
+    newest: Option<&Version>,
+) -> Result<(), AllocError>
+    ensures { OnOk result (rows.new.items ≡ rows.old.items ++ with_value key.now (value_in (option_copied newest.entry)) []) }
+{
+    if let Some(value) = value_of(newest)? {
+        let key = key.copy()?;
+        rows.push((key, value))?;
+    }
+    Ok(())
+}
+
+/// The timestamp of the next version above `ts`, or one beyond all.
+fn until_of(chain: &Chain, ts: Ts) -> u64
+    ensures { (next : Option ℕ) × IsNextAbove (λ i. after_of (version_of chain.now i)) ts next × (result ≡ marking.until next) }
+{
+    match chain.next_above(ts.get(), &mut Steps::new()) {
+        None => u64::MAX,
+        Some(version) => version.ts.get(),
+    }
+}

@@ -1,0 +1,162 @@
+-- A chain's versions up to a horizon, and its newest committed one there.
+use Rattle.std.proofs.Common.{◌≡◌, ℕ, zero, suc, ◌<◌, ◌≤◌, ◌-◌, ◌==◌, Bool, true, false, cond, ◌&&◌, ◌||◌, List, [], ◌∷◌, ◌++◌, length, take, drop, get_or, Some, None, refl, sym, ◌∙◌, ap, subst, inl, inr, arith}
+use Rattle.std.specs.Prelude.{nat_le, nat_lt, is_none, not}
+use Rattle.std.specs.List.{filter, list_any}
+use Rattle.std.proofs.lemmas.Bool.{and_parts, eqb-true, eqb-false, le-leb, or_cases, or_left, or_right}
+use Rattle.std.proofs.lemmas.List.{get_or_default}
+use Rattle.std.proofs.lemmas.Bool.Decides.{nat_tests}
+use Rattle.spans.proofs.Steps.{by_test, newest_only}
+use Rattle.version_chain.specs.declared.chain.Version.{Version}
+use Rattle.version_chain.specs.Versions.{AreAbove, DoRise, version_of, IsPlaceAbove}
+use Rattle.version_chain.specs.Spent.{committed_after, newest_of, is_spent_version, is_spent_at}
+use Rattle.version_chain.proofs.Places.{rises_at, found, same_ts}
+
+above_filtered : (t : ℕ) (p : Version → Bool) (vs : List Version) → AreAbove t vs → AreAbove t (filter p vs)
+above_filtered t p [] a = tt
+above_filtered t p (v ∷ vs) a = by_test (p v)
+    (λ on. rw on (a.0, above_filtered t p vs a.1))
+    (λ off. rw off (above_filtered t p vs a.1))
+
+pub rises_kept : (p : Version → Bool) (vs : List Version) → DoRise vs → DoRise (filter p vs)
+rises_kept p [] r = tt
+rises_kept p (v ∷ vs) r = by_test (p v)
+    (λ on. rw on (above_filtered v.ts p vs r.0, rises_kept p vs r.1))
+    (λ off. rw off (rises_kept p vs r.1))
+
+none_low : (vs : List Version) (t : ℕ) → ((k : ℕ) (d : Version) → k < length vs → t < (get_or vs k d).ts) → [] ≡ filter (λ (v : Version). nat_le v.ts t) vs
+none_low [] t above = refl
+none_low (v ∷ vs) t above =
+    let up : t < v.ts = above zero v (omega arith) in
+    let off : nat_le v.ts t ≡ false = grind (arith, nat_tests) in
+    rw off (none_low vs t (λ k d lt. above (suc k) d (omega arith)))
+
+-- the versions before a place are those up to a timestamp
+pub low_ones : (vs : List Version) (t n : ℕ) → IsPlaceAbove vs t n → take n vs ≡ filter (λ (v : Version). nat_le v.ts t) vs
+low_ones vs zero' zero p = none_low vs zero' (λ k d lt. p.above k d (omega arith) lt)
+low_ones [] t (suc n) p = absurd (omega (arith, p.within))
+low_ones (v ∷ vs) t (suc n) p =
+    let low : v.ts ≤ t = p.below zero v (omega arith) in
+    let on : nat_le v.ts t ≡ true = le-leb _ _ low in
+    rw on (ap (λ ws. v ∷ ws) (low_ones vs t n (record {
+      within = omega (arith, p.within);
+      below = λ k d lt. p.below (suc k) d (omega arith);
+      above = λ k d at lt. p.above (suc k) d (omega arith) (omega arith);
+    })))
+
+-- nothing above a horizon is dead by it
+high_lives : (n top : ℕ) (v : Version) → nat_le v.ts n ≡ false → is_spent_version n top v ≡ false
+high_lives n top v high = by_test v.decided (λ on. rw (on, high) refl) (λ off. rw off refl)
+
+all_high : (n top : ℕ) (vs : List Version) → ((k : ℕ) (d : Version) → k < length vs → n < (get_or vs k d).ts) → filter (λ (v : Version). not (is_spent_version n top v)) vs ≡ vs
+all_high n top [] above = refl
+all_high n top (v ∷ vs) above =
+    let up : n < v.ts = above zero v (omega arith) in
+    let high : nat_le v.ts n ≡ false = grind (arith, nat_tests) in
+    rw (high_lives n top v high) (ap (λ ws. v ∷ ws) (all_high n top vs (λ k d lt. above (suc k) d (omega arith))))
+
+thinned_low : (n top place : ℕ) (vs : List Version) → IsPlaceAbove vs n place → filter (λ (v : Version). not (is_spent_version n top v)) (take place vs) ++ drop place vs ≡ filter (λ (v : Version). not (is_spent_version n top v)) vs
+thinned_low n top zero vs p = sym (all_high n top vs (λ k d lt. p.above k d (omega arith) lt))
+thinned_low n top (suc m) [] p = absurd (omega (arith, p.within))
+thinned_low n top (suc m) (v ∷ vs) p =
+    let more : filter (λ (v : Version). not (is_spent_version n top v)) (take m vs) ++ drop m vs ≡ filter (λ (v : Version). not (is_spent_version n top v)) vs = thinned_low n top m vs (record {
+      within = omega (arith, p.within);
+      below = λ k d lt. p.below (suc k) d (omega arith);
+      above = λ k d at lt. p.above (suc k) d (omega arith) (omega arith);
+    }) in
+    by_test (is_spent_version n top v)
+    (λ on. rw on more)
+    (λ off. rw off (ap (λ ws. v ∷ ws) more))
+
+-- so where what is dead before the place is gone all that is dead is gone
+pub thinned_whole : {n place : ℕ} {vs ws us : List Version} (top : ℕ) → vs ≡ ws → IsPlaceAbove ws n place → us ≡ filter (λ (v : Version). not (is_spent_version n top v)) (take place vs) ++ drop place vs → us ≡ filter (λ (v : Version). not (is_spent_version n top v)) ws
+thinned_whole {n} {place} {vs} {ws} top same at less = less ∙ ap (λ vs. filter (λ (v : Version). not (is_spent_version n top v)) (take place vs) ++ drop place vs) same ∙ thinned_low n top place ws at
+
+-- what is dead is among those
+pub dead_low : (n top : ℕ) (vs : List Version) (i : ℕ) → is_spent_at n top vs i ≡ true → list_any (is_spent_version n top) (filter (λ (v : Version). nat_le v.ts n) vs) ≡ true
+dead_low n top [] i e = e
+dead_low n top (v ∷ vs) i e =
+    let more = filter (λ (v : Version). nat_le v.ts n) vs in
+    elim (or_cases ((v.ts == i) && is_spent_version n top v) (is_spent_at n top vs i) e) [
+      | inl here ↦ (let q : is_spent_version n top v ≡ true = (and_parts (v.ts == i) (is_spent_version n top v) here).1 in
+          let low : nat_le v.ts n ≡ true = (and_parts (nat_le v.ts n) (is_none v.after || nat_lt v.ts top) (and_parts v.decided (nat_le v.ts n && (is_none v.after || nat_lt v.ts top)) q).1).0 in
+          subst (λ b. list_any (is_spent_version n top) (cond b (v ∷ more) more) ≡ true) (sym low) (or_left (is_spent_version n top v) (list_any (is_spent_version n top) more) q))
+      | inr there ↦ by_test (nat_le v.ts n)
+          (λ on. subst (λ b. list_any (is_spent_version n top) (cond b (v ∷ more) more) ≡ true) (sym on) (or_right (is_spent_version n top v) (list_any (is_spent_version n top) more) (dead_low n top vs i there)))
+          (λ off. subst (λ b. list_any (is_spent_version n top) (cond b (v ∷ more) more) ≡ true) (sym off) (dead_low n top vs i there))
+    ]
+
+pub same_low : (n top : ℕ) (vs : List Version) (i : ℕ) → is_spent_at n top (filter (λ (v : Version). nat_le v.ts n) vs) i ≡ is_spent_at n top vs i
+same_low n top [] i = refl
+same_low n top (v ∷ vs) i =
+    let more = filter (λ (v : Version). nat_le v.ts n) vs in
+    by_test (nat_le v.ts n)
+    (λ on. subst (λ b. is_spent_at n top (cond b (v ∷ more) more) i ≡ is_spent_at n top (v ∷ vs) i) (sym on) (ap (λ b. ((v.ts == i) && is_spent_version n top v) || b) (same_low n top vs i)))
+    (λ off.
+    let no : ((v.ts == i) && is_spent_version n top v) ≡ false = ap (λ b. (v.ts == i) && b) (high_lives n top v off) ∙ and_false (v.ts == i) in
+    subst (λ b. is_spent_at n top (cond b (v ∷ more) more) i ≡ is_spent_at n top (v ∷ vs) i) (sym off) (same_low n top vs i ∙ sym (ap (λ b. b || is_spent_at n top vs i) no)))
+  where
+    and_false : (b : Bool) → (b && false) ≡ false
+    and_false true = refl
+    and_false false = refl
+
+pub whole : (xs : List Version) (n : ℕ) → length xs ≤ n → take n xs ≡ xs
+whole [] zero l = refl
+whole [] (suc n) l = refl
+whole (x ∷ xs) zero l = absurd (omega arith)
+whole (x ∷ xs) (suc n) l = ap (λ ys. x ∷ ys) (whole xs n (omega arith))
+
+-- ---- the newest committed version
+
+-- those from a place on, up to the horizon, are undecided, and those before it are at or below the horizon
+pub record IsTopBelow (vs : List Version) (n place : ℕ) : Type 0 where
+  pub within : place ≤ length vs
+  pub below : (k : ℕ) (d : Version) → k < place → (get_or vs k d).ts ≤ n
+  pub undone : (k : ℕ) (d : Version) → place ≤ k → k < length vs → (get_or vs k d).ts ≤ n → (get_or vs k d).decided ≡ false
+
+pub top_from : (vs : List Version) (n place : ℕ) → IsPlaceAbove vs n place → IsTopBelow vs n place
+top_from vs n place p = record {
+  within = p.within;
+  below = p.below;
+  undone = λ k d at lt low. absurd (let up : n < (get_or vs k d).ts = p.above k d at lt in omega arith);
+}
+
+same_done : (vs : List Version) (k : ℕ) (d e : Version) → k < length vs → (get_or vs k d).decided ≡ (get_or vs k e).decided
+same_done vs k d e lt = ap (λ (v : Version). v.decided) (get_or_default vs k d e lt)
+
+pub top_lower : (vs : List Version) (n place : ℕ) (v : Version) → IsTopBelow vs n place → 0 < place → v ≡ get_or vs (place - 1) v → v.decided ≡ false → IsTopBelow vs n (place - 1)
+top_lower vs n place v p some is off = record {
+  within = omega (arith, p.within);
+  below = λ k d lt. p.below k d (omega arith);
+  undone = λ k d at lt low. by_test (k == place - 1)
+      (λ here. let e : k ≡ place - 1 = eqb-true k _ here in ap (λ j. (get_or vs j d).decided) e ∙ same_done vs (place - 1) d v (omega (arith, p.within)) ∙ sym (ap (λ (w : Version). w.decided) is) ∙ off)
+      (λ there. p.undone k d (let ne = eqb-false k (place - 1) there in grind (arith, ne)) lt low);
+}
+
+undone_at : (vs : List Version) (i : ℕ) → ((k : ℕ) (d : Version) → k < length vs → (get_or vs k d).ts ≡ i → (get_or vs k d).decided ≡ false) → committed_after (version_of vs i) ≡ None
+undone_at [] i h = refl
+undone_at (v ∷ vs) i h = by_test (v.ts == i)
+    (λ here. let off : v.decided ≡ false = h zero v (omega arith) (eqb-true v.ts i here) in rw here (rw off refl))
+    (λ there. rw there (undone_at vs i (λ k d lt same. h (suc k) d (omega arith) same)))
+
+pub top_none : (vs : List Version) (n place : ℕ) → IsTopBelow vs n place → place ≡ 0 → newest_of vs n ≡ 0
+top_none vs n place p none = ap (λ m. m.ts) (newest_only (λ i. committed_after (version_of vs i)) n 0 None (record {
+  at_most = omega arith;
+  gap = λ i low high. undone_at vs i (λ k d lt same. p.undone k d (omega arith) lt (omega arith));
+  has = inl (refl, refl);
+}))
+
+pub top_is : (vs : List Version) (n place : ℕ) (v : Version) → DoRise vs → IsTopBelow vs n place → 0 < place → v ≡ get_or vs (place - 1) v → v.decided ≡ true → 0 < v.ts → newest_of vs n ≡ v.ts
+top_is vs n place v r p some is on pos =
+    let lt : place - 1 < length vs = omega (arith, p.within) in
+    let here : v.ts ≡ (get_or vs (place - 1) v).ts = ap (λ (w : Version). w.ts) is in
+    let one : version_of vs v.ts ≡ Some v = ap (version_of vs) here ∙ found vs (place - 1) v r lt ∙ ap Some (sym is) in
+    ap (λ m. m.ts) (newest_only (λ i. committed_after (version_of vs i)) n v.ts v.after (record {
+      at_most = (let low : (get_or vs (place - 1) v).ts ≤ n = p.below (place - 1) v (omega arith) in omega arith);
+      gap = λ i low high. undone_at vs i (λ k d l same.
+          let before : k < place - 1 → (get_or vs k d).ts < (get_or vs (place - 1) d).ts = λ m. rises_at vs k (place - 1) d r m lt in
+          let at : k ≡ place - 1 → (get_or vs k d).ts ≡ (get_or vs (place - 1) d).ts = λ m. ap (λ j. (get_or vs j d).ts) m in
+          let other : (get_or vs (place - 1) d).ts ≡ (get_or vs (place - 1) v).ts = same_ts vs (place - 1) d v lt in
+          let from : place ≤ k = grind (arith, before, at) in
+          p.undone k d from l (omega arith));
+      has = inr (pos, ap committed_after one ∙ rw on refl);
+    }))

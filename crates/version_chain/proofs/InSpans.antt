@@ -1,0 +1,325 @@
+-- The entries of a span are those of a range, up to the first key that is not below its end.
+use Rattle.std.proofs.Common.{◌≡◌, ℕ, zero, suc, ◌<◌, ◌≤◌, Bool, true, false, cond, ◌&&◌, List, [], ◌∷◌, ◌++◌, length, take, Option, Some, None, refl, sym, ◌∙◌, ap, subst, inl, inr, arith}
+use Rattle.std.specs.Prelude.{not, nat_le}
+use Rattle.std.specs.List.{filter}
+use Rattle.std.specs.Map.{keys_of, lookup}
+use Rattle.std.specs.BTreeMap.{is_at}
+use Rattle.std.proofs.lemmas.Map.Lookups.{exact_bytes}
+use Rattle.std.proofs.lemmas.Map.Text.{is_eq-slice_cmp}
+use Rattle.std.specs.BTreeMap.Range.{is_from_start, range_contains}
+use Rattle.std.specs.declared.ops.Bound.{Bound}
+use Rattle.std.specs.declared.ops.Bound.TheVariants.{Included, Excluded, Unbounded}
+use Rattle.std.specs.Ordering.{is_eq, is_lt, is_le, nat_cmp, ordering_reverse, ordering_then}
+use Rattle.std.specs.declared.cmp.Ordering.{Ordering}
+use Rattle.std.specs.declared.cmp.Ordering.TheVariants.{Equal, Greater, Less}
+use Rattle.std.proofs.lemmas.Bool.{and_parts}
+use Rattle.std.proofs.lemmas.Bool.Decides.{nat_tests}
+use Rattle.std.proofs.lemmas.Cmp.{nat_cmp_total, nat_list_cmp_total}
+use Rattle.timestamps.specs.Bytes.{key_cmp}
+use Rattle.spans.specs.KeyOrder.{key_lt, from_low, below_high}
+use Rattle.spans.specs.Keys.{in_span}
+use Rattle.spans.specs.declared.span.Span.{Span}
+use Rattle.spans.proofs.Keyed.{IsIn, RisingKeys}
+use Rattle.spans.proofs.Steps.{by_test, same_key, key_itself}
+use Rattle.version_chain.specs.Chains.{Entry, AreFilled, or_empty, chain_of}
+use Rattle.version_chain.specs.InSpans.{start_of, starting_at, AreBehind, AreAhead, AreFrom, AreFound}
+
+-- ---- where the keys at or above a bound begin
+
+-- a key at or above a bound is above each beginning that is shorter
+above_shorter : (n : ℕ) (b x : List ℕ) → n < length b → key_lt x b ≡ false → key_lt (take n b) x ≡ true
+above_shorter n [] x less from = absurd (omega arith)
+above_shorter n (c ∷ b) [] less from = (let no : true ≡ false = from in cc)
+above_shorter zero (c ∷ b) (y ∷ x) less from = refl
+above_shorter (suc n) (c ∷ b) (y ∷ x) less from = by_order (nat_cmp y c) refl from (above_shorter n b x (omega arith))
+  where
+    by_order : (o : Ordering) → nat_cmp y c ≡ o → is_lt (ordering_then o (key_cmp x b)) ≡ false → (key_lt x b ≡ false → key_lt (take n b) x ≡ true) → is_lt (ordering_then (nat_cmp c y) (key_cmp (take n b) x)) ≡ true
+    by_order Less e from more = (let no : true ≡ false = from in cc)
+    by_order Equal e from more = rw (nat_cmp_total.antisymm c y ∙ ap ordering_reverse e) (more from)
+    by_order Greater e from more = rw (nat_cmp_total.antisymm c y ∙ ap ordering_reverse e) refl
+
+-- and one that is no longer than that beginning and above it is above the bound
+above_whole : (n : ℕ) (b x : List ℕ) → n < length b → length x ≤ n → key_lt (take n b) x ≡ true → key_lt x b ≡ false
+above_whole n [] x less short above = absurd (omega arith)
+above_whole zero (c ∷ b) [] less short above = (let no : false ≡ true = above in cc)
+above_whole zero (c ∷ b) (y ∷ x) less short above = absurd (omega arith)
+above_whole (suc n) (c ∷ b) [] less short above = (let no : false ≡ true = above in cc)
+above_whole (suc n) (c ∷ b) (y ∷ x) less short above = by_order (nat_cmp c y) refl above (above_whole n b x (omega arith) (omega arith))
+  where
+    by_order : (o : Ordering) → nat_cmp c y ≡ o → is_lt (ordering_then o (key_cmp (take n b) x)) ≡ true → (key_lt (take n b) x ≡ true → key_lt x b ≡ false) → is_lt (ordering_then (nat_cmp y c) (key_cmp x b)) ≡ false
+    by_order Less e above more = rw (nat_cmp_total.antisymm y c ∙ ap ordering_reverse e) refl
+    by_order Equal e above more = rw (nat_cmp_total.antisymm y c ∙ ap ordering_reverse e) (more above)
+    by_order Greater e above more = (let no : false ≡ true = above in cc)
+
+turned : (o : Ordering) → is_le (ordering_reverse o) ≡ not (is_lt o)
+turned Less = refl
+turned Equal = refl
+turned Greater = refl
+
+same_start : (low x : List ℕ) → is_le (key_cmp low x) ≡ not (key_lt x low)
+same_start low x = ap is_le (nat_list_cmp_total.antisymm low x) ∙ turned (key_cmp x low)
+
+not_true : (b : Bool) → not b ≡ true → b ≡ false
+not_true true e = (let no : false ≡ true = e in cc)
+not_true false e = refl
+
+longer : (m n : ℕ) → nat_le m n ≡ false → n < m
+longer m n e = grind (arith, nat_tests)
+
+pub starts_before : (low : Option (List ℕ)) (x : List ℕ) → from_low low x ≡ true → is_from_start key_cmp (start_of low) x ≡ true
+starts_before None x from = refl
+starts_before (Some low) x from = by_test (nat_le (length low) 64)
+    (λ fits. rw fits (same_start low x ∙ from))
+    (λ more. rw more (above_shorter 64 low x (longer _ _ more) (not_true _ from)))
+
+pub starts_at : (low : Option (List ℕ)) (x : List ℕ) → length x ≤ 64 → is_from_start key_cmp (start_of low) x ≡ true → from_low low x ≡ true
+starts_at None x short from = refl
+starts_at (Some low) x short from = by_test (nat_le (length low) 64)
+    (λ fits. sym (same_start low x) ∙ rw fits at from)
+    (λ more. ap not (above_whole 64 low x (longer _ _ more) short (rw more at from)))
+
+-- ---- filtered entries
+
+in_rest : (p : Entry → Bool) (x : List ℕ) (es : List Entry) → IsIn x (keys_of (filter p es)) → IsIn x (keys_of es)
+in_rest p x [] i = i
+in_rest p x (e ∷ es) i = by_test (p e)
+    (λ on. elim (rw on at i) [ inl here ↦ inl here | inr there ↦ inr (in_rest p x es there) ])
+    (λ off. inr (in_rest p x es (rw off at i)))
+
+pub rises_filtered : (p : Entry → Bool) (es : List Entry) → RisingKeys (keys_of es) → RisingKeys (keys_of (filter p es))
+rises_filtered p [] r = tt
+rises_filtered p (e ∷ es) r = by_test (p e)
+    (λ on. rw on (λ x i. r.0 x (in_rest p x es i), rises_filtered p es r.1))
+    (λ off. rw off (rises_filtered p es r.1))
+
+pub filled_filtered : (p : Entry → Bool) (es : List Entry) → AreFilled es → AreFilled (filter p es)
+filled_filtered p [] a = tt
+filled_filtered p (e ∷ es) a = by_test (p e)
+    (λ on. rw on (a.0, filled_filtered p es a.1))
+    (λ off. rw off (filled_filtered p es a.1))
+
+-- a filter after one that lets all of its own through
+filtered_twice : (p q : List ℕ → Bool) (es : List Entry) → ((x : List ℕ) → p x ≡ true → q x ≡ true) → filter (λ (e : Entry). p e.0) (filter (λ (e : Entry). q e.0) es) ≡ filter (λ (e : Entry). p e.0) es
+filtered_twice p q [] more = refl
+filtered_twice p q (e ∷ es) more = by_test (q e.0)
+    (λ on. rw on (ap (λ ds. cond (p e.0) (e ∷ ds) ds) (filtered_twice p q es more)))
+    (λ off. by_test (p e.0)
+    (λ passes. (let no : true ≡ false = sym (more e.0 passes) ∙ off in cc))
+    (λ fails. rw (off, fails) (filtered_twice p q es more)))
+
+all_pass : (p : List ℕ → Bool) (es : List Entry) → ((x : List ℕ) → IsIn x (keys_of es) → p x ≡ true) → filter (λ (e : Entry). p e.0) es ≡ es
+all_pass p [] passes = refl
+all_pass p (e ∷ es) passes = rw (passes e.0 (inl refl)) (ap (λ ds. e ∷ ds) (all_pass p es (λ x i. passes x (inr i))))
+
+-- each entry that is left passes
+pub passes_among : (p : List ℕ → Bool) (es done rest : List Entry) (e : Entry) → filter (λ (d : Entry). p d.0) es ≡ done ++ e ∷ rest → p e.0 ≡ true
+passes_among p [] [] rest e is = (let no : [] ≡ e ∷ rest = is in cc)
+passes_among p [] (f ∷ done) rest e is = (let no : [] ≡ f ∷ (done ++ e ∷ rest) = is in cc)
+passes_among p (d ∷ es) [] rest e is = by_test (p d.0)
+    (λ on. let front : d ∷ filter (λ (d : Entry). p d.0) es ≡ e ∷ rest = rw on at is in let same : d ≡ e = cc in subst (λ (f : Entry). p f.0 ≡ true) same on)
+    (λ off. passes_among p es [] rest e (rw off at is))
+passes_among p (d ∷ es) (f ∷ done) rest e is = by_test (p d.0)
+    (λ on. let front : d ∷ filter (λ (d : Entry). p d.0) es ≡ f ∷ (done ++ e ∷ rest) = rw on at is in passes_among p es done rest e (let tail : filter (λ (d : Entry). p d.0) es ≡ done ++ e ∷ rest = cc in tail))
+    (λ off. passes_among p es (f ∷ done) rest e (rw off at is))
+
+-- ---- the range that begins there
+
+and_true : (b : Bool) → (b && true) ≡ b
+and_true true = refl
+and_true false = refl
+
+-- the test of a range without an end
+abbrev is_ahead : Bound (List ℕ) → List ℕ → Bool
+is_ahead start x = range_contains key_cmp start Unbounded x
+
+behind_start : (low : Option (List ℕ)) (es : List Entry) → AreBehind low (starting_at (start_of low) es)
+behind_start low [] = tt
+behind_start low (e ∷ es) = by_test (is_ahead (start_of low) e.0)
+    (λ on. rw on (λ short. starts_at low e.0 short (sym (and_true _) ∙ on), behind_start low es))
+    (λ off. rw off (behind_start low es))
+
+pub from_start : (low : Option (List ℕ)) (es : List Entry) → RisingKeys (keys_of es) → AreFrom low es (starting_at (start_of low) es)
+from_start low es r = record {
+  ahead = record { rising = rises_filtered (λ (e : Entry). is_ahead (start_of low) e.0) es r; behind = behind_start low es };
+  all = filtered_twice (from_low low) (is_ahead (start_of low)) es (λ x from. and_true _ ∙ starts_before low x from);
+}
+
+behind_low : (low : Option (List ℕ)) (es : List Entry) → AreBehind low (filter (λ (e : Entry). from_low low e.0) es)
+behind_low low [] = tt
+behind_low low (e ∷ es) = by_test (from_low low e.0)
+    (λ on. rw on (λ short. on, behind_low low es))
+    (λ off. rw off (behind_low low es))
+
+pub from_walk : (low : Option (List ℕ)) (es : List Entry) → RisingKeys (keys_of es) → AreFrom low es (filter (λ (e : Entry). from_low low e.0) es)
+from_walk low es r = record {
+  ahead = record { rising = rises_filtered (λ (e : Entry). from_low low e.0) es r; behind = behind_low low es };
+  all = filtered_twice (from_low low) (from_low low) es (λ x from. from);
+}
+
+pub are_found : (span : Span) (es rest found : List Entry) → AreFrom span.lo es rest → AreFilled rest → found ≡ filter (λ (e : Entry). in_span span e.0) rest → AreFound span es found
+are_found span es rest found are filled those =
+    let inner = λ (ds : List Entry). filtered_twice (in_span span) (from_low span.lo) ds (λ x inside. (and_parts _ _ inside).0) in
+    record {
+      those = those ∙ sym (inner rest) ∙ ap (filter (λ (e : Entry). in_span span e.0)) are.all ∙ inner es;
+      rising = subst (λ ds. RisingKeys (keys_of ds)) (sym those) (rises_filtered _ rest are.ahead.rising);
+      filled = subst AreFilled (sym those) (filled_filtered _ rest filled);
+    }
+
+-- ---- its start, walked to
+
+stays_above : (high : Option (List ℕ)) (x y : List ℕ) → below_high high x ≡ false → key_cmp x y ≡ Less → below_high high y ≡ false
+stays_above None x y past less = (let no : true ≡ false = past in cc)
+stays_above (Some high) x y past less = by_order (key_cmp y high) refl
+  where
+    by_order : (o : Ordering) → key_cmp y high ≡ o → key_lt y high ≡ false
+    by_order Less e = (let no : true ≡ false = sym (ap is_lt (nat_list_cmp_total.trans x y high less e)) ∙ past in cc)
+    by_order Equal e = ap is_lt e
+    by_order Greater e = ap is_lt e
+
+-- a key above one that is at or above the bound is so too
+stays_from : (low : Option (List ℕ)) (x y : List ℕ) → from_low low x ≡ true → key_cmp x y ≡ Less → from_low low y ≡ true
+stays_from None x y from less = refl
+stays_from (Some low) x y from less = ap not (stays_above (Some low) x y (not_true _ from) less)
+
+-- and one that is lies above one that is not
+lies_above : (low : Option (List ℕ)) (x y : List ℕ) → from_low low x ≡ false → from_low low y ≡ true → key_cmp x y ≡ Less
+lies_above low x y before from = by_order (key_cmp x y) refl
+  where
+    by_order : (o : Ordering) → key_cmp x y ≡ o → key_cmp x y ≡ Less
+    by_order Less e = e
+    by_order Equal e = (let no : false ≡ true = sym before ∙ ap (from_low low) (exact_bytes x y e) ∙ from in cc)
+    by_order Greater e = (let no : true ≡ false = sym (stays_from low y x from (nat_list_cmp_total.antisymm y x ∙ ap ordering_reverse e)) ∙ before in cc)
+
+stays_ahead : (start : Bound (List ℕ)) (x y : List ℕ) → is_from_start key_cmp start x ≡ true → key_cmp x y ≡ Less → is_from_start key_cmp start y ≡ true
+stays_ahead Unbounded x y from less = refl
+stays_ahead (Included a) x y from less = by_order (key_cmp a x) refl from
+  where
+    by_order : (o : Ordering) → key_cmp a x ≡ o → is_le o ≡ true → is_le (key_cmp a y) ≡ true
+    by_order Less e le = ap is_le (nat_list_cmp_total.trans a x y e less)
+    by_order Equal e le = ap (λ z. is_le (key_cmp z y)) (exact_bytes a x e) ∙ ap is_le less
+    by_order Greater e le = (let no : false ≡ true = le in cc)
+stays_ahead (Excluded a) x y from less = by_order (key_cmp a x) refl from
+  where
+    by_order : (o : Ordering) → key_cmp a x ≡ o → is_lt o ≡ true → is_lt (key_cmp a y) ≡ true
+    by_order Less e lt = ap is_lt (nat_list_cmp_total.trans a x y e less)
+    by_order Equal e lt = (let no : false ≡ true = lt in cc)
+    by_order Greater e lt = (let no : false ≡ true = lt in cc)
+
+-- the entries that are left begin at the start, and none before it is at or above the bound
+pub record IsWalkedTo (low : Option (List ℕ)) (es rest : List Entry) (start : Bound (List ℕ)) : Type 0 where
+  pub left : starting_at start es ≡ rest
+  pub before : (x : List ℕ) → from_low low x ≡ true → is_ahead start x ≡ true
+
+pub walk_begins : (low : Option (List ℕ)) (es : List Entry) → IsWalkedTo low es es Unbounded
+walk_begins low es = record { left = all_pass (is_ahead Unbounded) es (λ x i. refl); before = λ x from. refl }
+
+pub walk_goes_on : (low : Option (List ℕ)) (es rest : List Entry) (start : Bound (List ℕ)) (e : Entry) → RisingKeys (keys_of es) → IsWalkedTo low es (e ∷ rest) start → from_low low e.0 ≡ false → IsWalkedTo low es rest (Excluded e.0)
+walk_goes_on low es rest start e r walk below =
+    let here : is_from_start key_cmp start e.0 ≡ true = sym (and_true _) ∙ passes_among (is_ahead start) es [] rest e walk.left in
+    let rises : RisingKeys (keys_of (e ∷ rest)) = subst (λ ds. RisingKeys (keys_of ds)) walk.left (rises_filtered (λ (d : Entry). is_ahead start d.0) es r) in
+    let itself : is_ahead (Excluded e.0) e.0 ≡ false = ap (λ b. b && true) (not_above e.0) in
+    let more : starting_at (Excluded e.0) (e ∷ rest) ≡ rest = rw itself (all_pass (is_ahead (Excluded e.0)) rest (λ x i. ap (λ o. is_lt o && true) (rises.0 x i))) in
+    record {
+      left = sym (filtered_twice (is_ahead (Excluded e.0)) (is_ahead start) es (λ x above. and_true _ ∙ stays_ahead start e.0 x here (is_less (key_cmp e.0 x) (sym (and_true _) ∙ above)))) ∙ ap (starting_at (Excluded e.0)) walk.left ∙ more;
+      before = λ x from. ap (λ o. is_lt o && true) (lies_above low e.0 x below from);
+    }
+  where
+    is_less : (o : Ordering) → is_lt o ≡ true → o ≡ Less
+    is_less Less e = refl
+    is_less Equal e = cc
+    is_less Greater e = cc
+
+    not_above : (x : List ℕ) → is_lt (key_cmp x x) ≡ false
+    not_above x = by_order (key_cmp x x) refl
+      where
+        by_order : (o : Ordering) → key_cmp x x ≡ o → is_lt o ≡ false
+        by_order Less e = (let no : Less ≡ Greater = sym e ∙ nat_list_cmp_total.antisymm x x ∙ ap ordering_reverse e in cc)
+        by_order Equal e = refl
+        by_order Greater e = refl
+
+-- where all that are left are at or above the bound, the walk is at its start
+pub walk_ends : (low : Option (List ℕ)) (es rest : List Entry) (start : Bound (List ℕ)) → IsWalkedTo low es rest start → ((x : List ℕ) → IsIn x (keys_of rest) → from_low low x ≡ true) → starting_at start es ≡ filter (λ (e : Entry). from_low low e.0) es
+walk_ends low es rest start walk from =
+    walk.left ∙ sym (all_pass (from_low low) rest from) ∙ ap (filter (λ (e : Entry). from_low low e.0)) (sym walk.left) ∙ filtered_twice (from_low low) (is_ahead start) es walk.before
+
+pub walk_meets : (low : Option (List ℕ)) (es rest : List Entry) (start : Bound (List ℕ)) (e : Entry) → RisingKeys (keys_of es) → IsWalkedTo low es (e ∷ rest) start → from_low low e.0 ≡ true → starting_at start es ≡ filter (λ (e : Entry). from_low low e.0) es
+walk_meets low es rest start e r walk here =
+    let rises : RisingKeys (keys_of (e ∷ rest)) = subst (λ ds. RisingKeys (keys_of ds)) walk.left (rises_filtered (λ (d : Entry). is_ahead start d.0) es r) in
+    walk_ends low es (e ∷ rest) start walk (λ x i. elim i [ inl same ↦ subst (λ y. from_low low y ≡ true) same here | inr more ↦ stays_from low e.0 x here (rises.0 x more) ])
+
+-- ---- one step
+
+pub ahead_next : (span : Span) (e : Entry) (es : List Entry) → AreAhead span.lo (e ∷ es) → AreAhead span.lo es
+ahead_next span e es a = record { rising = a.rising.1; behind = a.behind.1 }
+
+pub step_inside : (span : Span) (e : Entry) (es : List Entry) → AreAhead span.lo (e ∷ es) → length e.0 ≤ 64 → below_high span.hi e.0 ≡ true
+    → filter (λ (d : Entry). in_span span d.0) (e ∷ es) ≡ e ∷ filter (λ (d : Entry). in_span span d.0) es
+step_inside span e es a short below =
+    let from : from_low span.lo e.0 ≡ true = a.behind.0 short in
+    rw (from, below) refl
+
+and_false : (b : Bool) → (b && false) ≡ false
+and_false true = refl
+and_false false = refl
+
+none_inside : (span : Span) (x : List ℕ) (es : List Entry) → below_high span.hi x ≡ false → ((y : List ℕ) → IsIn y (keys_of es) → key_cmp x y ≡ Less) → filter (λ (d : Entry). in_span span d.0) es ≡ []
+none_inside span x [] past above = refl
+none_inside span x (e ∷ es) past above =
+    let off : below_high span.hi e.0 ≡ false = stays_above span.hi x e.0 past (above e.0 (inl refl)) in
+    rw (off, and_false (from_low span.lo e.0)) (none_inside span x es past (λ y i. above y (inr i)))
+
+pub step_past : (span : Span) (e : Entry) (es : List Entry) → AreAhead span.lo (e ∷ es) → below_high span.hi e.0 ≡ false
+    → (filter (λ (d : Entry). in_span span d.0) (e ∷ es) ≡ []) × (filter (λ (d : Entry). in_span span d.0) es ≡ [])
+step_past span e es a past = (
+  rw (past, and_false (from_low span.lo e.0)) (none_inside span e.0 es past a.rising.0),
+  none_inside span e.0 es past a.rising.0,
+)
+
+-- ---- what the entries of a span say of the store
+
+same_at : (x y : List ℕ) → is_at (key_cmp x) y ≡ true → x ≡ y
+same_at x y e = same_key x y (sym (is_eq-slice_cmp x y) ∙ e)
+
+at_itself : (x : List ℕ) → is_at (key_cmp x) x ≡ true
+at_itself x = is_eq-slice_cmp x x ∙ key_itself x
+
+lookup_filtered : (p : List ℕ → Bool) (x : List ℕ) (es : List Entry) → p x ≡ true → lookup (is_at (key_cmp x)) (filter (λ (e : Entry). p e.0) es) ≡ lookup (is_at (key_cmp x)) es
+lookup_filtered p x [] on = refl
+lookup_filtered p x (e ∷ es) on = by_test (is_at (key_cmp x) e.0)
+    (λ here. let passes : p e.0 ≡ true = subst (λ y. p y ≡ true) (same_at x e.0 here) on in rw (passes, here) refl)
+    (λ there. by_test (p e.0)
+    (λ passes. rw (passes, there) (lookup_filtered p x es on))
+    (λ fails. rw (fails, there) (lookup_filtered p x es on)))
+
+lookup_rising : (done : List Entry) (e : Entry) (rest : List Entry) → RisingKeys (keys_of (done ++ e ∷ rest)) → lookup (is_at (key_cmp e.0)) (done ++ e ∷ rest) ≡ Some e.1
+lookup_rising [] e rest r = rw (at_itself e.0) refl
+lookup_rising (d ∷ done) e rest r = by_test (is_at (key_cmp e.0) d.0)
+    (λ here.
+    let less : key_cmp d.0 e.0 ≡ Less = r.0 e.0 (is_within done e rest) in
+    let same : key_cmp d.0 d.0 ≡ Less = subst (λ y. key_cmp d.0 y ≡ Less) (same_at e.0 d.0 here) less in
+    let no : is_eq Less ≡ true = ap is_eq (sym same) ∙ at_itself d.0 in
+    absurd (let n : false ≡ true = no in cc))
+    (λ there. rw there (lookup_rising done e rest r.1))
+  where
+    is_within : (done : List Entry) (e : Entry) (rest : List Entry) → IsIn e.0 (keys_of (done ++ e ∷ rest))
+    is_within [] e rest = inl refl
+    is_within (d ∷ done) e rest = inr (is_within done e rest)
+
+lookup_none : (x : List ℕ) (es : List Entry) → (IsIn x (keys_of es) → ⊥) → lookup (is_at (key_cmp x)) es ≡ None
+lookup_none x [] none = refl
+lookup_none x (e ∷ es) none = by_test (is_at (key_cmp x) e.0)
+    (λ here. absurd (none (inl (sym (same_at x e.0 here)))))
+    (λ there. rw there (lookup_none x es (λ i. none (inr i))))
+
+-- each entry has the chain of its key
+pub chain_among : (span : Span) (es found done rest : List Entry) (e : Entry) → found ≡ filter (λ (d : Entry). in_span span d.0) es → RisingKeys (keys_of found) → found ≡ done ++ e ∷ rest → in_span span e.0 ≡ true → chain_of es e.0 ≡ e.1
+chain_among span es found done rest e those rising is inside =
+    let rises : RisingKeys (keys_of (done ++ e ∷ rest)) = subst (λ ds. RisingKeys (keys_of ds)) is rising in
+    let one : lookup (is_at (key_cmp e.0)) es ≡ Some e.1 = sym (lookup_filtered (in_span span) e.0 es inside) ∙ ap (lookup (is_at (key_cmp e.0))) (sym those ∙ is) ∙ lookup_rising done e rest rises in
+    ap or_empty one
+
+-- a key of the span that is not among the entries has no chain
+pub chain_nowhere : (span : Span) (es found : List Entry) (x : List ℕ) → found ≡ filter (λ (d : Entry). in_span span d.0) es → in_span span x ≡ true → (IsIn x (keys_of found) → ⊥) → chain_of es x ≡ []
+chain_nowhere span es found x those inside none =
+    let nothing : lookup (is_at (key_cmp x)) es ≡ None = sym (lookup_filtered (in_span span) x es inside) ∙ ap (lookup (is_at (key_cmp x))) (sym those) ∙ lookup_none x found none in
+    ap or_empty nothing

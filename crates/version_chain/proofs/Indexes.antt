@@ -1,0 +1,81 @@
+-- What is listed after the keys of one timestamp changed, and the tie of an index to the chains.
+use Rattle.std.proofs.Common.{◌≡◌, ℕ, ◌<◌, ◌≤◌, ◌⊎◌, inl, inr, ◌==◌, Bool, true, false, cond, ◌&&◌, ◌||◌, List, [], ◌∷◌, length, Option, refl, sym, ◌∙◌, ap, subst, arith}
+use Rattle.std.specs.Prelude.{bytes_eq}
+use Rattle.std.specs.List.{filter, list_any}
+use Rattle.std.specs.Map.{lookup}
+use Rattle.std.specs.BTreeMap.{is_at}
+use Rattle.std.specs.BTreeMap.Range.{range_contains}
+use Rattle.std.specs.declared.ops.Bound.TheVariants.{Excluded, Included}
+use Rattle.std.specs.BTreeSet.{BTreeSet, contains}
+use Rattle.std.specs.Ordering.{nat_cmp}
+use Rattle.std.proofs.lemmas.Bool.{eqb-true}
+use Rattle.std.proofs.lemmas.Bool.Decides.{nat_tests}
+use Rattle.std.proofs.lemmas.Map.Text.{is_eq-slice_cmp}
+use Rattle.timestamps.specs.Bytes.{key_cmp}
+use Rattle.spans.proofs.Steps.{by_test}
+use Rattle.version_chain.specs.Indexes.{is_among, listed_in}
+
+-- the keys of each timestamp
+abbrev pub Keyed : Type 0
+Keyed = List (ℕ × BTreeSet (List ℕ))
+
+-- the look-ups after the keys of t became w
+abbrev pub ArePutAt : Keyed → Keyed → ℕ → Option (BTreeSet (List ℕ)) → Type 0
+ArePutAt es fs t w = (q : ℕ) → lookup (is_at (nat_cmp q)) fs ≡ cond (is_at (nat_cmp t) q) w (lookup (is_at (nat_cmp q)) es)
+
+is_at_number : (t i : ℕ) → is_at (nat_cmp t) i ≡ (t == i)
+is_at_number t i = grind (arith, nat_tests)
+
+-- two changes of the same timestamp in turn
+pub put_at_twice : (es fs gs : Keyed) (t : ℕ) (v w : Option (BTreeSet (List ℕ))) → ArePutAt es fs t v → ArePutAt fs gs t w → ArePutAt es gs t w
+put_at_twice es fs gs t v w first second q = second q ∙ by_test (is_at (nat_cmp t) q)
+    (λ here. rw here refl)
+    (λ there. rw there (first q ∙ rw there refl))
+
+pub listed_more : (es fs : Keyed) (x : List ℕ) (t : ℕ) (w : Option (BTreeSet (List ℕ))) → ArePutAt es fs t w → ((y : List ℕ) → is_among w y ≡ (bytes_eq x y || listed_in es y t))
+    → (y : List ℕ) (i : ℕ) → listed_in fs y i ≡ (((t == i) && bytes_eq x y) || listed_in es y i)
+listed_more es fs x t w put among y i = ap (λ o. is_among o y) (put i) ∙ by_test (t == i)
+    (λ here. rw (is_at_number t i, here) (among y ∙ ap (λ n. bytes_eq x y || listed_in es y n) (eqb-true t i here)))
+    (λ there. rw (is_at_number t i, there) refl)
+
+pub listed_less : (es fs : Keyed) (x : List ℕ) (t : ℕ) (w : Option (BTreeSet (List ℕ))) → ArePutAt es fs t w → ((y : List ℕ) → is_among w y ≡ cond (bytes_eq x y) false (listed_in es y t))
+    → (y : List ℕ) (i : ℕ) → listed_in fs y i ≡ cond ((t == i) && bytes_eq x y) false (listed_in es y i)
+listed_less es fs x t w put among y i = ap (λ o. is_among o y) (put i) ∙ by_test (t == i)
+    (λ here. rw (is_at_number t i, here) (among y ∙ ap (λ n. cond (bytes_eq x y) false (listed_in es y n)) (eqb-true t i here)))
+    (λ there. rw (is_at_number t i, there) refl)
+
+-- a set that one key came to, or went from
+pub one_more : (x y : List ℕ) (b c : Bool) → c ≡ cond (is_at (key_cmp x) y) true b → c ≡ (bytes_eq x y || b)
+one_more x y b c e = e ∙ ap (λ h. cond h true b) (is_eq-slice_cmp x y) ∙ by_test (bytes_eq x y) (λ on. rw on refl) (λ off. rw off refl)
+
+pub one_less : (x y : List ℕ) (b c : Bool) → c ≡ cond (is_at (key_cmp x) y) false b → c ≡ cond (bytes_eq x y) false b
+one_less x y b c e = e ∙ ap (λ h. cond h false b) (is_eq-slice_cmp x y)
+
+-- nothing is in an empty set
+pub none_in : (keys : List (List ℕ)) (y : List ℕ) → length keys ≡ 0 → list_any (is_at (key_cmp y)) keys ≡ false
+none_in [] y none = refl
+none_in (x ∷ keys) y none = absurd (omega arith)
+
+-- what lies between two timestamps is listed as in the whole
+pub listed_between : (a b : ℕ) (es : Keyed) (y : List ℕ) (i : ℕ) → a < i → i ≤ b → listed_in (filter (λ (e : ℕ × BTreeSet (List ℕ)). range_contains nat_cmp (Excluded a) (Included b) e.0) es) y i ≡ listed_in es y i
+listed_between a b es y i above low = ap (λ o. is_among o y) (same es)
+  where
+    within : range_contains nat_cmp (Excluded a) (Included b) i ≡ true
+    within = grind (arith, nat_tests)
+
+    same : (es : Keyed) → lookup (is_at (nat_cmp i)) (filter (λ (e : ℕ × BTreeSet (List ℕ)). range_contains nat_cmp (Excluded a) (Included b) e.0) es) ≡ lookup (is_at (nat_cmp i)) es
+    same [] = refl
+    same (e ∷ es) = by_test (is_at (nat_cmp i) e.0)
+        (λ here.
+        let at : i ≡ e.0 = eqb-true i e.0 (sym (is_at_number i e.0) ∙ here) in
+        let in' : range_contains nat_cmp (Excluded a) (Included b) e.0 ≡ true = subst (λ n. range_contains nat_cmp (Excluded a) (Included b) n ≡ true) at within in
+        rw (in', here) refl)
+        (λ there. by_test (range_contains nat_cmp (Excluded a) (Included b) e.0)
+        (λ on. rw (on, there) (same es))
+        (λ off. rw (off, there) (same es)))
+
+-- the first of what is listed, and the rest
+pub listed_first : (t : ℕ) (keys : BTreeSet (List ℕ)) (es : Keyed) (y : List ℕ) (i : ℕ) → listed_in ((t, keys) ∷ es) y i ≡ true → ((i ≡ t) × (contains key_cmp keys y ≡ true)) ⊎ (listed_in es y i ≡ true)
+listed_first t keys es y i is = by_test (is_at (nat_cmp i) t)
+    (λ here. inl (eqb-true i t (sym (is_at_number i t) ∙ here), rw here at is))
+    (λ there. inr (rw there at is))

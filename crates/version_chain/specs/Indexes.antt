@@ -1,0 +1,33 @@
+-- Which keys have a version at each timestamp.
+use Rattle.std.specs.Prelude.{ℕ, List, Bool, false, ◌≡◌, Option, Some, None, is_some}
+use Rattle.std.specs.Map.{lookup}
+use Rattle.std.specs.BTreeMap.{is_at}
+use Rattle.std.specs.BTreeSet.{BTreeSet, contains}
+use Rattle.std.specs.Ordering.{nat_cmp}
+use Rattle.timestamps.specs.Bytes.{key_cmp}
+use Rattle.version_chain.specs.declared.index.Index.{Index}
+use Rattle.version_chain.specs.Chains.{Entry, found_in}
+use Rattle.version_chain.specs.Stores.{IsCountOf}
+use Rattle.version_chain.specs.Spent.{is_spent_in}
+
+-- x is one of the keys, if there are any
+abbrev pub is_among : Option (BTreeSet (List ℕ)) → List ℕ → Bool
+is_among None x = false
+is_among (Some keys) x = contains key_cmp keys x
+
+-- x is among the keys of t
+abbrev pub listed_in : List (ℕ × BTreeSet (List ℕ)) → List ℕ → ℕ → Bool
+listed_in es x t = is_among (lookup (is_at (nat_cmp t)) es) x
+
+abbrev pub is_listed : Index → List ℕ → ℕ → Bool
+is_listed index x t = listed_in index.keys.entries x t
+
+-- a key is among those of a timestamp exactly where it has a version there
+abbrev pub IsIndexOf : List Entry → Index → Type 0
+IsIndexOf es index = (x : List ℕ) (t : ℕ) → is_listed index x t ≡ is_some (found_in es x t)
+
+-- the index and the count are of the chains, of which nothing is dead by the horizon
+pub record IsSound (es : List Entry) (index : Index) (n horizon : ℕ) : Type 0 where
+  pub counted : IsCountOf es n
+  pub indexed : IsIndexOf es index
+  pub settled : (x : List ℕ) (t : ℕ) → is_spent_in es horizon x t ≡ false

@@ -1,0 +1,118 @@
+//! Which keys have a version at each timestamp.
+ghost use Rattle.std.specs.Prelude.{◌≡◌, ◌==◌, ◌&&◌, ◌||◌, ℕ, List, false, not, bytes_eq, if◌then◌else◌, IfOk, OnOk, OnErr, ◌<◌, ◌≤◌};
+ghost use Rattle.version_chain.specs.Spent.{is_spent_at};
+ghost use Rattle.version_chain.specs.Indexes.{is_listed, listed_in};
+
+use crate::chain::Version;
+use std::alloc::{AllocError, Global};
+use std::collections::btree_map::Range;
+use std::collections::{BTreeMap, BTreeSet};
+use std::ops::Bound;
+use timestamps::key::Key;
+
+/// The keys of each timestamp at which there are some.
+#[derive(Drop)]
+pub(crate) struct Index {
+    alloc: Global,
+    keys: BTreeMap<u64, BTreeSet<Key>>,
+}
+
+impl Index {
+    /// No key.
+    pub(crate) fn new(alloc: Global) -> Index
+        ensures { (x : List ℕ) (t : ℕ) → is_listed result x t ≡ false }
+    {
+        Index {
+            alloc,
+            keys: BTreeMap::new(alloc),
+        }
+    }
+
+    /// Whether the key is there at `ts`.
+    fn has(&self, ts: u64, key: &Key) -> bool
+        ensures { result ≡ is_listed self.now key.now ts }
+    {
+        match self.keys.get(&ts) {
+            None => false,
+            Some(keys) => keys.contains(key),
+        }
+    }
+
+    /// Adds a key at `ts`, where it may be, and says whether it was not.
+    pub(crate) fn add(&mut self, ts: u64, key: &Key) -> Result<bool, AllocError>
+        ensures new { IfOk result (λ new. new ≡ not (is_listed self.old key.now ts)) }
+        ensures ok { OnOk result ((y : List ℕ) (i : ℕ) → is_listed self.new y i
+            ≡ (((ts == i) && bytes_eq key.now y) || is_listed self.old y i)) }
+        ensures err { OnErr result ((y : List ℕ) (i : ℕ) → is_listed self.new y i ≡ is_listed self.old y i) }
+    {
+        if self.has(ts, key) {
+            return Ok(false);
+        }
+        let key = key.copy()?;
+        self.put(ts, key)?;
+        Ok(true)
+    }
+
+    /// Puts a key in at `ts`.
+    fn put(&mut self, ts: u64, key: Key) -> Result<(), AllocError>
+        ensures ok { OnOk result ((y : List ℕ) (i : ℕ) → is_listed self.new y i
+            ≡ (((ts == i) && bytes_eq key y) || is_listed self.old y i)) }
+        ensures err { OnErr result ((y : List ℕ) (i : ℕ) → is_listed self.new y i ≡ is_listed self.old y i) }
+    {
+        match self.keys.get_mut(&ts) {
+            Some(keys) => {
+                keys.insert(key)?;
+                Ok(())
+            }
+            None => self.put_first(ts, key),
+        }
+    }
+
+    /// Puts the first key in at `ts`.
+    fn put_first(&mut self, ts: u64, key: Key) -> Result<(), AllocError>
+        requires { (y : List ℕ) → is_listed self.old y ts ≡ false }
+        ensures ok { OnOk result ((y : List ℕ) (i : ℕ) → is_listed self.new y i
+            ≡ (((ts == i) && bytes_eq key y) || is_listed self.old y i)) }
+        ensures err { OnErr result ((y : List ℕ) (i : ℕ) → is_listed self.new y i ≡ is_listed self.old y i) }
+    {
+        let mut keys = BTreeSet::new(self.alloc);
+        keys.insert(key)?;
+        self.keys.insert(ts, keys)?;
+        Ok(())
+    }
+
+    /// Takes a key, where it is there, out at `ts`. It takes no memory.
+    pub(crate) fn remove(&mut self, ts: u64, key: &Key)
+        ensures { (y : List ℕ) (i : ℕ) → is_listed self.new y i
+            ≡ (if (ts == i) && bytes_eq key.now y then false else is_listed self.old y i) }
+    {
+        let Some(keys) = self.keys.get_mut(&ts) else {
+            return;
+        };
+        keys.remove(key);
+        if keys.is_empty() {
+            self.keys.remove(&ts);
+        }
+    }
+
+    /// Takes a key out at the timestamps of those of its versions that are dead by the horizon.
+    pub(crate) fn remove_spent(&mut self, key: &Key, versions: &[Version], horizon: u64, top: u64)
+        ensures { (y : List ℕ) (i : ℕ) → is_listed self.new y i
+            ≡ (if bytes_eq key.now y && is_spent_at horizon top versions.now i then false else is_listed self.old y i) }
+    {
+        for version in versions {
+            if version.is_spent(horizon, top) {
+                self.remove(version.ts.get(), key);
+            }
+        }
+    }
+
+    /// The timestamps above `after` and at or below `through`, rising, each with its keys.
+    pub(crate) fn between(&self, after: u64, through: u64) -> Range<'_, u64, BTreeSet<Key>>
+        requires { after < through }
+        ensures { (y : List ℕ) (i : ℕ) → after < i → i ≤ through → listed_in result y i ≡ is_listed self.now y i }
+    {
+        self.keys
+            .range((Bound::Excluded(after), Bound::Included(through)))
+    }
+}
