@@ -267,3 +267,24 @@ fn a_call_that_found_no_memory_can_be_made_again(rt: HostRuntime) -> Result<(), 
     assert!(rt; is_found(&read, Some(b'1')));
     Ok(())
 }
+
+// Run with a refused growth too: the row of "a" takes memory, and that "b" stops the reader takes none.
+#[test]
+fn a_blocked_scan_needs_no_memory(rt: HostRuntime) -> Result<(), Fail> {
+    let alloc = rt.alloc();
+    let from_a = Span {
+        lo: bound(alloc, b"a")?,
+        hi: None,
+    };
+    let mut rules = Rules::new(alloc);
+    begin_all(&mut rules, &[5, 10, 20])?;
+    assert!(rt; is_written(&put(alloc, &mut rules, 5, b"a", Some(b'1'))?));
+    assert!(rt; is_committed(&rules.commit(0, 0, 5), 1));
+    assert!(rt; is_written(&put(alloc, &mut rules, 10, b"b", Some(b'2'))?));
+    match rules.scan(0, 0, 20, &from_a) {
+        Ok(reply) => assert!(rt; is_blocked(&reply, 10)),
+        Err(_) => return Err(Fail::new("a blocked scan asked for memory")),
+    }
+    assert_eq!(rt; rules.marks.spans(), 0);
+    Ok(())
+}
