@@ -5,7 +5,7 @@ mod histories;
 mod limits;
 
 use crate::{Db, Seat};
-use spans::calls::Cmd;
+use spans::calls::{Cmd, Reply};
 use std::process::Abort;
 use std::sync::Wait;
 use std::sync::atomic::AtomicU64;
@@ -39,10 +39,19 @@ fn last(rt: &impl Abort, db: &Db, seats: &mut Vec<Seat>) -> Seat
     seat
 }
 
+/// What a call was answered, in a function of its own, so that what `call` promises is met once.
+fn asks<R: Wait>(rt: &R, db: &Db, seat: &mut Seat, cmd: Cmd) -> Option<Reply>
+    requires own { IsOf db.now seat.old }
+    ensures own { IsOf db.now seat.new }
+{
+    let event = db.call(rt, seat, cmd).ok()?;
+    Some(event.reply)
+}
+
 /// Closes to a timestamp.
 fn closes<R: Wait>(rt: &R, db: &Db, seat: &mut Seat, to: u64) -> bool
     requires own { IsOf db.now seat.old }
     ensures own { IsOf db.now seat.new }
 {
-    db.call(rt, seat, Cmd::Close { to }).is_ok()
+    asks(rt, db, seat, Cmd::Close { to }).is_some()
 }

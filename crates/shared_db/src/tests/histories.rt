@@ -1,10 +1,11 @@
 //! Threads whose calls make one history, of which each sees what the others left.
 ghost use Rattle.shared_db.specs.Seats.{IsOf};
 
-use super::{PATIENCE, closes, last, watch};
+use super::{PATIENCE, asks, closes, last, watch};
 use crate::{Config, Db, Seat};
-use spans::calls::{Cmd, Event, Reply};
+use spans::calls::{Cmd, Reply};
 use std::alloc::{AllocError, Global};
+use std::process::Abort;
 use std::sync::Wait;
 use std::sync::atomic::Ordering::SeqCst;
 use std::sync::atomic::{AtomicBool, AtomicU64};
@@ -28,10 +29,8 @@ fn answers<R: Wait>(rt: &R, db: &Db, seat: &mut Seat, ts: u64) -> bool
     requires own { IsOf db.now seat.old }
     ensures own { IsOf db.now seat.new }
 {
-    match db.call(rt, seat, Cmd::Begin { ts }) {
-        Ok(event) => matches!(event.reply, Reply::Started),
-        Err(_) => false,
-    }
+    let reply = asks(rt, db, seat, Cmd::Begin { ts });
+    matches!(reply, Some(Reply::Started))
 }
 
 /// A hundred calls. After the first the thread says so, and before the second it waits for the other
@@ -86,6 +85,54 @@ fn begin_both<R: Threads + Wait + Sync>(
     )
 }
 
+/// The same, with a third thread that ends the test where they don't.
+fn begin_watched<R: Threads + Wait + Abort + Sync>(
+    rt: &R,
+    db: &Db,
+    one: Seat,
+    two: Seat,
+) -> ((Seat, u64, bool), (Seat, u64, bool))
+    requires own { IsOf db.now one × IsOf db.now two }
+    ensures own { IsOf db.now result.0.0 × IsOf db.now result.1.0 }
+{
+    let (flag_of_one, flag_of_two) = (AtomicBool::new(false), AtomicBool::new(false));
+    let (first, second) = (&flag_of_one, &flag_of_two);
+    let ended = AtomicU64::new(0);
+    let done = &ended;
+    let (both, ()) = join(
+        rt,
+        || -> ((Seat, u64, bool), (Seat, u64, bool))
+            requires { IsOf db.now one × IsOf db.now two }
+            ensures { IsOf db.entry.now result.0.0 × IsOf db.entry.now result.1.0 }
+        { begin_both(rt, db, one, two, first, second, done) },
+        || watch(rt, done, 2),
+    );
+    both
+}
+
+/// How many calls the engine answered that comes back once both seats are there, and not before.
+fn steps_at_the_end(
+    rt: &impl Abort,
+    alloc: Global,
+    db: Db,
+    one: Seat,
+    two: Seat,
+) -> Result<u64, Fail>
+    requires own { IsOf db one × IsOf db two }
+{
+    let mut back = Vec::new(alloc);
+    back.push(two)?;
+    let Err(missing) = db.finish(back) else {
+        panic!(rt; "a seat was missing");
+    };
+    let mut back = missing.seats;
+    back.push(one)?;
+    let Ok(engine) = missing.db.finish(back) else {
+        panic!(rt; "all seats were there");
+    };
+    Ok(engine.steps())
+}
+
 #[test]
 fn two_threads_make_one_history(rt: HostRuntime) -> Result<(), Fail> {
     let config = Config {
@@ -96,32 +143,13 @@ fn two_threads_make_one_history(rt: HostRuntime) -> Result<(), Fail> {
     let (db, mut seats, _passes) = Db::open(rt.alloc(), config)?;
     let two = last(&rt, &db, &mut seats);
     let one = last(&rt, &db, &mut seats);
-    let (flag_of_one, flag_of_two) = (AtomicBool::new(false), AtomicBool::new(false));
-    let (shared, host, first, second) = (&db, &rt, &flag_of_one, &flag_of_two);
-    let ended = AtomicU64::new(0);
-    let done = &ended;
-    let (((mut one, by_one, one_saw), (mut two, by_two, two_saw)), ()) = join(
-        &rt,
-        || -> ((Seat, u64, bool), (Seat, u64, bool))
-            requires { IsOf shared.now one × IsOf shared.now two }
-            ensures { IsOf shared.entry.now result.0.0 × IsOf shared.entry.now result.1.0 }
-        { begin_both(host, shared, one, two, first, second, done) },
-        || watch(host, done, 2),
+    let ((mut one, by_one, one_saw), (mut two, by_two, two_saw)) = begin_watched(
+        &rt, &db, one, two,
     );
     assert!(rt; one_saw && two_saw, "both ran at once");
     assert_eq!(rt; (by_one, by_two), (100, 100));
     db.meet(&mut one, &mut two);
-    let mut back = Vec::new(rt.alloc());
-    back.push(two)?;
-    let Err(missing) = db.finish(back) else {
-        panic!(rt; "a seat was missing");
-    };
-    let mut back = missing.seats;
-    back.push(one)?;
-    let Ok(engine) = missing.db.finish(back) else {
-        panic!(rt; "all seats were there");
-    };
-    assert_eq!(rt; engine.steps(), 200);
+    assert_eq!(rt; steps_at_the_end(&rt, rt.alloc(), db, one, two)?, 200);
     Ok(())
 }
 
@@ -140,12 +168,10 @@ fn commits<R: Wait>(
     };
     let mut right = u64::from(answers(rt, db, &mut seat, 10));
     let put = Cmd::Put { ts: 10, key, value };
-    if let Ok(event) = db.call(rt, &mut seat, put) {
-        right += u64::from(matches!(event.reply, Reply::Written));
-    }
-    if let Ok(event) = db.call(rt, &mut seat, Cmd::Commit { ts: 10 }) {
-        right += u64::from(matches!(event.reply, Reply::Committed { keys: 1 }));
-    }
+    let written = asks(rt, db, &mut seat, put);
+    right += u64::from(matches!(written, Some(Reply::Written)));
+    let committed = asks(rt, db, &mut seat, Cmd::Commit { ts: 10 });
+    right += u64::from(matches!(committed, Some(Reply::Committed { keys: 1 })));
     (seat, Ok(right))
 }
 
@@ -163,16 +189,8 @@ fn reads_back<R: Wait>(
         return (seat, Err(AllocError));
     };
     let begun = answers(rt, db, &mut seat, 20);
-    let Ok(event) = db.call(rt, &mut seat, Cmd::Get { ts: 20, key }) else {
-        return (seat, Ok(false));
-    };
-    let Event {
-        position: _,
-        seat: _,
-        cmd: _,
-        reply,
-    } = event;
-    let Reply::Found(Some(value)) = reply else {
+    let reply = asks(rt, db, &mut seat, Cmd::Get { ts: 20, key });
+    let Some(Reply::Found(Some(value))) = reply else {
         return (seat, Ok(false));
     };
     let same = value.bytes() == b"1".as_slice();

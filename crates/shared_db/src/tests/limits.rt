@@ -4,7 +4,8 @@ ghost use Rattle.timestamps.specs.Passes.{IsOf as IsPassOf};
 
 use super::{closes, last, watch};
 use crate::{CallDenied, Config, Db, OpenError, Seat};
-use spans::calls::{Cmd, Reply};
+use spans::calls::{Cmd, Event, Reply};
+use std::alloc::Global;
 use std::process::Abort;
 use std::sync::Wait;
 use std::sync::atomic::AtomicU64;
@@ -42,6 +43,14 @@ fn limits(rt: HostRuntime) -> Result<(), Fail> {
     Ok(())
 }
 
+/// The event of a call that waits for nobody.
+fn tries(db: &Db, seat: &mut Seat, cmd: Cmd) -> Option<Event>
+    requires own { IsOf db.now seat.old }
+    ensures own { IsOf db.now seat.new }
+{
+    db.try_call(seat, cmd).ok()
+}
+
 #[test]
 fn a_lone_seat_waits_for_nobody(rt: HostRuntime) -> Result<(), Fail> {
     let config = Config {
@@ -51,12 +60,28 @@ fn a_lone_seat_waits_for_nobody(rt: HostRuntime) -> Result<(), Fail> {
     };
     let (db, mut seats, _passes) = Db::open(rt.alloc(), config)?;
     let mut seat = last(&rt, &db, &mut seats);
-    let Ok(event) = db.try_call(&mut seat, Cmd::Begin { ts: 10 }) else {
+    let Some(event) = tries(&db, &mut seat, Cmd::Begin { ts: 10 }) else {
         panic!(rt; "nobody else has a seat");
     };
     assert_eq!(rt; (event.position, event.seat), (7, 0));
     assert!(rt; matches!(event.reply, Reply::Started));
     Ok(())
+}
+
+/// Whether a call that waits for nobody finds no position left, and comes back as it was.
+fn is_spent(db: &Db, seat: &mut Seat) -> bool
+    requires own { IsOf db.now seat.old }
+    ensures own { IsOf db.now seat.new }
+{
+    let Some(denied) = db.try_call(seat, Cmd::Close { to: 0 }).err() else {
+        return false;
+    };
+    matches!(
+        denied,
+        CallDenied::Spent {
+            cmd: Cmd::Close { to: 0 }
+        }
+    )
 }
 
 /// Calls until no position is left, and then twice more. How many calls were answered.
@@ -67,15 +92,7 @@ fn spends<R: Wait + Abort>(rt: &R, db: &Db, mut seat: Seat, done: &AtomicU64) ->
     for made in 0..MANY {
         if !closes(rt, db, &mut seat, 0) {
             assert!(rt; !closes(rt, db, &mut seat, 0));
-            let again = db.try_call(&mut seat, Cmd::Close { to: 0 });
-            assert!(rt;
-                matches!(
-                    again,
-                    Err(CallDenied::Spent {
-                        cmd: Cmd::Close { to: 0 }
-                    })
-                )
-            );
+            assert!(rt; is_spent(db, &mut seat));
             done.fetch_add(1, SeqCst);
             return (seat, made);
         }
@@ -133,6 +150,54 @@ fn spend_all<R: Threads + Wait + Abort + Sync>(
     )
 }
 
+/// The same, with another thread that ends the test where they don't.
+fn spend_watched<R: Threads + Wait + Abort + Sync>(
+    rt: &R,
+    db: &Db,
+    a: Seat,
+    b: Seat,
+    c: Seat,
+    d: Seat,
+) -> (((Seat, u64), (Seat, u64)), ((Seat, u64), (Seat, u64)))
+    requires own { IsOf db.now a × IsOf db.now b × IsOf db.now c × IsOf db.now d }
+    ensures own { IsOf db.now result.0.0.0 × IsOf db.now result.0.1.0 × IsOf db.now result.1.0.0 × IsOf db.now result.1.1.0 }
+{
+    let ended = AtomicU64::new(0);
+    let done = &ended;
+    let (all, ()) = join(
+        rt,
+        || -> (((Seat, u64), (Seat, u64)), ((Seat, u64), (Seat, u64)))
+            requires { IsOf db.now a × IsOf db.now b × IsOf db.now c × IsOf db.now d }
+            ensures { IsOf db.entry.now result.0.0.0 × IsOf db.entry.now result.0.1.0 × IsOf db.entry.now result.1.0.0 × IsOf db.entry.now result.1.1.0 }
+        { spend_all(rt, db, a, b, c, d, done) },
+        || watch(rt, done, 4),
+    );
+    all
+}
+
+/// How many calls the engine answered that comes back with the seats.
+fn steps_at_the_end(
+    rt: &impl Abort,
+    alloc: Global,
+    db: Db,
+    a: Seat,
+    b: Seat,
+    c: Seat,
+    d: Seat,
+) -> Result<u64, Fail>
+    requires own { IsOf db a × IsOf db b × IsOf db c × IsOf db d }
+{
+    let mut back = Vec::new(alloc);
+    back.push(a)?;
+    back.push(b)?;
+    back.push(c)?;
+    back.push(d)?;
+    let Ok(engine) = db.finish(back) else {
+        panic!(rt; "all seats were there");
+    };
+    Ok(engine.steps())
+}
+
 #[test]
 fn four_threads_use_up_the_positions(rt: HostRuntime) -> Result<(), Fail> {
     let config = Config {
@@ -145,31 +210,13 @@ fn four_threads_use_up_the_positions(rt: HostRuntime) -> Result<(), Fail> {
     let c = last(&rt, &db, &mut seats);
     let b = last(&rt, &db, &mut seats);
     let a = last(&rt, &db, &mut seats);
-    let (shared, host) = (&db, &rt);
-    let ended = AtomicU64::new(0);
-    let done = &ended;
-    let ((((a, by_a), (b, by_b)), ((c, by_c), (d, by_d))), ()) = join(
-        &rt,
-        || -> (((Seat, u64), (Seat, u64)), ((Seat, u64), (Seat, u64)))
-            requires { IsOf shared.now a × IsOf shared.now b × IsOf shared.now c × IsOf shared.now d }
-            ensures { IsOf shared.entry.now result.0.0.0 × IsOf shared.entry.now result.0.1.0 × IsOf shared.entry.now result.1.0.0 × IsOf shared.entry.now result.1.1.0 }
-        { spend_all(host, shared, a, b, c, d, done) },
-        || watch(host, done, 4),
-    );
+    let (((a, by_a), (b, by_b)), ((c, by_c), (d, by_d))) = spend_watched(&rt, &db, a, b, c, d);
     let made = by_a
         .saturating_add(by_b)
         .saturating_add(by_c)
         .saturating_add(by_d);
     assert_eq!(rt; made, 10);
-    let mut back = Vec::new(rt.alloc());
-    back.push(a)?;
-    back.push(b)?;
-    back.push(c)?;
-    back.push(d)?;
-    let Ok(engine) = db.finish(back) else {
-        panic!(rt; "all seats were there");
-    };
-    assert_eq!(rt; engine.steps(), 10);
+    assert_eq!(rt; steps_at_the_end(&rt, rt.alloc(), db, a, b, c, d)?, 10);
     Ok(())
 }
 
