@@ -1,9 +1,9 @@
 -- The chains have as many versions as the history, and as many dead ones.
-use Rattle.std.proofs.Common.{◌≡◌, ℕ, ◌+◌, ◌-◌, ◌^◌, ◌≤◌, ◌==◌, Bool, true, false, ◌&&◌, ◌||◌, List, [], ◌∷◌, ◌++◌, length, take, drop, map, Option, Some, None, refl, sym, ◌∙◌, ap, subst, inl, inr, arith}
-use Rattle.std.specs.Prelude.{◌↔◌, bytes_eq, filter, flat_map, is_some, is_none, min, nat_le, nat_lt}
+use Rattle.std.proofs.Common.{◌≡◌, ℕ, ◌≤◌, ◌==◌, Bool, true, false, ◌&&◌, ◌||◌, List, [], ◌∷◌, ◌++◌, length, map, Option, Some, None, refl, sym, ◌∙◌, ap, subst, inl, inr, arith}
+use Rattle.std.specs.Prelude.{◌↔◌, bytes_eq, filter, flat_map, is_some, is_none, nat_le, nat_lt}
 use Rattle.std.specs.List.{sum_by}
 use Rattle.std.proofs.lemmas.Bool.{eqb-true, eq-eqb, both_ways, and_parts}
-use Rattle.std.proofs.lemmas.List.{length-map, length-take, at_drop_all}
+use Rattle.std.proofs.lemmas.List.{length-map}
 use Rattle.std.proofs.lemmas.List.Concat.{length-flat_map}
 use Rattle.std.proofs.lemmas.List.Elements.{filter-append}
 use Rattle.std.proofs.lemmas.List.Sums.{length-filter, count_by-le-length}
@@ -15,24 +15,20 @@ use Rattle.spans.specs.Versions.{version_of, write_of, committed_version_of}
 use Rattle.spans.proofs.Copies.{AllAllowed}
 use Rattle.spans.proofs.Keyed.{IsIn, RisingKeys}
 use Rattle.spans.proofs.Steps.{by_test, same_key, key_itself, newest_same, version_wrote}
-use Rattle.reference.specs.declared.versions.Version.{Version}
-use Rattle.reference.specs.declared.chains.Chain.{Chain}
+use Rattle.version_book.specs.declared.versions.Version.{Version}
+use Rattle.version_book.specs.declared.chains.Chain.{Chain}
 use Rattle.reference.specs.declared.database.Database.{Database}
-use Rattle.reference.specs.Versions.{version_in}
-use Rattle.reference.specs.Chains.{version_at}
-use Rattle.reference.specs.Counts.{is_dead_at, dead_in}
+use Rattle.version_book.specs.Versions.{version_in}
+use Rattle.version_book.specs.Chains.{version_at}
+use Rattle.version_book.specs.Counts.{is_dead_at, dead_in}
 use Rattle.reference.specs.Once.{IsOnce, AreOnce}
-use Rattle.reference.specs.Scans.{settled}
+use Rattle.version_book.specs.Scans.{settled}
 use Rattle.reference.specs.Tied.{IsTied}
-use Rattle.reference.proofs.ChainSteps.{keys_in}
+use Rattle.version_book.proofs.ChainSteps.{keys_in}
 use Rattle.spans.proofs.Members.{Has, AreDistinct, same_length, distinct_filter, has_filter, has_append, distinct_append, fits_in}
 use Rattle.reference.proofs.Once.{once_in, found_by_ts}
 use Rattle.reference.proofs.Scanning.{IsChainIn, less_differs, chains_rise, chain_has, settled_is}
 use Rattle.spans.proofs.VersionNames.{versions_distinct, has_versions}
-
--- a count so far is no more than the elements so far
-pub counted_few : {A : Type 0} (q : A → Bool) (xs : List A) (i n : ℕ) → n ≡ length (filter q (take i xs)) → n ≤ i
-counted_few q xs i n is = omega (arith, length-filter q (take i xs), count_by-le-length q (take i xs), length-take i xs)
 
 -- ---- the names of the versions
 
@@ -157,15 +153,6 @@ all_dead db p all tied once n =
 -- where the horizon is there already, the dead ones are those that there are
 pub dead_at_horizon : (p : List Effect) (n : ℕ) → n ≡ horizon_of p → dead_of (Collects n ∷ p) ≡ dead_of p
 dead_at_horizon p n is = rw is refl
-
--- ---- the loops
-
-pub all_counted : (f : Chain → ℕ) (chains items : List Chain) (i n total : ℕ) → items ≡ chains → min (n + sum_by f (drop i items)) (2 ^ 64 - 1) ≡ min (sum_by f items) (2 ^ 64 - 1)
-    → length items ≤ i → n ≤ 2 ^ 64 - 1 → sum_by f chains ≡ total → n ≡ min total (2 ^ 64 - 1)
-all_counted f chains items i n total same left high fits is =
-    let none : sum_by f (drop i items) ≡ 0 = at_drop_all (sum_by f) items i high in
-    let whole : sum_by f items ≡ total = ap (sum_by f) same ∙ is in
-    omega (arith, none, whole, left)
 
 -- ---- how many there can be
 

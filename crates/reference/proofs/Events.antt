@@ -11,16 +11,17 @@ use Rattle.spans.specs.Effects.{After, NoEffect, effect, effects_of, event}
 use Rattle.spans.specs.Versions.{visible}
 use Rattle.spans.specs.Legal.{IsRightEvent}
 use Rattle.spans.proofs.Legal.{right_allowed, legal_allowed}
-use Rattle.reference.specs.declared.transactions.Transaction.{Transaction}
-use Rattle.reference.specs.declared.transactions.State.TheVariants as states
-use Rattle.reference.specs.declared.chains.Chain.{Chain}
+use Rattle.version_book.specs.declared.transactions.Transaction.{Transaction}
+use Rattle.version_book.specs.declared.transactions.State.TheVariants as states
+use Rattle.version_book.specs.declared.chains.Chain.{Chain}
 use Rattle.reference.specs.declared.reads.Read.{Read}
 use Rattle.reference.specs.declared.span_reads.Scan.{Scan as SpanRead}
 use Rattle.reference.specs.declared.database.Database.{Database}
-use Rattle.reference.specs.Transactions.{with_begun, begun_by, decided, aborted_through}
-use Rattle.reference.specs.Chains.{with_write, dropped, cleared}
+use Rattle.version_book.specs.Transactions.{with_begun, begun_by, decided, aborted_through}
+use Rattle.version_book.specs.Chains.{with_write, dropped, cleared}
 use Rattle.reference.specs.Reads.{read_of}
-use Rattle.reference.specs.SpanReads.{scan_of, sources_in}
+use Rattle.version_book.specs.Sources.{sources_in}
+use Rattle.reference.specs.SpanReads.{scan_of}
 use Rattle.reference.specs.Late.{is_late}
 use Rattle.reference.specs.Tied.{IsTied, Represents}
 use Rattle.reference.proofs.Ties.{tied_still, tied_begins, tied_reads, tied_scans, tied_writes, tied_commits, tied_aborts, tied_snapshot, tied_snapshot_scan, tied_hard_closes, goes}

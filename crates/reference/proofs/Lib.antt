@@ -1,7 +1,3 @@
-pub mod VersionSteps
-pub mod ChainSteps
-pub mod TransactionSteps
-pub mod Rising
 pub mod Undecided
 pub mod SpanReads
 pub mod Ties

@@ -7,14 +7,14 @@ use Rattle.std.proofs.lemmas.Bool.Decides.{nat_tests}
 use Rattle.timestamps.specs.Bytes.{key_cmp}
 use Rattle.spans.specs.Effects.{After}
 use Rattle.spans.proofs.Steps.{by_test}
-use Rattle.reference.specs.declared.versions.Version.{Version}
-use Rattle.reference.specs.declared.chains.Chain.{Chain}
-use Rattle.reference.specs.Versions.{version_in, with_version, without, without_those}
-use Rattle.reference.specs.Chains.{write_where, with_write, dropped, cleared}
+use Rattle.version_book.specs.declared.versions.Version.{Version}
+use Rattle.version_book.specs.declared.chains.Chain.{Chain}
+use Rattle.version_book.specs.Versions.{version_in, with_version, without, without_those}
+use Rattle.version_book.specs.Chains.{write_where, with_write, dropped, cleared}
 use Rattle.reference.specs.Once.{IsOnce, AreOnce}
 use Rattle.spans.proofs.Members.{Has}
 use Rattle.reference.proofs.Scanning.{IsChainIn}
-use Rattle.reference.proofs.VersionSteps.{version_in_with, version_in_without, version_in_without_those}
+use Rattle.version_book.proofs.VersionSteps.{version_in_with, version_in_without, version_in_without_those}
 
 once_with : (vs : List Version) (t : ℕ) (a : After) → IsOnce vs → IsOnce (with_version vs t a)
 once_with [] t a once = (refl, tt)

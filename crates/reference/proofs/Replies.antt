@@ -10,7 +10,7 @@ use Rattle.std.specs.declared.alloc.AllocError.{AllocError}
 use Rattle.spans.specs.Legal.{is_accepted, may_lack_memory}
 use Rattle.spans.proofs.Legal.{legal_allowed}
 use Rattle.spans.proofs.Closed.{closed_value}
-use Rattle.reference.proofs.TransactionSteps.{count_through}
+use Rattle.version_book.proofs.TransactionSteps.{count_through}
 use Rattle.reference.proofs.Undecided.{least_open, open_count_of}
 use Rattle.spans.specs.declared.calls.replies.Reply.{Reply}
 use Rattle.spans.specs.declared.calls.replies.Reply.TheVariants.{Found, Closed, Refused}
@@ -23,13 +23,13 @@ use Rattle.spans.specs.Versions.{visible, is_blocked, committed_value}
 use Rattle.spans.specs.Newest.{Version as Seen, version_at as seen_at}
 use Rattle.spans.specs.Answer.{first_refusal_or, first_refusal, transaction_tests, snapshot_tests, answer_of}
 use Rattle.spans.proofs.Steps.{by_test, newest_only, newest_like}
-use Rattle.reference.specs.declared.versions.Version.{Version}
-use Rattle.reference.specs.declared.transactions.Transaction.{Transaction}
+use Rattle.version_book.specs.declared.versions.Version.{Version}
+use Rattle.version_book.specs.declared.transactions.Transaction.{Transaction}
 use Rattle.reference.specs.declared.database.Database.{Database}
-use Rattle.reference.specs.Versions.{IsBest}
-use Rattle.reference.specs.Transactions.{transaction_at, is_open, is_open_through}
-use Rattle.reference.specs.Chains.{versions_at}
-use Rattle.reference.specs.Tied.{committed_in, Represents}
+use Rattle.version_book.specs.Versions.{IsBest}
+use Rattle.version_book.specs.Transactions.{transaction_at, committed_in, is_open, is_open_through}
+use Rattle.version_book.specs.Chains.{versions_at}
+use Rattle.reference.specs.Tied.{Represents}
 
 pub past_tests : (tests more : List (Bool × Refusal)) (reply : Reply) → None ≡ first_refusal tests → first_refusal_or (tests ++ more) reply ≡ first_refusal_or more reply
 past_tests [] more reply none = refl

@@ -7,12 +7,12 @@ use Rattle.spans.specs.Keys.{in_span}
 use Rattle.spans.specs.Newest.{Version as Seen, newest, IsNewest}
 use Rattle.spans.specs.Versions.{visible}
 use Rattle.spans.proofs.Steps.{by_test, same_key, newest_only, newest_same}
-use Rattle.reference.specs.declared.chains.Chain.{Chain}
+use Rattle.version_book.specs.declared.chains.Chain.{Chain}
 use Rattle.reference.specs.declared.database.Database.{Database}
-use Rattle.reference.specs.Chains.{versions_at}
-use Rattle.reference.specs.SpanReads.{source_at, sources_in}
+use Rattle.version_book.specs.Chains.{versions_at}
+use Rattle.version_book.specs.Sources.{source_at, sources_in}
 use Rattle.reference.specs.Tied.{IsTied}
-use Rattle.reference.specs.Versions.{version_in}
+use Rattle.version_book.specs.Versions.{version_in}
 
 -- a key of the span is found with the newest of its versions
 source_found : (span : Span) (t : ℕ) (cs : List Chain) (x : List ℕ) → in_span span x ≡ true → source_at (sources_in span t cs) x ≡ (newest (version_in (versions_at cs x)) t).ts

@@ -1,5 +1,5 @@
 -- The rows that are gathered and sorted are those of the stream, in its order.
-use Rattle.std.proofs.Common.{◌≡◌, ℕ, zero, suc, ◌+◌, ◌<◌, ◌≤◌, ◌==◌, Bool, true, false, cond, not, ◌&&◌, List, [], ◌∷◌, ◌++◌, length, get_or, drop, append_assoc, map, Option, Some, None, refl, sym, ◌∙◌, ap, subst, inl, inr, arith}
+use Rattle.std.proofs.Common.{◌≡◌, ℕ, zero, suc, ◌<◌, ◌≤◌, ◌==◌, Bool, true, false, cond, not, ◌&&◌, List, [], ◌∷◌, ◌++◌, length, get_or, map, Option, Some, None, refl, sym, ◌∙◌, ap, subst, inl, inr, arith}
 use Rattle.std.specs.Prelude.{◌↔◌, filter, is_some, nat_lt, nat_le}
 use Rattle.std.specs.List.{list_any}
 use Rattle.std.specs.List.Sorted.{IsNonDecreasingBy, IsPermutation, IsStableByKey}
@@ -8,7 +8,6 @@ use Rattle.std.specs.declared.cmp.Ordering.TheVariants.{Less, Greater}
 use Rattle.std.proofs.lemmas.Bool.{and_parts, or_parts, eqb-true, le-leb}
 use Rattle.std.proofs.lemmas.Bool.Decides.{nat_tests}
 use Rattle.std.proofs.lemmas.Cmp.{nat_list_cmp_total}
-use Rattle.std.proofs.lemmas.List.{at_drop_more}
 use Rattle.std.proofs.lemmas.List.Elements.{filter-append, filter_agree}
 use Rattle.std.proofs.lemmas.List.Folds.{list_any-append}
 use Rattle.std.proofs.lemmas.List.Sorted.{list_any-IsPermutation}
@@ -25,15 +24,16 @@ use Rattle.spans.proofs.Keyed.{IsIn, RisingKeys, filter_in, filter_rises}
 use Rattle.spans.proofs.Legal.{keys_rise, written_in}
 use Rattle.spans.proofs.Steps.{by_test}
 use Rattle.spans.proofs.WriteSets.{has_in, has_written, write_set_rises}
-use Rattle.reference.specs.declared.transactions.Transaction.{Transaction}
-use Rattle.reference.specs.declared.versions.Version.{Version}
-use Rattle.reference.specs.declared.chains.Chain.{Chain}
+use Rattle.version_book.specs.declared.transactions.Transaction.{Transaction}
+use Rattle.version_book.specs.declared.versions.Version.{Version}
+use Rattle.version_book.specs.declared.chains.Chain.{Chain}
 use Rattle.reference.specs.declared.database.Database.{Database}
 use Rattle.reference.specs.Once.{IsOnce, AreOnce}
-use Rattle.reference.specs.Versions.{version_in}
-use Rattle.reference.specs.Streams.{is_due, row_of, due_rows, rows_due, with_row, rows_at}
+use Rattle.version_book.specs.Versions.{version_in}
+use Rattle.version_book.specs.Streams.{is_due, row_of, due_rows, rows_due}
+use Rattle.reference.specs.Streams.{with_row, rows_at}
 use Rattle.reference.specs.Tied.{IsTied}
-use Rattle.reference.proofs.ChainSteps.{keys_in}
+use Rattle.version_book.proofs.ChainSteps.{keys_in}
 use Rattle.reference.proofs.Scanning.{IsChainIn, chain_has}
 
 -- ---- the rows of a transaction
@@ -159,15 +159,6 @@ gathered_at txns cursor end span (c ∷ cs) once t =
     joined rows true None e h = rw (e, h) refl
     joined rows true (Some a) e h = rw (e, h) refl
     joined rows false o e h = rw (e, h) refl
-
--- one more key
-pub gathers : (txns : List Transaction) (cursor end : ℕ) (span : Span) (items : List Chain) (i : ℕ) (c : Chain) (rows more all : List Row) → i < length items → c ≡ get_or items i c
-    → more ≡ rows ++ cond (in_span span c.key) (due_rows txns cursor end c.key c.versions) [] → rows ++ rows_due txns cursor end span (drop i items) ≡ all → more ++ rows_due txns cursor end span (drop (i + 1) items) ≡ all
-gathers txns cursor end span items i c rows more all low at is before =
-    ap (λ rs. rs ++ rows_due txns cursor end span (drop (i + 1) items)) is
-    ∙ append_assoc rows (cond (in_span span c.key) (due_rows txns cursor end c.key c.versions) []) (rows_due txns cursor end span (drop (i + 1) items))
-    ∙ ap (λ rs. rows ++ rs) (ap (λ (d : Chain). rows_due txns cursor end span (d ∷ drop (i + 1) items)) at ∙ sym (at_drop_more (rows_due txns cursor end span) items i c low))
-    ∙ before
 
 -- and none above the end
 low_at_key : (txns : List Transaction) (cursor end : ℕ) (x : List ℕ) (vs : List Version) → list_any (λ (r : Row). nat_lt end r.ts) (due_rows txns cursor end x vs) ≡ false

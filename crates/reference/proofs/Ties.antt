@@ -15,26 +15,27 @@ use Rattle.spans.proofs.Keyed.{RisingKeys}
 use Rattle.spans.proofs.Legal.{keys_rise}
 use Rattle.spans.proofs.Copies.{IsActive, AllAllowed}
 use Rattle.spans.proofs.Open.{open_above}
-use Rattle.reference.specs.declared.transactions.Transaction.{Transaction}
-use Rattle.reference.specs.declared.transactions.State.{State}
-use Rattle.reference.specs.declared.transactions.State.TheVariants as states
+use Rattle.version_book.specs.declared.transactions.Transaction.{Transaction}
+use Rattle.version_book.specs.declared.transactions.State.{State}
+use Rattle.version_book.specs.declared.transactions.State.TheVariants as states
 use Rattle.reference.specs.declared.database.Database.{Database}
-use Rattle.reference.specs.Transactions.{transaction_at, with_begun, begun_by, decided, is_committed_state, is_aborted_state, state_closed, aborted_through, is_undecided_at}
-use Rattle.reference.specs.Chains.{version_at, with_write, dropped, cleared}
+use Rattle.version_book.specs.Transactions.{transaction_at, with_begun, begun_by, decided, is_committed_state, is_aborted_state, state_closed, aborted_through, is_undecided_at, committed_in}
+use Rattle.version_book.specs.Chains.{version_at, with_write, dropped, cleared}
 use Rattle.reference.specs.Reads.{read_of, goes_across}
-use Rattle.reference.specs.SpanReads.{sources_in, scan_of, scan_goes_across}
-use Rattle.reference.specs.Tied.{owner_in, committed_in, aborted_in, IsTied}
+use Rattle.version_book.specs.Sources.{sources_in}
+use Rattle.reference.specs.SpanReads.{scan_of, scan_goes_across}
+use Rattle.reference.specs.Tied.{owner_in, aborted_in, IsTied}
 use Rattle.feed_book.specs.declared.record.FeedRecord.{FeedRecord}
 use Rattle.feed_book.specs.FeedTie.{FeedsTied}
 use Rattle.feed_book.specs.ProtectionTie.{Standing, ProtectionsTied}
 use Rattle.feed_book.proofs.FeedTies.{feeds_kept}
 use Rattle.feed_book.proofs.ProtectionTies.{protections_kept}
-use Rattle.reference.proofs.Rising.{transaction_at_begun, single_begun, single_mapped, decided_keeps}
-use Rattle.reference.proofs.TransactionSteps.{with_state, transaction_at_decided, transaction_at_closed, found_at}
+use Rattle.version_book.proofs.Rising.{transaction_at_begun, single_begun, single_mapped, decided_keeps}
+use Rattle.version_book.proofs.TransactionSteps.{with_state, transaction_at_decided, transaction_at_closed, found_at}
 use Rattle.reference.proofs.Undecided.{open_at}
 use Rattle.reference.proofs.SpanReads.{source_visible}
 use Rattle.reference.proofs.Once.{once_with_write, once_dropped, once_cleared}
-use Rattle.reference.proofs.ChainSteps.{keys_in, keys_with_write, version_at_with, count_with, keys_dropped, version_at_dropped, count_dropped, keys_cleared, version_at_cleared, count_cleared}
+use Rattle.version_book.proofs.ChainSteps.{keys_in, keys_with_write, version_at_with, count_with, keys_dropped, version_at_dropped, count_dropped, keys_cleared, version_at_cleared, count_cleared}
 
 -- ---- the events
 

@@ -8,12 +8,12 @@ use Rattle.spans.proofs.Copies.{AllAllowed}
 use Rattle.spans.proofs.Members.{Has, AreDistinct, same_length, distinct_filter, has_filter, among_has, open_distinct}
 use Rattle.spans.proofs.Open.{begun_among}
 use Rattle.spans.proofs.Steps.{by_test}
-use Rattle.reference.specs.declared.transactions.Transaction.{Transaction}
-use Rattle.reference.specs.declared.transactions.State.{State}
-use Rattle.reference.specs.declared.transactions.State.TheVariants as states
+use Rattle.version_book.specs.declared.transactions.Transaction.{Transaction}
+use Rattle.version_book.specs.declared.transactions.State.{State}
+use Rattle.version_book.specs.declared.transactions.State.TheVariants as states
 use Rattle.reference.specs.declared.database.Database.{Database}
-use Rattle.reference.specs.Transactions.{transaction_at, AreSingle, is_open, is_open_state, is_committed_state, is_aborted_state, open_in}
-use Rattle.reference.specs.Tied.{owner_in, committed_in, aborted_in, IsTied}
+use Rattle.version_book.specs.Transactions.{transaction_at, AreSingle, is_open, is_open_state, is_committed_state, is_aborted_state, open_in, committed_in}
+use Rattle.reference.specs.Tied.{owner_in, aborted_in, IsTied}
 
 -- ---- one is undecided
 

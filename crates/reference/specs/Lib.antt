@@ -1,11 +1,6 @@
-pub mod Transactions
-pub mod Versions
-pub mod Chains
 pub mod Reads
 pub mod SpanReads
 pub mod Tied
 pub mod Late
-pub mod Scans
-pub mod Counts
 pub mod Once
 pub mod Streams

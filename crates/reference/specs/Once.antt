@@ -1,8 +1,8 @@
 -- A transaction has one version of a key.
 use Rattle.std.specs.Prelude.{List, [], ◌∷◌, ◌≡◌, None}
-use Rattle.reference.specs.declared.versions.Version.{Version}
-use Rattle.reference.specs.declared.chains.Chain.{Chain}
-use Rattle.reference.specs.Versions.{version_in}
+use Rattle.version_book.specs.declared.versions.Version.{Version}
+use Rattle.version_book.specs.declared.chains.Chain.{Chain}
+use Rattle.version_book.specs.Versions.{version_in}
 
 -- no two of the versions are of one transaction
 abbrev pub IsOnce : List Version → Type 0

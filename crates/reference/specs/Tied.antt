@@ -10,21 +10,17 @@ use Rattle.spans.specs.Collection.{horizon_of}
 use Rattle.spans.specs.Legal.{IsLegal}
 use Rattle.feed_book.specs.FeedTie.{FeedsTied}
 use Rattle.feed_book.specs.ProtectionTie.{ProtectionsTied}
-use Rattle.reference.specs.declared.transactions.Transaction.{Transaction}
-use Rattle.reference.specs.declared.chains.Chain.{Chain}
+use Rattle.version_book.specs.declared.transactions.Transaction.{Transaction}
+use Rattle.version_book.specs.declared.chains.Chain.{Chain}
 use Rattle.reference.specs.declared.database.Database.{Database}
-use Rattle.reference.specs.Transactions.{transaction_at, AreSingle, has_committed, has_aborted}
-use Rattle.reference.specs.Chains.{version_at, wrote}
+use Rattle.version_book.specs.Transactions.{transaction_at, AreSingle, committed_in, has_aborted}
+use Rattle.version_book.specs.Chains.{version_at, wrote}
 use Rattle.reference.specs.Once.{AreOnce}
 use Rattle.reference.specs.Reads.{goes_across}
 use Rattle.reference.specs.SpanReads.{scan_goes_across}
 
 abbrev pub owner_in : Option Transaction → Option ℕ
 owner_in o = option_map (λ (x : Transaction). x.seat) o
-
-abbrev pub committed_in : Option Transaction → Bool
-committed_in None = false
-committed_in (Some x) = has_committed x
 
 abbrev pub aborted_in : Option Transaction → Bool
 aborted_in None = false

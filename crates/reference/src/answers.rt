@@ -8,16 +8,16 @@ ghost use Rattle.spans.specs.Effects.{effects_of};
 ghost use Rattle.spans.specs.Reads.{too_late};
 ghost use Rattle.spans.specs.Answer.{first_refusal, first_refusal_or, transaction_tests, answer_of};
 ghost use Rattle.spans.specs.Legal.{is_accepted, may_lack_memory};
-ghost use Rattle.reference.specs.Tied.{Represents, committed_in};
-ghost use Rattle.reference.specs.Transactions.{transaction_at};
+ghost use Rattle.reference.specs.Tied.{Represents};
+ghost use Rattle.version_book.specs.Transactions.{transaction_at, committed_in};
 
 use crate::database::Database;
-use crate::transactions::State;
 use spans::calls::{Cmd, Refusal, Reply};
 use std::alloc::AllocError;
 use timestamps::key::Key;
 use timestamps::row::copy_after;
 use timestamps::ts::MAX;
+use version_book::State;
 
 impl Database {
     /// What a seat's command is answered, after a history whose events a `u64` can count.

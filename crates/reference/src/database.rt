@@ -1,12 +1,11 @@
 //! The database: a list for each thing that a history is asked about.
 ghost use Rattle.std.specs.Prelude.{◌≡◌, List, []};
 
-use crate::chains::Chains;
 use crate::reads::Reads;
 use crate::span_reads::Scans;
-use crate::transactions::Transactions;
 use feed_book::{FeedBook, Protections};
 use std::alloc::Global;
+use version_book::{Chains, Transactions};
 
 /// What a history led to, list by list.
 #[derive(Debug, Drop)]

@@ -2,10 +2,10 @@
 //!
 //! A [`Database`](database::Database) has a list for each thing that a history is asked about. `answer`
 //! computes the one right reply to a command and changes nothing; `record` takes in a command with its
-//! right reply, so that a checker of transcripts can ask and compare before it goes on. Each list is a
-//! type of its own: `transactions` by rising timestamp, the `chains` of versions by rising key, the
-//! `reads` of keys and of spans (`span_reads`), each with the timestamps that it read from, and the
-//! protections and feeds of `feed_book`.
+//! right reply, so that a checker of transcripts can ask and compare before it goes on. Here stands what
+//! each seat and command does. Of the lists, the `transactions` and the `chains` of versions are those of
+//! `version_book`, the protections and feeds those of `feed_book`; the `reads` of keys and of spans
+//! (`span_reads`), each with the timestamps that it read from, are here.
 //!
 //! ```text
 //!                    transactions      chains           reads          closed
@@ -25,7 +25,6 @@
 #![tactic(auto)]
 
 mod answers;
-mod chains;
 mod collecting;
 mod counts;
 pub mod database;
@@ -33,10 +32,6 @@ mod holds;
 mod polling;
 mod reads;
 mod records;
-mod scans;
-mod sources;
 mod span_commands;
 mod span_reads;
 mod streams;
-mod transactions;
-mod versions;

@@ -8,16 +8,16 @@ ghost use Rattle.spans.specs.Legal.{IsRightEvent, is_accepted, may_lack_memory};
 ghost use Rattle.reference.specs.Late.{is_late};
 ghost use Rattle.spans.specs.Versions.{visible};
 ghost use Rattle.reference.specs.Tied.{Represents};
-ghost use Rattle.reference.specs.Transactions.{decided};
-ghost use Rattle.reference.specs.Chains.{dropped};
-ghost use Rattle.reference.specs.declared.transactions.State.TheVariants as states;
+ghost use Rattle.version_book.specs.Transactions.{decided};
+ghost use Rattle.version_book.specs.Chains.{dropped};
+ghost use Rattle.version_book.specs.declared.transactions.State.TheVariants as states;
 
 use crate::database::Database;
-use crate::transactions::State;
 use spans::calls::{Cmd, Refusal, Reply};
 use std::alloc::AllocError;
 use timestamps::key::Key;
 use timestamps::value::Value;
+use version_book::State;
 
 impl Database {
     /// Takes in an answered command.

@@ -1,19 +1,17 @@
 //! The commands of spans: a scan in a transaction, and one at a closed timestamp.
-ghost use Rattle.std.specs.Prelude.{◌≡◌, ℕ, List, ◌∷◌, true, IfOk, OnErr, OnOk};
+ghost use Rattle.std.specs.Prelude.{◌≡◌, ℕ, List, ◌∷◌, true, filter, map, option_map, IfOk, OnErr, OnOk};
 ghost use Rattle.spans.specs.declared.calls.events.Event.{Event};
 ghost use Rattle.spans.specs.declared.calls.commands.Cmd.TheVariants.{Scan, ScanAt};
-ghost use Rattle.spans.specs.Answer.{answer_of};
+ghost use Rattle.spans.specs.declared.calls.replies.Refusal.TheVariants.{Blocked};
+ghost use Rattle.spans.specs.Answer.{answer_of, first_refusal};
 ghost use Rattle.spans.specs.Effects.{effects_of, event};
+ghost use Rattle.spans.specs.Keys.{in_span, pairs_of};
 ghost use Rattle.spans.specs.Legal.{IsRightEvent, is_accepted};
-ghost use Rattle.spans.specs.Newest.{newest};
-ghost use Rattle.reference.specs.SpanReads.{sources_in};
+ghost use Rattle.spans.specs.Versions.{written_keys, visible, committed_value, is_blocked};
 ghost use Rattle.reference.specs.Tied.{Represents};
-ghost use Rattle.reference.specs.Versions.{version_in};
 
 use crate::database::Database;
-use crate::sources::Sources;
-use crate::versions::Versions;
-use spans::calls::{Refusal, Reply};
+use spans::calls::{Refusal, Reply, Rows};
 use spans::span::Span;
 use std::alloc::AllocError;
 
@@ -31,7 +29,7 @@ impl Database {
         if let Some(by) = self.blocked_in(span, ts) {
             return Ok(Reply::Refused(Refusal::Blocked { by }));
         }
-        let rows = self.visible_rows(self.alloc, span, ts)?;
+        let rows = self.visible_rows(span, ts)?;
         Ok(Reply::Rows(rows))
     }
 
@@ -45,7 +43,7 @@ impl Database {
         if let Some(refusal) = self.snapshot_refusal(t) {
             return Ok(Reply::Refused(refusal));
         }
-        let rows = self.committed_rows(self.alloc, span, t)?;
+        let rows = self.committed_rows(span, t)?;
         Ok(Reply::Rows(rows))
     }
 
@@ -64,33 +62,37 @@ impl Database {
     {
         match reply {
             Reply::Rows(_) => {
-                let sources = self.sources(span, ts)?;
+                let sources = self.chains.sources(self.alloc, span, ts)?;
                 self.scans.add(ts, span, sources)
             }
             _ => Ok(()),
         }
     }
 
-    /// The keys of a span that a scan finds.
-    fn sources(&self, span: &Span, ts: u64) -> Result<Sources, AllocError>
-        ensures { IfOk result (λ sources. sources ≡ sources_in span.now ts self.now.chains) }
+    /// The writer that stops a transaction from reading a span: at the least of the keys whose version is another's,
+    /// which is undecided.
+    fn blocked_in(&self, span: &Span, ts: u64) -> Option<u64>
+        ensures { (h : List Event) → Represents self.now h →
+            first_refusal (map (λ x. (is_blocked (effects_of h) x ts, Blocked (visible (effects_of h) x ts).ts)) (filter (in_span span.now) (written_keys (effects_of h))))
+            ≡ option_map Blocked result }
     {
-        let mut sources = Sources::new(self.alloc);
-        for chain in self.chains.as_slice() {
-            if span.contains(&chain.key) {
-                sources.add(&chain.key, given(&chain.versions, ts))?;
-            }
-        }
-        Ok(sources)
+        self.chains.blocker(&self.transactions, span, ts)
     }
-}
 
-/// The timestamp of the version that a scan is given, of the versions of a key.
-fn given(versions: &Versions, ts: u64) -> u64
-    ensures { result ≡ (newest (version_in versions.now) ts).ts }
-{
-    match versions.newest(ts) {
-        None => 0,
-        Some(version) => version.ts,
+    /// The rows of a span that a transaction sees.
+    fn visible_rows(&self, span: &Span, ts: u64) -> Result<Rows, AllocError>
+        ensures { IfOk result (λ rows. (h : List Event) → Represents self.now h →
+            rows ≡ pairs_of (λ x. (visible (effects_of h) x ts).after) (filter (in_span span.now) (written_keys (effects_of h)))) }
+    {
+        self.chains.visible_rows(self.alloc, span, ts)
+    }
+
+    /// The rows of a span that were committed at `t`.
+    fn committed_rows(&self, span: &Span, t: u64) -> Result<Rows, AllocError>
+        ensures { IfOk result (λ rows. (h : List Event) → Represents self.now h →
+            rows ≡ pairs_of (λ x. committed_value (effects_of h) x t) (filter (in_span span.now) (written_keys (effects_of h)))) }
+    {
+        self.chains
+            .committed_rows(self.alloc, &self.transactions, span, t)
     }
 }

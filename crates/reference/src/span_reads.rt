@@ -4,11 +4,11 @@ ghost use Rattle.std.specs.Prelude.{◌≡◌, ◌++◌, ◌∷◌, [], OnOk, On
 ghost use Rattle.std.specs.List.{list_any};
 ghost use Rattle.reference.specs.SpanReads.{scan_of, scan_goes_across};
 
-use crate::sources::Sources;
 use spans::span::Span;
 use std::alloc::{AllocError, Global};
 use std::marker::Model;
 use timestamps::key::Key;
+use version_book::Sources;
 
 /// A read of a span, with the keys that it found.
 #[derive(Debug, Drop)]

@@ -1,7 +1,7 @@
 use Rattle.std.proofs.Common.{◌≡◌}
 use Rattle.std.proofs.lemmas.Result.{on_ok_weaker}
 use Rattle.spans.specs.declared.calls.commands.Cmd.TheVariants.{Scan}
-use Rattle.reference.specs.SpanReads.{sources_in}
+use Rattle.version_book.specs.Sources.{sources_in}
 use Rattle.reference.proofs.Events.{represents_scans, represents_still, scan_does_nothing}
 use Rattle.reference.proofs.database.Database.record_scan.Goals as goal
 

@@ -1,8 +1,0 @@
-use Rattle.std.proofs.Common.{◌≡◌, take, length}
-use Rattle.std.specs.Prelude.{filter}
-use Rattle.reference.specs.Counts.{is_dead_at}
-use Rattle.reference.proofs.database.Database.dead_among.Given as goal
-
-abbrev pub invariant-loop-version : goal.invariant-loop-version
-invariant-loop-version l =
-    l.count ≡ length (filter (is_dead_at l.self.transactions l.horizon l.newest) (take l.version-index l.version-items))
