@@ -20,6 +20,8 @@
 //! write it; of a script's line once more, to find where it ends, and of a transcript's line up to
 //! four times more: for that, whether its bytes are printable, how many words there are and where
 //! `=>` stands.
+//!
+//! What no clause says of it is tested in `worked_texts`, by the tables of the format.
 #![tactic(auto)]
 
 mod arguments;
@@ -33,15 +35,9 @@ mod lines;
 pub mod replies;
 mod reply_reading;
 mod reply_table;
-#[cfg(test)]
-mod script_tests;
 pub mod scripts;
-mod spelling;
+pub mod spelling;
 mod table;
-#[cfg(test)]
-mod tests;
-#[cfg(test)]
-mod transcript_tests;
 pub mod transcripts;
 pub mod words;
 

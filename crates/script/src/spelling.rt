@@ -26,8 +26,9 @@ fn are_plain(bytes: &[u8]) -> bool
 }
 
 /// Writes the spelling of bytes at the end.
+/// After an error it still begins with what was there.
 #[tactic(auto, using(crate::proofs::Writing::keeping), unfolding(crate::specs::Spelling::spelling))]
-pub(crate) fn put_spelling(out: &mut Vec<u8>, bytes: &[u8]) -> Result<(), AllocError>
+pub fn put_spelling(out: &mut Vec<u8>, bytes: &[u8]) -> Result<(), AllocError>
     ensures ok { OnOk result (out.new.items ≡ out.old.items ++ spelling bytes.now) }
     ensures err { OnErr result (Keeps out.old.items out.new.items) }
 {
@@ -81,7 +82,7 @@ fn hex_digit(value: u8) -> u8
 
 /// The bytes that a word spells: lent where no memory is wanted for them.
 #[derive(Debug, Drop)]
-pub(crate) enum Spelled<'a> {
+pub enum Spelled<'a> {
     Plain(&'a [u8]),
     Escaped(Vec<u8>),
 }
@@ -90,7 +91,7 @@ impl Spelled<'_> {
     ghost use Rattle.script.specs.SpelledBytes.{spelled_bytes};
 
     /// The bytes, lent.
-    pub(crate) fn bytes(&self) -> &[u8]
+    pub fn bytes(&self) -> &[u8]
         ensures { result.now ≡ spelled_bytes self.now }
     {
         match self {
@@ -104,7 +105,7 @@ impl Spelled<'_> {
 /// allocates only for a word with an escaped byte.
 #[inline(always)]
 #[tactic(auto, using(crate::proofs::Spellings::plain_word), unfolding(crate::specs::Spelling::bytes_of))]
-pub(crate) fn bytes_of<'a>(alloc: Global, word: &'a [u8]) -> Result<Spelled<'a>, ReadError>
+pub fn bytes_of<'a>(alloc: Global, word: &'a [u8]) -> Result<Spelled<'a>, ReadError>
     ensures { Gives spelled_bytes result (ok_or (bytes_of word.now) LineFault.BadByte) }
 {
     if word.is_empty() {
