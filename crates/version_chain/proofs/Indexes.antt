@@ -3,7 +3,7 @@ use Rattle.std.proofs.Common.{◌≡◌, ℕ, ◌<◌, ◌≤◌, ◌⊎◌, inl
 use Rattle.std.specs.Prelude.{bytes_eq}
 use Rattle.std.specs.List.{filter, list_any}
 use Rattle.std.specs.Map.{lookup}
-use Rattle.std.specs.BTreeMap.{is_at}
+use Rattle.std.specs.BTreeMap.{BTreeMap, is_at}
 use Rattle.std.specs.BTreeMap.Range.{range_contains}
 use Rattle.std.specs.declared.ops.Bound.TheVariants.{Excluded, Included}
 use Rattle.std.specs.BTreeSet.{BTreeSet, contains}
@@ -37,6 +37,12 @@ pub listed_more : (es fs : Keyed) (x : List ℕ) (t : ℕ) (w : Option (BTreeSet
 listed_more es fs x t w put among y i = ap (λ o. is_among o y) (put i) ∙ by_test (t == i)
     (λ here. rw (is_at_number t i, here) (among y ∙ ap (λ n. bytes_eq x y || listed_in es y n) (eqb-true t i here)))
     (λ there. rw (is_at_number t i, there) refl)
+
+-- the same of a map that is the one after a write
+pub listed_put : (m n k : BTreeMap ℕ (BTreeSet (List ℕ))) (x z : List ℕ) (t : ℕ) (w : Option (BTreeSet (List ℕ))) → n ≡ k → z ≡ x → ArePutAt m.entries k.entries t w → ((y : List ℕ) → is_among w y ≡ (bytes_eq z y || listed_in m.entries y t))
+    → (y : List ℕ) (i : ℕ) → listed_in n.entries y i ≡ (((t == i) && bytes_eq x y) || listed_in m.entries y i)
+listed_put m n k x z t w is key put among = subst (λ l. (y : List ℕ) (i : ℕ) → listed_in l.entries y i ≡ (((t == i) && bytes_eq x y) || listed_in m.entries y i)) (sym is)
+    (listed_more m.entries k.entries x t w put (subst (λ u. (y : List ℕ) → is_among w y ≡ (bytes_eq u y || listed_in m.entries y t)) key among))
 
 pub listed_less : (es fs : Keyed) (x : List ℕ) (t : ℕ) (w : Option (BTreeSet (List ℕ))) → ArePutAt es fs t w → ((y : List ℕ) → is_among w y ≡ cond (bytes_eq x y) false (listed_in es y t))
     → (y : List ℕ) (i : ℕ) → listed_in fs y i ≡ cond ((t == i) && bytes_eq x y) false (listed_in es y i)

@@ -41,6 +41,18 @@ none_at (v ∷ vs) i h =
 pub same_ts : (vs : List Version) (k : ℕ) (d e : Version) → k < length vs → (get_or vs k d).ts ≡ (get_or vs k e).ts
 same_ts vs k d e lt = ap (λ v. v.ts) (get_or_default vs k d e lt)
 
+-- the last is at or below t, and so all are
+pub all_below : (vs : List Version) (t n : ℕ) (v : Version) → DoRise vs → n ≡ length vs → v ≡ get_or vs (n - 1) v → v.ts ≤ t → IsPlaceAbove vs t n
+all_below vs t n v r end is low = record {
+  within = omega arith;
+  below = λ k d lt.
+      let up : (get_or vs k d).ts ≤ (get_or vs (n - 1) d).ts = up_to vs k (n - 1) d r (omega arith) (omega arith) in
+      let last : (get_or vs (n - 1) d).ts ≡ (get_or vs (n - 1) v).ts = same_ts vs (n - 1) d v (omega arith) in
+      let here : v.ts ≡ (get_or vs (n - 1) v).ts = ap (λ w. w.ts) is in
+      omega arith;
+  above = λ k d at lt. absurd (omega arith);
+}
+
 pub none_up_to : (vs : List Version) (t n : ℕ) → IsPlaceAbove vs t n → n ≡ 0 → IsNoneUpTo vs t
 none_up_to vs t n p none i low = none_at vs i (λ k d lt same. let up : t < (get_or vs k d).ts = p.above k d (omega arith) lt in omega arith)
 

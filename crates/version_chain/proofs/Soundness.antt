@@ -1,6 +1,6 @@
 -- The count and the index after one place of the chains changed.
-use Rattle.std.proofs.Common.{◌≡◌, ℕ, ◌<◌, ◌≤◌, ◌==◌, Bool, true, false, cond, ◌&&◌, ◌||◌, List, Option, Some, None, refl, sym, ◌∙◌, ap, subst, arith}
-use Rattle.std.specs.Prelude.{bytes_eq, is_some, max, nat_le, not, option_map}
+use Rattle.std.proofs.Common.{◌≡◌, ℕ, ◌<◌, ◌≤◌, ◌==◌, true, false, cond, ◌&&◌, ◌||◌, List, Option, Some, None, refl, sym, ◌∙◌, ap, subst, arith}
+use Rattle.std.specs.Prelude.{bytes_eq, is_some, is_none, max, nat_le, option_map}
 use Rattle.std.proofs.lemmas.Bool.Decides.{nat_tests}
 use Rattle.std.proofs.lemmas.Bool.{and_parts, both_ways, eqb-true, ne_eqb}
 use Rattle.spans.proofs.Steps.{by_test, same_key}
@@ -15,7 +15,12 @@ use Rattle.version_chain.proofs.Counts.{counted_alike}
 use Rattle.version_chain.proofs.Spent.{unspent_lower}
 use Rattle.version_chain.proofs.Thinning.{settled_fewer}
 
--- a version came, or took the place of one
+at_place : (es : Stored) (x : List ℕ) (t : ℕ) (y : List ℕ) (i : ℕ) → ((t == i) && bytes_eq x y) ≡ true → found_in es x t ≡ found_in es y i
+at_place es x t y i here =
+    let both = and_parts (t == i) (bytes_eq x y) here in
+    ap (λ z. found_in es z t) (same_key x y both.1) ∙ ap (found_in es y) (eqb-true t i both.0)
+
+-- a version came
 pub indexed_more : (es fs : Stored) (index index' : Index) (x : List ℕ) (t : ℕ) (a : Version) → IsChangedAt es fs x t (λ _. Some a) → ((y : List ℕ) (i : ℕ) → is_listed index' y i ≡ (((t == i) && bytes_eq x y) || is_listed index y i)) → IsIndexOf es index → IsIndexOf fs index'
 indexed_more es fs index index' x t a h more is y i = more y i ∙ by_test ((t == i) && bytes_eq x y)
     (λ here. let found : found_in fs y i ≡ Some a = h y i ∙ (rw here refl) in rw here (ap is_some (sym found)))
@@ -31,33 +36,17 @@ indexed_less es fs index index' x t h less is y i = less y i ∙ by_test ((t == 
 pub indexed_alike : (es : Stored) (index index' : Index) → ((y : List ℕ) (i : ℕ) → is_listed index' y i ≡ is_listed index y i) → IsIndexOf es index → IsIndexOf es index'
 indexed_alike es index index' same is y i = same y i ∙ is y i
 
-not_false : (b c : Bool) → c ≡ not b → c ≡ true → b ≡ false
-not_false true c e on = (let no : false ≡ true = sym e ∙ on in cc)
-not_false false c e on = refl
-
-not_true : (b c : Bool) → c ≡ not b → c ≡ false → b ≡ true
-not_true true c e off = refl
-not_true false c e off = (let no : true ≡ false = sym e ∙ off in cc)
-
-at_place : (index : Index) (x : List ℕ) (t : ℕ) (y : List ℕ) (i : ℕ) → ((t == i) && bytes_eq x y) ≡ true → is_listed index x t ≡ is_listed index y i
-at_place index x t y i here =
-    let both = and_parts (t == i) (bytes_eq x y) here in
-    ap (λ z. is_listed index z t) (same_key x y both.1) ∙ ap (is_listed index y) (eqb-true t i both.0)
-
--- a key that was added goes again
-pub added_back : (index index' index'' : Index) (x : List ℕ) (t : ℕ) (new : Bool) → new ≡ not (is_listed index x t) → new ≡ true
-    → ((y : List ℕ) (i : ℕ) → is_listed index' y i ≡ (((t == i) && bytes_eq x y) || is_listed index y i)) → ((y : List ℕ) (i : ℕ) → is_listed index'' y i ≡ cond ((t == i) && bytes_eq x y) false (is_listed index' y i))
-    → (y : List ℕ) (i : ℕ) → is_listed index'' y i ≡ is_listed index y i
-added_back index index' index'' x t new is on more less y i = less y i ∙ by_test ((t == i) && bytes_eq x y)
-    (λ here. rw here (sym (sym (at_place index x t y i here) ∙ not_false _ _ is on)))
-    (λ there. rw there (more y i ∙ rw there refl))
-
--- a key that was there is added
-pub added_twice : (index index' : Index) (x : List ℕ) (t : ℕ) (new : Bool) → new ≡ not (is_listed index x t) → new ≡ false
-    → ((y : List ℕ) (i : ℕ) → is_listed index' y i ≡ (((t == i) && bytes_eq x y) || is_listed index y i)) → (y : List ℕ) (i : ℕ) → is_listed index' y i ≡ is_listed index y i
-added_twice index index' x t new is off more y i = more y i ∙ by_test ((t == i) && bytes_eq x y)
-    (λ here. rw here (sym (sym (at_place index x t y i here) ∙ not_true _ _ is off)))
-    (λ there. rw there refl)
+-- a version took the place of one
+pub indexed_replaced : (es fs : Stored) (index : Index) (x : List ℕ) (t : ℕ) (a : Version) → IsChangedAt es fs x t (λ _. Some a) → is_none (found_in es x t) ≡ false → IsIndexOf es index → IsIndexOf fs index
+indexed_replaced es fs index x t a h some is y i = is y i ∙ by_test ((t == i) && bytes_eq x y)
+    (λ here.
+    let found : found_in fs y i ≡ Some a = h y i ∙ (rw here refl) in
+    subst (λ o. is_some o ≡ is_some (found_in fs y i)) (at_place es x t y i here) (there (found_in es x t) some ∙ ap is_some (sym found)))
+    (λ off. let found : found_in fs y i ≡ found_in es y i = h y i ∙ (rw off refl) in ap is_some (sym found))
+  where
+    there : (o : Option Version) → is_none o ≡ false → is_some o ≡ true
+    there None e = (let no : true ≡ false = e in cc)
+    there (Some v) e = refl
 
 -- ---- nothing is dead by the horizon
 
@@ -88,12 +77,29 @@ sound_alike es fs index n horizon same s = record {
   settled = settled_fewer es fs horizon (λ y i low done. same y i) s.settled;
 }
 
+-- the same chains, and an index that lists the same
+pub sound_index : (es : Stored) (index index' : Index) (n horizon : ℕ) → ((y : List ℕ) (i : ℕ) → is_listed index' y i ≡ is_listed index y i) → IsSound es index n horizon → IsSound es index' n horizon
+sound_index es index index' n horizon same s = record {
+  counted = s.counted;
+  indexed = indexed_alike es index index' same s.indexed;
+  settled = s.settled;
+}
+
+-- a version that came where there was none goes again
+pub went_again : (es fs gs : Stored) (x : List ℕ) (t : ℕ) (a : Version) → is_none (found_in es x t) ≡ true → IsChangedAt es fs x t (λ _. Some a) → IsChangedAt fs gs x t (λ _. None) → (y : List ℕ) (i : ℕ) → found_in gs y i ≡ found_in es y i
+went_again es fs gs x t a none came went y i = went y i ∙ by_test ((t == i) && bytes_eq x y)
+    (λ here. rw here (sym (sym (at_place es x t y i here) ∙ nothing (found_in es x t) none)))
+    (λ off. rw off (came y i ∙ rw off refl))
+  where
+    nothing : (o : Option Version) → is_none o ≡ true → o ≡ None
+    nothing None e = refl
+    nothing (Some v) e = (let no : false ≡ true = e in cc)
+
 -- where there was no version none goes
 pub none_went : (es fs : Stored) (x : List ℕ) (t : ℕ) → IsChangedAt es fs x t (λ _. None) → is_some (found_in es x t) ≡ false → (y : List ℕ) (i : ℕ) → found_in fs y i ≡ found_in es y i
 none_went es fs x t h none y i = h y i ∙ by_test ((t == i) && bytes_eq x y)
     (λ here.
-    let both = and_parts (t == i) (bytes_eq x y) here in
-    let there : found_in es y i ≡ None = ap (λ z. found_in es z i) (sym (same_key x y both.1)) ∙ ap (found_in es x) (sym (eqb-true t i both.0)) ∙ nothing (found_in es x t) none in
+    let there : found_in es y i ≡ None = sym (at_place es x t y i here) ∙ nothing (found_in es x t) none in
     rw here (sym there))
     (λ off. rw off refl)
   where

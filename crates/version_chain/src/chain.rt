@@ -79,6 +79,19 @@ impl Chain {
         low
     }
 
+    /// The same number. The last version is looked at first, since writes and commits come mostly there.
+    fn place_near_end(&self, t: u64) -> usize
+        ensures { IsPlaceAbove self.now t result }
+    {
+        let Some(last) = self.versions.last() else {
+            return 0;
+        };
+        if last.ts.get() > t {
+            return self.place_above(t, &mut Steps::new());
+        }
+        self.versions.len()
+    }
+
     /// The version with the greatest timestamp at or below `t`. It reads at most as many timestamps as
     /// the length has binary digits.
     pub fn newest_at(&self, t: u64, steps: &mut Steps) -> Option<&Version>
@@ -125,7 +138,7 @@ impl Chain {
     fn place_of(&self, ts: u64) -> Result<usize, usize>
         ensures { MatchResult result (λ k. IsPlaceOf self.now ts k) (λ n. IsFreePlace self.now ts n) }
     {
-        let place = self.place_above(ts, &mut Steps::new());
+        let place = self.place_near_end(ts);
         if place == 0 {
             return Err(0);
         }

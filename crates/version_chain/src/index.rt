@@ -1,11 +1,11 @@
 //! Which keys have a version at each timestamp.
-ghost use Rattle.std.specs.Prelude.{◌≡◌, ◌==◌, ◌&&◌, ◌||◌, ℕ, List, false, not, bytes_eq, if◌then◌else◌, IfOk, OnOk, OnErr, ◌<◌, ◌≤◌};
+ghost use Rattle.std.specs.Prelude.{◌≡◌, ◌==◌, ◌&&◌, ◌||◌, ℕ, List, false, bytes_eq, if◌then◌else◌, OnOk, OnErr, ◌<◌, ◌≤◌};
 ghost use Rattle.version_chain.specs.Spent.{is_spent_at};
 ghost use Rattle.version_chain.specs.Indexes.{is_listed, listed_in};
 
 use crate::chain::Version;
 use std::alloc::{AllocError, Global};
-use std::collections::btree_map::Range;
+use std::collections::btree_map::{Entry, Range};
 use std::collections::{BTreeMap, BTreeSet};
 use std::ops::Bound;
 use timestamps::key::Key;
@@ -28,56 +28,23 @@ impl Index {
         }
     }
 
-    /// Whether the key is there at `ts`.
-    fn has(&self, ts: u64, key: &Key) -> bool
-        ensures { result ≡ is_listed self.now key.now ts }
-    {
-        match self.keys.get(&ts) {
-            None => false,
-            Some(keys) => keys.contains(key),
-        }
-    }
-
-    /// Adds a key at `ts`, where it may be, and says whether it was not.
-    pub(crate) fn add(&mut self, ts: u64, key: &Key) -> Result<bool, AllocError>
-        ensures new { IfOk result (λ new. new ≡ not (is_listed self.old key.now ts)) }
+    /// Adds a key at `ts`, where it may be.
+    pub(crate) fn add(&mut self, ts: u64, key: &Key) -> Result<(), AllocError>
         ensures ok { OnOk result ((y : List ℕ) (i : ℕ) → is_listed self.new y i
             ≡ (((ts == i) && bytes_eq key.now y) || is_listed self.old y i)) }
         ensures err { OnErr result ((y : List ℕ) (i : ℕ) → is_listed self.new y i ≡ is_listed self.old y i) }
     {
-        if self.has(ts, key) {
-            return Ok(false);
-        }
         let key = key.copy()?;
-        self.put(ts, key)?;
-        Ok(true)
-    }
-
-    /// Puts a key in at `ts`.
-    fn put(&mut self, ts: u64, key: Key) -> Result<(), AllocError>
-        ensures ok { OnOk result ((y : List ℕ) (i : ℕ) → is_listed self.new y i
-            ≡ (((ts == i) && bytes_eq key y) || is_listed self.old y i)) }
-        ensures err { OnErr result ((y : List ℕ) (i : ℕ) → is_listed self.new y i ≡ is_listed self.old y i) }
-    {
-        match self.keys.get_mut(&ts) {
-            Some(keys) => {
-                keys.insert(key)?;
-                Ok(())
+        match self.keys.entry(ts)? {
+            Entry::Occupied(entry) => {
+                entry.into_mut().insert(key)?;
             }
-            None => self.put_first(ts, key),
+            Entry::Vacant(entry) => {
+                let mut keys = BTreeSet::new(self.alloc);
+                keys.insert(key)?;
+                entry.insert(keys);
+            }
         }
-    }
-
-    /// Puts the first key in at `ts`.
-    fn put_first(&mut self, ts: u64, key: Key) -> Result<(), AllocError>
-        requires { (y : List ℕ) → is_listed self.old y ts ≡ false }
-        ensures ok { OnOk result ((y : List ℕ) (i : ℕ) → is_listed self.new y i
-            ≡ (((ts == i) && bytes_eq key y) || is_listed self.old y i)) }
-        ensures err { OnErr result ((y : List ℕ) (i : ℕ) → is_listed self.new y i ≡ is_listed self.old y i) }
-    {
-        let mut keys = BTreeSet::new(self.alloc);
-        keys.insert(key)?;
-        self.keys.insert(ts, keys)?;
         Ok(())
     }
 

@@ -13,11 +13,14 @@
 //! ```
 //! Of k keys and v versions of one, each search compares about log k keys and reads at most as many
 //! timestamps as v has binary digits; a commit and an abort do so for each key that they are given, and
-//! go to the index. A write also moves the versions above its own. A collection looks at what was
-//! written between the last horizon and its own, and at what is at or below its own in the chains in
-//! which something is dead; the versions above are moved once. The count is one read.
+//! an abort goes to the index. A write searches the chains once, twice for a key that had no version,
+//! and then the index once; it looks at the end of its chain first, and moves the versions above its
+//! own. A collection looks at what was written between the last horizon and its own, and at what is at
+//! or below its own in the chains in which something is dead; the versions above are moved once. The
+//! count is one read.
 //!
-//! A write and the list of what is dead alone need memory, and take it before anything changes. The
+//! A write and the list of what is dead alone need memory. A write that finds no room for its place in
+//! the index takes its version out again, and a collection makes its list before anything goes. The
 //! start of a span takes some too; where there is none, the keys before the span are walked over.
 #![tactic(auto)]
 

@@ -93,8 +93,8 @@ impl Store {
         self.chains.in_span(span)
     }
 
-    /// Puts an undecided version in, in whose place one of the same transaction may stand. Its memory
-    /// is there before anything changes.
+    /// Puts an undecided version in, in whose place one of the same transaction may stand. A new one is
+    /// listed in the index; where that finds no memory the version goes again.
     pub fn write(&mut self, key: &Key, ts: Ts, after: Option<&Value>) -> Result<(), AllocError>
         ensures ok { OnOk result (IsWrittenTo self.old self.new ts key.now (option_copied after.entry)) }
         ensures err { OnErr result (IsAsBefore self.old self.new) }
@@ -109,21 +109,15 @@ impl Store {
             after,
             decided: false,
         };
-        let added = self.index.add(ts.get(), key)?;
-        match self.chains.write(key, version) {
-            Ok(new) => {
-                if new {
-                    self.count += 1;
-                }
-                Ok(())
+        let new = self.chains.write(key, version)?;
+        if new {
+            if let Err(refused) = self.index.add(ts.get(), key) {
+                self.chains.remove(key, ts.get());
+                return Err(refused);
             }
-            Err(refused) => {
-                if added {
-                    self.index.remove(ts.get(), key);
-                }
-                Err(refused)
-            }
+            self.count += 1;
         }
+        Ok(())
     }
 
     /// Marks the versions of `ts` at these keys as committed. It takes no memory.

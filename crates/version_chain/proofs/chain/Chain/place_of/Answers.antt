@@ -4,14 +4,14 @@ use Rattle.version_chain.proofs.Edits.{free_at_start, free_after, place_is}
 use Rattle.version_chain.proofs.chain.Chain.place_of.Goals as goal
 
 pub returns-then-place-eq0 : goal.returns-then-place-eq0
-returns-then-place-eq0 c = free_at_start _ _ _ c.place_above-place.ensures.place c.if-place-eq0.true
+returns-then-place-eq0 c = free_at_start _ _ _ c.place_near_end-place.ensures c.if-place-eq0.true
 
 pub returns-then-get-ts : goal.returns-then-get-ts
 returns-then-get-ts c =
-    free_after c.args.self.now c.args.ts c.place_above-place.result c.index.result.now (subst DoRise c.self.view_is c.self.invariant) c.place_above-place.ensures.place (omega arith)
-    (c.index.ensures ∙ ap (λ vs. get_or vs (c.place_above-place.result - 1) c.index.result.now) c.self.view_is) (λ same. c.if-get-ts.true (c.get.ensures.number ∙ same))
+    free_after c.args.self.now c.args.ts c.place_near_end-place.result c.index.result.now (subst DoRise c.self.view_is c.self.invariant) c.place_near_end-place.ensures (omega arith)
+    (c.index.ensures ∙ ap (λ vs. get_or vs (c.place_near_end-place.result - 1) c.index.result.now) c.self.view_is) (λ same. c.if-get-ts.true (c.get.ensures.number ∙ same))
 
 pub returns : goal.returns
 returns c =
-    place_is c.args.self.now c.args.ts c.place_above-place.result c.index.result.now c.place_above-place.ensures.place (omega arith)
-    (c.index.ensures ∙ ap (λ vs. get_or vs (c.place_above-place.result - 1) c.index.result.now) c.self.view_is) (sym c.get.ensures.number ∙ c.if-get-ts.false)
+    place_is c.args.self.now c.args.ts c.place_near_end-place.result c.index.result.now c.place_near_end-place.ensures (omega arith)
+    (c.index.ensures ∙ ap (λ vs. get_or vs (c.place_near_end-place.result - 1) c.index.result.now) c.self.view_is) (sym c.get.ensures.number ∙ c.if-get-ts.false)
