@@ -5,4 +5,6 @@ pub mod Steps
 pub mod Editing
 pub mod Picking
 pub mod Keeping
+pub mod Alike
+pub mod Extents
 pub mod Pieces

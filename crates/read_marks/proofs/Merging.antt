@@ -33,7 +33,7 @@ same_place xs above until a b p q le bound none =
     grind (arith, low, high)
 
 -- two tests that pass for the same
-same_test : (a b : Bool) → (a ≡ true → b ≡ true) → (b ≡ true → a ≡ true) → b ≡ a
+pub same_test : (a b : Bool) → (a ≡ true → b ≡ true) → (b ≡ true → a ≡ true) → b ≡ a
 same_test true b f g = f refl
 same_test false true f g = sym (g refl)
 same_test false false f g = refl

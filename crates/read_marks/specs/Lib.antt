@@ -2,4 +2,5 @@ pub mod Readers
 pub mod Segments
 pub mod Patches
 pub mod Editing
+pub mod Joining
 pub mod Marks

@@ -13,16 +13,20 @@
 //! ```
 //!
 //! A piece is what a read marks: of a key's readers above the version that was read and up to the next
-//! one, only the greatest can refuse a write. Neighbours with the same readers are joined.
+//! one, only the greatest can refuse a write. Where no reader stands outside that gap, the widest gap
+//! does the same, so that most pieces of a scan are one before anything is split. Neighbours with the
+//! same readers are joined.
 //!
 //! With n starts and m readers of one, a look-up costs O(log n + log m) and forgetting O(1); neither
-//! takes memory. A mark on one whole segment, as on a key that was read before, edits its readers in
-//! place: O(log n + log m), and those above its gap move. Any other copies them, O(log n + m) for each
-//! start that it touches. What is forgotten there goes, in place once it is half. Where the starts
-//! have doubled, or a reader comes that counts as forgotten, a walk sweeps all of them.
-//! [`Marks::spans`] walks.
+//! takes memory. A mark on one whole segment, as on a key or a span that was read before, edits its
+//! readers in place: O(log n + log m), and those above its gap move. Any other copies them,
+//! O(log n + m) for each start that it touches. What is forgotten there goes, in place once it is half.
+//! Where the starts have doubled, or a reader comes that counts as forgotten, a walk sweeps all of
+//! them. [`Marks::spans`] walks.
 #![tactic(auto)]
 
+mod extent;
+mod joining;
 mod marks;
 mod patch;
 mod piece;

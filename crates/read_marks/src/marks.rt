@@ -8,7 +8,8 @@ ghost use Rattle.read_marks.specs.Marks.{AreApart, HaveGaps, in_any, is_marked_i
 ghost use Rattle.read_marks.specs.Patches as patching;
 ghost use Rattle.read_marks.specs.Patches.{AreEdited, holds};
 
-use crate::patch::{Patch, own_patch, own_patches, patches_of};
+use crate::joining::{own_patches, patches_of};
+use crate::patch::Patch;
 use crate::piece::Piece;
 use crate::segments::Segments;
 use crate::start::Start;
@@ -67,7 +68,7 @@ impl Marks {
         ensures err { OnErr result ((x : List ℕ) (j : ℕ) → is_marked_in self.new x j ≡ is_marked_in self.old x j) }
     {
         let ts = ts.get();
-        self.edit(&[own_patch(span, ts)], ts)
+        self.edit(&[Patch::own(span, ts)], ts)
     }
 
     /// The keys of the spans are marked by `ts`.
@@ -92,8 +93,12 @@ impl Marks {
         ensures err { OnErr result ((x : List ℕ) (j : ℕ) → is_marked_in self.new x j ≡ is_marked_in self.old x j) }
     {
         let ts = ts.get();
-        let patches = patches_of(self.alloc, pieces)?;
-        self.edit(&patches, ts)
+        if let [piece] = pieces {
+            return self.edit(&[Patch::of(piece)], ts);
+        }
+        self.make_room_for(ts);
+        let patches = patches_of(self.alloc, &self.segments, pieces, ts, self.forgotten)?;
+        self.segments.edit(&patches, ts, self.forgotten)
     }
 
     /// How many spans with readers are kept. Those whose readers are all forgotten count too, until

@@ -1,14 +1,13 @@
 //! A piece by the starts of its span.
-ghost use Rattle.std.specs.Prelude.{◌≡◌, ◌<◌, IsTrue, IfOk, IfSome, List, ℕ, map, false};
-ghost use Rattle.std.specs.BTreeMap.Range.{IsLtBy};
-ghost use Rattle.timestamps.specs.Bytes.{key_cmp};
-ghost use Rattle.read_marks.specs.Patches.{patch_of, own_piece};
+ghost use Rattle.std.specs.Prelude.{◌≡◌, ◌<◌, ◌≤◌, IsTrue, List, ℕ, false, true};
+ghost use Rattle.spans.specs.KeyOrder.{below_high};
+ghost use Rattle.read_marks.specs.Patches.{holds, patch_of, own_piece};
 ghost use Rattle.read_marks.specs.Editing.{picks};
+ghost use Rattle.read_marks.specs.Joining.{GoesOn, IsInside, RunsForward, in_widest_gap};
 
 use crate::piece::Piece;
 use crate::start::Start;
 use spans::span::Span;
-use std::alloc::{AllocError, Global};
 
 /// From `lo` on, and below `hi` where that is given, the readers above `above` and up to `until`
 /// become one.
@@ -21,6 +20,33 @@ pub(crate) struct Patch {
 }
 
 impl Patch {
+    /// That of a piece.
+    pub(crate) fn of(piece: &Piece) -> Patch
+        ensures is { result ≡ patch_of piece.now }
+        ensures in_range { result.until ≤ 18446744073709551615 }
+    {
+        let Piece { above, until, .. } = piece;
+        Patch {
+            lo: Start::from_low(&piece.span.lo),
+            hi: Start::from_high(&piece.span.hi),
+            above: *above,
+            until: *until,
+        }
+    }
+
+    /// The one of a span in whose gap `ts` meets no reader but itself.
+    pub(crate) fn own(span: &Span, ts: u64) -> Patch
+        requires { 0 < ts }
+        ensures { result ≡ patch_of (own_piece ts span.now) }
+    {
+        Patch {
+            lo: Start::from_low(&span.lo),
+            hi: Start::from_high(&span.hi),
+            above: ts - 1,
+            until: ts,
+        }
+    }
+
     /// One that holds all keys, in no gap.
     pub(crate) fn of_all_keys() -> Patch {
         Patch {
@@ -31,9 +57,17 @@ impl Patch {
         }
     }
 
+    /// Its gap becomes the widest.
+    pub(crate) fn widen(&mut self)
+        ensures { self.new ≡ in_widest_gap self.old }
+    {
+        self.above = 0;
+        self.until = u64::MAX;
+    }
+
     /// Whether its end is above where it begins.
     pub(crate) fn runs_forward(&self) -> bool
-        ensures forward { IsTrue result → IfSome self.now.hi (λ hi. IsLtBy key_cmp self.now.lo hi) }
+        ensures forward { IsTrue result → RunsForward self.now }
         ensures empty { result ≡ false → (x : List ℕ) → picks self.now x ≡ false }
     {
         match &self.hi {
@@ -49,45 +83,32 @@ impl Patch {
             Some(hi) => start.cmp(hi).is_ge(),
         }
     }
-}
 
-/// Where each piece begins and ends.
-pub(crate) fn patches_of(alloc: Global, pieces: &[Piece]) -> Result<Vec<Patch>, AllocError>
-    ensures { IfOk result (λ patches. patches.items ≡ map patch_of pieces.now) }
-{
-    let mut patches = Vec::new(alloc);
-    for piece in pieces {
-        patches.push(Patch {
-            lo: Start::from_low(&piece.span.lo),
-            hi: Start::from_high(&piece.span.hi),
-            above: piece.above,
-            until: piece.until,
-        })?;
+    /// Whether the next one begins where this one ends, and does the same.
+    pub(crate) fn goes_on_in(&self, next: &Patch) -> bool
+        ensures { IsTrue result → GoesOn self.now next.now }
+    {
+        match &self.hi {
+            None => false,
+            Some(hi) => self.above == next.above && self.until == next.until && *hi == next.lo,
+        }
     }
-    Ok(patches)
-}
 
-/// The patch in whose gap `ts` meets no reader but itself.
-pub(crate) fn own_patch(span: &Span, ts: u64) -> Patch
-    requires { 0 < ts }
-    ensures { result ≡ patch_of (own_piece ts span.now) }
-{
-    Patch {
-        lo: Start::from_low(&span.lo),
-        hi: Start::from_high(&span.hi),
-        above: ts - 1,
-        until: ts,
+    // Whether another one ends where it does, or above.
+    fn ends_inside(&self, other: &Patch) -> bool
+        ensures { IsTrue result → (x : List ℕ) → below_high self.now.hi x ≡ true → below_high other.now.hi x ≡ true }
+    {
+        match (&self.hi, &other.hi) {
+            (_, None) => true,
+            (None, Some(_)) => false,
+            (Some(hi), Some(end)) => hi.cmp(end).is_le(),
+        }
     }
-}
 
-/// The same for each span.
-pub(crate) fn own_patches(alloc: Global, spans: &[Span], ts: u64) -> Result<Vec<Patch>, AllocError>
-    requires { 0 < ts }
-    ensures { IfOk result (λ patches. patches.items ≡ map (λ span. patch_of (own_piece ts span)) spans.now) }
-{
-    let mut patches = Vec::new(alloc);
-    for span in spans {
-        patches.push(own_patch(span, ts))?;
+    /// Whether another one holds all its keys.
+    pub(crate) fn is_inside(&self, other: &Patch) -> bool
+        ensures { IsTrue result → IsInside self.now other.now }
+    {
+        self.ends_inside(other) && other.lo.cmp(&self.lo).is_le()
     }
-    Ok(patches)
 }

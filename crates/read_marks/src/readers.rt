@@ -3,7 +3,9 @@ ghost use Rattle.std.specs.Prelude.{◌≡◌, ℕ, List, [], ◌<◌, ◌≤◌
 ghost use Rattle.std.specs.List.Sorted.{IsNonDecreasing};
 ghost use Rattle.kept.specs.Marks.{IsBetween, IsPiece};
 ghost use Rattle.read_marks.specs.Readers.{is_kept, is_reader, SplitsAt};
+ghost use Rattle.read_marks.specs.Joining.{IsPartOf, IsWithin};
 
+use crate::extent::Extent;
 use crate::patch::Patch;
 use std::alloc::{AllocError, Global};
 use std::marker::Model;
@@ -78,6 +80,21 @@ impl Readers {
         match to {
             None => true,
             Some(top) => self.list[at] <= top,
+        }
+    }
+
+    /// An extent, and beside it those above `forgotten`.
+    pub(crate) fn extend(&self, extent: Extent, forgotten: u64) -> Extent
+        ensures has { IsWithin result (is_kept forgotten self.now) }
+        ensures keeps { IsPartOf extent result }
+    {
+        let at = self.count_through(forgotten);
+        if at == self.list.len() {
+            return extent;
+        }
+        Extent {
+            least: extent.least.min(self.list[at]),
+            greatest: extent.greatest.max(self.list[self.list.len() - 1]),
         }
     }
 

@@ -6,8 +6,10 @@ ghost use Rattle.timestamps.specs.Bytes.{key_cmp};
 ghost use Rattle.read_marks.specs.Readers.{is_kept};
 ghost use Rattle.read_marks.specs.Segments.{readers_at, readers_before, segment_count};
 ghost use Rattle.read_marks.specs.Patches.{AreEdited, HaveGaps, holds};
+ghost use Rattle.read_marks.specs.Joining.{IsExtentOf, IsPartOf, IsWithin};
 ghost use Rattle.read_marks.specs.Editing.{AreParts, AreStarts, HasEnds, IsPart, IsSegment, IsStart, puts, puts_parts};
 
+use crate::extent::Extent;
 use crate::patch::Patch;
 use crate::readers::Readers;
 use crate::start::Start;
@@ -45,6 +47,35 @@ impl Segments {
             .range((Bound::Unbounded, Bound::Included(key)))
             .next_back()?;
         Some(readers)
+    }
+
+    // An extent, and beside it the readers of a key, less those that are forgotten.
+    fn extend_at(&self, key: &Start, extent: Extent, forgotten: u64) -> Extent
+        ensures has { IsWithin result (is_kept forgotten (readers_at self.now key.now)) }
+        ensures keeps { IsPartOf extent result }
+    {
+        match self.readers(key) {
+            None => extent,
+            Some(readers) => readers.extend(extent, forgotten),
+        }
+    }
+
+    /// How far the readers of a patch's keys lie apart, and `ts`, less those that are forgotten.
+    pub(crate) fn extent(&self, patch: &Patch, ts: u64, forgotten: u64) -> Extent
+        ensures { IsExtentOf result self.now patch.now ts forgotten }
+    {
+        if !patch.runs_forward() {
+            return Extent::of(ts);
+        }
+        let mut extent = self.extend_at(&patch.lo, Extent::of(ts), forgotten);
+        let end = match &patch.hi {
+            None => Bound::Unbounded,
+            Some(high) => Bound::Excluded(high),
+        };
+        for (_, readers) in self.starts.range((Bound::Included(&patch.lo), end)) {
+            extent = readers.extend(extent, forgotten);
+        }
+        extent
     }
 
     // A copy of the readers of the key.
@@ -305,6 +336,7 @@ impl Segments {
                 self.join_ends(patch);
                 Ok(())
             }
+            [patch] if !patch.runs_forward() => Ok(()),
             _ => {
                 let result = self.edit_split(patches, ts, forgotten);
                 self.join_all(patches);

@@ -1,7 +1,11 @@
 //! What no clause says: that marks are taken where memory is there, that clauses mean what was meant,
 //! and how many spans are kept.
+use crate::joining::patches_of;
 use crate::marks::Marks;
+use crate::patch::Patch;
 use crate::piece::Piece;
+use crate::segments::Segments;
+use crate::start::Start;
 use spans::bound::Bound;
 use spans::span::Span;
 use std::alloc::Global;
@@ -206,5 +210,82 @@ fn what_is_forgotten_may_be_marked_again(rt: HostRuntime) -> Result<(), Fail> {
     assert!(rt; have_readers(alloc, &marks, &[(b"a", &[11])])?);
     add(alloc, &mut marks, &[(b"a", b"b", 4)])?;
     assert!(rt; have_readers(alloc, &marks, &[(b"a", &[4, 11]), (b"b", &[11])])?);
+    Ok(())
+}
+
+/// How many patches a scan of [a, c) by 7 makes that found the key b between two versions. Before it
+/// 2 has read the key b, and 5 all keys.
+fn patches_of_scan(alloc: Global, above: u64, until: u64, forgotten: u64) -> Result<usize, Fail> {
+    if above >= 7 || until < 7 {
+        return Err(Fail::new("no gap"));
+    }
+    let mut segments = Segments::new(alloc);
+    segments.edit(&[Patch::own(&span(alloc, b"b", b"b\0")?, 2)], 2, 0)?;
+    segments.edit(&[Patch::own(&span(alloc, b"", b"")?, 5)], 5, 0)?;
+    let pieces = [
+        Piece {
+            span: span(alloc, b"a", b"b")?,
+            above: 0,
+            until: u64::MAX,
+        },
+        Piece {
+            span: span(alloc, b"b", b"b")?,
+            above: 6,
+            until: 7,
+        },
+        Piece {
+            span: span(alloc, b"b", b"b\0")?,
+            above,
+            until,
+        },
+        Piece {
+            span: span(alloc, b"b\0", b"c")?,
+            above: 0,
+            until: u64::MAX,
+        },
+    ];
+    let patches = patches_of(alloc, &segments, &pieces, 7, forgotten)?;
+    Ok(patches.len())
+}
+
+#[test]
+fn pieces_of_a_scan_are_one_patch(rt: HostRuntime) -> Result<(), Fail> {
+    let alloc = rt.alloc();
+    assert_eq!(rt; patches_of_scan(alloc, 1, 7, 0)?, 1);
+    // 2 is at the version that was read, and then below it: until it is forgotten it stays
+    assert_eq!(rt; patches_of_scan(alloc, 2, 7, 0)?, 3);
+    assert_eq!(rt; patches_of_scan(alloc, 4, 7, 0)?, 3);
+    assert_eq!(rt; patches_of_scan(alloc, 4, 7, 2)?, 1);
+    Ok(())
+}
+
+#[test]
+fn a_later_reader_keeps_pieces_apart(rt: HostRuntime) -> Result<(), Fail> {
+    let alloc = rt.alloc();
+    let mut segments = Segments::new(alloc);
+    segments.edit(&[Patch::own(&span(alloc, b"b", b"b\0")?, 9)], 9, 0)?;
+    let pieces = [
+        Piece {
+            span: span(alloc, b"a", b"b")?,
+            above: 0,
+            until: u64::MAX,
+        },
+        Piece {
+            span: span(alloc, b"b", b"b\0")?,
+            above: 0,
+            until: 8,
+        },
+        Piece {
+            span: span(alloc, b"b\0", b"c")?,
+            above: 0,
+            until: u64::MAX,
+        },
+    ];
+    let patches = patches_of(alloc, &segments, &pieces, 7, 0)?;
+    assert_eq!(rt; patches.len(), 3);
+    segments.edit(&patches, 7, 0)?;
+    let readers = segments.readers(&Start::of(b"b")).ok_or("no readers")?;
+    assert!(rt; readers.any_between(0, Some(7)));
+    assert!(rt; readers.any_between(7, Some(9)));
     Ok(())
 }

@@ -11,4 +11,4 @@ returns-clause-ok c =
     let low : 0 < c.get-ts.result = omega arith in
     rw (← c.get-ts.ensures.number) (on_ok_weaker c.edit.result (λ edited x j.
     one_span_edit c.get-ts.result x (is_marked_in c.args.self.now x) (is_marked_in c.edit.new.self x) c.args.span.now low
-    (subst (λ (p : Patch). AreEdited (λ q. holds q x) c.get-ts.result (p ∷ []) (is_marked_in c.args.self.now x) (is_marked_in c.edit.new.self x)) c.own_patch.ensures (edited x)) j) c.edit.ensures.ok)
+    (subst (λ (p : Patch). AreEdited (λ q. holds q x) c.get-ts.result (p ∷ []) (is_marked_in c.args.self.now x) (is_marked_in c.edit.new.self x)) c.own.ensures (edited x)) j) c.edit.ensures.ok)

@@ -1,24 +1,56 @@
-use Rattle.std.proofs.Common.{◌∙◌, ◌<◌, arith}
+use Rattle.std.proofs.Common.{ℕ, List, [], ◌∷◌, Bool, ◌≡◌, ◌<◌, arith, map, subst, sym}
 use Rattle.std.proofs.lemmas.Result.{on_ok_weaker}
 use Rattle.read_marks.specs.Marks.{HaveGaps, is_marked_in}
-use Rattle.read_marks.proofs.Pieces.{piece_gaps, piece_in, piece_out}
+use Rattle.read_marks.specs.Patches as patching
+use Rattle.read_marks.specs.Patches.{AreEdited, holds, patch_of}
+use Rattle.read_marks.specs.declared.patch.Patch.{Patch}
+use Rattle.read_marks.specs.declared.piece.Piece.{Piece}
+use Rattle.read_marks.proofs.Alike.{only}
+use Rattle.read_marks.proofs.Pieces.{edit_alike, piece_gaps, piece_in, piece_out}
 use Rattle.read_marks.proofs.marks.Marks.add_pieces.Goals as goal
 
+-- a piece alone
 pub edit-requires : goal.edit-requires
 edit-requires c =
     let low : 0 < c.get-ts.result = omega arith in
-    let all = c.deref.ensures.value ∙ c.in_ok-patches.ensures in
+    let one : c.args.pieces.now ≡ c.piece-item.result ∷ [] = only c.args.pieces.now c.piece-item.result c.in-len1.len_at_least c.in-len1.len_below c.piece-item.is in
     let gaps : HaveGaps c.get-ts.result c.args.pieces.now = rw c.get-ts.ensures.number c.requires.gaps in
-    record { low = low; gaps = rw all (piece_gaps c.get-ts.result c.args.pieces.now gaps) }
+    let all : patching.HaveGaps c.get-ts.result (patch_of c.piece-item.result ∷ []) = piece_gaps c.get-ts.result (c.piece-item.result ∷ []) (subst (HaveGaps c.get-ts.result) one gaps) in
+    record { low = low; gaps = subst (λ (p : Patch). patching.HaveGaps c.get-ts.result (p ∷ [])) (sym c.of.ensures.is) all }
+
+edited-alone : (c : goal.After-edit) (x : List ℕ) → AreEdited (λ p. holds p x) c.get-ts.result (c.of.result ∷ []) (is_marked_in c.args.self.now x) (is_marked_in c.edit.new.self x)
+    → AreEdited (λ p. holds p x) c.get-ts.result (map patch_of c.args.pieces.now) (is_marked_in c.args.self.now x) (is_marked_in c.edit.new.self x)
+edited-alone c x edited =
+    let m = is_marked_in c.args.self.now x in
+    let m' = is_marked_in c.edit.new.self x in
+    let one : c.args.pieces.now ≡ c.piece-item.result ∷ [] = only c.args.pieces.now c.piece-item.result c.in-len1.len_at_least c.in-len1.len_below c.piece-item.is in
+    subst (λ (ps : List Piece). AreEdited (λ p. holds p x) c.get-ts.result (map patch_of ps) m m') (sym one)
+    (subst (λ (p : Patch). AreEdited (λ q. holds q x) c.get-ts.result (p ∷ []) m m') c.of.ensures.is edited)
+
+pub returns-in-len1-clause-inside : goal.returns-in-len1-clause-inside
+returns-in-len1-clause-inside c =
+    rw (← c.get-ts.ensures.number) (on_ok_weaker c.edit.result (λ edited p has x inside.
+    piece_in c.get-ts.result x (is_marked_in c.args.self.now x) (is_marked_in c.edit.new.self x) c.args.pieces.now c.requires.apart (edited-alone c x (edited x)) p has inside) c.edit.ensures.ok)
+
+pub returns-in-len1-clause-outside : goal.returns-in-len1-clause-outside
+returns-in-len1-clause-outside c =
+    on_ok_weaker c.edit.result (λ edited x out j.
+    piece_out c.get-ts.result x (is_marked_in c.args.self.now x) (is_marked_in c.edit.new.self x) c.args.pieces.now (edited-alone c x (edited x)) out j) c.edit.ensures.ok
+
+-- several
+edited-several : (c : goal.After-drop-patches) (x : List ℕ) (m' : ℕ → Bool) → AreEdited (λ p. holds p x) c.get-ts.result c.deref.result.now (is_marked_in c.make_room_for.new.self x) m'
+    → AreEdited (λ p. holds p x) c.get-ts.result (map patch_of c.args.pieces.now) (is_marked_in c.args.self.now x) m'
+edited-several c x m' edited =
+    let m = is_marked_in c.make_room_for.new.self x in
+    edit_alike (λ p. holds p x) c.get-ts.result (map patch_of c.args.pieces.now) (is_marked_in c.args.self.now x) m m' (c.make_room_for.ensures.marks x)
+    (c.in_ok-patches.ensures.edits x m' (subst (λ (ps : List Patch). AreEdited (λ p. holds p x) c.get-ts.result ps m m') c.deref.ensures.value edited))
 
 pub returns-clause-inside : goal.returns-clause-inside
 returns-clause-inside c =
-    let all = c.deref.ensures.value ∙ c.in_ok-patches.ensures in
-    rw (← c.get-ts.ensures.number) (on_ok_weaker c.edit.result (λ edited p has x inside.
-    piece_in c.get-ts.result x (is_marked_in c.args.self.now x) (is_marked_in c.edit.new.self x) c.args.pieces.now c.requires.apart (rw (← all) (edited x)) p has inside) c.edit.ensures.ok)
+    rw (← c.get-ts.ensures.number) (on_ok_weaker c.edit-2.result (λ edited p has x inside.
+    piece_in c.get-ts.result x (is_marked_in c.args.self.now x) _ c.args.pieces.now c.requires.apart (edited-several c x _ (edited x)) p has inside) c.edit-2.ensures.ok)
 
 pub returns-clause-outside : goal.returns-clause-outside
 returns-clause-outside c =
-    let all = c.deref.ensures.value ∙ c.in_ok-patches.ensures in
-    on_ok_weaker c.edit.result (λ edited x out j.
-    piece_out c.get-ts.result x (is_marked_in c.args.self.now x) (is_marked_in c.edit.new.self x) c.args.pieces.now (rw (← all) (edited x)) out j) c.edit.ensures.ok
+    on_ok_weaker c.edit-2.result (λ edited x out j.
+    piece_out c.get-ts.result x (is_marked_in c.args.self.now x) _ c.args.pieces.now (edited-several c x _ (edited x)) out j) c.edit-2.ensures.ok
