@@ -106,7 +106,8 @@ impl Rules {
     }
 
     /// Writes a value, or a delete where there is none, unless a later reader has read the version
-    /// before it. Then the transaction is aborted, which takes no memory.
+    /// before it. Then the transaction is aborted, which takes no memory. Above what is closed a version
+    /// is one of a transaction that noted its key; below it the transaction may be forgotten.
     pub fn write(
         &mut self,
         closed: u64,
@@ -115,7 +116,7 @@ impl Rules {
         key: &Key,
         after: Option<&Value>,
     ) -> Result<Reply, AllocError>
-        requires noted { has key.now (keys_of (transaction_in self.old.txns ts)) ≡ false → version_in self.old.store key.now ts ≡ None }
+        requires noted { closed < ts → has key.now (keys_of (transaction_in self.old.txns ts)) ≡ false → version_in self.old.store key.now ts ≡ None }
         ensures reply { IfOk result (λ reply. (k : Kept) → k.closed ≡ closed → (late : Bool) × (refusal (holding k self.old) seat ts ≡ None → IsLate (holding k self.old) key.now ts late) × (reply ≡ write_reply (holding k self.old) seat ts late)) }
         ensures written { IfOk result (λ reply. (k : Kept) → reply ≡ Written → IsWritten (holding k self.old) (holding k self.new) ts key.now (option_copied after.entry)) }
         ensures too_late { IfOk result (λ reply. (k : Kept) → reply ≡ Refused TooLate → IsAbortedBy (holding k self.old) (holding k self.new) ts) }
@@ -231,6 +232,7 @@ impl Rules {
         ensures err { IfErr result (λ r. (k : Kept) → k.closed ≡ closed → refusal (holding k self.now) seat ts ≡ Some r) }
         ensures other { IfErr result (λ r. r ≡ TooLate → ⊥) }
         ensures in_range { OnOk result ((1 ≤ ts) × (ts ≤ MAX)) }
+        ensures above { OnOk result (closed < ts) }
     {
         if ts <= closed {
             return Err(Refusal::Ended);

@@ -13,10 +13,9 @@ use timestamps::value::Value;
 /// Begins a transaction of seat 0.
 fn begin(rules: &mut Rules, number: u64) -> Result<(), Fail> {
     let ts = Ts::new(number).ok_or("no timestamp")?;
-    if rules.txns.owner(number).is_some() {
+    if !rules.txns.begin(ts, 0)? {
         return Err(Fail::new("it began before"));
     }
-    rules.txns.begin(ts, 0)?;
     Ok(())
 }
 

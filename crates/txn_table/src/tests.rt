@@ -12,14 +12,9 @@ fn ts(number: u64) -> Result<Ts, Fail> {
     }
 }
 
-/// Begins a transaction, where there is none.
-fn begin(txns: &mut Txns, number: u64, seat: u8) -> Result<(), Fail> {
-    let ts = ts(number)?;
-    if txns.owner(ts.get()).is_some() {
-        return Err(Fail::new("it has begun"));
-    }
-    txns.begin(ts, seat)?;
-    Ok(())
+/// Begins a transaction, and answers whether there was none.
+fn begin(txns: &mut Txns, number: u64, seat: u8) -> Result<bool, Fail> {
+    Ok(txns.begin(ts(number)?, seat)?)
 }
 
 /// Notes that a transaction wrote keys of one byte each.
@@ -53,7 +48,7 @@ fn transactions_begin_end_and_go(rt: HostRuntime) -> Result<(), Fail> {
     let mut txns = Txns::new(rt.alloc());
     assert_eq!(rt; txns.oldest_undecided(), None);
     for (number, seat) in [(20, 1), (10, 0), (40, 7), (30, 1)] {
-        begin(&mut txns, number, seat)?;
+        assert!(rt; begin(&mut txns, number, seat)?);
     }
     assert_eq!(rt; txns.owner(40), Some(7));
     assert_eq!(rt; txns.owner(41), None);
@@ -79,7 +74,25 @@ fn transactions_begin_end_and_go(rt: HostRuntime) -> Result<(), Fail> {
     assert_eq!(rt; txns.oldest_undecided(), Some(40));
     txns.forget_through(u64::MAX);
     assert_eq!(rt; txns.undecided(), 0);
-    begin(&mut txns, 10, 3)
+    assert!(rt; begin(&mut txns, 10, 3)?);
+    Ok(())
+}
+
+#[test]
+fn what_has_begun_stays(rt: HostRuntime) -> Result<(), Fail> {
+    let alloc = rt.alloc();
+    let mut txns = Txns::new(alloc);
+    assert!(rt; begin(&mut txns, 10, 1)?);
+    write(alloc, &mut txns, 10, b"a")?;
+    assert!(rt; !begin(&mut txns, 10, 2)?);
+    assert_eq!(rt; txns.oldest_undecided(), Some(10));
+    txns.decide(ts(10)?, Outcome::Committed);
+    assert!(rt; !begin(&mut txns, 10, 2)?);
+    assert_eq!(rt; txns.owner(10), Some(1));
+    assert_eq!(rt; txns.state(10), Some(State::Committed));
+    assert_eq!(rt; written(alloc, &txns, 10)?.as_slice(), b"a".as_slice());
+    assert_eq!(rt; txns.oldest_undecided(), None);
+    Ok(())
 }
 
 #[test]

@@ -1,5 +1,5 @@
 //! The transactions that stand, by timestamp.
-ghost use Rattle.std.specs.Prelude.{◌≡◌, ◌==◌, ◌&&◌, ℕ, List, [], Some, None, IfSome, OnOk, OnErr, IsSome, false, nat_le, nat_lt, option_map, if◌then◌else◌, length};
+ghost use Rattle.std.specs.Prelude.{◌≡◌, ◌==◌, ◌&&◌, ℕ, List, [], Some, None, IfSome, IfOk, OnOk, OnErr, IsSome, false, nat_le, nat_lt, option_map, is_none, unwrap_or, if◌then◌else◌, length};
 ghost use Rattle.std.specs.List.Sorted.{IsStrictlyIncreasing};
 ghost use Rattle.spans.specs.Kept.{Transaction};
 ghost use Rattle.spans.specs.Keys.{insert_key};
@@ -13,6 +13,7 @@ ghost use Rattle.txn_table.specs.TransactionIn.{transaction_in, IsCountOf};
 use crate::changes::{add_key_at, decide_at, forget_transactions, forget_undecided};
 use crate::transaction::{Outcome, State, Transaction};
 use std::alloc::{AllocError, Global};
+use std::collections::btree_map::Entry;
 use std::collections::btree_set::Range;
 use std::collections::{BTreeMap, BTreeSet};
 use std::marker::Model;
@@ -50,21 +51,24 @@ impl Txns {
         }
     }
 
-    /// Begins a transaction of a seat. Where memory is wanting, nothing has begun.
-    pub fn begin(&mut self, ts: Ts, seat: u8) -> Result<(), AllocError>
-        requires free { transaction_in self.old ts ≡ None }
+    /// Begins a transaction of a seat, unless there is one of `ts`, and answers whether it did. It takes
+    /// no memory where there is one; where memory is wanting, nothing has begun.
+    pub fn begin(&mut self, ts: Ts, seat: u8) -> Result<bool, AllocError>
+        ensures new { IfOk result (λ new. new ≡ is_none (transaction_in self.old ts)) }
         ensures ok { OnOk result ((i : ℕ) → transaction_in self.new i
-            ≡ (if ts == i then Some (new_transaction seat) else transaction_in self.old i)) }
+            ≡ (if ts == i then Some (unwrap_or (transaction_in self.old i) (new_transaction seat)) else transaction_in self.old i)) }
         ensures err { OnErr result (self.new ≡ self.old) }
+        ensures free { OnErr result (transaction_in self.old ts ≡ None) }
     {
         let ts = ts.get();
-        self.undecided.insert(ts)?;
-        let transaction = Transaction::new(self.alloc, seat);
-        if self.table.insert(ts, transaction).is_err() {
-            self.undecided.remove(&ts);
-            return Err(AllocError);
+        match self.table.entry(ts)? {
+            Entry::Occupied(_) => Ok(false),
+            Entry::Vacant(place) => {
+                self.undecided.insert(ts)?;
+                place.insert(Transaction::new(self.alloc, seat));
+                Ok(true)
+            }
         }
-        Ok(())
     }
 
     /// The seat that began the transaction of `ts`.
