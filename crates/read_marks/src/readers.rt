@@ -9,6 +9,7 @@ use crate::extent::Extent;
 use crate::patch::Patch;
 use std::alloc::{AllocError, Global};
 use std::marker::Model;
+use timestamps::halves::Halves;
 
 /// Timestamps that rise.
 #[derive(Debug, Drop)]
@@ -66,7 +67,11 @@ impl Readers {
         ensures bound { result ≤ length self.now }
         ensures rises { IsNonDecreasing self.now }
     {
-        self.list.partition_point(|reader| *reader <= ts)
+        let mut left = Halves::of(self.list.len());
+        while left.size > 0 {
+            left = left.after(self.list[left.middle()], ts);
+        }
+        left.low
     }
 
     /// Whether one is above `above` and, where `to` is given, at most that.

@@ -3,7 +3,8 @@
 //! A [`Timestamp`](ts::Ts) is a number from 1 to 9223372036854775807, so that 0 can mean "before all"
 //! and one more still fits a `u64`. A key is 1 to 64 bytes, ordered byte by byte; a value is 0 to 1024
 //! bytes. Contracts see a timestamp as its number, a key or a value as its list of bytes. Threads that
-//! want timestamps of their own lease them, 32 at a time, from an [`Oracle`](oracle::Oracle).
+//! want timestamps of their own lease them, 32 at a time, from an [`Oracle`](oracle::Oracle). A rising
+//! list of timestamps is searched by [`Halves`](halves::Halves).
 //!
 //! ```text
 //! Ts::new(0)            None                  Key::new(alloc, b"")      Err(KeyLength)
@@ -13,10 +14,12 @@
 //! ```
 //!
 //! Cost: making and copying a key or a value copies its bytes once; comparing two is one comparison
-//! of memory. A draw of 32 timestamps is two steps on one word, and takes no memory.
+//! of memory. A draw of 32 timestamps is two steps on one word, and takes no memory. A search reads as
+//! many timestamps as the length of the list has binary digits.
 #![tactic(auto)]
 
 mod blocks;
+pub mod halves;
 pub mod key;
 pub mod lease;
 #[cfg(test)]

@@ -8,6 +8,7 @@ ghost use Rattle.version_chain.specs.Versions.{DoRise, version_of, committed, Is
 use crate::steps::Steps;
 use std::alloc::{AllocError, Global};
 use std::marker::Model;
+use timestamps::halves::Halves;
 use timestamps::ts::Ts;
 use timestamps::value::Value;
 
@@ -66,17 +67,12 @@ impl Chain {
         ensures place { IsPlaceAbove self.now t result }
         ensures steps { (d : ℕ) → length self.now < 2 ^ d → steps.new.count ≤ steps.old.count + d }
     {
-        let mut low = 0;
-        let mut high = self.versions.len();
-        while low < high {
-            let middle = low + (high - low) / 2;
-            if self.ts_at(middle, steps) <= t {
-                low = middle + 1;
-            } else {
-                high = middle;
-            }
+        let mut left = Halves::of(self.versions.len());
+        while left.size > 0 {
+            let read = self.ts_at(left.middle(), steps);
+            left = left.after(read, t);
         }
-        low
+        left.low
     }
 
     /// The same number. The last version is looked at first, since writes and commits come mostly there.

@@ -1,10 +1,20 @@
-use Rattle.std.proofs.Common.{◌≡◌, leb, rules, ◌∙◌}
+use Rattle.std.proofs.Common.{get_or, arith, subst, sym, ◌∙◌, ap}
+use Rattle.std.proofs.lemmas.Bool.{le-leb, lt-leb}
+use Rattle.std.proofs.lemmas.List.{get_or_default}
 use Rattle.std.specs.List.Sorted.{IsNonDecreasing}
-use Rattle.std.proofs.lemmas.List.Sorted.{IsPartitionPoint-from_clause, IsPartitionedBy-leb}
 use Rattle.read_marks.proofs.readers.Readers.count_through.Goals as goal
 
+pub loop-left-preserved : goal.loop-left-preserved
+loop-left-preserved c = record {
+  within = omega arith;
+  left = λ d. c.after-left.ensures.left (λ k. get_or c.args.self.now k d) _
+      (λ i j le lt. (subst IsNonDecreasing c.self.view_is c.self.invariant) i j d le lt)
+      (rw (← c.middle.ensures) (sym (c.index.ensures ∙ ap (λ xs. get_or xs c.middle.result c.index.result.now) c.self.view_is ∙ get_or_default c.args.self.now c.middle.result _ d (omega arith))))
+      (c.loop-left.invariant.left d);
+}
+
 pub returns-clause-splits : goal.returns-clause-splits
-returns-clause-splits c =
-    let same : c.deref.result.now ≡ c.args.self.now = c.deref.ensures.value ∙ c.self.view_is in
-    let up : IsNonDecreasing c.deref.result.now = rw c.deref.ensures.value c.self.invariant in
-    rw (← same) (IsPartitionPoint-from_clause (λ x. leb x c.args.ts) _ _ c.partition_point.ensures.partitioned (IsPartitionedBy-leb (λ x. x) _ c.args.ts up) (λ a r q k. search rules))
+returns-clause-splits c = (
+  (λ k d low lt. le-leb _ _ ((c.loop-left.invariant.left d).below k lt)),
+  (λ k d at lt. lt-leb _ _ ((c.loop-left.invariant.left d).above k (omega arith) lt)),
+)

@@ -1,29 +1,25 @@
-use Rattle.std.proofs.Common.{◌≤◌, ◌+◌, ◌-◌, ◌/◌, get_or, arith, subst}
+use Rattle.std.proofs.Common.{get_or, arith, subst, sym}
 use Rattle.version_chain.specs.Versions.{DoRise}
 use Rattle.version_chain.proofs.Places.{up_to}
 use Rattle.version_chain.proofs.Halves.{half_is_left}
 use Rattle.version_chain.proofs.chain.Chain.place_above.Goals as goal
 
-pub loop-low-preserved-then-ts_at-t : goal.loop-low-preserved-then-ts_at-t
-loop-low-preserved-then-ts_at-t c = record {
-  ordered = omega arith;
-  within = c.loop-low.invariant.within;
-  below = λ k d lt.
-      let first : (get_or c.args.self.now k d).ts ≤ (get_or c.args.self.now (c.loop-low.low + (c.loop-low.high - c.loop-low.low) / 2) d).ts = up_to c.args.self.now k _ d (subst DoRise c.self.view_is c.self.invariant) (omega arith) (omega arith) in
-      let read = c.ts_at.ensures.ts d in
-      omega arith;
-  above = c.loop-low.invariant.above;
-  steps = λ d lt. rw c.ts_at.ensures.steps (half_is_left _ _ _ _ _ (omega arith) (omega arith) (c.loop-low.invariant.steps d lt));
+pub ts_at-read-requires : goal.ts_at-read-requires
+ts_at-read-requires c = omega arith
+
+pub loop-left-preserved : goal.loop-left-preserved
+loop-left-preserved c = record {
+  within = omega arith;
+  left = λ d. c.after-left.ensures.left (λ k. (get_or c.args.self.now k d).ts) _
+      (λ i j le lt. up_to c.args.self.now i j d (subst DoRise c.self.view_is c.self.invariant) le lt)
+      (rw (← c.middle.ensures) (sym (c.ts_at-read.ensures.ts d)))
+      (c.loop-left.invariant.left d);
+  steps = λ d lt. rw c.ts_at-read.ensures.steps (half_is_left _ _ _ _ _ (omega arith) (omega arith) (c.loop-left.invariant.steps d lt));
 }
 
-pub loop-low-preserved : goal.loop-low-preserved
-loop-low-preserved c = record {
-  ordered = omega arith;
+pub returns-clause-place : goal.returns-clause-place
+returns-clause-place c = record {
   within = omega arith;
-  below = c.loop-low.invariant.below;
-  above = λ k d at lt.
-      let last : (get_or c.args.self.now (c.loop-low.low + (c.loop-low.high - c.loop-low.low) / 2) d).ts ≤ (get_or c.args.self.now k d).ts = up_to c.args.self.now _ k d (subst DoRise c.self.view_is c.self.invariant) at lt in
-      let read = c.ts_at.ensures.ts d in
-      omega arith;
-  steps = λ d lt. rw c.ts_at.ensures.steps (half_is_left _ _ _ _ _ (omega arith) (omega arith) (c.loop-low.invariant.steps d lt));
+  below = λ k d lt. (c.loop-left.invariant.left d).below k lt;
+  above = λ k d at lt. (c.loop-left.invariant.left d).above k (omega arith) lt;
 }

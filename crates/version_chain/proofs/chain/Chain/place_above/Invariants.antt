@@ -1,16 +1,15 @@
-use Rattle.std.proofs.Common.{ℕ, ◌+◌, ◌-◌, ◌^◌, ◌<◌, ◌≤◌, length, get_or}
+use Rattle.std.proofs.Common.{ℕ, ◌+◌, ◌^◌, ◌<◌, ◌≤◌, length, get_or}
+use Rattle.timestamps.specs.Halves.{AreLeft}
 use Rattle.version_chain.specs.declared.chain.Version.{Version}
 use Rattle.version_chain.proofs.chain.Chain.place_above.Given as goal
 
 -- what is left to search has at most as many binary digits as there are steps left
-abbrev pub invariant-loop-low : goal.invariant-loop-low
-invariant-loop-low l = record {
-  ordered : l.low ≤ l.high;
-  within : l.high ≤ length l.self;
-  below : (k : ℕ) (d : Version) → k < l.low → (get_or l.self k d).ts ≤ l.t;
-  above : (k : ℕ) (d : Version) → l.high ≤ k → k < length l.self → l.t < (get_or l.self k d).ts;
-  steps : (d : ℕ) → length l.self < 2 ^ d → (e : ℕ) × (l.high - l.low < 2 ^ e) × (l.steps.count + e ≤ l.fn.steps.count + d);
+abbrev pub invariant-loop-left : goal.invariant-loop-left
+invariant-loop-left l = record {
+  within : l.left.low + l.left.size ≤ length l.self;
+  left : (d : Version) → AreLeft (λ k. (get_or l.self k d).ts) (length l.self) l.t l.left.low l.left.size;
+  steps : (d : ℕ) → length l.self < 2 ^ d → (e : ℕ) × (l.left.size < 2 ^ e) × (l.steps.count + e ≤ l.fn.steps.count + d);
 }
 
-abbrev pub decreases-loop-low : goal.decreases-loop-low
-decreases-loop-low l = l.high - l.low
+abbrev pub decreases-loop-left : goal.decreases-loop-left
+decreases-loop-left l = l.left.size
