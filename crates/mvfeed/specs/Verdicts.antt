@@ -1,7 +1,7 @@
 -- What the check of a text says.
 use Rattle.std.specs.Prelude.{ℕ, List, ◌++◌, ◌≡◌, Ok, Err, decimal, codes}
 use Rattle.spans.specs.declared.calls.events.Event.{Event}
-use Rattle.script.specs.Events.{fault_line}
+use Rattle.word_lines.specs.Events.{fault_line}
 use Rattle.script.specs.Transcripts.{Fault, transcript_at}
 use Rattle.trace_check.specs.Traces.{IsTrace, IsFirstWrong}
 use Rattle.mvfeed.specs.declared.ending.End.{End}

@@ -4,11 +4,11 @@ ghost use Rattle.mvfeed.specs.Verdicts.{IsVerdict};
 
 use crate::ending::End;
 use json_lines::numbers::put_number;
-use script::events::write_fault;
 use script::fault::TranscriptError;
 use script::transcripts::read_transcript;
 use std::alloc::{AllocError, Global};
 use trace_check::{Verdict, check};
+use word_lines::events::write_fault;
 
 /// How the check of a text ends, and what it writes: `yes` where the text is a transcript that the
 /// database could have written, else `no P` with the position of the first event where it isn't. A text

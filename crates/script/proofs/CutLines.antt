@@ -1,12 +1,16 @@
 -- The lines of a text, one by one.
-use Rattle.std.proofs.Common.{◌≡◌, ℕ, suc, ◌+◌, ◌<◌, ◌≤◌, Bool, true, false, cond, List, [], ◌∷◌, length, take, drop, Some, None, refl, sym, ap, subst, ◌∙◌, inl, inr, arith}
-use Rattle.std.specs.Prelude.{◌==◌, position}
-use Rattle.std.specs.List.{onto_first, position_or_len, concat}
+use Rattle.std.proofs.Common.{◌≡◌, ℕ, suc, ◌+◌, ◌<◌, ◌≤◌, Bool, true, false, cond, List, [], ◌∷◌, ◌++◌, length, take, drop, Some, None, refl, sym, ap, subst, ◌∙◌, inl, inr, arith}
+use Rattle.std.specs.Prelude.{not, ◌==◌, nat_le, position}
+use Rattle.std.specs.List.{AllByRecursion, list_all, onto_first, position_or_len, concat}
 use Rattle.std.proofs.lemmas.List.Recursion.{is_position_or_len}
-use Rattle.std.proofs.lemmas.Bool.{ne_eqb, eqb-true}
+use Rattle.std.proofs.lemmas.Bool.{ne_eqb, eqb-true, leb-true}
 use Rattle.std.proofs.lemmas.List.{nil_from_length}
+use Rattle.word_lines.specs.Commands.{joined}
+use Rattle.word_lines.specs.Words.{is_printable}
+use Rattle.word_lines.proofs.JoinedParts.{Lacks, is_false, IsWord, joined_printable}
+use Rattle.word_lines.proofs.Spellings.{both}
 use Rattle.script.specs.Lines.{is_newline, lines_of}
-use Rattle.script.proofs.Splitting.{place_cases}
+use Rattle.word_lines.proofs.Splitting.{place_cases}
 
 -- how many bytes stand before the first newline
 abbrev before_newline : List ℕ → ℕ
@@ -95,3 +99,26 @@ pub lines_whole : (text : List ℕ) → concat (lines_of text) ≡ text
 unfolding lines_of
 lines_whole [] = refl
 lines_whole (b ∷ text) = concat_step (is_newline b) b (lines_of text) ∙ ap (λ (x : List ℕ). b ∷ x) (lines_whole text)
+
+-- ---- lines that were ended by a newline
+
+-- a line that stands before others
+pub lines_again : (text rest : List ℕ) → Lacks 10 text → lines_of (text ++ 10 ∷ rest) ≡ (text ++ 10 ∷ []) ∷ lines_of rest
+unfolding lines_of
+lines_again [] rest lack = refl
+lines_again (b ∷ text) rest lack =
+    let h = both (not (b == 10)) (list_all (λ x. not (x == 10)) text) lack in
+    ap (λ (s : Bool). cond s ((b ∷ []) ∷ lines_of (text ++ 10 ∷ rest)) (onto_first b (lines_of (text ++ 10 ∷ rest)))) (is_false (b == 10) h.0)
+    ∙ ap (onto_first b) (lines_again text rest h.1)
+
+-- what is printable has no newline
+no_newline : (text : List ℕ) → list_all is_printable text ≡ true → Lacks 10 text
+no_newline [] e = refl
+no_newline (b ∷ text) e =
+    let h = both (is_printable b) (list_all is_printable text) e in
+    let low : 32 ≤ b = leb-true 32 b (both (nat_le 32 b) (nat_le b 126) h.0).0 in
+    rw (ne_eqb b 10 (λ e. absurd (omega (arith, e, low)))) (no_newline text h.1)
+
+-- a line of words that stands before others
+pub words_line_again : (ws : List (List ℕ)) (rest : List ℕ) → AllByRecursion IsWord ws → lines_of (joined ws ++ 10 ∷ rest) ≡ (joined ws ++ 10 ∷ []) ∷ lines_of rest
+words_line_again ws rest is = lines_again (joined ws) rest (no_newline (joined ws) (joined_printable ws is))

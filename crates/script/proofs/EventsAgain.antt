@@ -17,26 +17,28 @@ use Rattle.spans.specs.declared.calls.replies.Reply.{Reply}
 use Rattle.spans.specs.declared.calls.replies.Reply.TheVariants as reply
 use Rattle.spans.specs.declared.calls.replies.Refusal.{Refusal}
 use Rattle.spans.specs.declared.calls.replies.Refusal.TheVariants as refusal
-use Rattle.script.specs.declared.fault.LineFault.{LineFault}
+use Rattle.word_lines.specs.declared.fault.LineFault.{LineFault}
 use Rattle.script.specs.declared.reply_reading.Shape.{Shape}
 use Rattle.script.specs.declared.reply_reading.Shape.TheVariants as shape
-use Rattle.script.specs.Spelling.{spelling}
-use Rattle.script.specs.Words.{text_at}
+use Rattle.word_lines.specs.Spelling.{spelling}
+use Rattle.word_lines.specs.Words.{text_at}
 use Rattle.script.specs.Lines.{Place, lines_of}
 use Rattle.json_lines.specs.Messages.{IsMessage, IsAfter}
-use Rattle.script.specs.Limits.{IsNumber, IsPair, IsRefusal, IsReply, IsEvent, KeepsLimit}
-use Rattle.script.specs.Commands.{joined, words_of}
-use Rattle.script.specs.Messages.{symbols, base64, after_text, message_line}
-use Rattle.script.specs.Replies.{row_line, refusal_words, reply_words, following_lines}
-use Rattle.script.specs.Events.{heading_text, event_text, transcript_text}
+use Rattle.word_lines.specs.Limits.{IsNumber, IsPair, IsRefusal, IsReply, IsEvent, KeepsLimit}
+use Rattle.word_lines.specs.Commands.{joined, words_of}
+use Rattle.json_lines.specs.Messages.{symbols, base64, after_text, message_line}
+use Rattle.word_lines.specs.Replies.{row_line, refusal_words, reply_words, following_lines}
+use Rattle.word_lines.specs.Events.{heading_text, event_text}
 use Rattle.script.specs.ReplyReading.{refusal_at, stats_at, shape_at, named_at, reply_at}
 use Rattle.script.specs.EventLines.{behind_arrow, heading_of, heading_at, pair_at, pair_of, row_line_at, message_line_at}
-use Rattle.script.specs.Transcripts.{Fault, next_at, many_at, following_at, event_at, events_at, transcript_at}
-use Rattle.script.proofs.JoinedParts.{Lacks, IsWord, text_again, words_again, lines_again, words_line_again, decimal_all}
-use Rattle.script.proofs.WrittenWords.{number_word, number_length, bytes_word, bytes_few, words_then, joined_few, command_words, reply_are_words}
-use Rattle.script.proofs.CommandsAgain.{number_again, session_again, key_again, value_again, read_again}
+use Rattle.script.specs.Transcripts.{Fault, next_at, many_at, following_at, event_at, events_at, transcript_at, transcript_text}
+use Rattle.word_lines.proofs.JoinedParts.{Lacks, IsWord, text_again, words_again, decimal_all}
+use Rattle.word_lines.proofs.WrittenWords.{number_word, number_length, bytes_word, bytes_few, words_then, joined_few, command_words}
+use Rattle.script.proofs.WrittenReplies.{reply_are_words}
+use Rattle.word_lines.proofs.CommandsAgain.{number_again, session_again, key_again, value_again, read_again}
 use Rattle.script.proofs.MessageLines.{message_only, base64_all}
-use Rattle.script.proofs.Joining.{some_words}
+use Rattle.word_lines.proofs.Joining.{some_words}
+use Rattle.script.proofs.CutLines.{lines_again, words_line_again}
 use Rattle.script.proofs.TakeLines.{event_fewer}
 
 -- ---- replies

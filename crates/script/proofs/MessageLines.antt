@@ -13,20 +13,20 @@ use Rattle.base64.specs.GeneralPurpose.{decoded_of}
 use Rattle.base64.proofs.EngineFacts.{decode_of-encode_of}
 use Rattle.spans.specs.declared.calls.messages.Message.{Message}
 use Rattle.spans.specs.declared.calls.messages.Message.TheVariants as message
-use Rattle.script.specs.declared.fault.LineFault.TheVariants.{Follow}
-use Rattle.script.specs.Spelling.{AreBytes}
-use Rattle.script.specs.Words.{text_at}
+use Rattle.word_lines.specs.declared.fault.LineFault.TheVariants.{Follow}
+use Rattle.word_lines.specs.Spelling.{AreBytes}
+use Rattle.word_lines.specs.Words.{text_at}
 use Rattle.json_lines.specs.Messages.{IsTimestamp, IsKey, IsMessage}
-use Rattle.script.specs.Messages.{symbols, base64, message_line}
+use Rattle.json_lines.specs.Messages.{symbols, base64, message_line}
 use Rattle.script.specs.MessageReading.{between, is_lawful, message_of}
 use Rattle.json_lines.specs.declared.fault.MessageFault.{MessageFault}
 use Rattle.json_lines.specs.declared.fault.MessageFault.TheVariants.{NotJson, Shape, Number, Base64, Length, NoMemory}
-use Rattle.script.specs.Reading.{Fails}
+use Rattle.word_lines.specs.Reading.{Fails}
 use Rattle.script.specs.EventLines.{message_line_at, read_error_of}
-use Rattle.script.proofs.JoinedParts.{Lacks, split_joined, decimal_all}
-use Rattle.script.proofs.NumberWords.{number_only}
-use Rattle.script.proofs.SpelledWords.{some_of, chosen}
-use Rattle.script.proofs.Spellings.{both}
+use Rattle.word_lines.proofs.JoinedParts.{Lacks, split_joined, decimal_all}
+use Rattle.json_lines.proofs.NumberWords.{number_only}
+use Rattle.word_lines.proofs.SpelledWords.{some_of, chosen}
+use Rattle.word_lines.proofs.Spellings.{both}
 
 -- ---- a message in range
 

@@ -12,29 +12,29 @@ use Rattle.spans.specs.declared.calls.events.Event.{Event}
 use Rattle.spans.specs.declared.calls.messages.Message.{Message}
 use Rattle.spans.specs.declared.calls.replies.Reply.{Reply}
 use Rattle.spans.specs.declared.calls.replies.Reply.TheVariants as reply
-use Rattle.script.specs.declared.fault.LineFault.{LineFault}
-use Rattle.script.specs.declared.fault.LineFault.TheVariants.{WordCount, Follow}
+use Rattle.word_lines.specs.declared.fault.LineFault.{LineFault}
+use Rattle.word_lines.specs.declared.fault.LineFault.TheVariants.{WordCount, Follow}
 use Rattle.script.specs.declared.headings.Heading.{Heading}
 use Rattle.script.specs.declared.reply_reading.Shape.{Shape}
 use Rattle.script.specs.declared.reply_reading.Shape.TheVariants as shape
-use Rattle.script.specs.Words.{text_at, words_at}
-use Rattle.script.specs.Table.{table}
-use Rattle.script.specs.Spelling.{spelling}
+use Rattle.word_lines.specs.Words.{text_at, words_at}
+use Rattle.word_lines.specs.Table.{table}
+use Rattle.word_lines.specs.Spelling.{spelling}
 use Rattle.script.specs.Lines.{Place, lines_of}
 use Rattle.json_lines.specs.Messages.{IsMessage}
-use Rattle.script.specs.Limits.{IsNumber, IsCommand, IsPair, IsReply, IsEvent}
-use Rattle.script.specs.Commands.{joined, words_of}
-use Rattle.script.specs.Messages.{message_line}
+use Rattle.word_lines.specs.Limits.{IsNumber, IsCommand, IsPair, IsReply, IsEvent}
+use Rattle.word_lines.specs.Commands.{joined, words_of}
+use Rattle.json_lines.specs.Messages.{message_line}
 use Rattle.script.specs.MessageReading.{message_of}
-use Rattle.script.specs.Replies.{row_line, reply_words, following_lines}
-use Rattle.script.specs.Events.{event_text, transcript_text}
-use Rattle.script.specs.Reading.{◌>>=◌, word_at, number_at, session_at, key_at, value_at, row_at, arguments_at}
+use Rattle.word_lines.specs.Replies.{row_line, reply_words, following_lines}
+use Rattle.word_lines.specs.Events.{event_text}
+use Rattle.word_lines.specs.Reading.{◌>>=◌, word_at, number_at, session_at, key_at, value_at, row_at, arguments_at}
 use Rattle.script.specs.ReplyReading.{told_as, to_the_end, reply_at}
 use Rattle.script.specs.EventLines.{behind_arrow, heading_of, heading_at, pair_at, pair_of, row_line_at, message_line_at}
-use Rattle.script.specs.Transcripts.{next_at, many_at, following_at, event_at, events_at, transcript_at, Tells}
+use Rattle.script.specs.Transcripts.{next_at, many_at, following_at, event_at, events_at, transcript_at, transcript_text, Tells}
 use Rattle.script.specs.declared.fault.TranscriptError.{TranscriptError}
-use Rattle.script.proofs.ReadWords.{bind_ok, guarded, refused, some_ok, ok_is, number_word, session_word, key_word, value_word, word_found}
-use Rattle.script.proofs.ReadCommands.{IsRight, Begins, name_of, arity_of, arguments_found, text_found, words_found, row_word}
+use Rattle.word_lines.proofs.ReadWords.{bind_ok, guarded, refused, some_ok, ok_is, number_word, session_word, key_word, value_word, word_found}
+use Rattle.word_lines.proofs.ReadCommands.{IsRight, Begins, name_of, arity_of, arguments_found, text_found, words_found, row_word}
 use Rattle.script.proofs.ReadReplies.{shape_words, IsShape, reply_found, ended, told}
 use Rattle.script.proofs.MessageLines.{message_found}
 use Rattle.script.proofs.TakeLines.{next_found, event_fewer}

@@ -9,20 +9,20 @@ use Rattle.spans.specs.declared.calls.replies.Reply.{Reply}
 use Rattle.spans.specs.declared.calls.replies.Reply.TheVariants as reply
 use Rattle.spans.specs.declared.calls.replies.Refusal.{Refusal}
 use Rattle.spans.specs.declared.calls.replies.Refusal.TheVariants as refusal
-use Rattle.script.specs.declared.fault.LineFault.{LineFault}
-use Rattle.script.specs.declared.fault.LineFault.TheVariants as fault
+use Rattle.word_lines.specs.declared.fault.LineFault.{LineFault}
+use Rattle.word_lines.specs.declared.fault.LineFault.TheVariants as fault
 use Rattle.script.specs.declared.reply_table.Kind.{Kind}
 use Rattle.script.specs.declared.reply_table.Kind.TheVariants as kind
 use Rattle.script.specs.declared.reply_table.Reason.{Reason}
 use Rattle.script.specs.declared.reply_table.Reason.TheVariants as reason
 use Rattle.script.specs.declared.reply_reading.Shape.{Shape}
 use Rattle.script.specs.declared.reply_reading.Shape.TheVariants as shape
-use Rattle.script.specs.Limits.{IsNumber, IsRefusal, IsReply}
-use Rattle.script.specs.Reading.{◌>>=◌, word_at, number_at, value_at}
-use Rattle.script.specs.Replies.{refusal_words, reply_words, following_lines}
+use Rattle.word_lines.specs.Limits.{IsNumber, IsRefusal, IsReply}
+use Rattle.word_lines.specs.Reading.{◌>>=◌, word_at, number_at, value_at}
+use Rattle.word_lines.specs.Replies.{refusal_words, reply_words, following_lines}
 use Rattle.script.specs.ReplyTable.{replies, kind_of}
 use Rattle.script.specs.ReplyReading.{told_as, to_the_end, of_number, of_two, refusal_at, stats_at, shape_at, named_at, reply_at}
-use Rattle.script.proofs.ReadWords.{bind_ok, guarded, some_ok, ok_is, pure, number_word, value_word, word_found}
+use Rattle.word_lines.proofs.ReadWords.{bind_ok, guarded, some_ok, ok_is, pure, number_word, value_word, word_found}
 
 -- the words of a reply of which the lines that follow aren't read yet
 unfoldable pub shape_words : Shape → List (List ℕ)

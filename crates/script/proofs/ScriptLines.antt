@@ -5,21 +5,21 @@ use Rattle.std.specs.List.{All, AllByRecursion, concat}
 use Rattle.std.proofs.lemmas.List.{append-nil}
 use Rattle.std.proofs.lemmas.List.Elements.{All-from_recursion, recursion_from_All}
 use Rattle.spans.specs.declared.calls.commands.Cmd.{Cmd}
-use Rattle.script.specs.declared.fault.LineFault.{LineFault}
+use Rattle.word_lines.specs.declared.fault.LineFault.{LineFault}
 use Rattle.script.specs.declared.fault.TranscriptError.{TranscriptError}
 use Rattle.script.specs.declared.fault.TranscriptError.TheVariants as errors
-use Rattle.script.specs.Commands.{joined, words_of}
-use Rattle.script.specs.Limits.{IsNumber}
+use Rattle.word_lines.specs.Commands.{joined, words_of}
+use Rattle.word_lines.specs.Limits.{IsNumber}
 use Rattle.script.specs.Lines.{Place, lines_of}
-use Rattle.script.specs.Reading.{command_at}
-use Rattle.script.specs.Table.{table}
+use Rattle.word_lines.specs.Reading.{command_at}
+use Rattle.word_lines.specs.Table.{table}
 use Rattle.script.specs.Transcripts.{Fails, at_line}
 use Rattle.script.specs.Scripts.{Script, onto_script, script_of_lines, script_at, above, IsCall, call_line, script_text, TellsScript}
-use Rattle.script.proofs.ReadCommands.{command_found}
-use Rattle.script.proofs.CommandsAgain.{command_again}
-use Rattle.script.proofs.CutLines.{lines_whole}
-use Rattle.script.proofs.JoinedParts.{IsWord, words_line_again}
-use Rattle.script.proofs.WrittenWords.{number_word, command_words}
+use Rattle.word_lines.proofs.ReadCommands.{command_found}
+use Rattle.word_lines.proofs.CommandsAgain.{command_again}
+use Rattle.script.proofs.CutLines.{lines_whole, words_line_again}
+use Rattle.word_lines.proofs.JoinedParts.{IsWord}
+use Rattle.word_lines.proofs.WrittenWords.{number_word, command_words}
 
 -- ---- a loop over lines
 

@@ -10,12 +10,12 @@ use Rattle.script.specs.declared.headings.Heading.{Heading}
 use Rattle.script.specs.declared.reply_reading.Shape.{Shape}
 use Rattle.script.specs.declared.reply_reading.Shape.TheVariants as shape
 use Rattle.script.specs.EventLines.{heading_at, row_line_at, message_line_at}
-use Rattle.script.specs.declared.fault.LineFault.{LineFault}
+use Rattle.word_lines.specs.declared.fault.LineFault.{LineFault}
 use Rattle.script.specs.declared.fault.TranscriptError.{TranscriptError}
 use Rattle.script.specs.declared.fault.TranscriptError.TheVariants as errors
-use Rattle.script.proofs.ReadWords.{bind_ok, ok_is}
+use Rattle.word_lines.proofs.ReadWords.{bind_ok, ok_is}
 use Rattle.script.specs.Lines.{Place, lines_of}
-use Rattle.script.specs.Reading.{◌>>=◌}
+use Rattle.word_lines.specs.Reading.{◌>>=◌}
 use Rattle.script.specs.Transcripts.{Fault, Fails, at_line, first_of, next_at, many_at, following_at, event_at, events_at, transcript_at}
 
 -- what was read before, and what is still read

@@ -1,16 +1,16 @@
 -- Reading the lines of an event, each alone.
 use Rattle.std.specs.Prelude.{ℕ, ◌+◌, nat_lt, if◌then◌else◌, List, [], length, drop, slice_index_or, codes, Result, Ok, Err, ok_or, bytes_eq}
 use Rattle.spans.specs.declared.calls.messages.Message.{Message}
-use Rattle.script.specs.declared.fault.LineFault.{LineFault}
-use Rattle.script.specs.declared.fault.LineFault.TheVariants.{WordCount, Follow}
-use Rattle.script.specs.declared.fault.ReadError.{ReadError}
-use Rattle.script.specs.declared.fault.ReadError.TheVariants as errors
+use Rattle.word_lines.specs.declared.fault.LineFault.{LineFault}
+use Rattle.word_lines.specs.declared.fault.LineFault.TheVariants.{WordCount, Follow}
+use Rattle.word_lines.specs.declared.fault.ReadError.{ReadError}
+use Rattle.word_lines.specs.declared.fault.ReadError.TheVariants as errors
 use Rattle.json_lines.specs.declared.fault.MessageFault.{MessageFault}
 use Rattle.json_lines.specs.declared.fault.MessageFault.TheVariants as message_faults
 use Rattle.script.specs.declared.headings.Heading.{Heading}
-use Rattle.script.specs.Words.{text_at, words_at}
-use Rattle.script.specs.Table.{table}
-use Rattle.script.specs.Reading.{◌>>=◌, word_at, number_at, session_at, key_at, value_at, row_at, arguments_at}
+use Rattle.word_lines.specs.Words.{text_at, words_at}
+use Rattle.word_lines.specs.Table.{table}
+use Rattle.word_lines.specs.Reading.{◌>>=◌, word_at, number_at, session_at, key_at, value_at, row_at, arguments_at}
 use Rattle.script.specs.ReplyReading.{told_as, to_the_end, reply_at}
 use Rattle.script.specs.MessageReading.{message_of}
 

@@ -1,16 +1,3 @@
-pub use Rattle.json_lines.specs.Writing
-pub use Rattle.json_lines.specs.Numbers
-pub use Rattle.json_lines.specs.Messages
-pub mod Spelling
-pub mod Words
-pub mod Table
-pub mod Reading
-pub mod Commands
-pub mod Replies
-pub mod Events
-pub mod Faults
-pub mod SpelledBytes
-pub mod Limits
 pub mod ReplyTable
 pub mod ReplyReading
 pub mod Lines

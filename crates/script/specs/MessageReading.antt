@@ -5,8 +5,8 @@ use Rattle.base64.specs.Engines.{standard}
 use Rattle.base64.specs.GeneralPurpose.{decoded_of}
 use Rattle.spans.specs.declared.calls.messages.Message.{Message}
 use Rattle.spans.specs.declared.calls.messages.Message.TheVariants as message
-use Rattle.script.specs.Numbers.{number_of}
-use Rattle.script.specs.Messages.{message_line}
+use Rattle.json_lines.specs.Numbers.{number_of}
+use Rattle.json_lines.specs.Messages.{message_line}
 
 -- the row of a timestamp, a key and a value
 abbrev row_of : ℕ → List ℕ → Option (List ℕ) → Message

@@ -4,15 +4,15 @@ use Rattle.spans.specs.declared.calls.replies.Reply.{Reply}
 use Rattle.spans.specs.declared.calls.replies.Reply.TheVariants as reply
 use Rattle.spans.specs.declared.calls.replies.Refusal.{Refusal}
 use Rattle.spans.specs.declared.calls.replies.Refusal.TheVariants as refusal
-use Rattle.script.specs.declared.fault.LineFault.{LineFault}
-use Rattle.script.specs.declared.fault.LineFault.TheVariants as fault
+use Rattle.word_lines.specs.declared.fault.LineFault.{LineFault}
+use Rattle.word_lines.specs.declared.fault.LineFault.TheVariants as fault
 use Rattle.script.specs.declared.reply_table.Kind.{Kind}
 use Rattle.script.specs.declared.reply_table.Kind.TheVariants as kind
 use Rattle.script.specs.declared.reply_table.Reason.{Reason}
 use Rattle.script.specs.declared.reply_table.Reason.TheVariants as reason
 use Rattle.script.specs.declared.reply_reading.Shape.{Shape}
 use Rattle.script.specs.declared.reply_reading.Shape.TheVariants as shape
-use Rattle.script.specs.Reading.{◌>>=◌, word_at, number_at, value_at}
+use Rattle.word_lines.specs.Reading.{◌>>=◌, word_at, number_at, value_at}
 use Rattle.script.specs.ReplyTable.{replies, kind_of}
 
 -- any fault told as this one

@@ -2,14 +2,14 @@
 use Rattle.std.specs.Prelude.{◌≡◌, ℕ, ◌+◌, ◌<◌, List, [], ◌∷◌, ◌++◌, Option, Some, None, Result, Ok, Err}
 use Rattle.std.specs.List.{flat_map}
 use Rattle.spans.specs.declared.calls.commands.Cmd.{Cmd}
-use Rattle.script.specs.declared.fault.LineFault.{LineFault}
+use Rattle.word_lines.specs.declared.fault.LineFault.{LineFault}
 use Rattle.script.specs.declared.fault.TranscriptError.{TranscriptError}
 use Rattle.script.specs.declared.fault.TranscriptError.TheVariants as errors
-use Rattle.script.specs.Commands.{command_line}
-use Rattle.script.specs.Limits.{IsCommand}
+use Rattle.word_lines.specs.Commands.{command_line}
+use Rattle.word_lines.specs.Limits.{IsCommand}
 use Rattle.script.specs.Lines.{lines_of}
-use Rattle.script.specs.Reading.{command_at}
-use Rattle.script.specs.Table.{table}
+use Rattle.word_lines.specs.Reading.{command_at}
+use Rattle.word_lines.specs.Table.{table}
 use Rattle.script.specs.Transcripts.{Fault}
 
 -- the sessions and the commands of an input's lines up to the first faulty one, and that one's number and fault

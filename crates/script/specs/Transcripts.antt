@@ -1,19 +1,25 @@
 -- Reading transcripts from the first line to the last: the events, or the first fault with the number of its line.
 use Rattle.std.specs.Prelude.{◌≡◌, ℕ, zero, suc, ◌+◌, ◌==◌, if◌then◌else◌, List, [], ◌∷◌, length, Result, Ok, Err}
+use Rattle.std.specs.List.{flat_map}
 use Rattle.spans.specs.declared.calls.events.Event.{Event}
 use Rattle.spans.specs.declared.calls.replies.Reply.{Reply}
 use Rattle.spans.specs.declared.calls.replies.Reply.TheVariants as reply
-use Rattle.script.specs.declared.fault.LineFault.{LineFault}
-use Rattle.script.specs.declared.fault.LineFault.TheVariants.{Follow}
-use Rattle.script.specs.declared.fault.ReadError.{ReadError}
-use Rattle.script.specs.declared.fault.ReadError.TheVariants as read_error
+use Rattle.word_lines.specs.declared.fault.LineFault.{LineFault}
+use Rattle.word_lines.specs.declared.fault.LineFault.TheVariants.{Follow}
+use Rattle.word_lines.specs.declared.fault.ReadError.{ReadError}
+use Rattle.word_lines.specs.declared.fault.ReadError.TheVariants as read_error
 use Rattle.script.specs.declared.fault.TranscriptError.{TranscriptError}
 use Rattle.script.specs.declared.fault.TranscriptError.TheVariants as errors
 use Rattle.script.specs.declared.reply_reading.Shape.{Shape}
 use Rattle.script.specs.declared.reply_reading.Shape.TheVariants as shape
+use Rattle.word_lines.specs.Events.{event_text}
 use Rattle.script.specs.Lines.{Place, lines_of}
-use Rattle.script.specs.Reading.{◌>>=◌}
+use Rattle.word_lines.specs.Reading.{◌>>=◌}
 use Rattle.script.specs.EventLines.{heading_at, row_line_at, message_line_at}
+
+-- the texts of events, one after the other
+abbrev pub transcript_text : List Event → List ℕ
+transcript_text events = flat_map event_text events
 
 -- a fault, and the number of its line
 pub record Fault : Type 0 where

@@ -1,19 +1,20 @@
 //! The lines that follow an event's first line: the rows or the messages of its reply.
 ghost use Rattle.std.specs.Prelude.{◌≡◌};
-ghost use Rattle.script.specs.Reading.{Gives};
+ghost use Rattle.word_lines.specs.Reading.{Gives};
 ghost use Rattle.script.specs.EventLines.{pair_at, pair_of, row_line_at, message_line_at, read_error_of};
 ghost use Rattle.script.specs.Transcripts.{TakesLines, next_at, many_at, following_at};
 
-use crate::arguments::{take_key, take_value};
-use crate::fault::{LineFault, ReadError, TranscriptError};
+use crate::fault::TranscriptError;
 use crate::lines::Lines;
 use crate::reply_reading::Shape;
-use crate::words::{Words, text_of, words_of};
 use json_lines::{MessageFault, read_message};
 use spans::calls::{Message, Messages, Reply, Rows};
 use std::alloc::Global;
 use timestamps::key::Key;
 use timestamps::value::Value;
+use word_lines::arguments::{take_key, take_value};
+use word_lines::fault::{LineFault, ReadError};
+use word_lines::words::{Words, text_of, words_of};
 
 /// The reply of a shape, with the lines that follow taken.
 #[tactic(auto, unfolding(crate::specs::Transcripts::following_at))]
@@ -74,11 +75,11 @@ fn take_row(alloc: Global, lines: &mut Lines) -> Result<(Key, Value), Transcript
 {
     let number = lines.number();
     let Some(line) = lines.take_line() else {
-        return Err(ReadError::Fault(LineFault::Follow).at_line(number));
+        return Err(TranscriptError::at_line(number, ReadError::Fault(LineFault::Follow)));
     };
     match read_row(alloc, line) {
         Ok(row) => Ok(row),
-        Err(e) => Err(e.at_line(number)),
+        Err(e) => Err(TranscriptError::at_line(number, e)),
     }
 }
 
@@ -87,11 +88,11 @@ fn take_message(alloc: Global, lines: &mut Lines) -> Result<Message, TranscriptE
 {
     let number = lines.number();
     let Some(line) = lines.take_line() else {
-        return Err(ReadError::Fault(LineFault::Follow).at_line(number));
+        return Err(TranscriptError::at_line(number, ReadError::Fault(LineFault::Follow)));
     };
     match read_message_line(alloc, line) {
         Ok(message) => Ok(message),
-        Err(e) => Err(e.at_line(number)),
+        Err(e) => Err(TranscriptError::at_line(number, e)),
     }
 }
 

@@ -1,15 +1,15 @@
 //! The first line of an event: its position, its session, its command and what its reply's words say.
 ghost use Rattle.std.specs.Prelude.{◌≡◌, drop};
-ghost use Rattle.script.specs.Reading.{Gives};
+ghost use Rattle.word_lines.specs.Reading.{Gives};
 ghost use Rattle.script.specs.EventLines.{behind_arrow, heading_of, heading_at};
 
-use crate::arguments::take_number;
-use crate::commands::{take_arguments, take_form, take_seat};
-use crate::fault::{LineFault, ReadError};
 use crate::reply_reading::{Shape, read_reply};
-use crate::words::{Words, text_of, words_of};
 use spans::calls::Cmd;
 use std::alloc::Global;
+use word_lines::arguments::take_number;
+use word_lines::commands::{take_arguments, take_form, take_seat};
+use word_lines::fault::{LineFault, ReadError};
+use word_lines::words::{Words, text_of, words_of};
 
 /// How many seats a transcript can have.
 const SEATS: u8 = 64;

@@ -1,44 +1,32 @@
-//! Commands, replies and events as lines of text, and back.
+//! Whole scripts and transcripts, read line by line.
 //!
-//! A line is words with one space between two, and a newline. A number is decimal digits without a
-//! leading zero; a key, a value or a bound is spelled: a printable byte as itself, any other as `%`
-//! and two digits, no bytes as `-`. So each value has one text, and only that text is read.
+//! A script is lines of commands. A transcript is the texts of events: a first line with the position,
+//! the command and its reply, and then the rows or messages that the reply counts, a line each. What
+//! is read is all of the text, byte for byte, or its first fault with the number of its line.
 //!
 //! ```text
-//! 0 put 10 a -             Ok((0, Put { ts: 10, key: "a", value: "" }))
-//! 0 put 10 - %41           keylength: the first fault from the left counts
-//! 0 put 10 a %41           badbyte: 41 is `A`, and spelled so
-//! 7 0 get 10 a => none     the text of event 7
+//! 1  0 0 begin 10 => started       Event { position: 0, seat: 0, cmd: Begin { ts: 10 }, reply: Started }
+//! 2  1 0 scan 10 - - => rows 1     the reply's row is the line below
+//! 3  row a 1                       Event { position: 1, .., reply: Rows [("a", "1")] }
+//! 4  2 0 commit 10 => written 1    reply at line 4: `written` takes no number
 //! ```
 //!
-//! A writer pushes into the caller's buffer, and where memory runs out leaves it as it was. A reader
-//! takes the words of a line that it is lent, and allocates for keys, values and bounds alone. A
-//! script or a transcript is read line by line, and a fault in it is told with the number of its
-//! line.
+//! The words of a line, and the commands, are read by `word_lines`. Memory is taken for what came, and
+//! never for what a count promises.
 //!
-//! Cost: each byte of a line is looked at twice to read it, as words are cut and read, and once to
-//! write it; of a script's line once more, to find where it ends, and of a transcript's line up to
-//! four times more: for that, whether its bytes are printable, how many words there are and where
-//! `=>` stands.
+//! Cost: each byte is looked at twice, as words are cut and read; of a script's line once more, to find
+//! where it ends, and of a transcript's line up to four times more: for that, whether its bytes are
+//! printable, how many words there are and where `=>` stands.
 //!
 //! What no clause says of it is tested in `worked_texts`, by the tables of the format.
 #![tactic(auto)]
 
-mod arguments;
-pub mod commands;
-pub mod events;
 pub mod fault;
 mod following;
 mod headings;
 pub mod laws;
 mod lines;
-pub mod replies;
 mod reply_reading;
 mod reply_table;
 pub mod scripts;
-pub mod spelling;
-mod table;
 pub mod transcripts;
-pub mod words;
-
-use json_lines::{buffer, numbers};

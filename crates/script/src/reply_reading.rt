@@ -1,13 +1,13 @@
 //! Replies read from their words.
-ghost use Rattle.script.specs.Reading.{Gives, Takes};
+ghost use Rattle.word_lines.specs.Reading.{Gives, Takes};
 ghost use Rattle.script.specs.ReplyReading.{stats_at, refusal_at, shape_at, named_at, reply_at};
 
-use crate::arguments::{take_number, take_value};
-use crate::fault::{LineFault, ReadError};
 use crate::reply_table::{Kind, REPLIES, Reason, kind_of};
-use crate::words::Words;
 use spans::calls::{Refusal, Reply};
 use std::alloc::Global;
+use word_lines::arguments::{take_number, take_value};
+use word_lines::fault::{LineFault, ReadError};
+use word_lines::words::Words;
 
 /// What the words of a reply say.
 #[derive(Debug, Drop)]

@@ -12,17 +12,17 @@
 //! twice where bytes are escaped.
 ghost use Rattle.std.specs.Prelude.{◌≡◌, IfOk};
 ghost use Rattle.std.specs.List.{All};
-ghost use Rattle.script.specs.declared.words.TheConstants.{MAX_LINE_BYTES};
-ghost use Rattle.script.specs.Reading.{command_at};
+ghost use Rattle.word_lines.specs.declared.words.TheConstants.{MAX_LINE_BYTES};
+ghost use Rattle.word_lines.specs.Reading.{command_at};
 ghost use Rattle.script.specs.Scripts.{IsCall, TellsScript, script_text, script_at};
-ghost use Rattle.script.specs.Table.{table};
+ghost use Rattle.word_lines.specs.Table.{table};
 ghost use Rattle.script.specs.Transcripts.{Tells, at_line};
 
-use crate::commands::read_command;
 use crate::fault::TranscriptError;
 use crate::lines::Lines;
 use spans::calls::Cmd;
 use std::alloc::Global;
+use word_lines::commands::read_command;
 
 /// Reads a script: the session, below `seats`, and the command of each line, or the first line that
 /// is faulty. Lines are counted from 1, and the last one has to end in a newline too.
@@ -62,6 +62,6 @@ fn read_call(
 {
     match read_command(alloc, line, seats) {
         Ok(call) => Ok(call),
-        Err(e) => Err(e.at_line(number)),
+        Err(e) => Err(TranscriptError::at_line(number, e)),
     }
 }

@@ -14,18 +14,18 @@
 //! most twice where bytes are escaped or stand in a line of JSON.
 ghost use Rattle.std.specs.Prelude.{◌≡◌, IfOk};
 ghost use Rattle.std.specs.List.{All};
-ghost use Rattle.script.specs.Events.{transcript_text};
-ghost use Rattle.script.specs.Limits.{IsEvent};
+ghost use Rattle.word_lines.specs.Limits.{IsEvent};
 ghost use Rattle.script.specs.EventLines.{heading_at};
-ghost use Rattle.script.specs.declared.words.TheConstants.{MAX_LINE_BYTES};
-ghost use Rattle.script.specs.Transcripts.{Tells, TakesLines, next_at, event_at, transcript_at};
+ghost use Rattle.word_lines.specs.declared.words.TheConstants.{MAX_LINE_BYTES};
+ghost use Rattle.script.specs.Transcripts.{Tells, TakesLines, next_at, event_at, transcript_at, transcript_text};
 
-use crate::fault::{LineFault, ReadError, TranscriptError};
+use crate::fault::TranscriptError;
 use crate::following::take_following;
 use crate::headings::{Heading, read_heading};
 use crate::lines::Lines;
 use spans::calls::Event;
 use std::alloc::Global;
+use word_lines::fault::{LineFault, ReadError};
 
 /// Reads a transcript: its events, or the first line that is faulty.
 pub fn read_transcript(alloc: Global, text: &[u8]) -> Result<Vec<Event>, TranscriptError>
@@ -70,10 +70,10 @@ fn take_heading(alloc: Global, lines: &mut Lines) -> Result<Heading, TranscriptE
 {
     let number = lines.number();
     let Some(line) = lines.take_line() else {
-        return Err(ReadError::Fault(LineFault::Follow).at_line(number));
+        return Err(TranscriptError::at_line(number, ReadError::Fault(LineFault::Follow)));
     };
     match read_heading(alloc, line) {
         Ok(heading) => Ok(heading),
-        Err(e) => Err(e.at_line(number)),
+        Err(e) => Err(TranscriptError::at_line(number, e)),
     }
 }

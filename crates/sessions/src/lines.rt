@@ -2,9 +2,9 @@
 ghost use Rattle.std.specs.Prelude.{◌≡◌, ◌≤◌, ◌<◌, ◌+◌, length, IfOk, vec_len};
 
 use memchr::memchr;
-use script::words::MAX_LINE_BYTES;
 use std::alloc::{AllocError, Global};
 use std::io::Read;
+use word_lines::words::MAX_LINE_BYTES;
 
 /// How many bytes are asked for at once.
 pub(crate) const BLOCK: usize = 65536;

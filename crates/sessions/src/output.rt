@@ -1,11 +1,11 @@
 //! The output, handed to its device in large blocks.
 ghost use Rattle.std.specs.Prelude.{◌≤◌, ◌<◌, length};
 
-use script::events::{write_event, write_fault, write_spent};
-use script::fault::LineFault;
 use spans::calls::Event;
 use std::alloc::{AllocError, Global};
 use std::io::Write;
+use word_lines::events::{write_event, write_fault, write_spent};
+use word_lines::fault::LineFault;
 
 /// How many bytes are kept before they are written.
 pub(crate) const BLOCK: usize = 65536;

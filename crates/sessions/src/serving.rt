@@ -5,13 +5,13 @@ use crate::callers::Callers;
 use crate::ending::End;
 use crate::lines::{Lines, Next, ReadFailed};
 use crate::output::{Output, WriteFailed};
-use script::commands::read_command;
-use script::fault::{LineFault, ReadError};
 use shared_db::{Config, OpenError};
 use spans::calls::Cmd;
 use std::alloc::{AllocError, Global};
 use std::io::{Read, Write};
 use std::sync::Wait;
+use word_lines::commands::read_command;
+use word_lines::fault::{LineFault, ReadError};
 
 /// Opens a database, makes the calls of a script in their order, and writes the transcript.
 ///

@@ -1,12 +1,13 @@
 //! What the tests ask of a text.
-use script::commands::read_command;
-use script::events::write_event;
-use script::fault::{ReadError, TranscriptError};
+use script::fault::TranscriptError;
 use script::scripts::read_script;
 use script::transcripts::read_transcript;
 use std::alloc::{AllocError, Global};
 use std::process::Abort;
 use std::test::Fail;
+use word_lines::commands::read_command;
+use word_lines::events::write_event;
+use word_lines::fault::ReadError;
 
 /// The line and the code of a text's fault; 0 and 0 where it is read, 0 and 100 for want of memory.
 pub(crate) type Told = (u64, u8);

@@ -1,8 +1,8 @@
 //! Lines of commands.
 use crate::tests::assertions::{Told, assert_bytes, assert_told, told_of_command};
-use script::commands::{read_command, write_command};
 use std::process::Abort;
 use std::test::Fail;
+use word_lines::commands::{read_command, write_command};
 
 static LINES: [&[u8]; 21] = [
     b"0 begin 10\n",

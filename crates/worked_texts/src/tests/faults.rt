@@ -1,11 +1,12 @@
 //! The faults' numbers, names and lines.
 use crate::tests::assertions::assert_bytes;
-use script::events::{write_fault, write_spent};
-use script::fault::{LineFault, ReadError, TranscriptError};
+use script::fault::TranscriptError;
 use std::alloc::AllocError;
 use std::fmt::Display;
 use std::process::Abort;
 use std::test::Fail;
+use word_lines::events::{write_fault, write_spent};
+use word_lines::fault::{LineFault, ReadError};
 
 /// Each fault with its number, its name, and the line that ends a run with it.
 static FAULTS: [(LineFault, u8, &str, &[u8]); 11] = [

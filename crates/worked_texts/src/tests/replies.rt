@@ -1,7 +1,5 @@
 //! Replies as they are written.
 use crate::tests::assertions::assert_bytes;
-use script::events::write_event;
-use script::replies::write_reply;
 use spans::calls::{Cmd, Event, Message, Messages, Refusal, Reply, Rows};
 use std::alloc::{AllocError, Global};
 use std::process::Abort;
@@ -10,6 +8,8 @@ use timestamps::key::{Key, KeyError};
 use timestamps::row::Row;
 use timestamps::ts::Ts;
 use timestamps::value::{Value, ValueError};
+use word_lines::events::write_event;
+use word_lines::replies::write_reply;
 
 static REFUSALS: [(Refusal, &[u8]); 14] = [
     (Refusal::BelowClosed { closed: 100 }, b"belowclosed 100\n"),

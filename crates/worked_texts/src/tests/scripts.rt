@@ -1,6 +1,5 @@
 //! Scripts: that they are taken, and which line a fault has.
 use crate::tests::assertions::{Told, assert_told, told_of_script};
-use script::commands::write_command;
 use script::fault::TranscriptError;
 use script::scripts::read_script;
 use spans::calls::Cmd;
@@ -8,6 +7,7 @@ use std::alloc::{AllocError, Global};
 use std::process::Abort;
 use std::test::Fail;
 use timestamps::key::Key;
+use word_lines::commands::write_command;
 
 fn calls_of(alloc: Global, text: &[u8], seats: u8) -> Result<Vec<(u8, Cmd)>, TranscriptError> {
     read_script(alloc, text, seats)

@@ -1,9 +1,9 @@
 //! Bytes spelled as words.
 use crate::tests::assertions::assert_bytes;
-use script::fault::{LineFault, ReadError};
-use script::spelling::{bytes_of, put_spelling};
 use std::process::Abort;
 use std::test::Fail;
+use word_lines::fault::{LineFault, ReadError};
+use word_lines::spelling::{bytes_of, put_spelling};
 
 /// Bytes and their words.
 static SPELLINGS: [(&[u8], &[u8]); 8] = [

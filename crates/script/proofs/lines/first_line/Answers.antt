@@ -1,6 +1,6 @@
 use Rattle.std.proofs.Common.{◌+◌}
 use Rattle.script.proofs.CutLines.{lines_alone, lines_first}
-use Rattle.script.proofs.Splitting.{end_is}
+use Rattle.word_lines.proofs.Splitting.{end_is}
 use Rattle.script.proofs.lines.first_line.Goals as goal
 
 pub returns-in-None-clause-lines : goal.returns-in-None-clause-lines

@@ -1,5 +1,0 @@
-use Rattle.script.proofs.Joining.{command_written}
-use Rattle.script.proofs.commands.put_command.Goals as goal
-
-pub returns-clause-ok : goal.returns-clause-ok
-returns-clause-ok c = command_written _ _ _ _ _ _ _ c.from.ensures c.in_ok-put_number.ensures.ok c.in_ok-put_words.ensures.ok c.in_ok-push.ensures.items

@@ -1,0 +1,110 @@
+-- Words with one space between two.
+use Rattle.std.proofs.Common.{◌≡◌, ℕ, ◌<◌, List, [], ◌∷◌, ◌++◌, length, refl, ap, ◌∙◌, sym, append_assoc, Some, None, arith}
+use Rattle.std.proofs.lemmas.List.{length-append}
+use Rattle.std.specs.Prelude.{codes, decimal}
+use Rattle.spans.specs.declared.calls.commands.Cmd.{Cmd}
+use Rattle.spans.specs.declared.calls.commands.Cmd.TheVariants as cmd
+use Rattle.spans.specs.declared.calls.replies.Reply.{Reply}
+use Rattle.spans.specs.declared.calls.replies.Reply.TheVariants as reply
+use Rattle.spans.specs.declared.calls.replies.Refusal.{Refusal}
+use Rattle.spans.specs.declared.calls.replies.Refusal.TheVariants as refusal
+use Rattle.word_lines.specs.Commands.{joined, words_of, command_line}
+use Rattle.word_lines.specs.Replies.{reply_words, refusal_words, following_lines, reply_text}
+
+pub joined_more : (word : List ℕ) (words : List (List ℕ)) → 0 < length words → joined (word ∷ words) ≡ word ++ 32 ∷ joined words
+joined_more word [] some = absurd (omega arith)
+joined_more word (next ∷ words) some = refl
+
+pub joined_two : (words more : List (List ℕ)) → 0 < length words → 0 < length more → joined (words ++ more) ≡ joined words ++ 32 ∷ joined more
+joined_two [] more some rest = absurd (omega arith)
+joined_two (word ∷ []) more some rest = joined_more word more rest
+joined_two (word ∷ next ∷ words) more some rest =
+    ap (λ (x : List ℕ). word ++ 32 ∷ x) (joined_two (next ∷ words) more (omega arith) rest)
+    ∙ sym (append_assoc word (32 ∷ joined (next ∷ words)) (32 ∷ joined more))
+
+pub some_words : (c : Cmd) → 0 < length (words_of c)
+unfolding words_of
+some_words (cmd.Begin ts) = omega arith
+some_words (cmd.Get ts key) = omega arith
+some_words (cmd.Scan ts span) = omega arith
+some_words (cmd.Put ts key value) = omega arith
+some_words (cmd.Del ts key) = omega arith
+some_words (cmd.Commit ts) = omega arith
+some_words (cmd.Abort ts) = omega arith
+some_words (cmd.Close to) = omega arith
+some_words (cmd.CloseHard to) = omega arith
+some_words (cmd.ReadAt t key) = omega arith
+some_words (cmd.ScanAt t span) = omega arith
+some_words (cmd.Protect t) = omega arith
+some_words (cmd.Release id) = omega arith
+some_words (cmd.Collect to) = omega arith
+some_words (cmd.Open span cursor) = omega arith
+some_words (cmd.Poll feed max) = omega arith
+some_words (cmd.Cancel feed) = omega arith
+some_words cmd.Stats = omega arith
+
+some_refusal_words : (r : Refusal) → 0 < length (refusal_words r)
+some_refusal_words (refusal.BelowClosed closed) = omega arith
+some_refusal_words refusal.TsUsed = omega arith
+some_refusal_words refusal.TsRange = omega arith
+some_refusal_words (refusal.Blocked by) = omega arith
+some_refusal_words refusal.NoTxn = omega arith
+some_refusal_words refusal.NotOwner = omega arith
+some_refusal_words refusal.Ended = omega arith
+some_refusal_words refusal.TooLate = omega arith
+some_refusal_words (refusal.NotClosed closed) = omega arith
+some_refusal_words (refusal.BelowHorizon horizon) = omega arith
+some_refusal_words refusal.NoProtection = omega arith
+some_refusal_words refusal.NoFeed = omega arith
+some_refusal_words refusal.FeedCancelled = omega arith
+some_refusal_words refusal.NoMemory = omega arith
+
+pub some_reply_words : (r : Reply) → 0 < length (reply_words r)
+unfolding reply_words
+some_reply_words reply.Started = omega arith
+some_reply_words (reply.Found None) = omega arith
+some_reply_words (reply.Found (Some value)) = omega arith
+some_reply_words (reply.Rows rows) = omega arith
+some_reply_words reply.Written = omega arith
+some_reply_words (reply.Committed keys) = omega arith
+some_reply_words reply.Aborted = omega arith
+some_reply_words (reply.Closed at aborted) = omega arith
+some_reply_words (reply.Protected id) = omega arith
+some_reply_words reply.Released = omega arith
+some_reply_words (reply.Collected horizon removed) = omega arith
+some_reply_words (reply.Opened feed) = omega arith
+some_reply_words (reply.Messages messages) = omega arith
+some_reply_words reply.Cancelled = omega arith
+some_reply_words (reply.Stats versions undecided feeds closed horizon) = omega arith
+some_reply_words (reply.Refused r) = some_refusal_words r
+
+-- a command's line, in the pieces in which it is written
+pub command_in_pieces : (seat : ℕ) (c : Cmd) → command_line seat c ≡ (decimal seat ++ 32 ∷ joined (words_of c)) ++ 10 ∷ []
+command_in_pieces seat c = ap (λ (x : List ℕ). x ++ 10 ∷ []) (joined_more (decimal seat) (words_of c) (some_words c))
+
+-- an event's line, in the pieces in which it is written
+pub event_in_pieces : (position seat : List ℕ) (c : Cmd) (r : Reply)
+    → joined (position ∷ seat ∷ (words_of c ++ codes "=>" ∷ reply_words r)) ≡ position ++ (32 ∷ (seat ++ ((32 ∷ joined (words_of c)) ++ (codes " => " ++ joined (reply_words r)))))
+event_in_pieces position seat c r =
+    let longer : 0 < length (words_of c ++ codes "=>" ∷ reply_words r) = omega (arith, length-append (words_of c) (codes "=>" ∷ reply_words r)) in
+    ap (λ (x : List ℕ). position ++ 32 ∷ x) (joined_more seat (words_of c ++ codes "=>" ∷ reply_words r) longer)
+    ∙ ap (λ (x : List ℕ). position ++ 32 ∷ (seat ++ 32 ∷ x)) (joined_two (words_of c) (codes "=>" ∷ reply_words r) (some_words c) (omega arith))
+    ∙ ap (λ (x : List ℕ). position ++ 32 ∷ (seat ++ 32 ∷ (joined (words_of c) ++ 32 ∷ x))) (joined_more (codes "=>") (reply_words r) (some_reply_words r))
+
+pub command_written : (out a b c : List ℕ) (n seat : ℕ) (cmd : Cmd) → n ≡ seat → a ≡ out ++ decimal n → b ≡ a ++ 32 ∷ joined (words_of cmd) → c ≡ b ++ 10 ∷ [] → c ≡ out ++ command_line seat cmd
+command_written out a b c n seat cmd e ea eb ec =
+    ec ∙ ap (λ (x : List ℕ). x ++ 10 ∷ []) (eb ∙ ap (λ (x : List ℕ). x ++ 32 ∷ joined (words_of cmd)) (ea ∙ ap (λ (k : ℕ). out ++ decimal k) e) ∙ append_assoc out (decimal seat) (32 ∷ joined (words_of cmd)))
+    ∙ append_assoc out (decimal seat ++ 32 ∷ joined (words_of cmd)) (10 ∷ [])
+    ∙ ap (λ (x : List ℕ). out ++ x) (sym (command_in_pieces seat cmd))
+
+regroup : (a b c d e f g h : List ℕ) → (((((a ++ b) ++ c) ++ d) ++ e) ++ f) ++ (g ++ h) ≡ a ++ ((b ++ (c ++ (d ++ (e ++ (f ++ g))))) ++ h)
+regroup a b c d e f g h = simp append_assoc
+
+pub event_written : (out a b c d e f p s : List ℕ) (cmd : Cmd) (r : Reply) → a ≡ out ++ p → b ≡ a ++ 32 ∷ [] → c ≡ b ++ s → d ≡ c ++ 32 ∷ joined (words_of cmd) → e ≡ d ++ codes " => " → f ≡ e ++ reply_text r
+    → f ≡ out ++ (joined (p ∷ s ∷ (words_of cmd ++ codes "=>" ∷ reply_words r)) ++ 10 ∷ following_lines r)
+event_written out a b c d e f p s cmd r ea eb ec ed ee ef =
+    let tail = 10 ∷ following_lines r in
+    let words = 32 ∷ joined (words_of cmd) in
+    let whole : f ≡ (((((out ++ p) ++ 32 ∷ []) ++ s) ++ words) ++ codes " => ") ++ (joined (reply_words r) ++ tail) =
+    ef ∙ ap (λ (x : List ℕ). x ++ reply_text r) (ee ∙ ap (λ (x : List ℕ). x ++ codes " => ") (ed ∙ ap (λ (x : List ℕ). x ++ words) (ec ∙ ap (λ (x : List ℕ). x ++ s) (eb ∙ ap (λ (x : List ℕ). x ++ 32 ∷ []) ea)))) in
+    whole ∙ regroup out p (32 ∷ []) s words (codes " => ") (joined (reply_words r)) tail ∙ ap (λ (x : List ℕ). out ++ (x ++ tail)) (sym (event_in_pieces p s cmd r))

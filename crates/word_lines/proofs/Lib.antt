@@ -1,0 +1,13 @@
+pub use Rattle.json_lines.proofs.NumberWords
+pub mod Writing
+pub mod ReadCommands
+pub mod ReadWords
+pub mod SpelledWords
+pub mod Splitting
+pub mod Unescaping
+pub mod Joining
+pub mod Spellings
+pub mod JoinedParts
+pub mod WrittenWords
+pub mod CommandsAgain
+pub mod Counting

@@ -1,0 +1,154 @@
+-- What is written of a command is words, and not too long.
+use Rattle.std.proofs.Common.{◌≡◌, ℕ, ◌+◌, ◌*◌, ◌/◌, ◌%◌, ◌<◌, ◌≤◌, Bool, true, false, cond, List, [], ◌∷◌, ◌++◌, length, Option, Some, None, refl, ap, ◌∙◌, inl, inr, lit<, arith}
+use Rattle.std.specs.Prelude.{decimal, ◌&&◌, ◌==◌, nat_le, not}
+use Rattle.std.specs.List.{AllByRecursion, list_all, flat_map}
+use Rattle.std.proofs.lemmas.Bool.{le-leb, lt-ltb, le-ltb, cases_lt}
+use Rattle.std.proofs.lemmas.Fmt.{decimal_nonempty, length-decimal-le}
+use Rattle.std.proofs.lemmas.List.{length-append}
+use Rattle.std.proofs.lemmas.List.Folds.{list_all-append}
+use Rattle.spans.specs.declared.calls.commands.Cmd.{Cmd}
+use Rattle.spans.specs.declared.calls.commands.Cmd.TheVariants as cmd
+use Rattle.word_lines.specs.Spelling.{is_plain, hex_digit, escape, spelled, spelling, AreBytes}
+use Rattle.word_lines.specs.Commands.{joined, bound_word, words_of}
+use Rattle.word_lines.specs.Limits.{IsNumber, IsBound, IsCommand}
+use Rattle.word_lines.proofs.JoinedParts.{is_graphic, IsWord, decimal_all}
+use Rattle.word_lines.proofs.Spellings.{both}
+
+-- a byte from `!` to `~`
+graphic : (b : ℕ) → 33 ≤ b → b ≤ 126 → is_graphic b ≡ true
+graphic b low high = rw (le-leb 33 b low, le-leb b 126 high) refl
+
+-- ---- one word
+
+-- a number is a word
+pub number_word : (n : ℕ) → IsNumber n → IsWord (decimal n)
+number_word n lt = (decimal_nonempty n lt, decimal_all is_graphic (λ d small. graphic (48 + d) (omega arith) (omega arith)) n lt)
+
+-- of at most twenty digits
+pub number_length : (n : ℕ) → IsNumber n → length (decimal n) ≤ 20
+number_length n lt = length-decimal-le 20 n (lit< tt) (omega arith) lt
+
+hex_graphic : (d : ℕ) → d < 16 → is_graphic (hex_digit d) ≡ true
+hex_graphic d small =
+    elim (cases_lt d 10) [
+      | inl lt ↦ ap (λ (b : Bool). is_graphic (cond b (48 + d) (55 + d))) (lt-ltb d 10 lt) ∙ graphic (48 + d) (omega arith) (omega arith)
+      | inr le ↦ ap (λ (b : Bool). is_graphic (cond b (48 + d) (55 + d))) (le-ltb d 10 le) ∙ graphic (55 + d) (omega arith) (omega arith)
+    ]
+
+-- a byte is spelled by one to three bytes from `!` to `~`
+record IsSpelled (word : List ℕ) (most : ℕ) : Type 0 where
+  graphic : list_all is_graphic word ≡ true
+  some : 1 ≤ length word
+  few : length word ≤ most
+
+escape_spelled : (b : ℕ) → b < 256 → IsSpelled (escape b) 3
+escape_spelled b small = record { graphic = rw (hex_graphic (b / 16) (omega arith), hex_graphic (b % 16) (omega arith)) refl; some = omega arith; few = omega arith }
+
+byte_spelled : (plain : Bool) (b : ℕ) → is_plain b ≡ plain → b < 256 → IsSpelled (cond plain (b ∷ []) (escape b)) 3
+byte_spelled true b e small =
+    let h = both (nat_le 33 b && nat_le b 126) (not (b == 37)) e in
+    record { graphic = rw h.0 refl; some = omega arith; few = omega arith }
+byte_spelled false b e small = escape_spelled b small
+
+bytes_graphic : (bytes : List ℕ) → AreBytes bytes → list_all is_graphic (flat_map spelled bytes) ≡ true
+bytes_graphic [] fits = refl
+bytes_graphic (b ∷ bytes) fits = list_all-append is_graphic (spelled b) (flat_map spelled bytes) ∙ rw ((byte_spelled (is_plain b) b refl fits.0).graphic) (bytes_graphic bytes fits.1)
+
+bytes_length : (bytes : List ℕ) → AreBytes bytes → (length bytes ≤ length (flat_map spelled bytes)) × (length (flat_map spelled bytes) ≤ 3 * length bytes)
+bytes_length [] fits = (omega arith, omega arith)
+bytes_length (b ∷ bytes) fits =
+    let one = byte_spelled (is_plain b) b refl fits.0 in
+    let rest = bytes_length bytes fits.1 in
+    let whole = length-append (spelled b) (flat_map spelled bytes) in
+    (omega (arith, one.some, rest.0, whole), omega (arith, one.few, rest.1, whole))
+
+alone_spelled : (dash : Bool) (b : ℕ) → b < 256 → IsSpelled (cond dash (escape 45) (spelled b)) 4
+alone_spelled true b small = let s = escape_spelled 45 (lit< tt) in record { graphic = s.graphic; some = s.some; few = omega (arith, s.few) }
+alone_spelled false b small = let s = byte_spelled (is_plain b) b refl small in record { graphic = s.graphic; some = s.some; few = omega (arith, s.few) }
+
+spelling_spelled : (bytes : List ℕ) → AreBytes bytes → IsSpelled (spelling bytes) (3 * length bytes + 1)
+unfolding spelling
+spelling_spelled [] fits = record { graphic = refl; some = omega arith; few = omega arith }
+spelling_spelled (b ∷ []) fits = let s = alone_spelled (b == 45) b fits.0 in record { graphic = s.graphic; some = s.some; few = omega (arith, s.few) }
+spelling_spelled (b ∷ c ∷ bytes) fits =
+    let l = bytes_length (b ∷ c ∷ bytes) fits in
+    record { graphic = bytes_graphic (b ∷ c ∷ bytes) fits; some = omega (arith, l.0); few = omega (arith, l.1) }
+
+-- the spelling of bytes is a word
+pub bytes_word : (bytes : List ℕ) → AreBytes bytes → IsWord (spelling bytes)
+bytes_word bytes fits = let s = spelling_spelled bytes fits in (omega (arith, s.some), s.graphic)
+
+-- at most three times as long
+pub bytes_few : (bytes : List ℕ) (most : ℕ) → AreBytes bytes → length bytes ≤ most → length (spelling bytes) ≤ 3 * most + 1
+bytes_few bytes most fits le = let s = spelling_spelled bytes fits in omega (arith, s.few)
+
+-- a bound is a word
+bound_is_word : (bound : Option (List ℕ)) → IsBound bound → IsWord (bound_word bound)
+bound_is_word None is = (omega arith, refl)
+bound_is_word (Some bytes) is = bytes_word bytes is.2
+
+bound_few : (bound : Option (List ℕ)) → IsBound bound → length (bound_word bound) ≤ 196
+bound_few None is = omega arith
+bound_few (Some bytes) is = bytes_few bytes 65 is.2 is.1
+
+-- ---- words in a row
+
+-- words and then words are words
+pub words_then : (ws more : List (List ℕ)) → AllByRecursion IsWord ws → AllByRecursion IsWord more → AllByRecursion IsWord (ws ++ more)
+words_then [] more are rest = rest
+words_then (w ∷ ws) more are rest = (are.0, words_then ws more are.1 rest)
+
+-- how many bytes words take, a space behind each
+abbrev pub letters : List (List ℕ) → ℕ
+letters [] = 0
+letters (w ∷ ws) = length w + 1 + letters ws
+
+-- so many bytes are enough for the words, joined
+pub joined_few : (ws : List (List ℕ)) → length (joined ws) ≤ letters ws
+joined_few [] = omega arith
+joined_few (w ∷ []) = omega arith
+joined_few (w ∷ next ∷ ws) = omega (arith, length-append w (32 ∷ joined (next ∷ ws)), joined_few (next ∷ ws))
+
+-- what is written of a command is words
+pub command_words : (c : Cmd) → IsCommand c → AllByRecursion IsWord (words_of c)
+unfolding words_of IsCommand
+command_words (cmd.Begin ts) is = ((omega arith, refl), (number_word ts is, tt))
+command_words (cmd.Get ts key) is = ((omega arith, refl), (number_word ts is.0, (bytes_word key is.1.2, tt)))
+command_words (cmd.Scan ts span) is = ((omega arith, refl), (number_word ts is.0, (bound_is_word span.lo is.1.0, (bound_is_word span.hi is.1.1, tt))))
+command_words (cmd.Put ts key value) is = ((omega arith, refl), (number_word ts is.0, (bytes_word key is.1.2, (bytes_word value is.2.1, tt))))
+command_words (cmd.Del ts key) is = ((omega arith, refl), (number_word ts is.0, (bytes_word key is.1.2, tt)))
+command_words (cmd.Commit ts) is = ((omega arith, refl), (number_word ts is, tt))
+command_words (cmd.Abort ts) is = ((omega arith, refl), (number_word ts is, tt))
+command_words (cmd.Close to) is = ((omega arith, refl), (number_word to is, tt))
+command_words (cmd.CloseHard to) is = ((omega arith, refl), (number_word to is, tt))
+command_words (cmd.ReadAt t key) is = ((omega arith, refl), (number_word t is.0, (bytes_word key is.1.2, tt)))
+command_words (cmd.ScanAt t span) is = ((omega arith, refl), (number_word t is.0, (bound_is_word span.lo is.1.0, (bound_is_word span.hi is.1.1, tt))))
+command_words (cmd.Protect t) is = ((omega arith, refl), (number_word t is, tt))
+command_words (cmd.Release id) is = ((omega arith, refl), (number_word id is, tt))
+command_words (cmd.Collect to) is = ((omega arith, refl), (number_word to is, tt))
+command_words (cmd.Open span cursor) is = ((omega arith, refl), (bound_is_word span.lo is.0.0, (bound_is_word span.hi is.0.1, (number_word cursor is.1, tt))))
+command_words (cmd.Poll feed max) is = ((omega arith, refl), (number_word feed is.0, (number_word max is.1, tt)))
+command_words (cmd.Cancel feed) is = ((omega arith, refl), (number_word feed is, tt))
+command_words cmd.Stats is = ((omega arith, refl), tt)
+
+-- the longest command is a `put` with a key and a value of escaped bytes
+pub command_few : (c : Cmd) → IsCommand c → letters (words_of c) ≤ 4000
+unfolding words_of IsCommand
+command_few (cmd.Begin ts) is = omega (arith, number_length ts is)
+command_few (cmd.Get ts key) is = omega (arith, number_length ts is.0, bytes_few key 64 is.1.2 is.1.1)
+command_few (cmd.Scan ts span) is = omega (arith, number_length ts is.0, bound_few span.lo is.1.0, bound_few span.hi is.1.1)
+command_few (cmd.Put ts key value) is = omega (arith, number_length ts is.0, bytes_few key 64 is.1.2 is.1.1, bytes_few value 1024 is.2.1 is.2.0)
+command_few (cmd.Del ts key) is = omega (arith, number_length ts is.0, bytes_few key 64 is.1.2 is.1.1)
+command_few (cmd.Commit ts) is = omega (arith, number_length ts is)
+command_few (cmd.Abort ts) is = omega (arith, number_length ts is)
+command_few (cmd.Close to) is = omega (arith, number_length to is)
+command_few (cmd.CloseHard to) is = omega (arith, number_length to is)
+command_few (cmd.ReadAt t key) is = omega (arith, number_length t is.0, bytes_few key 64 is.1.2 is.1.1)
+command_few (cmd.ScanAt t span) is = omega (arith, number_length t is.0, bound_few span.lo is.1.0, bound_few span.hi is.1.1)
+command_few (cmd.Protect t) is = omega (arith, number_length t is)
+command_few (cmd.Release id) is = omega (arith, number_length id is)
+command_few (cmd.Collect to) is = omega (arith, number_length to is)
+command_few (cmd.Open span cursor) is = omega (arith, bound_few span.lo is.0.0, bound_few span.hi is.0.1, number_length cursor is.1)
+command_few (cmd.Poll feed max) is = omega (arith, number_length feed is.0, number_length max is.1)
+command_few (cmd.Cancel feed) is = omega (arith, number_length feed is)
+command_few cmd.Stats is = omega arith

@@ -1,0 +1,79 @@
+//! The words of a command read as what it takes, from left to right.
+ghost use Rattle.word_lines.specs.Reading.{Takes, number_at, key_at, value_at, bound_at, span_at};
+
+use crate::fault::{LineFault, ReadError};
+use crate::numbers::number_of;
+use crate::spelling::bytes_of;
+use crate::words::Words;
+use spans::bound::{Bound, BoundError};
+use spans::span::Span;
+use std::alloc::Global;
+use timestamps::key::{Key, KeyError};
+use timestamps::value::{Value, ValueError};
+
+/// A number.
+#[inline(always)]
+#[tactic(auto, unfolding(crate::specs::Reading::number_at))]
+pub fn take_number(words: &mut Words) -> Result<u64, ReadError>
+    ensures { Takes result words.new (number_at words.old) }
+{
+    let word = words.take_word().ok_or(LineFault::WordCount)?;
+    let number = number_of(word).ok_or(LineFault::Number)?;
+    Ok(number)
+}
+
+/// A key. Its bytes are copied once where each stands for itself, and else at most twice.
+#[inline(always)]
+#[tactic(auto, unfolding(crate::specs::Reading::key_at))]
+pub fn take_key(alloc: Global, words: &mut Words) -> Result<Key, ReadError>
+    ensures { Takes result words.new (key_at words.old) }
+{
+    let word = words.take_word().ok_or(LineFault::WordCount)?;
+    let spelled = bytes_of(alloc, word)?;
+    match Key::new(alloc, spelled.bytes()) {
+        Ok(key) => Ok(key),
+        Err(KeyError::KeyLength) => Err(ReadError::Fault(LineFault::KeyLength)),
+        Err(KeyError::NoMemory) => Err(ReadError::NoMemory),
+    }
+}
+
+/// A value. Its bytes are copied as a key's are.
+#[tactic(auto, unfolding(crate::specs::Reading::value_at))]
+pub fn take_value(alloc: Global, words: &mut Words) -> Result<Value, ReadError>
+    ensures { Takes result words.new (value_at words.old) }
+{
+    let word = words.take_word().ok_or(LineFault::WordCount)?;
+    let spelled = bytes_of(alloc, word)?;
+    match Value::new(alloc, spelled.bytes()) {
+        Ok(value) => Ok(value),
+        Err(ValueError::ValueLength) => Err(ReadError::Fault(LineFault::ValueLength)),
+        Err(ValueError::NoMemory) => Err(ReadError::NoMemory),
+    }
+}
+
+/// A bound, or `-` for none.
+#[tactic(auto, unfolding(crate::specs::Reading::bound_at))]
+fn take_bound(alloc: Global, words: &mut Words) -> Result<Option<Bound>, ReadError>
+    ensures { Takes result words.new (bound_at words.old) }
+{
+    let word = words.take_word().ok_or(LineFault::WordCount)?;
+    if word == b"-".as_slice() {
+        return Ok(None);
+    }
+    let spelled = bytes_of(alloc, word)?;
+    match Bound::new(alloc, spelled.bytes()) {
+        Ok(bound) => Ok(Some(bound)),
+        Err(BoundError::BoundLength) => Err(ReadError::Fault(LineFault::KeyLength)),
+        Err(BoundError::NoMemory) => Err(ReadError::NoMemory),
+    }
+}
+
+/// A span: its lower and its upper bound.
+#[tactic(auto, unfolding(crate::specs::Reading::span_at))]
+pub(crate) fn take_span(alloc: Global, words: &mut Words) -> Result<Span, ReadError>
+    ensures { Takes result words.new (span_at words.old) }
+{
+    let lo = take_bound(alloc, words)?;
+    let hi = take_bound(alloc, words)?;
+    Ok(Span { lo, hi })
+}

@@ -1,0 +1,293 @@
+//! Commands as lines: the session's number, the command's name and its arguments.
+
+ghost use Rattle.std.specs.Prelude.{◌≡◌, ◌++◌, ◌∷◌, [], ◌<◌, decimal, IfOk, OnOk, OnErr};
+ghost use Rattle.word_lines.specs.Reading.{Gives, Takes, TakesFree, TakesForm, session_at, row_at, arguments_at, counted_at, taken_of, command_at};
+ghost use Rattle.word_lines.specs.Table.{table};
+ghost use Rattle.word_lines.specs.declared.words.TheConstants.{MAX_LINE_BYTES};
+ghost use Rattle.word_lines.specs.Words.{words};
+ghost use Rattle.word_lines.specs.Spelling.{spelling};
+ghost use Rattle.word_lines.specs.Limits.{IsCommand};
+ghost use Rattle.word_lines.specs.Writing.{Keeps};
+ghost use Rattle.word_lines.specs.Commands.{joined, bound_word, words_of, command_line};
+
+use crate::arguments::{take_key, take_number, take_span, take_value};
+use crate::buffer::or_undo;
+use crate::fault::{LineFault, ReadError};
+use crate::numbers::{number_of, put_number};
+use crate::spelling::put_spelling;
+use crate::table::{Form, Verb, form_of};
+use crate::words::{Words, check_words, text_of, words_in};
+use spans::bound::Bound;
+use spans::calls::Cmd;
+use spans::span::Span;
+use std::alloc::{AllocError, Global};
+
+/// Reads a command's line, with its newline: the session, below `seats`, and the command. It
+/// allocates for the command's keys, values and bounds alone.
+///
+/// A line that is read has only printable bytes, no empty word and as many words as its command
+/// takes, since every command's text has: so they are looked at and counted only where there is a
+/// fault, before which they may count.
+#[tactic(auto, using(crate::proofs::Counting::counted_right, crate::proofs::Counting::counted_fault), unfolding(crate::specs::Reading::command_at))]
+pub fn read_command(alloc: Global, line: &[u8], seats: u8) -> Result<(u8, Cmd), ReadError>
+    // What is read is the text of this command, byte for byte.
+    ensures found { IfOk result (λ x. (line.now ≡ command_line x.0 x.1) × (x.0 < seats) × IsCommand x.1) }
+    // Which fault it is: the first from the left.
+    ensures exact { Gives (λ x. x) result (command_at table seats line.now) }
+    ensures limit { MAX_LINE_BYTES ≡ 4096 }
+{
+    let text = text_of(line)?;
+    match take_command(alloc, text, seats) {
+        Ok(read) => Ok(read),
+        Err(ReadError::NoMemory) => Err(ReadError::NoMemory),
+        Err(ReadError::Fault(fault)) => {
+            check_words(text)?;
+            check_count(text, seats)?;
+            Err(ReadError::Fault(fault))
+        }
+    }
+}
+
+/// Reads a command from the words of a text, which aren't counted before the last was read.
+#[tactic(auto, unfolding(crate::specs::Reading::taken_of))]
+fn take_command(alloc: Global, text: &[u8], seats: u8) -> Result<(u8, Cmd), ReadError>
+    ensures { Gives (λ x. x) result (taken_of table seats (words text.now)) }
+{
+    let mut words = words_in(text);
+    let seat = take_seat(&mut words, seats)?;
+    let form = take_form(&mut words)?;
+    let cmd = take_arguments(alloc, form.verb, &mut words)?;
+    if !words.is_empty() {
+        return Err(ReadError::Fault(LineFault::WordCount));
+    }
+    Ok((seat, cmd))
+}
+
+/// Whether a text has as many words as its command takes, where it has a session and a command.
+#[cold]
+#[tactic(auto, unfolding(crate::specs::Reading::counted_at))]
+fn check_count(text: &[u8], seats: u8) -> Result<(), LineFault>
+    ensures { result ≡ counted_at table seats (words text.now) }
+{
+    let mut words = words_in(text);
+    if words.len() < 2 {
+        return Err(LineFault::WordCount);
+    }
+    take_seat(&mut words, seats)?;
+    let form = take_form(&mut words)?;
+    if words.len() != form.arguments {
+        return Err(LineFault::WordCount);
+    }
+    Ok(())
+}
+
+/// A session's number, below `seats`.
+#[tactic(auto, unfolding(crate::specs::Reading::session_at))]
+pub fn take_seat(words: &mut Words, seats: u8) -> Result<u8, LineFault>
+    ensures { TakesFree result words.new (session_at seats words.old) }
+{
+    let word = words.take_word().ok_or(LineFault::WordCount)?;
+    match number_of(word) {
+        Some(seat) if seat < u64::from(seats) => Ok(seat as u8),
+        _ => Err(LineFault::Session),
+    }
+}
+
+/// The row of a command's name.
+#[inline(always)]
+#[tactic(auto, unfolding(crate::specs::Reading::row_at))]
+pub fn take_form(words: &mut Words) -> Result<Form, LineFault>
+    ensures { TakesForm result words.new (row_at table words.old) }
+{
+    let name = words.take_word().ok_or(LineFault::WordCount)?;
+    form_of(name).ok_or(LineFault::UnknownCommand)
+}
+
+/// The command, from the words of its arguments.
+#[inline(always)]
+#[tactic(auto, unfolding(crate::specs::Reading::arguments_at))]
+pub fn take_arguments(alloc: Global, verb: Verb, words: &mut Words) -> Result<Cmd, ReadError>
+    ensures { Takes result words.new (arguments_at verb words.old) }
+{
+    let cmd = match verb {
+        Verb::Begin => Cmd::Begin {
+            ts: take_number(words)?,
+        },
+        Verb::Get => Cmd::Get {
+            ts: take_number(words)?,
+            key: take_key(alloc, words)?,
+        },
+        Verb::Put => Cmd::Put {
+            ts: take_number(words)?,
+            key: take_key(alloc, words)?,
+            value: take_value(alloc, words)?,
+        },
+        Verb::Del => Cmd::Del {
+            ts: take_number(words)?,
+            key: take_key(alloc, words)?,
+        },
+        Verb::Commit => Cmd::Commit {
+            ts: take_number(words)?,
+        },
+        Verb::Abort => Cmd::Abort {
+            ts: take_number(words)?,
+        },
+        Verb::Close => Cmd::Close {
+            to: take_number(words)?,
+        },
+        Verb::Scan => Cmd::Scan {
+            ts: take_number(words)?,
+            span: take_span(alloc, words)?,
+        },
+        Verb::CloseHard => Cmd::CloseHard {
+            to: take_number(words)?,
+        },
+        Verb::ReadAt => Cmd::ReadAt {
+            t: take_number(words)?,
+            key: take_key(alloc, words)?,
+        },
+        Verb::ScanAt => Cmd::ScanAt {
+            t: take_number(words)?,
+            span: take_span(alloc, words)?,
+        },
+        Verb::Protect => Cmd::Protect {
+            t: take_number(words)?,
+        },
+        Verb::Release => Cmd::Release {
+            id: take_number(words)?,
+        },
+        Verb::Collect => Cmd::Collect {
+            to: take_number(words)?,
+        },
+        Verb::Open => Cmd::Open {
+            span: take_span(alloc, words)?,
+            cursor: take_number(words)?,
+        },
+        Verb::Poll => Cmd::Poll {
+            feed: take_number(words)?,
+            max: take_number(words)?,
+        },
+        Verb::Cancel => Cmd::Cancel {
+            feed: take_number(words)?,
+        },
+        Verb::Stats => Cmd::Stats,
+    };
+    Ok(cmd)
+}
+
+/// Writes a command's line, with its newline, at the end.
+/// After an error it is as it was.
+#[tactic(auto, using(crate::proofs::Writing::undone))]
+pub fn write_command(out: &mut Vec<u8>, seat: u8, cmd: &Cmd) -> Result<(), AllocError>
+    ensures ok { OnOk result (out.new.items ≡ out.old.items ++ command_line seat cmd.now) }
+    ensures err { OnErr result (out.new.items ≡ out.old.items) }
+{
+    let length_before = out.len();
+    let written = put_command(out, seat, cmd);
+    or_undo(out, length_before, written)
+}
+
+#[tactic(auto, using(crate::proofs::Writing::keeping))]
+fn put_command(out: &mut Vec<u8>, seat: u8, cmd: &Cmd) -> Result<(), AllocError>
+    ensures ok { OnOk result (out.new.items ≡ out.old.items ++ command_line seat cmd.now) }
+    ensures err { OnErr result (Keeps out.old.items out.new.items) }
+{
+    put_number(out, u64::from(seat))?;
+    put_words(out, cmd)?;
+    out.push(b'\n')?;
+    Ok(())
+}
+
+/// Writes a command's name and its arguments, a space before each.
+#[tactic(auto, using(crate::proofs::Writing::keeping), unfolding(crate::specs::Commands::words_of))]
+pub(crate) fn put_words(out: &mut Vec<u8>, cmd: &Cmd) -> Result<(), AllocError>
+    ensures ok { OnOk result (out.new.items ≡ out.old.items ++ 32 ∷ joined (words_of cmd.now)) }
+    ensures err { OnErr result (Keeps out.old.items out.new.items) }
+{
+    match cmd {
+        Cmd::Begin { ts } => put_named(out, b" begin ", *ts),
+        Cmd::Get { ts, key } => {
+            put_named(out, b" get ", *ts)?;
+            put_word(out, key.bytes())
+        }
+        Cmd::Scan { ts, span } => {
+            put_named(out, b" scan ", *ts)?;
+            put_span(out, span)
+        }
+        Cmd::Put { ts, key, value } => {
+            put_named(out, b" put ", *ts)?;
+            put_word(out, key.bytes())?;
+            put_word(out, value.bytes())
+        }
+        Cmd::Del { ts, key } => {
+            put_named(out, b" del ", *ts)?;
+            put_word(out, key.bytes())
+        }
+        Cmd::Commit { ts } => put_named(out, b" commit ", *ts),
+        Cmd::Abort { ts } => put_named(out, b" abort ", *ts),
+        Cmd::Close { to } => put_named(out, b" close ", *to),
+        Cmd::CloseHard { to } => put_named(out, b" closehard ", *to),
+        Cmd::ReadAt { t, key } => {
+            put_named(out, b" readat ", *t)?;
+            put_word(out, key.bytes())
+        }
+        Cmd::ScanAt { t, span } => {
+            put_named(out, b" scanat ", *t)?;
+            put_span(out, span)
+        }
+        Cmd::Protect { t } => put_named(out, b" protect ", *t),
+        Cmd::Release { id } => put_named(out, b" release ", *id),
+        Cmd::Collect { to } => put_named(out, b" collect ", *to),
+        Cmd::Open { span, cursor } => {
+            out.extend_from_slice(b" open")?;
+            put_span(out, span)?;
+            put_named(out, b" ", *cursor)
+        }
+        Cmd::Poll { feed, max } => {
+            put_named(out, b" poll ", *feed)?;
+            put_named(out, b" ", *max)
+        }
+        Cmd::Cancel { feed } => put_named(out, b" cancel ", *feed),
+        Cmd::Stats => out.extend_from_slice(b" stats"),
+    }
+}
+
+/// Writes a name, which ends in a space, and a number.
+#[tactic(auto, using(crate::proofs::Writing::keeping))]
+pub(crate) fn put_named(out: &mut Vec<u8>, name: &[u8], number: u64) -> Result<(), AllocError>
+    ensures ok { OnOk result (out.new.items ≡ out.old.items ++ (name.now ++ decimal number)) }
+    ensures err { OnErr result (Keeps out.old.items out.new.items) }
+{
+    out.extend_from_slice(name)?;
+    put_number(out, number)
+}
+
+/// Writes a space and the word that spells bytes.
+#[tactic(auto, using(crate::proofs::Writing::keeping))]
+pub(crate) fn put_word(out: &mut Vec<u8>, bytes: &[u8]) -> Result<(), AllocError>
+    ensures ok { OnOk result (out.new.items ≡ out.old.items ++ 32 ∷ spelling bytes.now) }
+    ensures err { OnErr result (Keeps out.old.items out.new.items) }
+{
+    out.push(b' ')?;
+    put_spelling(out, bytes)
+}
+
+#[tactic(auto, using(crate::proofs::Writing::keeping))]
+fn put_span(out: &mut Vec<u8>, span: &Span) -> Result<(), AllocError>
+    ensures ok { OnOk result (out.new.items ≡ out.old.items ++ 32 ∷ joined (bound_word span.now.lo ∷ bound_word span.now.hi ∷ [])) }
+    ensures err { OnErr result (Keeps out.old.items out.new.items) }
+{
+    put_bound(out, &span.lo)?;
+    put_bound(out, &span.hi)
+}
+
+#[tactic(auto, using(crate::proofs::Writing::keeping))]
+fn put_bound(out: &mut Vec<u8>, bound: &Option<Bound>) -> Result<(), AllocError>
+    ensures ok { OnOk result (out.new.items ≡ out.old.items ++ 32 ∷ bound_word bound.now) }
+    ensures err { OnErr result (Keeps out.old.items out.new.items) }
+{
+    match bound {
+        None => out.extend_from_slice(b" -"),
+        Some(bound) => put_word(out, bound.bytes()),
+    }
+}

@@ -1,0 +1,90 @@
+//! Events as text, and the lines that can end the output of a run.
+
+ghost use Rattle.std.specs.Prelude.{◌≡◌, ◌++◌, OnOk, OnErr};
+ghost use Rattle.word_lines.specs.Writing.{Keeps};
+ghost use Rattle.word_lines.specs.Events.{event_text, fault_line, spent_line};
+
+use crate::buffer::or_undo;
+use crate::commands::put_words;
+use crate::fault::LineFault;
+use crate::numbers::put_number;
+use crate::replies::put_reply;
+use spans::calls::Event;
+use std::alloc::AllocError;
+
+/// Writes an event at the end: its position, its session and its command, `=>` and its reply, and
+/// the lines that follow the reply.
+/// After an error it is as it was.
+#[tactic(auto, using(crate::proofs::Writing::undone))]
+pub fn write_event(out: &mut Vec<u8>, event: &Event) -> Result<(), AllocError>
+    ensures ok { OnOk result (out.new.items ≡ out.old.items ++ event_text event.now) }
+    ensures err { OnErr result (out.new.items ≡ out.old.items) }
+{
+    let length_before = out.len();
+    let written = put_event(out, event);
+    or_undo(out, length_before, written)
+}
+
+#[tactic(auto, using(crate::proofs::Writing::keeping))]
+fn put_event(out: &mut Vec<u8>, event: &Event) -> Result<(), AllocError>
+    ensures ok { OnOk result (out.new.items ≡ out.old.items ++ event_text event.now) }
+    ensures err { OnErr result (Keeps out.old.items out.new.items) }
+{
+    put_number(out, event.position)?;
+    out.push(b' ')?;
+    put_number(out, u64::from(event.seat))?;
+    put_words(out, &event.cmd)?;
+    out.extend_from_slice(b" => ")?;
+    put_reply(out, &event.reply)?;
+    Ok(())
+}
+
+/// Writes the line that names a fault and the line where it stands, counted from 1.
+/// After an error it is as it was.
+#[tactic(auto, using(crate::proofs::Writing::undone))]
+pub fn write_fault(out: &mut Vec<u8>, line: u64, fault: LineFault) -> Result<(), AllocError>
+    ensures ok { OnOk result (out.new.items ≡ out.old.items ++ fault_line line fault) }
+    ensures err { OnErr result (out.new.items ≡ out.old.items) }
+{
+    let length_before = out.len();
+    let written = put_fault(out, line, fault);
+    or_undo(out, length_before, written)
+}
+
+#[tactic(auto, using(crate::proofs::Writing::keeping))]
+fn put_fault(out: &mut Vec<u8>, line: u64, fault: LineFault) -> Result<(), AllocError>
+    ensures ok { OnOk result (out.new.items ≡ out.old.items ++ fault_line line fault) }
+    ensures err { OnErr result (Keeps out.old.items out.new.items) }
+{
+    out.extend_from_slice(b"fault ")?;
+    put_number(out, line)?;
+    out.push(b' ')?;
+    put_number(out, u64::from(fault.code()))?;
+    out.push(b' ')?;
+    out.extend_from_slice(fault.name().as_bytes())?;
+    out.push(b'\n')?;
+    Ok(())
+}
+
+/// Writes the line that says that no position was left for a line's command.
+/// After an error it is as it was.
+#[tactic(auto, using(crate::proofs::Writing::undone))]
+pub fn write_spent(out: &mut Vec<u8>, line: u64) -> Result<(), AllocError>
+    ensures ok { OnOk result (out.new.items ≡ out.old.items ++ spent_line line) }
+    ensures err { OnErr result (out.new.items ≡ out.old.items) }
+{
+    let length_before = out.len();
+    let written = put_spent(out, line);
+    or_undo(out, length_before, written)
+}
+
+#[tactic(auto, using(crate::proofs::Writing::keeping))]
+fn put_spent(out: &mut Vec<u8>, line: u64) -> Result<(), AllocError>
+    ensures ok { OnOk result (out.new.items ≡ out.old.items ++ spent_line line) }
+    ensures err { OnErr result (Keeps out.old.items out.new.items) }
+{
+    out.extend_from_slice(b"spent ")?;
+    put_number(out, line)?;
+    out.push(b'\n')?;
+    Ok(())
+}
