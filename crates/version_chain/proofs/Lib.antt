@@ -11,3 +11,4 @@ pub mod Spent
 pub mod Chained
 pub mod Thinning
 pub mod Listing
+pub mod Following

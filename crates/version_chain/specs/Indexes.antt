@@ -1,5 +1,5 @@
 -- Which keys have a version at each timestamp.
-use Rattle.std.specs.Prelude.{ℕ, List, Bool, false, ◌≡◌, Option, Some, None, is_some}
+use Rattle.std.specs.Prelude.{ℕ, List, [], ◌∷◌, Bool, false, ◌≡◌, ◌<◌, ◌≤◌, Option, Some, None, is_some}
 use Rattle.std.specs.Map.{lookup}
 use Rattle.std.specs.BTreeMap.{is_at}
 use Rattle.std.specs.BTreeSet.{BTreeSet, contains}
@@ -21,6 +21,11 @@ listed_in es x t = is_among (lookup (is_at (nat_cmp t)) es) x
 
 abbrev pub is_listed : Index → List ℕ → ℕ → Bool
 is_listed index x t = listed_in index.keys.entries x t
+
+-- rising timestamps above a and at or below b
+abbrev pub AreBetween : ℕ → ℕ → List (ℕ × BTreeSet (List ℕ)) → Type 0
+AreBetween a b [] = Unit {0}
+AreBetween a b (e ∷ es) = (a < e.0) × (e.0 ≤ b) × AreBetween e.0 b es
 
 -- a key is among those of a timestamp exactly where it has a version there
 abbrev pub IsIndexOf : List Entry → Index → Type 0

@@ -4,3 +4,4 @@ pub mod Stores
 pub mod InSpans
 pub mod Spent
 pub mod Indexes
+pub mod Following

@@ -1,13 +1,16 @@
 //! The chains of all keys.
-ghost use Rattle.std.specs.Prelude.{◌≡◌, ℕ, List, [], Some, None, MatchOption, IfOk, OnOk, OnErr, is_some, is_none, option_map, length, true, IsTrue};
+ghost use Rattle.std.specs.Prelude.{◌≡◌, ℕ, List, [], Some, None, MatchOption, IfOk, OnOk, OnErr, is_some, is_none, option_map, length, true, false, IsTrue};
 ghost use Rattle.version_chain.specs.declared.chain.Version.{Version};
 ghost use Rattle.version_chain.specs.Versions.{DoRise, committed, IsNoneUpTo, IsNewestOf, IsNoneAbove, IsLeastAbove};
 ghost use Rattle.version_chain.specs.Chains.{AreFilled, found_in, chain_of, IsChangedAt};
+ghost use Rattle.version_chain.specs.Stores.{is_decided_in};
+ghost use Rattle.version_chain.specs.Following.{IsCommittedAt, IsFirstAmong, IsNoneAmong};
 ghost use Rattle.version_chain.specs.InSpans.{AreFound, AreFrom};
 ghost use Rattle.version_chain.specs.Spent.{is_spent_version, is_spent_at, newest_of, IsThinnedAt};
 ghost use Rattle.std.specs.List.{filter};
 ghost use Rattle.std.specs.BTreeSet.{contains};
 ghost use Rattle.timestamps.specs.Bytes.{key_cmp};
+ghost use Rattle.spans.proofs.Keyed.{RisingKeys};
 ghost use Rattle.spans.proofs.WriteSets.{has};
 
 use crate::chain::{Chain, Version};
@@ -17,7 +20,7 @@ use spans::bound::Bound;
 use spans::span::Span;
 use std::alloc::{AllocError, Global};
 use std::collections::btree_map::Range;
-use std::collections::{BTreeMap, BTreeSet};
+use std::collections::{BTreeMap, BTreeSet, btree_set};
 use std::marker::Model;
 use std::ops;
 use timestamps::key::Key;
@@ -76,6 +79,35 @@ impl Chains {
             None => None,
             Some(chain) => chain.next_above(t, &mut Steps::new()),
         }
+    }
+
+    /// The version of the key at `ts`, where it is committed.
+    fn committed_at(&self, key: &Key, ts: u64) -> Option<&Version>
+        ensures { MatchOption result (is_decided_in self.now key.now ts ≡ false) (λ v. IsCommittedAt self.now key.now ts v.now) }
+    {
+        let version = self.newest_at(key, ts)?;
+        if version.ts.get() != ts || !version.decided {
+            return None;
+        }
+        Some(version)
+    }
+
+    /// The first of the keys with a committed version at `ts`, with that version.
+    pub(crate) fn first_committed<'a>(
+        &'a self,
+        keys: btree_set::Range<'a, Key>,
+        ts: u64,
+    ) -> Option<(&'a Key, &'a Version)>
+        requires { RisingKeys keys }
+        ensures { MatchOption result (IsNoneAmong self.now keys.entry ts)
+            (λ found. IsFirstAmong self.now keys.entry ts found.0.now found.1.now) }
+    {
+        for key in keys {
+            if let Some(version) = self.committed_at(key, ts) {
+                return Some((key, version));
+            }
+        }
+        None
     }
 
     /// The keys of the span that have a version, rising, each with its chain.

@@ -1,7 +1,8 @@
 //! Which keys have a version at each timestamp.
 ghost use Rattle.std.specs.Prelude.{◌≡◌, ◌==◌, ◌&&◌, ◌||◌, ℕ, List, false, bytes_eq, if◌then◌else◌, OnOk, OnErr, ◌<◌, ◌≤◌};
+ghost use Rattle.std.specs.Option.{option_copied};
 ghost use Rattle.version_chain.specs.Spent.{is_spent_at};
-ghost use Rattle.version_chain.specs.Indexes.{is_listed, listed_in};
+ghost use Rattle.version_chain.specs.Indexes.{is_among, is_listed, listed_in, AreBetween};
 
 use crate::chain::Version;
 use std::alloc::{AllocError, Global};
@@ -74,10 +75,18 @@ impl Index {
         }
     }
 
+    /// The keys of `ts`, where there are some.
+    pub(crate) fn keys_at(&self, ts: u64) -> Option<&BTreeSet<Key>>
+        ensures { (y : List ℕ) → is_among (option_copied result) y ≡ is_listed self.now y ts }
+    {
+        self.keys.get(&ts)
+    }
+
     /// The timestamps above `after` and at or below `through`, rising, each with its keys.
     pub(crate) fn between(&self, after: u64, through: u64) -> Range<'_, u64, BTreeSet<Key>>
         requires { after < through }
-        ensures { (y : List ℕ) (i : ℕ) → after < i → i ≤ through → listed_in result y i ≡ is_listed self.now y i }
+        ensures listed { (y : List ℕ) (i : ℕ) → after < i → i ≤ through → listed_in result y i ≡ is_listed self.now y i }
+        ensures rising { AreBetween after through result }
     {
         self.keys
             .range((Bound::Excluded(after), Bound::Included(through)))

@@ -9,6 +9,7 @@
 //! write apple at 10          10  30      30         10 apple, 30 apple pear      3
 //! commit apple at 10         10* 30      30         10 apple, 30 apple pear      3    newest_at apple, 29 is 10*
 //! commit both at 30          10* 30*     30*        10 apple, 30 apple pear      3    next_above apple, 10 is 30
+//!                                                                                     committed_after 30 apple is 30 pear
 //! drop what is dead by 30    30*         30*        30 apple pear                2    in_span - p is apple
 //! ```
 //! Of k keys and v versions of one, each search compares about log k keys and reads at most as many
@@ -16,8 +17,9 @@
 //! an abort goes to the index. A write searches the chains once, twice for a key that had no version,
 //! and then the index once; it looks at the end of its chain first, and moves the versions above its
 //! own. A collection looks at what was written between the last horizon and its own, and at what is at
-//! or below its own in the chains in which something is dead; the versions above are moved once. The
-//! count is one read.
+//! or below its own in the chains in which something is dead; the versions above are moved once. What
+//! follows a place is read off the index, which is searched at the place; each version that it lists
+//! from there is a search, and the first that is committed ends it. The count is one read.
 //!
 //! A write and the list of what is dead alone need memory. A write that finds no room for its place in
 //! the index takes its version out again, and a collection makes its list before anything goes. The

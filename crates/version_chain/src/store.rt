@@ -1,5 +1,5 @@
 //! The versions of all keys, by key.
-ghost use Rattle.std.specs.Prelude.{◌≡◌, ℕ, List, ◌≤◌, None, MatchOption, IfOk, OnOk, OnErr, option_map, bytes_eq, true};
+ghost use Rattle.std.specs.Prelude.{◌≡◌, ℕ, List, ◌≤◌, None, Some, MatchOption, IfOk, OnOk, OnErr, option_map, bytes_eq, true};
 ghost use Rattle.std.specs.Option.{option_copied};
 ghost use Rattle.std.specs.List.{filter};
 ghost use Rattle.std.specs.Map.{keys_of};
@@ -7,6 +7,7 @@ ghost use Rattle.spans.specs.Keys.{in_span};
 ghost use Rattle.spans.proofs.Keyed.{RisingKeys};
 ghost use Rattle.kept.specs.Finding.{IsNextAbove};
 ghost use Rattle.version_chain.specs.Versions.{committed};
+ghost use Rattle.version_chain.specs.Following.{IsFirstAfter, IsNoneAfter};
 ghost use Rattle.version_chain.specs.Chains.{Entry, AreFilled, IsChangedAt};
 ghost use Rattle.spans.proofs.WriteSets.{has};
 ghost use Rattle.version_chain.specs.Spent.{is_spent_in, IsCollectedIn, AreThinned};
@@ -19,6 +20,7 @@ use crate::index::Index;
 use spans::span::Span;
 use std::alloc::{AllocError, Global};
 use std::marker::Model;
+use std::ops::Bound;
 use timestamps::key::Key;
 use timestamps::ts::Ts;
 use timestamps::value::Value;
@@ -80,6 +82,58 @@ impl Store {
             None => None,
             Some(version) => Some(version.ts.get()),
         }
+    }
+
+    /// The first committed version after a place and at or below `through`, with its key: versions are
+    /// ordered by timestamp and then by key. The place is that of `key` at `ts`; without a key it is
+    /// behind all keys of `ts`. It takes O(log n), and as much for each undecided version that lies
+    /// between and is passed over.
+    pub fn committed_after(
+        &self,
+        ts: u64,
+        key: Option<&Key>,
+        through: u64,
+    ) -> Option<(&Key, &Version)>
+        ensures { MatchOption result (IsNoneAfter self.now ts (option_copied key.entry) through)
+            (λ found. IsFirstAfter self.now ts (option_copied key.entry) through found.0.now found.1.now) }
+    {
+        let Some(key) = key else {
+            return self.committed_above(ts, through);
+        };
+        if through < ts {
+            return None;
+        }
+        match self.committed_beside(ts, key) {
+            None => self.committed_above(ts, through),
+            Some(found) => Some(found),
+        }
+    }
+
+    /// The first committed version of `ts` at a key above `key`, with its key.
+    fn committed_beside(&self, ts: u64, key: &Key) -> Option<(&Key, &Version)>
+        ensures { MatchOption result (IsNoneAfter self.now ts (Some key.now) ts)
+            (λ found. IsFirstAfter self.now ts (Some key.now) ts found.0.now found.1.now) }
+    {
+        let keys = self.index.keys_at(ts)?;
+        let above = keys.range((Bound::Excluded(key), Bound::Unbounded));
+        self.chains.first_committed(above, ts)
+    }
+
+    /// The first committed version above `after` and at or below `through`, with its key.
+    fn committed_above(&self, after: u64, through: u64) -> Option<(&Key, &Version)>
+        ensures { MatchOption result (IsNoneAfter self.now after None through)
+            (λ found. IsFirstAfter self.now after None through found.0.now found.1.now) }
+    {
+        if through <= after {
+            return None;
+        }
+        for (ts, keys) in self.index.between(after, through) {
+            let all = keys.range(..);
+            if let Some(found) = self.chains.first_committed(all, *ts) {
+                return Some(found);
+            }
+        }
+        None
     }
 
     /// The keys of the span that have a version, rising, each with its chain, which has at least one

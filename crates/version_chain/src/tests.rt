@@ -312,3 +312,88 @@ fn what_is_dead_goes(rt: HostRuntime) -> Result<(), Fail> {
     assert_eq!(rt; store.versions(), 1);
     Ok(())
 }
+
+/// What follows a place: of each version its timestamp, where that is a byte, and the last byte of its key.
+fn told_after(
+    alloc: Global,
+    store: &Store,
+    place: (u64, Option<&Key>),
+    through: u64,
+) -> Result<Vec<u8>, Fail> {
+    let (mut ts, mut key) = place;
+    let mut bytes = Vec::new(alloc);
+    for _ in 0..9 {
+        let Some((found, version)) = store.committed_after(ts, key, through) else {
+            return Ok(bytes);
+        };
+        ts = version.ts.get();
+        key = Some(found);
+        bytes.push(u8::try_from(ts).unwrap_or(0))?;
+        bytes.push(*found.bytes().last().ok_or("no byte")?)?;
+    }
+    Err(Fail::new("no end"))
+}
+
+/// Writes versions of `ts` at keys of one byte.
+fn write_at(alloc: Global, store: &mut Store, ts: u64, keys: &[u8]) -> Result<(), Fail> {
+    for byte in keys {
+        store.write(&Key::new(alloc, &[*byte])?, at(ts)?, None)?;
+    }
+    Ok(())
+}
+
+#[test]
+fn versions_follow_by_timestamp_and_then_by_key(rt: HostRuntime) -> Result<(), Fail> {
+    let alloc = rt.alloc();
+    let b = Key::new(alloc, b"b")?;
+    let mut store = Store::new(alloc);
+    assert_eq!(rt; told_after(alloc, &store, (0, None), u64::MAX)?.len(), 0);
+    write_at(alloc, &mut store, 10, b"abc")?;
+    write_at(alloc, &mut store, 20, b"ac")?;
+    write_at(alloc, &mut store, 30, b"bd")?;
+    // 20 stays undecided, and so does b at 30
+    store.abort(at(10)?, one(alloc, b"c")?.as_slice());
+    store.commit(at(30)?, one(alloc, b"d")?.as_slice());
+    assert_eq!(rt;
+        told_after(alloc, &store, (0, None), 99)?.as_slice(),
+        b"\x1ed".as_slice()
+    );
+    store.commit(at(10)?, one(alloc, b"b")?.as_slice());
+    store.commit(at(10)?, one(alloc, b"a")?.as_slice());
+    assert_eq!(rt;
+        told_after(alloc, &store, (9, Some(&b)), 30)?.as_slice(),
+        b"\x0aa\x0ab\x1ed".as_slice()
+    );
+    assert_eq!(rt;
+        told_after(alloc, &store, (10, Some(&b)), 99)?.as_slice(),
+        b"\x1ed".as_slice()
+    );
+    assert_eq!(rt; told_after(alloc, &store, (10, None), 29)?.len(), 0);
+    assert_eq!(rt;
+        told_after(alloc, &store, (0, None), 10)?.as_slice(),
+        b"\x0aa\x0ab".as_slice()
+    );
+    assert_eq!(rt; told_after(alloc, &store, (10, Some(&b)), 9)?.len(), 0);
+    Ok(())
+}
+
+#[test]
+fn the_greatest_timestamp_follows(rt: HostRuntime) -> Result<(), Fail> {
+    let alloc = rt.alloc();
+    let a = Key::new(alloc, b"a")?;
+    let last = timestamps::ts::MAX;
+    let mut store = Store::new(alloc);
+    write_at(alloc, &mut store, last, b"b")?;
+    store.commit(at(last)?, one(alloc, b"b")?.as_slice());
+    // the key of a place needs no version
+    assert_eq!(rt;
+        told_after(alloc, &store, (last, Some(&a)), u64::MAX)?.as_slice(),
+        b"\0b".as_slice()
+    );
+    assert_eq!(rt; told_after(alloc, &store, (last, None), u64::MAX)?.len(), 0);
+    assert_eq!(rt;
+        told_after(alloc, &store, (u64::MAX, Some(&a)), u64::MAX)?.len(),
+        0
+    );
+    Ok(())
+}

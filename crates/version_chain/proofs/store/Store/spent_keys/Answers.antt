@@ -14,7 +14,7 @@ returns-then-horizon-self c = λ y i dead. absurd (both_ways _ (unspent_lower (f
 pub loop-ts-init : goal.loop-ts-init
 loop-ts-init c = λ y i dead.
     let at = dead_listed c.self.inside.chains c.self.inside.index c.self.inside.dropped_through c.args.horizon c.self.invariant.indexed c.self.invariant.settled y i dead in
-    inr (ap (λ es. listed_in es y (newest_of (chain_of c.self.inside.chains y) c.args.horizon)) c.into_iter-ts-iterator.ensures.into_iter_gives ∙ c.between-ts-items.ensures y _ at.0 at.1 ∙ at.2)
+    inr (ap (λ es. listed_in es y (newest_of (chain_of c.self.inside.chains y) c.args.horizon)) c.into_iter-ts-iterator.ensures.into_iter_gives ∙ c.between-ts-items.ensures.listed y _ at.0 at.1 ∙ at.2)
 
 pub loop-ts-preserved : goal.loop-ts-preserved
 loop-ts-preserved c = λ y i dead. elim (c.loop-ts.invariant y i dead) [
