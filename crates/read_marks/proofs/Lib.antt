@@ -1,3 +1,4 @@
+pub mod Fronts
 pub mod Splitting
 pub mod Between
 pub mod Merging

@@ -8,10 +8,11 @@ use Rattle.std.specs.BTreeMap.{BTreeMap, is_at, get}
 use Rattle.std.specs.declared.cmp.Ordering.{Ordering}
 use Rattle.std.specs.declared.cmp.Ordering.TheVariants.{Less, Equal, Greater}
 use Rattle.std.specs.BTreeMap.Range.{range_contains, IsEntryInRange}
+use Rattle.std.specs.declared.ops.Bound.{Bound}
 use Rattle.std.specs.declared.ops.Bound.TheVariants.{Included, Unbounded}
 use Rattle.std.specs.Cmp.{alike_right, tied_itself}
 use Rattle.std.proofs.lemmas.List.Kept.{IsStrictlySortedBy-filter}
-use Rattle.std.proofs.lemmas.List.Elements.{All-head, All-tail}
+use Rattle.std.proofs.lemmas.List.Elements.{All-pop}
 use Rattle.std.proofs.lemmas.Slice.Eq.{bytes_eq-Decides}
 use Rattle.kept.specs.Marks.{IsPiece}
 use Rattle.std.specs.Cmp.Lexicographic.{nat_list_cmp_total}
@@ -23,7 +24,7 @@ use Rattle.read_marks.specs.Patches.{AreEdited, holds}
 use Rattle.read_marks.specs.Editing.{Entries, IsStart, IsEnd, IsSegment, HasEnds, IsPart, AreStarts, AreParts, picks, puts_parts}
 use Rattle.read_marks.specs.declared.patch.Patch.{Patch}
 use Rattle.read_marks.proofs.Editing.{AreMade, picked_at, none_made, parts_made, puts_made, step_made}
-use Rattle.read_marks.proofs.Steps.{less-from, none-found}
+use Rattle.read_marks.proofs.Steps.{before_last, less-from, none-found}
 
 true-turn : (t : Bool) (w : Bool) → w ≡ true → cond t w true ≡ true
 true-turn true w h = h
@@ -162,58 +163,65 @@ keys-filter : (p : List ℕ → Bool) (es : Entries) → keys_of (filter (λ e. 
 keys-filter p [] = refl
 keys-filter p (e ∷ es) = keys-turn e _ _ (p e.0) (keys-filter p es)
 
-past-none : (hi : List ℕ) (es : Entries) → AllByRecursion (λ k. key_cmp hi k ≡ Less) (keys_of es) → filter (λ e. not (is_le (key_cmp hi e.0))) es ≡ []
-past-none hi [] h = refl
-past-none hi (e ∷ es) h = rw h.0 (past-none hi es h.1)
+-- the last of sorted entries is the only one from its start on
+below-last : (k lo v : List ℕ) (t : Entries) → AllByRecursion (λ q. key_cmp k q ≡ Less) (keys_of (t ++ (lo, v) ∷ [])) → key_cmp k lo ≡ Less
+below-last k lo v [] h = h.0
+below-last k lo v (e ∷ t) h = below-last k lo v t h.1
 
-first-below : (lo v : List ℕ) (f : List ℕ × List ℕ) (es : Entries) → IsStrictlySortedBy key_cmp (keys_of ((lo, v) ∷ f ∷ es)) → filter (λ e. not (is_le (key_cmp f.0 e.0))) ((lo, v) ∷ f ∷ es) ≡ (lo, v) ∷ []
+from-last : (lo v : List ℕ) (t : Entries) → IsStrictlySortedBy key_cmp (keys_of (t ++ (lo, v) ∷ [])) → filter (λ e. is_le (key_cmp lo e.0)) (t ++ (lo, v) ∷ []) ≡ (lo, v) ∷ []
 unfolding IsStrictlySortedBy
-first-below lo v f es s =
-    let past : key_cmp f.0 lo ≡ Greater = nat_list_cmp_total.antisymm f.0 lo ∙ ap ordering_reverse s.0.0 in
-    rw (past, tied_itself nat_list_cmp_total f.0, past-none f.0 es s.1.0) refl
+from-last lo v [] s = rw (tied_itself nat_list_cmp_total lo) refl
+from-last lo v (e ∷ t) s =
+    let past : key_cmp lo e.0 ≡ Greater = nat_list_cmp_total.antisymm lo e.0 ∙ ap ordering_reverse (below-last e.0 lo v t s.0) in
+    rw past (from-last lo v t s.1)
 
-and-true : (a b : Bool) → (a && b) ≡ ((a && true) && b)
-and-true true b = refl
-and-true false b = refl
+and-swap : (a b : Bool) → (a && b) ≡ (b && a)
+and-swap true true = refl
+and-swap true false = refl
+and-swap false true = refl
+and-swap false false = refl
 
--- a start from which on the next is where the patch ends, or there is none, lies in it alone
-abbrev pub starts_from : List ℕ → Entries → Entries
-starts_from lo es = filter (λ e. range_contains key_cmp (Included lo) Unbounded e.0) es
+-- a start up to which, of those below the end of the patch, it is the last, lies in it alone
+alone_last : (p : Patch) (q : List ℕ → Bool) (es t : Entries) (v : List ℕ) → IsStrictlySortedBy key_cmp (keys_of es) → ((k : List ℕ) → picks p k ≡ (is_le (key_cmp p.lo k) && q k)) → filter (λ e. q e.0) es ≡ t ++ (p.lo, v) ∷ []
+    → filter (λ e. picks p e.0) es ≡ (p.lo, v) ∷ []
+alone_last p q es t v s same is =
+    let stays : IsStrictlySortedBy key_cmp (keys_of (filter (λ e. q e.0) es)) = rw (keys-filter q es) (IsStrictlySortedBy-filter key_cmp q (keys_of es) s) in
+    let sorted : IsStrictlySortedBy key_cmp (keys_of (t ++ (p.lo, v) ∷ [])) = subst (λ (gs : Entries). IsStrictlySortedBy key_cmp (keys_of gs)) is stays in
+    let both : filter (λ e. picks p e.0) es ≡ filter (λ e. is_le (key_cmp p.lo e.0)) (filter (λ e. q e.0) es) = filter-both q (λ k. is_le (key_cmp p.lo k)) (picks p) es (λ k. same k ∙ and-swap (is_le (key_cmp p.lo k)) (q k)) in
+    both ∙ ap (λ gs. filter (λ e. is_le (key_cmp p.lo e.0)) gs) is ∙ from-last p.lo v t sorted
 
-alone_before : (p : Patch) (m : BTreeMap (List ℕ) (List ℕ)) (v hi : List ℕ) (f : List ℕ × List ℕ) (es : Entries) → IsStrictlySortedBy key_cmp (keys_of m.entries) → p.hi ≡ Some hi → f.0 ≡ hi → starts_from p.lo m.entries ≡ (p.lo, v) ∷ f ∷ es
-    → filter (λ e. picks p e.0) m.entries ≡ (p.lo, v) ∷ []
-alone_before p m v hi f es s end same is =
-    let from : List ℕ → Bool = λ k. range_contains key_cmp (Included p.lo) Unbounded k in
-    let stays : IsStrictlySortedBy key_cmp (keys_of (starts_from p.lo m.entries)) = rw (keys-filter from m.entries) (IsStrictlySortedBy-filter key_cmp from (keys_of m.entries) s) in
-    let sorted : IsStrictlySortedBy key_cmp (keys_of ((p.lo, v) ∷ f ∷ es)) = subst (λ (gs : Entries). IsStrictlySortedBy key_cmp (keys_of gs)) is stays in
-    let both : filter (λ e. picks p e.0) m.entries ≡ filter (λ e. not (is_le (key_cmp f.0 e.0))) (starts_from p.lo m.entries) = filter-both from (λ k. not (is_le (key_cmp f.0 k))) (picks p) m.entries (λ k. rw (end, same) (and-true (is_le (key_cmp p.lo k)) _)) in
-    both ∙ ap (λ gs. filter (λ e. not (is_le (key_cmp f.0 e.0))) gs) is ∙ first-below p.lo v f es sorted
+-- the starts up to a bound, of which the last is the end of the patch and the one before it its beginning
+abbrev pub starts_to : Bound (List ℕ) → Entries → Entries
+starts_to end es = filter (λ e. range_contains key_cmp Unbounded end e.0) es
 
-pub segment_before : (p : Patch) (m : BTreeMap (List ℕ) (List ℕ)) (r s : Entries) (k v : List ℕ) (f : List ℕ × List ℕ) (hi : List ℕ) → IsStrictlySortedBy key_cmp (keys_of m.entries) → r ≡ starts_from p.lo m.entries → All (IsEntryInRange key_cmp (Included p.lo) Unbounded m) r
-    → r ≡ (k, v) ∷ f ∷ s → k ≡ p.lo → p.hi ≡ Some hi → f.0 ≡ hi → IsSegment m p
-segment_before p m r s k v f hi sorted from all is low end high =
-    let entry : List ℕ × List ℕ → Type 0 = IsEntryInRange key_cmp (Included p.lo) Unbounded m in
-    let there = rw is at all in
-    let found : get key_cmp m k ≡ Some v = (All-head entry (k, v) (f ∷ s) there).1 in
-    let last : get key_cmp m f.0 ≡ Some f.1 = (All-head entry f s (All-tail entry (k, v) (f ∷ s) there)).1 in
-    let at_end : IsStart m hi = rw (← high, last) refl in
+pub segment_before : (p : Patch) (m : BTreeMap (List ℕ) (List ℕ)) (bound : Bound (List ℕ)) (r s t : Entries) (k v : List ℕ) (f : List ℕ × List ℕ) (hi : List ℕ) → IsStrictlySortedBy key_cmp (keys_of m.entries) → bound ≡ Included hi → r ≡ starts_to bound m.entries
+    → All (IsEntryInRange key_cmp Unbounded bound m) r → r ≡ s ++ f ∷ [] → s ≡ t ++ (k, v) ∷ [] → k ≡ p.lo → p.hi ≡ Some hi → f.0 ≡ hi → IsSegment m p
+segment_before p m bound r s t k v f hi sorted limit from all last is low end high =
+    let entry : List ℕ × List ℕ → Type 0 = IsEntryInRange key_cmp Unbounded bound m in
+    let ends : All entry s × entry f = All-pop entry r s (Some f) last all in
+    let starts : All entry t × entry (k, v) = All-pop entry s t (Some (k, v)) is ends.0 in
+    let found : get key_cmp m k ≡ Some v = starts.1.1 in
+    let there : get key_cmp m f.0 ≡ Some f.1 = ends.1.1 in
+    let at_end : IsStart m hi = rw (← high, there) refl in
+    let up_to : filter (λ e. not (is_lt (key_cmp hi e.0))) m.entries ≡ s ++ (hi, f.1) ∷ [] = subst (λ (b : Bound (List ℕ)). starts_to b m.entries ≡ s ++ (hi, f.1) ∷ []) limit (sym from ∙ last ∙ ap (λ h. s ++ (h, f.1) ∷ []) high) in
+    let below : filter (λ e. not (is_le (key_cmp hi e.0))) m.entries ≡ t ++ (p.lo, v) ∷ [] = before_last nat_list_cmp_total hi f.1 m.entries s sorted up_to ∙ is ∙ ap (λ h. t ++ (h, v) ∷ []) low in
     record {
       readers = v;
       start = rw (← low) found;
       end = rw end at_end;
-      alone = alone_before p m v hi f s sorted end high (sym from ∙ is ∙ ap (λ q. (q, v) ∷ f ∷ s) low);
+      alone = alone_last p (λ q. not (is_le (key_cmp hi q))) m.entries t v sorted (λ q. rw end refl) below;
     }
 
-pub segment_last : (p : Patch) (m : BTreeMap (List ℕ) (List ℕ)) (r : Entries) (k v : List ℕ) → r ≡ starts_from p.lo m.entries → All (IsEntryInRange key_cmp (Included p.lo) Unbounded m) r → r ≡ (k, v) ∷ [] → k ≡ p.lo → p.hi ≡ None → IsSegment m p
-segment_last p m r k v from all is low end =
-    let entry : List ℕ × List ℕ → Type 0 = IsEntryInRange key_cmp (Included p.lo) Unbounded m in
-    let there = rw is at all in
-    let found : get key_cmp m k ≡ Some v = (All-head entry (k, v) [] there).1 in
+pub segment_last : (p : Patch) (m : BTreeMap (List ℕ) (List ℕ)) (bound : Bound (List ℕ)) (r t : Entries) (k v : List ℕ) → IsStrictlySortedBy key_cmp (keys_of m.entries) → bound ≡ Unbounded → r ≡ starts_to bound m.entries → All (IsEntryInRange key_cmp Unbounded bound m) r → r ≡ t ++ (k, v) ∷ [] → k ≡ p.lo → p.hi ≡ None → IsSegment m p
+segment_last p m bound r t k v sorted limit from all is low end =
+    let entry : List ℕ × List ℕ → Type 0 = IsEntryInRange key_cmp Unbounded bound m in
+    let starts : All entry t × entry (k, v) = All-pop entry r t (Some (k, v)) is all in
+    let found : get key_cmp m k ≡ Some v = starts.1.1 in
     record {
       readers = v;
       start = rw (← low) found;
       end = rw end tt;
-      alone = rw end (sym from ∙ is ∙ ap (λ q. (q, v) ∷ []) low);
+      alone = alone_last p (λ _. true) m.entries t v sorted (λ q. rw end refl) (subst (λ (b : Bound (List ℕ)). starts_to b m.entries ≡ t ++ (p.lo, v) ∷ []) limit (sym from ∙ is ∙ ap (λ h. t ++ (h, v) ∷ []) low));
     }
 
 told-apart : (b : Bool) → false ≡ not b → b ≡ true

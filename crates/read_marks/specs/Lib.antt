@@ -1,3 +1,4 @@
+pub mod Fronts
 pub mod Readers
 pub mod Segments
 pub mod Patches

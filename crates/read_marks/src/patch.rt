@@ -1,13 +1,15 @@
 //! A piece by the starts of its span.
 ghost use Rattle.std.specs.Prelude.{◌≡◌, ◌<◌, ◌≤◌, IsTrue, List, ℕ, false, true};
+ghost use Rattle.std.specs.Range.Bound.{bound_map};
 ghost use Rattle.spans.specs.KeyOrder.{below_high};
 ghost use Rattle.read_marks.specs.Patches.{holds, patch_of, own_piece};
-ghost use Rattle.read_marks.specs.Editing.{picks};
+ghost use Rattle.read_marks.specs.Editing.{end_in, picks};
 ghost use Rattle.read_marks.specs.Joining.{GoesOn, IsInside, RunsForward, in_widest_gap};
 
 use crate::piece::Piece;
 use crate::start::Start;
 use spans::span::Span;
+use std::ops::Bound;
 
 /// From `lo` on, and below `hi` where that is given, the readers above `above` and up to `until`
 /// become one.
@@ -76,11 +78,13 @@ impl Patch {
         }
     }
 
-    /// Whether a start is at its end or above.
-    pub(crate) fn ends_at(&self, start: &Start) -> bool {
+    /// The keys up to its end, and that too, or all.
+    pub(crate) fn up_to_end(&self) -> Bound<&Start>
+        ensures { bound_map (λ hi. hi.now) result ≡ end_in self.now.hi }
+    {
         match &self.hi {
-            None => false,
-            Some(hi) => start.cmp(hi).is_ge(),
+            None => Bound::Unbounded,
+            Some(hi) => Bound::Included(hi),
         }
     }
 

@@ -45,6 +45,11 @@ impl Readers {
         self.list.is_empty()
     }
 
+    /// The latest.
+    pub(crate) fn latest(&self) -> Option<u64> {
+        self.list.last().copied()
+    }
+
     /// Whether they are the same.
     pub(crate) fn is_same(&self, other: &Readers) -> bool
         ensures { IsTrue result → self.now ≡ other.now }

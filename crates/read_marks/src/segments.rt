@@ -1,5 +1,5 @@
 //! A step function from keys to readers.
-ghost use Rattle.std.specs.Prelude.{◌≡◌, ◌<◌, ◌≤◌, ℕ, List, [], ◌∷◌, IfOk, OnOk, OnErr, IsTrue, IsSome, Some, MatchOption, nat_lt};
+ghost use Rattle.std.specs.Prelude.{◌≡◌, ◌<◌, ◌≤◌, ℕ, List, [], ◌∷◌, IfOk, OnOk, OnErr, IfSome, IsTrue, IsSome, Some, MatchOption, nat_lt};
 ghost use Rattle.std.specs.List.{filter};
 ghost use Rattle.std.specs.BTreeMap.{get, IsOrdered};
 ghost use Rattle.timestamps.specs.Bytes.{key_cmp};
@@ -10,6 +10,7 @@ ghost use Rattle.read_marks.specs.Joining.{IsExtentOf, IsPartOf, IsWithin};
 ghost use Rattle.read_marks.specs.Editing.{AreParts, AreStarts, HasEnds, IsPart, IsSegment, IsStart, puts, puts_parts};
 
 use crate::extent::Extent;
+use crate::neighbours::Neighbours;
 use crate::patch::Patch;
 use crate::readers::Readers;
 use crate::start::Start;
@@ -19,6 +20,12 @@ use std::ops::Bound;
 
 /// New readers for some starts.
 type Part = Vec<(Start, Readers)>;
+
+// The latest reader of a segment, where there is one and it has any.
+fn latest_of(segment: Option<(&Start, &Readers)>) -> Option<u64> {
+    let (_, readers) = segment?;
+    readers.latest()
+}
 
 /// The readers of each key: those of the greatest start that is not above it.
 #[derive(Debug, Drop)]
@@ -223,40 +230,38 @@ impl Segments {
         }
     }
 
-    // The next start above one, where that is below the end of a patch.
-    fn next_start(&self, start: &Start, patch: &Patch) -> Option<Start> {
-        let (next, _) = self
-            .starts
-            .range((Bound::Excluded(start), Bound::Unbounded))
-            .next()?;
-        if patch.ends_at(next) {
-            return None;
+    // The greatest start from `lo` on and up to `end` whose readers are those of the segment before it.
+    fn last_repeated(&self, lo: &Start, end: Bound<&Start>) -> Option<Start> {
+        let mut later: Option<(&Start, &Readers)> = None;
+        for (start, readers) in self.starts.range((Bound::Unbounded, end)).rev() {
+            if let Some((next, same)) = later {
+                if same.is_same(readers) {
+                    return Some(next.copy());
+                }
+            }
+            if start < lo {
+                return None;
+            }
+            later = Some((start, readers));
         }
-        Some(next.copy())
+        match later {
+            Some((first, readers)) if readers.is_empty() => Some(first.copy()),
+            _ => None,
+        }
     }
 
-    // Joins the segments that start at the ends of a patch.
-    fn join_ends(&mut self, patch: &Patch)
-        ensures { (x : List ℕ) → readers_at self.new x ≡ readers_at self.old x }
-    {
-        if let Some(hi) = &patch.hi {
-            self.join_at(hi);
-        }
-        self.join_at(&patch.lo);
-    }
-
-    // Joins those that start between them too. In which order makes no difference.
+    // Joins the segments that start in a patch or where it ends, the last of them first: what follows
+    // one that goes was compared with the same readers.
     fn join(&mut self, patch: &Patch)
         ensures { (x : List ℕ) → readers_at self.new x ≡ readers_at self.old x }
     {
-        self.join_ends(patch);
-        let mut start = patch.lo.copy();
+        let mut found = self.last_repeated(&patch.lo, patch.up_to_end());
         for _ in 0..self.starts.len() {
-            match self.next_start(&start, patch) {
-                None => return,
-                Some(next) => start = next,
-            }
+            let Some(start) = found else {
+                return;
+            };
             self.join_at(&start);
+            found = self.last_repeated(&patch.lo, Bound::Excluded(&start));
         }
     }
 
@@ -283,28 +288,37 @@ impl Segments {
         Ok(())
     }
 
-    // Whether a patch is one segment: one starts where it begins, and the next where it ends.
-    fn is_segment(&self, patch: &Patch) -> bool
-        ensures { IsTrue result → IsSegment self.now.starts patch.now }
+    // What stands beside a patch that is one segment: one starts where it begins, and the next where it
+    // ends. These are the last steps up to its end, so that one search finds them all.
+    fn neighbours(&self, patch: &Patch) -> Option<Neighbours>
+        ensures { IfSome result (λ _. IsSegment self.now.starts patch.now) }
     {
-        let mut from = self
-            .starts
-            .range((Bound::Included(&patch.lo), Bound::Unbounded));
-        let Some((first, _)) = from.next() else {
-            return false;
+        let mut back = self.starts.range((Bound::Unbounded, patch.up_to_end()));
+        let after = match &patch.hi {
+            None => None,
+            Some(hi) => {
+                let (end, readers) = back.next_back()?;
+                if end != hi {
+                    return None;
+                }
+                readers.latest()
+            }
         };
-        if *first != patch.lo {
-            return false;
+        let (start, _) = back.next_back()?;
+        if *start != patch.lo {
+            return None;
         }
-        match (from.next(), &patch.hi) {
-            (None, None) => true,
-            (Some((next, _)), Some(hi)) => next == hi,
-            _ => false,
-        }
+        let before = latest_of(back.next_back());
+        Some(Neighbours { before, after })
     }
 
-    // The readers of a patch that is one segment are edited in place.
-    fn edit_segment(&mut self, patch: &Patch, ts: u64, forgotten: u64) -> Result<(), AllocError>
+    // The readers of a patch that is one segment are edited in place. It tells the latest of them.
+    fn edit_segment(
+        &mut self,
+        patch: &Patch,
+        ts: u64,
+        forgotten: u64,
+    ) -> Result<Option<u64>, AllocError>
         requires late { forgotten < ts }
         requires low { patch.now.above < ts }
         requires high { ts ≤ patch.now.until }
@@ -313,8 +327,26 @@ impl Segments {
         ensures err { OnErr result ((x : List ℕ) → readers_at self.new x ≡ readers_at self.old x) }
     {
         match self.starts.get_mut(&patch.lo) {
-            None => Ok(()),
-            Some(readers) => readers.edit(patch, ts, forgotten),
+            None => Ok(None),
+            Some(readers) => {
+                readers.edit(patch, ts, forgotten)?;
+                Ok(readers.latest())
+            }
+        }
+    }
+
+    // Joins a segment with those beside it, where their readers are the same, which differ in the latest
+    // mostly. An edited segment has a reader, so that it is never joined with keys that have none.
+    fn join_beside(&mut self, patch: &Patch, neighbours: Neighbours, latest: Option<u64>)
+        ensures { (x : List ℕ) → readers_at self.new x ≡ readers_at self.old x }
+    {
+        if let Some(hi) = &patch.hi {
+            if neighbours.after == latest {
+                self.join_at(hi);
+            }
+        }
+        if neighbours.before == latest {
+            self.join_at(&patch.lo);
         }
     }
 
@@ -330,19 +362,19 @@ impl Segments {
         ensures ok { OnOk result ((x : List ℕ) → AreEdited (λ p. holds p x) ts patches.now (is_kept forgotten (readers_at self.old x)) (is_kept forgotten (readers_at self.new x))) }
         ensures err { OnErr result ((x : List ℕ) → readers_at self.new x ≡ readers_at self.old x) }
     {
-        match patches {
-            [patch] if self.is_segment(patch) => {
-                self.edit_segment(patch, ts, forgotten)?;
-                self.join_ends(patch);
-                Ok(())
+        if let [patch] = patches {
+            if let Some(neighbours) = self.neighbours(patch) {
+                let latest = self.edit_segment(patch, ts, forgotten)?;
+                self.join_beside(patch, neighbours, latest);
+                return Ok(());
             }
-            [patch] if !patch.runs_forward() => Ok(()),
-            _ => {
-                let result = self.edit_split(patches, ts, forgotten);
-                self.join_all(patches);
-                result
+            if !patch.runs_forward() {
+                return Ok(());
             }
         }
+        let result = self.edit_split(patches, ts, forgotten);
+        self.join_all(patches);
+        result
     }
 
     /// How many starts there are.

@@ -1,8 +1,9 @@
 //! Where a segment of keys begins.
-ghost use Rattle.std.specs.Prelude.{◌≡◌, ℕ, List, [], ◌≤◌, Some, refl, length, bytes_eq, unwrap_or};
+ghost use Rattle.std.specs.Prelude.{◌≡◌, ℕ, List, [], ◌<◌, ◌≤◌, Some, refl, length, bytes_eq, slice_index, unwrap_or};
 ghost use Rattle.std.specs.Cmp.{partial_equiv_from_equiv};
 ghost use Rattle.std.specs.Cmp.Lexicographic.{nat_list_eq_equiv, nat_list_cmp_total, texts_ties, texts_po};
 ghost use Rattle.timestamps.specs.Bytes.{key_cmp};
+ghost use Rattle.read_marks.specs.Fronts.{front_of};
 
 use spans::bound::Bound;
 use std::cmp::Ordering;
@@ -11,8 +12,11 @@ use std::marker::Model;
 /// The most bytes that a start has: as many as a bound.
 const MOST_BYTES: usize = 65;
 
+/// So many of them are compared first, as one number.
+const FRONT_BYTES: usize = 8;
+
 /// A key, a bound, or no byte at all, which is below every key. It lies in place and needs no memory
-/// of its own, so that a look-up takes none.
+/// of its own, so that a look-up takes none. Zeros fill its place, so that its front can be read whole.
 #[derive(Debug, Drop)]
 pub(crate) struct Start {
     bytes: [u8; 65],
@@ -20,13 +24,13 @@ pub(crate) struct Start {
 }
 
 impl Model for Start {
-    ghost use Rattle.std.specs.Prelude.{ℕ, List, ◌≤◌, take};
+    ghost use Rattle.std.specs.Prelude.{ℕ, List, ◌≡◌, ◌<◌, ◌≤◌, slice_index, take};
 
     ghost Value = { List ℕ };
 
     ghost view = { λ s. take s.len s.bytes };
 
-    ghost invariant = { λ s. s.len ≤ 65 };
+    ghost invariant = { λ s. (s.len ≤ 65) × ((k : ℕ) → slice_index s.bytes k < 256) × ((k : ℕ) → s.len ≤ k → slice_index s.bytes k ≡ 0) };
 }
 
 impl Start {
@@ -72,10 +76,32 @@ impl Start {
     }
 
     /// The same start once more.
+    #[inline]
     pub(crate) fn copy(&self) -> Start
         ensures { result ≡ self.now }
     {
-        Start::of(self.bytes())
+        Start {
+            bytes: self.bytes,
+            len: self.len,
+        }
+    }
+
+    // Its first bytes as one number, where zeros stand for those that it lacks.
+    #[inline]
+    fn front(&self) -> u64
+        ensures front { result ≡ front_of self.now }
+        ensures bytes { (k : ℕ) → slice_index self.now k < 256 }
+    {
+        u64::from_be_bytes([
+            self.bytes[0],
+            self.bytes[1],
+            self.bytes[2],
+            self.bytes[3],
+            self.bytes[4],
+            self.bytes[5],
+            self.bytes[6],
+            self.bytes[7],
+        ])
     }
 }
 
@@ -84,8 +110,9 @@ impl PartialEq for Start {
 
     ghost laws = { partial_equiv_from_equiv nat_list_eq_equiv };
 
+    #[inline]
     fn eq(&self, other: &Start) -> bool {
-        self.bytes() == other.bytes()
+        self.cmp(other).is_eq()
     }
 }
 
@@ -98,7 +125,7 @@ impl PartialOrd for Start {
 
     ghost laws = { texts_po };
 
-    // by `cmp`, which compares memory, where a derived one would walk the bytes
+    // by `cmp`, which compares numbers, where a derived one would walk the bytes
     fn partial_cmp(&self, other: &Start) -> Option<Ordering> {
         Some(self.cmp(other))
     }
@@ -113,7 +140,17 @@ impl Ord for Start {
 
     ghost matches_eq = { texts_ties };
 
+    // Most starts differ in their fronts. Where those are the same and one of them is no longer than its
+    // front, it begins the other.
+    #[inline]
     fn cmp(&self, other: &Start) -> Ordering {
+        let (front, others) = (self.front(), other.front());
+        if front != others {
+            return front.cmp(&others);
+        }
+        if self.len.min(other.len) <= FRONT_BYTES {
+            return self.len.cmp(&other.len);
+        }
         self.bytes().cmp(other.bytes())
     }
 }

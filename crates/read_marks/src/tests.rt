@@ -146,6 +146,25 @@ fn neighbours_are_joined(rt: HostRuntime) -> Result<(), Fail> {
 }
 
 #[test]
+fn a_mark_in_place_is_joined_with_its_neighbours(rt: HostRuntime) -> Result<(), Fail> {
+    let alloc = rt.alloc();
+    let mut marks = Marks::new(alloc);
+    add(
+        alloc,
+        &mut marks,
+        &[(b"a", b"b", 20), (b"b", b"c", 10), (b"c", b"d", 30)],
+    )?;
+    assert_eq!(rt; marks.spans(), 3);
+    // with the one before, and then with the one after
+    add_piece(&mut marks, span(alloc, b"b", b"c")?, 0, u64::MAX, 20)?;
+    assert_eq!(rt; marks.spans(), 2);
+    add_piece(&mut marks, span(alloc, b"a", b"c")?, 0, u64::MAX, 30)?;
+    assert_eq!(rt; marks.spans(), 1);
+    assert!(rt; have_readers(alloc, &marks, &[(b"a", &[30]), (b"c", &[30]), (b"d", &[])])?);
+    Ok(())
+}
+
+#[test]
 fn a_piece_has_one_reader_in_its_gap(rt: HostRuntime) -> Result<(), Fail> {
     let alloc = rt.alloc();
     let mut marks = Marks::new(alloc);

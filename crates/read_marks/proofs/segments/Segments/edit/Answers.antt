@@ -2,7 +2,7 @@ use Rattle.std.proofs.Common.{◌∙◌}
 use Rattle.read_marks.proofs.Alike.{edits_nothing, holds_is_picks, only}
 use Rattle.read_marks.proofs.segments.Segments.edit.Goals as goal
 
-pub returns-in-len1-2-clause-ok : goal.returns-in-len1-2-clause-ok
-returns-in-len1-2-clause-ok c = λ x.
-    edits_nothing x c.args.ts _ c.args.patches.now c.patch-item-then-patches-lt2.result (only c.args.patches.now _ c.in-len1.len_at_least c.in-len1.len_below c.patch-item-then-patches-lt2.is)
-    (holds_is_picks c.patch-item-then-patches-lt2.result x ∙ c.runs_forward.ensures.empty c.if-not-runs_forward.true x)
+pub returns-then-not-runs_forward-clause-ok : goal.returns-then-not-runs_forward-clause-ok
+returns-then-not-runs_forward-clause-ok c = λ x.
+    edits_nothing x c.args.ts _ c.args.patches.now c.patch-item.result (only c.args.patches.now _ c.in-len1.len_at_least c.in-len1.len_below c.patch-item.is)
+    (holds_is_picks c.patch-item.result x ∙ c.runs_forward.ensures.empty c.if-not-runs_forward.true x)

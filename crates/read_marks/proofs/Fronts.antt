@@ -1,0 +1,159 @@
+-- The order of starts that differ in their first bytes, and of those that don't.
+use Rattle.std.proofs.Common.{ℕ, zero, suc, List, [], ◌∷◌, ◌≡◌, ◌<◌, ◌≤◌, ◌+◌, ◌*◌, refl, sym, ap, ◌∙◌, arith, length, get_or, take, drop, replicate, min, ◌++◌, Ordering, Less, Equal, Greater, nat_cmp}
+use Rattle.std.specs.Cmp.{ranks}
+use Rattle.std.specs.Ordering.{MatchOrdering, ordering_then}
+use Rattle.timestamps.specs.Bytes.{key_cmp}
+use Rattle.read_marks.specs.Fronts.{front_from}
+
+abbrev pub AreBytes : List ℕ → Type 0
+AreBytes xs = (k : ℕ) → get_or xs k 0 < 256
+
+is_less : (x y : ℕ) (r : Ordering) → MatchOrdering r (x < y) (x ≡ y) (y < x) → x < y → r ≡ Less
+is_less x y Less h l = refl
+is_less x y Equal h l = let e : x ≡ y = h in absurd (omega arith)
+is_less x y Greater h l = let e : y < x = h in absurd (omega arith)
+
+is_equal : (x y : ℕ) (r : Ordering) → MatchOrdering r (x < y) (x ≡ y) (y < x) → x ≡ y → r ≡ Equal
+is_equal x y Less h e = let l : x < y = h in absurd (omega arith)
+is_equal x y Equal h e = refl
+is_equal x y Greater h e = let l : y < x = h in absurd (omega arith)
+
+is_greater : (x y : ℕ) (r : Ordering) → MatchOrdering r (x < y) (x ≡ y) (y < x) → y < x → r ≡ Greater
+is_greater x y Less h l = let e : x < y = h in absurd (omega arith)
+is_greater x y Equal h l = let e : x ≡ y = h in absurd (omega arith)
+is_greater x y Greater h l = refl
+
+below : (x y : ℕ) → x < y → nat_cmp x y ≡ Less
+below x y l = is_less x y (nat_cmp x y) (ranks x y) l
+
+level : (x y : ℕ) → x ≡ y → nat_cmp x y ≡ Equal
+level x y e = is_equal x y (nat_cmp x y) (ranks x y) e
+
+above : (x y : ℕ) → y < x → nat_cmp x y ≡ Greater
+above x y l = is_greater x y (nat_cmp x y) (ranks x y) l
+
+-- zeros are the least of all bytes
+least : (n a b : ℕ) (xs : List ℕ) → a ≤ b → front_from n a [] ≤ front_from n b xs
+least zero a b xs le = le
+least (suc n) a b [] le = least n (a * 256) (b * 256) [] (omega arith)
+least (suc n) a b (x ∷ xs) le = least n (a * 256) (b * 256 + x) xs (omega arith)
+
+-- what stands in front decides
+rises : (n a b : ℕ) (xs ys : List ℕ) → AreBytes xs → a < b → front_from n a xs < front_from n b ys
+rises zero a b xs ys h l = l
+rises (suc n) a b [] [] h l = rises n (a * 256) (b * 256) [] [] h (omega arith)
+rises (suc n) a b [] (y ∷ ys) h l = rises n (a * 256) (b * 256 + y) [] ys h (omega arith)
+rises (suc n) a b (x ∷ xs) [] h l = let small : x < 256 = h 0 in rises n (a * 256 + x) (b * 256) xs [] (λ k. h (suc k)) (omega arith)
+rises (suc n) a b (x ∷ xs) (y ∷ ys) h l = let small : x < 256 = h 0 in rises n (a * 256 + x) (b * 256 + y) xs ys (λ k. h (suc k)) (omega arith)
+
+-- two numbers that differ, of which the one is not above the other
+apart-low : (p q : ℕ) → p ≤ q → (p ≡ q → ⊥) → Less ≡ nat_cmp p q
+apart-low p q low f = by (nat_cmp p q) (ranks p q)
+  where
+    by : (r : Ordering) → MatchOrdering r (p < q) (p ≡ q) (q < p) → Less ≡ r
+    by Less l = refl
+    by Equal e = absurd (f e)
+    by Greater l = let high : q < p = l in absurd (omega arith)
+
+apart-high : (p q : ℕ) → q ≤ p → (p ≡ q → ⊥) → Greater ≡ nat_cmp p q
+apart-high p q low f = by (nat_cmp p q) (ranks p q)
+  where
+    by : (r : Ordering) → MatchOrdering r (p < q) (p ≡ q) (q < p) → Greater ≡ r
+    by Less l = let high : p < q = l in absurd (omega arith)
+    by Equal e = absurd (f e)
+    by Greater l = refl
+
+-- the next byte of both
+module _ (n a x y : ℕ) (xs ys : List ℕ) where
+  abbrev ahead : ℕ
+  ahead = front_from n (a * 256 + x) xs
+
+  abbrev others : ℕ
+  others = front_from n (a * 256 + y) ys
+
+  same-byte : x ≡ y → front_from n (a * 256 + x) ys ≡ others
+  same-byte same = ap (λ z. front_from n (a * 256 + z) ys) same
+
+  differ-turn : (r : Ordering) → MatchOrdering r (x < y) (x ≡ y) (y < x) → AreBytes xs → AreBytes ys → (x ≡ y → key_cmp xs ys ≡ nat_cmp ahead (front_from n (a * 256 + x) ys)) → ordering_then r (key_cmp xs ys) ≡ nat_cmp ahead others
+  differ-turn Less l h g more = let t : x < y = l in sym (below ahead others (rises n (a * 256 + x) (a * 256 + y) xs ys h (omega arith)))
+  differ-turn Equal e h g more = let same : x ≡ y = e in more same ∙ ap (nat_cmp ahead) (same-byte same)
+  differ-turn Greater l h g more = let t : y < x = l in sym (above ahead others (rises n (a * 256 + y) (a * 256 + x) ys xs g (omega arith)))
+
+  same-turn : (r : Ordering) → MatchOrdering r (x < y) (x ≡ y) (y < x) → AreBytes xs → AreBytes ys → ahead ≡ others → (x ≡ y → key_cmp xs ys ≡ nat_cmp (suc (length xs)) (suc (length ys))) → ordering_then r (key_cmp xs ys) ≡ nat_cmp (suc (length xs)) (suc (length ys))
+  same-turn Less l h g e more = let t : x < y = l in let up : ahead < others = rises n (a * 256 + x) (a * 256 + y) xs ys h (omega arith) in absurd (omega arith)
+  same-turn Equal l h g e more = more l
+  same-turn Greater l h g e more = let t : y < x = l in let down : others < ahead = rises n (a * 256 + y) (a * 256 + x) ys xs g (omega arith) in absurd (omega arith)
+
+-- fronts that differ stand as their bytes do
+pub fronts_differ : (n a : ℕ) (xs ys : List ℕ) → AreBytes xs → AreBytes ys → (front_from n a xs ≡ front_from n a ys → ⊥) → key_cmp xs ys ≡ nat_cmp (front_from n a xs) (front_from n a ys)
+fronts_differ zero a xs ys h g f = absurd (f refl)
+fronts_differ (suc n) a [] [] h g f = absurd (f refl)
+fronts_differ (suc n) a [] (y ∷ ys) h g f = apart-low _ _ (least (suc n) a a (y ∷ ys) (omega arith)) f
+fronts_differ (suc n) a (x ∷ xs) [] h g f = apart-high _ _ (least (suc n) a a (x ∷ xs) (omega arith)) f
+fronts_differ (suc n) a (x ∷ xs) (y ∷ ys) h g f =
+    differ-turn n a x y xs ys (nat_cmp x y) (ranks x y) (λ k. h (suc k)) (λ k. g (suc k))
+    (λ same. fronts_differ n (a * 256 + x) xs ys (λ k. h (suc k)) (λ k. g (suc k)) (λ t. f (t ∙ same-byte n a x y xs ys same)))
+
+-- one more byte on both sides
+longer : (m n : ℕ) (r : Ordering) → MatchOrdering r (m < n) (m ≡ n) (n < m) → r ≡ nat_cmp (suc m) (suc n)
+longer m n Less l = let t : m < n = l in sym (below (suc m) (suc n) (omega arith))
+longer m n Equal e = let t : m ≡ n = e in sym (level (suc m) (suc n) (omega arith))
+longer m n Greater l = let t : n < m = l in sym (above (suc m) (suc n) (omega arith))
+
+-- where they are the same, of two starts that aren't both longer the one begins the other
+pub fronts_same : (n a : ℕ) (xs ys : List ℕ) → AreBytes xs → AreBytes ys → front_from n a xs ≡ front_from n a ys → min (length xs) (length ys) ≤ n → key_cmp xs ys ≡ nat_cmp (length xs) (length ys)
+fronts_same n a [] [] h g e short = refl
+fronts_same n a [] (y ∷ ys) h g e short = sym (below 0 (suc (length ys)) (omega arith))
+fronts_same n a (x ∷ xs) [] h g e short = sym (above (suc (length xs)) 0 (omega arith))
+fronts_same zero a (x ∷ xs) (y ∷ ys) h g e short = absurd (omega arith)
+fronts_same (suc n) a (x ∷ xs) (y ∷ ys) h g e short =
+    same-turn n a x y xs ys (nat_cmp x y) (ranks x y) (λ k. h (suc k)) (λ k. g (suc k)) e
+    (λ same. fronts_same n (a * 256 + x) xs ys (λ k. h (suc k)) (λ k. g (suc k)) (e ∙ sym (same-byte n a x y xs ys same)) (omega arith) ∙ longer (length xs) (length ys) _ (ranks (length xs) (length ys)))
+
+-- what was read from a place that zeros fill
+spelt : (xs : List ℕ) → front_from 8 0 xs
+    ≡ get_or xs 0 0 * 72057594037927936 + get_or xs 1 0 * 281474976710656 + get_or xs 2 0 * 1099511627776 + get_or xs 3 0 * 4294967296 + get_or xs 4 0 * 16777216 + get_or xs 5 0 * 65536 + get_or xs 6 0 * 256 + get_or xs 7 0
+spelt [] = refl
+spelt (a ∷ []) = omega arith
+spelt (a ∷ b ∷ []) = omega arith
+spelt (a ∷ b ∷ c ∷ []) = omega arith
+spelt (a ∷ b ∷ c ∷ d ∷ []) = omega arith
+spelt (a ∷ b ∷ c ∷ d ∷ e ∷ []) = omega arith
+spelt (a ∷ b ∷ c ∷ d ∷ e ∷ f ∷ []) = omega arith
+spelt (a ∷ b ∷ c ∷ d ∷ e ∷ f ∷ g ∷ []) = omega arith
+spelt (a ∷ b ∷ c ∷ d ∷ e ∷ f ∷ g ∷ h ∷ xs) = omega arith
+
+-- a byte among the first, or zero
+taken : (n : ℕ) (xs : List ℕ) (k : ℕ) → ((j : ℕ) → n ≤ j → get_or xs j 0 ≡ 0) → get_or (take n xs) k 0 ≡ get_or xs k 0
+taken zero xs k zeros = sym (zeros k (omega arith))
+taken (suc n) [] k zeros = refl
+taken (suc n) (x ∷ xs) zero zeros = refl
+taken (suc n) (x ∷ xs) (suc k) zeros = taken n xs k (λ j le. zeros (suc j) (omega arith))
+
+pub front_read : (xs : List ℕ) (n : ℕ) → ((k : ℕ) → n ≤ k → get_or xs k 0 ≡ 0) → front_from 8 0 (take n xs)
+    ≡ get_or xs 0 0 * 72057594037927936 + get_or xs 1 0 * 281474976710656 + get_or xs 2 0 * 1099511627776 + get_or xs 3 0 * 4294967296 + get_or xs 4 0 * 16777216 + get_or xs 5 0 * 65536 + get_or xs 6 0 * 256 + get_or xs 7 0
+front_read xs n zeros = spelt (take n xs) ∙ (rw (taken n xs 0 zeros, taken n xs 1 zeros, taken n xs 2 zeros, taken n xs 3 zeros, taken n xs 4 zeros, taken n xs 5 zeros, taken n xs 6 zeros, taken n xs 7 zeros) refl)
+
+pub bytes_kept : (n : ℕ) (xs : List ℕ) → AreBytes xs → AreBytes (take n xs)
+bytes_kept zero xs h k = omega arith
+bytes_kept (suc n) [] h k = omega arith
+bytes_kept (suc n) (x ∷ xs) h zero = h 0
+bytes_kept (suc n) (x ∷ xs) h (suc k) = bytes_kept n xs (λ j. h (suc j)) k
+
+-- bytes before zeros
+pub zeros_left : (m n k : ℕ) → get_or (drop m (replicate {A = ℕ} n 0)) k 0 ≡ 0
+zeros_left zero zero k = refl
+zeros_left zero (suc n) zero = refl
+zeros_left zero (suc n) (suc k) = zeros_left zero n k
+zeros_left (suc m) zero k = refl
+zeros_left (suc m) (suc n) k = zeros_left m n k
+
+pub padded_bytes : (xs zs : List ℕ) → AreBytes xs → ((k : ℕ) → get_or zs k 0 ≡ 0) → AreBytes (xs ++ zs)
+padded_bytes [] zs h zeros k = let none : get_or zs k 0 ≡ 0 = zeros k in omega arith
+padded_bytes (x ∷ xs) zs h zeros zero = h 0
+padded_bytes (x ∷ xs) zs h zeros (suc k) = padded_bytes xs zs (λ j. h (suc j)) zeros k
+
+pub padded_zeros : (xs zs : List ℕ) (k : ℕ) → length xs ≤ k → ((j : ℕ) → get_or zs j 0 ≡ 0) → get_or (xs ++ zs) k 0 ≡ 0
+padded_zeros [] zs k le zeros = zeros k
+padded_zeros (x ∷ xs) zs zero le zeros = absurd (omega arith)
+padded_zeros (x ∷ xs) zs (suc k) le zeros = padded_zeros xs zs k (omega arith) zeros
