@@ -234,8 +234,8 @@ impl Segments {
     fn last_repeated(&self, lo: &Start, end: Bound<&Start>) -> Option<Start> {
         let mut later: Option<(&Start, &Readers)> = None;
         for (start, readers) in self.starts.range((Bound::Unbounded, end)).rev() {
-            if let Some((next, same)) = later {
-                if same.is_same(readers) {
+            if let Some((next, next_readers)) = later {
+                if next_readers.is_same(readers) {
                     return Some(next.copy());
                 }
             }
@@ -289,7 +289,7 @@ impl Segments {
     }
 
     // What stands beside a patch that is one segment: one starts where it begins, and the next where it
-    // ends. These are the last steps up to its end, so that one search finds them all.
+    // ends. These are the last starts up to its end, so that one search finds them all.
     fn neighbours(&self, patch: &Patch) -> Option<Neighbours>
         ensures { IfSome result (λ _. IsSegment self.now.starts patch.now) }
     {
@@ -335,8 +335,9 @@ impl Segments {
         }
     }
 
-    // Joins a segment with those beside it, where their readers are the same, which differ in the latest
-    // mostly. An edited segment has a reader, so that it is never joined with keys that have none.
+    // Joins a segment with those beside it, where their readers are the same. Those that aren't mostly
+    // differ in the latest, so it is asked first. An edited segment has a reader, so that it is never
+    // joined with keys that have none.
     fn join_beside(&mut self, patch: &Patch, neighbours: Neighbours, latest: Option<u64>)
         ensures { (x : List ℕ) → readers_at self.new x ≡ readers_at self.old x }
     {

@@ -9,14 +9,12 @@ use spans::bound::Bound;
 use std::cmp::Ordering;
 use std::marker::Model;
 
-/// The most bytes that a start has: as many as a bound.
-const MOST_BYTES: usize = 65;
-
-/// So many of them are compared first, as one number.
+/// So many bytes of two starts are compared first, as one number.
 const FRONT_BYTES: usize = 8;
 
-/// A key, a bound, or no byte at all, which is below every key. It lies in place and needs no memory
-/// of its own, so that a look-up takes none. Zeros fill its place, so that its front can be read whole.
+/// A key, a bound, or no byte at all, which is below every key: at most 65 bytes. It lies in place and
+/// needs no memory of its own, so that a look-up takes none. Zeros fill its place, so that its front can
+/// be read whole.
 #[derive(Debug, Drop)]
 pub(crate) struct Start {
     bytes: [u8; 65],

@@ -146,6 +146,20 @@ fn neighbours_are_joined(rt: HostRuntime) -> Result<(), Fail> {
 }
 
 #[test]
+fn what_is_forgotten_leaves_no_start(rt: HostRuntime) -> Result<(), Fail> {
+    let alloc = rt.alloc();
+    let mut segments = Segments::new(alloc);
+    for byte in [b'f', b'b', b'd', b'a', b'h'] {
+        let key = span(alloc, &[byte], &[byte, 0])?;
+        segments.edit(&[Patch::own(&key, 5)], 5, 0)?;
+    }
+    assert_eq!(rt; segments.len(), 10);
+    segments.forget_through(5);
+    assert_eq!(rt; segments.len(), 0);
+    Ok(())
+}
+
+#[test]
 fn a_mark_in_place_is_joined_with_its_neighbours(rt: HostRuntime) -> Result<(), Fail> {
     let alloc = rt.alloc();
     let mut marks = Marks::new(alloc);

@@ -8,7 +8,7 @@ use Rattle.std.proofs.lemmas.Bool.Decides.{nat_tests}
 use Rattle.spans.proofs.Steps.{by_test, newest_only}
 use Rattle.version_chain.specs.declared.chain.Version.{Version}
 use Rattle.version_chain.specs.Versions.{AreAbove, DoRise, version_of, IsPlaceAbove}
-use Rattle.version_chain.specs.Spent.{committed_after, newest_of, is_spent_version, is_spent_at}
+use Rattle.version_chain.specs.Spent.{after_if_committed, newest_of, is_spent_version, is_spent_at}
 use Rattle.version_chain.proofs.Places.{rises_at, found, same_ts}
 
 above_filtered : (t : ℕ) (p : Version → Bool) (vs : List Version) → AreAbove t vs → AreAbove t (filter p vs)
@@ -132,14 +132,14 @@ top_lower vs n place v p some is off = record {
       (λ there. p.undone k d (let ne = eqb-false k (place - 1) there in grind (arith, ne)) lt low);
 }
 
-undone_at : (vs : List Version) (i : ℕ) → ((k : ℕ) (d : Version) → k < length vs → (get_or vs k d).ts ≡ i → (get_or vs k d).decided ≡ false) → committed_after (version_of vs i) ≡ None
+undone_at : (vs : List Version) (i : ℕ) → ((k : ℕ) (d : Version) → k < length vs → (get_or vs k d).ts ≡ i → (get_or vs k d).decided ≡ false) → after_if_committed (version_of vs i) ≡ None
 undone_at [] i h = refl
 undone_at (v ∷ vs) i h = by_test (v.ts == i)
     (λ here. let off : v.decided ≡ false = h zero v (omega arith) (eqb-true v.ts i here) in rw here (rw off refl))
     (λ there. rw there (undone_at vs i (λ k d lt same. h (suc k) d (omega arith) same)))
 
 pub top_none : (vs : List Version) (n place : ℕ) → IsTopBelow vs n place → place ≡ 0 → newest_of vs n ≡ 0
-top_none vs n place p none = ap (λ m. m.ts) (newest_only (λ i. committed_after (version_of vs i)) n 0 None (record {
+top_none vs n place p none = ap (λ m. m.ts) (newest_only (λ i. after_if_committed (version_of vs i)) n 0 None (record {
   at_most = omega arith;
   gap = λ i low high. undone_at vs i (λ k d lt same. p.undone k d (omega arith) lt (omega arith));
   has = inl (refl, refl);
@@ -150,7 +150,7 @@ top_is vs n place v r p some is on pos =
     let lt : place - 1 < length vs = omega (arith, p.within) in
     let here : v.ts ≡ (get_or vs (place - 1) v).ts = ap (λ (w : Version). w.ts) is in
     let one : version_of vs v.ts ≡ Some v = ap (version_of vs) here ∙ found vs (place - 1) v r lt ∙ ap Some (sym is) in
-    ap (λ m. m.ts) (newest_only (λ i. committed_after (version_of vs i)) n v.ts v.after (record {
+    ap (λ m. m.ts) (newest_only (λ i. after_if_committed (version_of vs i)) n v.ts v.after (record {
       at_most = (let low : (get_or vs (place - 1) v).ts ≤ n = p.below (place - 1) v (omega arith) in omega arith);
       gap = λ i low high. undone_at vs i (λ k d l same.
           let before : k < place - 1 → (get_or vs k d).ts < (get_or vs (place - 1) d).ts = λ m. rises_at vs k (place - 1) d r m lt in
@@ -158,5 +158,5 @@ top_is vs n place v r p some is on pos =
           let other : (get_or vs (place - 1) d).ts ≡ (get_or vs (place - 1) v).ts = same_ts vs (place - 1) d v lt in
           let from : place ≤ k = grind (arith, before, at) in
           p.undone k d from l (omega arith));
-      has = inr (pos, ap committed_after one ∙ rw on refl);
+      has = inr (pos, ap after_if_committed one ∙ rw on refl);
     }))

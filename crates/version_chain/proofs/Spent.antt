@@ -12,11 +12,11 @@ use Rattle.version_chain.specs.declared.chain.Version.{Version}
 use Rattle.version_chain.specs.Versions.{AreAbove, DoRise, version_of}
 use Rattle.version_chain.specs.Chains.{Entry, chain_of, found_in}
 use Rattle.version_chain.specs.Stores.{after_of, is_committed}
-use Rattle.version_chain.specs.Spent.{committed_after, newest_of, is_spent_version, left_of, is_spent_at, IsThinnedAt, AreThinned}
+use Rattle.version_chain.specs.Spent.{after_if_committed, newest_of, is_spent_version, left_of, is_spent_at, IsThinnedAt, AreThinned}
 
 -- of the versions f: dead by n
 abbrev pub spent_of : (ℕ → Option Version) → ℕ → ℕ → Bool
-spent_of f n t = is_committed (f t) && (nat_le t n && (is_delete (after_of (f t)) || nat_lt t (newest (λ i. committed_after (f i)) n).ts))
+spent_of f n t = is_committed (f t) && (nat_le t n && (is_delete (after_of (f t)) || nat_lt t (newest (λ i. after_if_committed (f i)) n).ts))
 
 -- ---- the newest
 
@@ -41,11 +41,11 @@ newest_rises f m n low = elim (newest_is f m).has [
   | inr some ↦ (let top : (newest f m).ts ≤ m = (newest_is f m).at_most in newest_reaches f n (newest f m).ts (newest f m).after (omega arith) some.1)
 ]
 
-pub done_there : (o : Option Version) → is_committed o ≡ true → (a : After) × (committed_after o ≡ Some a)
+pub done_there : (o : Option Version) → is_committed o ≡ true → (a : After) × (after_if_committed o ≡ Some a)
 done_there None e = (let no : false ≡ true = e in cc)
 done_there (Some v) e = (v.after, rw e refl)
 
-pub there_done : (o : Option Version) (a : After) → committed_after o ≡ Some a → is_committed o ≡ true
+pub there_done : (o : Option Version) (a : After) → after_if_committed o ≡ Some a → is_committed o ≡ true
 there_done None a e = (let no : None ≡ Some a = e in cc)
 there_done (Some v) a e = by_test v.decided (λ on. on) (λ off. (let no : None ≡ Some a = sym (rw off refl) ∙ e in cc))
 
@@ -54,7 +54,7 @@ there_done (Some v) a e = by_test v.decided (λ on. on) (λ off. (let no : None 
 pub record IsSpent (f : ℕ → Option Version) (n t : ℕ) : Type 0 where
   pub done : is_committed (f t) ≡ true
   pub low : t ≤ n
-  pub why : (is_delete (after_of (f t)) ≡ true) ⊎ (t < (newest (λ i. committed_after (f i)) n).ts)
+  pub why : (is_delete (after_of (f t)) ≡ true) ⊎ (t < (newest (λ i. after_if_committed (f i)) n).ts)
 
 pub spent_is : (f : ℕ → Option Version) (n t : ℕ) → spent_of f n t ≡ true → IsSpent f n t
 spent_is f n t is =
@@ -76,8 +76,8 @@ pub fewer_spent : (f g : ℕ → Option Version) (n t : ℕ) → ((i : ℕ) → 
 fewer_spent f g n t fewer is =
     let s = spent_is g n t is in
     let same : g t ≡ f t = fewer t s.low s.done in
-    let below : (newest (λ i. committed_after (g i)) n).ts ≤ (newest (λ i. committed_after (f i)) n).ts = newest_fewer (λ i. committed_after (f i)) (λ i. committed_after (g i)) n (λ j low none. by_test (is_committed (g j))
-    (λ on. ap committed_after (fewer j low on) ∙ none)
+    let below : (newest (λ i. after_if_committed (g i)) n).ts ≤ (newest (λ i. after_if_committed (f i)) n).ts = newest_fewer (λ i. after_if_committed (f i)) (λ i. after_if_committed (g i)) n (λ j low none. by_test (is_committed (g j))
+    (λ on. ap after_if_committed (fewer j low on) ∙ none)
     (λ off. undone (g j) off)) in
     is_spent f n t (record {
       done = ap is_committed (sym same) ∙ s.done;
@@ -85,7 +85,7 @@ fewer_spent f g n t fewer is =
       why = elim s.why [ inl d ↦ inl (ap (λ o. is_delete (after_of o)) (sym same) ∙ d) | inr l ↦ inr (omega arith) ];
     })
   where
-    undone : (o : Option Version) → is_committed o ≡ false → committed_after o ≡ None
+    undone : (o : Option Version) → is_committed o ≡ false → after_if_committed o ≡ None
     undone None e = refl
     undone (Some v) e = rw e refl
 
@@ -96,14 +96,14 @@ unspent_fewer f g n fewer none t = unless_true _ (λ is. both_ways _ (none t) (f
 pub unspent_lower : (f : ℕ → Option Version) (m n : ℕ) → m ≤ n → ((t : ℕ) → spent_of f n t ≡ false) → (t : ℕ) → spent_of f m t ≡ false
 unspent_lower f m n low none t = unless_true _ (λ is.
     let s = spent_is f m t is in
-    let up : (newest (λ i. committed_after (f i)) m).ts ≤ (newest (λ i. committed_after (f i)) n).ts = newest_rises (λ i. committed_after (f i)) m n low in
+    let up : (newest (λ i. after_if_committed (f i)) m).ts ≤ (newest (λ i. after_if_committed (f i)) n).ts = newest_rises (λ i. after_if_committed (f i)) m n low in
     let l : t ≤ m = s.low in
     both_ways _ (none t) (is_spent f n t (record { done = s.done; low = omega arith; why = elim s.why [ inl d ↦ inl d | inr l ↦ inr (omega arith) ] })))
 
 pub same_spent : (f g : ℕ → Option Version) (n t : ℕ) → ((i : ℕ) → g i ≡ f i) → spent_of g n t ≡ spent_of f n t
 same_spent f g n t same =
-    let top : newest (λ i. committed_after (g i)) n ≡ newest (λ i. committed_after (f i)) n = newest_same (λ i. committed_after (g i)) (λ i. committed_after (f i)) n (λ i low. ap committed_after (same i)) in
-    ap (λ o. is_committed o && (nat_le t n && (is_delete (after_of o) || nat_lt t (newest (λ i. committed_after (g i)) n).ts))) (same t)
+    let top : newest (λ i. after_if_committed (g i)) n ≡ newest (λ i. after_if_committed (f i)) n = newest_same (λ i. after_if_committed (g i)) (λ i. after_if_committed (f i)) n (λ i low. ap after_if_committed (same i)) in
+    ap (λ o. is_committed o && (nat_le t n && (is_delete (after_of o) || nat_lt t (newest (λ i. after_if_committed (g i)) n).ts))) (same t)
     ∙ ap (λ m. is_committed (f t) && (nat_le t n && (is_delete (after_of (f t)) || nat_lt t m.ts))) top
 
 -- once what is dead has gone nothing is dead
@@ -119,30 +119,30 @@ unspent_left f g n left t = unless_true _ (λ is. by_test (spent_of f n t)
 
 -- what is newly dead has a newer version above the old horizon, or is a delete there
 pub top_above : (f : ℕ → Option Version) (m n t : ℕ) → ((i : ℕ) → spent_of f m i ≡ false) → spent_of f n t ≡ true
-    → (m < (newest (λ i. committed_after (f i)) n).ts) × (is_committed (f (newest (λ i. committed_after (f i)) n).ts) ≡ true) × ((newest (λ i. committed_after (f i)) n).ts ≤ n)
+    → (m < (newest (λ i. after_if_committed (f i)) n).ts) × (is_committed (f (newest (λ i. after_if_committed (f i)) n).ts) ≡ true) × ((newest (λ i. after_if_committed (f i)) n).ts ≤ n)
 top_above f m n t none is =
     let s = spent_is f n t is in
     let a = done_there (f t) s.done in
-    let under : t ≤ (newest (λ i. committed_after (f i)) n).ts = newest_reaches (λ i. committed_after (f i)) n t a.0 s.low a.1 in
-    let top : (newest (λ i. committed_after (f i)) n).ts ≤ n = (newest_is (λ i. committed_after (f i)) n).at_most in
-    let above : m < (newest (λ i. committed_after (f i)) n).ts = by_test (nat_lt m (newest (λ i. committed_after (f i)) n).ts) (λ on. ltb-true _ _ on) (λ off. absurd (both_ways _ (none t) (is_spent f m t (early s under (grind (arith, nat_tests)))))) in (
+    let under : t ≤ (newest (λ i. after_if_committed (f i)) n).ts = newest_reaches (λ i. after_if_committed (f i)) n t a.0 s.low a.1 in
+    let top : (newest (λ i. after_if_committed (f i)) n).ts ≤ n = (newest_is (λ i. after_if_committed (f i)) n).at_most in
+    let above : m < (newest (λ i. after_if_committed (f i)) n).ts = by_test (nat_lt m (newest (λ i. after_if_committed (f i)) n).ts) (λ on. ltb-true _ _ on) (λ off. absurd (both_ways _ (none t) (is_spent f m t (early s under (grind (arith, nat_tests)))))) in (
       above,
-      elim (newest_is (λ i. committed_after (f i)) n).has [
+      elim (newest_is (λ i. after_if_committed (f i)) n).has [
         | inl zeroth ↦ absurd (omega (arith, zeroth.0))
-        | inr some ↦ there_done (f (newest (λ i. committed_after (f i)) n).ts) (newest (λ i. committed_after (f i)) n).after some.1
+        | inr some ↦ there_done (f (newest (λ i. after_if_committed (f i)) n).ts) (newest (λ i. after_if_committed (f i)) n).after some.1
       ],
       top,
     )
   where
-    early : IsSpent f n t → t ≤ (newest (λ i. committed_after (f i)) n).ts → (newest (λ i. committed_after (f i)) n).ts ≤ m → IsSpent f m t
+    early : IsSpent f n t → t ≤ (newest (λ i. after_if_committed (f i)) n).ts → (newest (λ i. after_if_committed (f i)) n).ts ≤ m → IsSpent f m t
     early s under low = record {
       done = s.done;
       low = omega arith;
       why = elim s.why [
         | inl d ↦ inl d
-        | inr l ↦ (elim (newest_is (λ i. committed_after (f i)) n).has [
+        | inr l ↦ (elim (newest_is (λ i. after_if_committed (f i)) n).has [
           | inl zeroth ↦ absurd (omega (arith, zeroth.0))
-          | inr some ↦ (let reach : (newest (λ i. committed_after (f i)) n).ts ≤ (newest (λ i. committed_after (f i)) m).ts = newest_reaches (λ i. committed_after (f i)) m _ _ low some.1 in inr (omega arith))
+          | inr some ↦ (let reach : (newest (λ i. after_if_committed (f i)) n).ts ≤ (newest (λ i. after_if_committed (f i)) m).ts = newest_reaches (λ i. after_if_committed (f i)) m _ _ low some.1 in inr (omega arith))
         ])
       ];
     }

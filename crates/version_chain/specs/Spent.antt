@@ -33,12 +33,12 @@ pub record IsCollectedIn (s s' : Stored) (n count : ℕ) : Type 0 where
 -- ---- of one chain
 
 -- what a version left, where it is committed
-abbrev pub committed_after : Option Version → Option After
-committed_after o = if is_committed o then after_of o else None
+abbrev pub after_if_committed : Option Version → Option After
+after_if_committed o = if is_committed o then after_of o else None
 
 -- the timestamp of the newest committed version at or below n, and 0 where there is none
 abbrev pub newest_of : List Version → ℕ → ℕ
-newest_of vs n = (newest (λ i. committed_after (version_of vs i)) n).ts
+newest_of vs n = (newest (λ i. after_if_committed (version_of vs i)) n).ts
 
 -- dead by n, where top is the timestamp of the newest committed version at or below n
 abbrev pub is_spent_version : ℕ → ℕ → Version → Bool

@@ -86,8 +86,8 @@ impl Store {
 
     /// The first committed version after a place and at or below `through`, with its key: versions are
     /// ordered by timestamp and then by key. The place is that of `key` at `ts`; without a key it is
-    /// behind all keys of `ts`. It takes O(log n), and as much for each undecided version that lies
-    /// between and is passed over.
+    /// behind all keys of `ts`. It searches the index once or twice, and a chain for each version that it
+    /// lists from there, up to the first that is committed.
     pub fn committed_after(
         &self,
         ts: u64,
