@@ -23,6 +23,24 @@ fn one(alloc: Global, key: &[u8]) -> Result<Vec<Key>, Fail> {
     Ok(keys)
 }
 
+/// Writes a version of a key, a delete.
+fn write(alloc: Global, store: &mut Store, ts: u64, key: &[u8]) -> Result<(), Fail> {
+    store.write(&Key::new(alloc, key)?, at(ts)?, None)?;
+    Ok(())
+}
+
+/// Commits a version of a key.
+fn commit(alloc: Global, store: &mut Store, ts: u64, key: &[u8]) -> Result<(), Fail> {
+    store.commit(at(ts)?, one(alloc, key)?.as_slice());
+    Ok(())
+}
+
+/// Aborts a version of a key.
+fn abort(alloc: Global, store: &mut Store, ts: u64, key: &[u8]) -> Result<(), Fail> {
+    store.abort(at(ts)?, one(alloc, key)?.as_slice());
+    Ok(())
+}
+
 /// The timestamp of the newest version of the key at or below `t`, 0 where there is none, and 1000
 /// more where it is committed.
 fn newest(store: &Store, key: &Key, t: u64) -> u64 {
@@ -46,7 +64,7 @@ fn a_key_has_a_version_at_each_write(rt: HostRuntime) -> Result<(), Fail> {
     let pear = Key::new(alloc, b"pear")?;
     let mut store = Store::new(alloc);
     for number in [20, 10, 30] {
-        store.write(&apple, at(number)?, None)?;
+        write(alloc, &mut store, number, b"apple")?;
     }
     assert_eq!(rt; store.versions(), 3);
     assert_eq!(rt; newest(&store, &apple, 9), 0);
@@ -68,16 +86,16 @@ fn a_commit_marks_and_an_abort_drops(rt: HostRuntime) -> Result<(), Fail> {
     let apple = Key::new(alloc, b"apple")?;
     let pear = Key::new(alloc, b"pear")?;
     let mut store = Store::new(alloc);
-    store.write(&apple, at(10)?, None)?;
-    store.write(&pear, at(10)?, None)?;
-    store.write(&apple, at(20)?, None)?;
-    store.commit(at(10)?, one(alloc, b"apple")?.as_slice());
+    write(alloc, &mut store, 10, b"apple")?;
+    write(alloc, &mut store, 10, b"pear")?;
+    write(alloc, &mut store, 20, b"apple")?;
+    commit(alloc, &mut store, 10, b"apple")?;
     assert_eq!(rt; newest(&store, &apple, 15), 1010);
     assert_eq!(rt; newest(&store, &pear, 15), 10);
     assert_eq!(rt; newest(&store, &apple, 25), 20);
-    store.abort(at(20)?, one(alloc, b"apple")?.as_slice());
-    store.abort(at(10)?, one(alloc, b"pear")?.as_slice());
-    store.abort(at(30)?, one(alloc, b"plum")?.as_slice());
+    abort(alloc, &mut store, 20, b"apple")?;
+    abort(alloc, &mut store, 10, b"pear")?;
+    abort(alloc, &mut store, 30, b"plum")?;
     assert_eq!(rt; newest(&store, &apple, 25), 1010);
     assert_eq!(rt; newest(&store, &pear, 25), 0);
     assert_eq!(rt; store.versions(), 1);
@@ -92,7 +110,7 @@ fn a_later_write_of_a_transaction_takes_the_place_of_an_earlier(
     let apple = Key::new(alloc, b"apple")?;
     let value = Value::new(alloc, b"7")?;
     let mut store = Store::new(alloc);
-    store.write(&apple, at(10)?, None)?;
+    write(alloc, &mut store, 10, b"apple")?;
     store.write(&apple, at(10)?, Some(&value))?;
     match store.newest_at(&apple, 10) {
         Some(version) => assert!(rt; version.after == Some(value.copy()?)),
@@ -193,28 +211,22 @@ fn a_span_has_the_keys_from_its_start_to_its_end(rt: HostRuntime) -> Result<(), 
     let alloc = rt.alloc();
     let mut store = Store::new(alloc);
     for key in [b"c", b"a", b"e", b"b", b"d"] {
-        store.write(&Key::new(alloc, key.as_slice())?, at(10)?, None)?;
+        write(alloc, &mut store, 10, key.as_slice())?;
     }
-    store.write(&Key::new(alloc, b"ab")?, at(20)?, None)?;
-    assert_eq!(rt;
-        last_bytes(alloc, &store, None, None)?.as_slice(),
-        b"abbcde".as_slice()
-    );
-    assert_eq!(rt;
-        last_bytes(alloc, &store, Some(b"b"), Some(b"d"))?.as_slice(),
-        b"bc".as_slice()
-    );
-    assert_eq!(rt;
-        last_bytes(alloc, &store, Some(b"aa"), Some(b"b"))?.as_slice(),
-        b"b".as_slice()
-    );
-    assert_eq!(rt;
-        last_bytes(alloc, &store, Some(b"d"), None)?.as_slice(),
-        b"de".as_slice()
-    );
-    assert_eq!(rt; last_bytes(alloc, &store, Some(b"d"), Some(b"d"))?.len(), 0);
-    assert_eq!(rt; last_bytes(alloc, &store, Some(b"d"), Some(b"b"))?.len(), 0);
-    assert_eq!(rt; last_bytes(alloc, &store, Some(b"f"), None)?.len(), 0);
+    write(alloc, &mut store, 20, b"ab")?;
+    // the bounds of a span, and the last bytes of its keys
+    let spans: [(Option<&[u8]>, Option<&[u8]>, &[u8]); 7] = [
+        (None, None, b"abbcde"),
+        (Some(b"b"), Some(b"d"), b"bc"),
+        (Some(b"aa"), Some(b"b"), b"b"),
+        (Some(b"d"), None, b"de"),
+        (Some(b"d"), Some(b"d"), b""),
+        (Some(b"d"), Some(b"b"), b""),
+        (Some(b"f"), None, b""),
+    ];
+    for (lo, hi, want) in spans {
+        assert_eq!(rt; last_bytes(alloc, &store, lo, hi)?.as_slice(), want);
+    }
     Ok(())
 }
 
@@ -222,24 +234,18 @@ fn a_span_has_the_keys_from_its_start_to_its_end(rt: HostRuntime) -> Result<(), 
 fn a_bound_of_one_byte_more_than_a_key_is_above_it(rt: HostRuntime) -> Result<(), Fail> {
     let alloc = rt.alloc();
     let mut store = Store::new(alloc);
-    store.write(&Key::new(alloc, &[b'k'; 64])?, at(10)?, None)?;
-    store.write(&Key::new(alloc, b"m")?, at(10)?, None)?;
-    assert_eq!(rt;
-        last_bytes(alloc, &store, Some(&[b'k'; 64]), None)?.as_slice(),
-        b"km".as_slice()
-    );
-    assert_eq!(rt;
-        last_bytes(alloc, &store, Some(&[b'k'; 65]), None)?.as_slice(),
-        b"m".as_slice()
-    );
-    assert_eq!(rt;
-        last_bytes(alloc, &store, None, Some(&[b'k'; 65]))?.as_slice(),
-        b"k".as_slice()
-    );
-    assert_eq!(rt;
-        last_bytes(alloc, &store, None, Some(&[b'k'; 64]))?.len(),
-        0
-    );
+    write(alloc, &mut store, 10, &[b'k'; 64])?;
+    write(alloc, &mut store, 10, b"m")?;
+    let longer: &[u8] = &[b'k'; 65];
+    let spans: [(Option<&[u8]>, Option<&[u8]>, &[u8]); 4] = [
+        (Some(&[b'k'; 64]), None, b"km"),
+        (Some(longer), None, b"m"),
+        (None, Some(longer), b"k"),
+        (None, Some(&[b'k'; 64]), b""),
+    ];
+    for (lo, hi, want) in spans {
+        assert_eq!(rt; last_bytes(alloc, &store, lo, hi)?.as_slice(), want);
+    }
     Ok(())
 }
 
@@ -288,11 +294,11 @@ fn what_is_dead_goes(rt: HostRuntime) -> Result<(), Fail> {
     for number in [10, 20, 30, 40, 60] {
         store.write(&apple, at(number)?, Some(&value))?;
     }
-    store.write(&pear, at(30)?, None)?;
+    write(alloc, &mut store, 30, b"pear")?;
     for number in [10, 20, 40, 60] {
-        store.commit(at(number)?, one(alloc, b"apple")?.as_slice());
+        commit(alloc, &mut store, number, b"apple")?;
     }
-    store.commit(at(30)?, one(alloc, b"pear")?.as_slice());
+    commit(alloc, &mut store, 30, b"pear")?;
     // 10 and 20 lie below 40; 30 is undecided, 60 above the horizon, and the delete is dead
     assert_eq!(rt; store.drop_dead(5)?, 0);
     assert_eq!(rt; store.drop_dead(15)?, 0);
@@ -306,7 +312,7 @@ fn what_is_dead_goes(rt: HostRuntime) -> Result<(), Fail> {
     assert_eq!(rt; store.drop_dead(50)?, 0);
     assert_eq!(rt; store.drop_dead(10)?, 0);
     // a late commit is dead at once
-    store.commit(at(30)?, one(alloc, b"apple")?.as_slice());
+    commit(alloc, &mut store, 30, b"apple")?;
     assert_eq!(rt; store.drop_dead(50)?, 1);
     assert_eq!(rt; store.drop_dead(60)?, 1);
     assert_eq!(rt; store.versions(), 1);
@@ -334,66 +340,74 @@ fn told_after(
     Err(Fail::new("no end"))
 }
 
-/// Writes versions of `ts` at keys of one byte.
-fn write_at(alloc: Global, store: &mut Store, ts: u64, keys: &[u8]) -> Result<(), Fail> {
-    for byte in keys {
-        store.write(&Key::new(alloc, &[*byte])?, at(ts)?, None)?;
+/// Versions at 10, 20 and 30: the last of those at 10 is aborted, the last of those at 30 committed.
+fn store_of_three_timestamps(alloc: Global) -> Result<Store, Fail> {
+    let mut store = Store::new(alloc);
+    let versions = [
+        (10, b"a"),
+        (10, b"b"),
+        (10, b"c"),
+        (20, b"a"),
+        (20, b"c"),
+        (30, b"b"),
+        (30, b"d"),
+    ];
+    for (ts, key) in versions {
+        write(alloc, &mut store, ts, key)?;
     }
-    Ok(())
+    abort(alloc, &mut store, 10, b"c")?;
+    commit(alloc, &mut store, 30, b"d")?;
+    Ok(store)
 }
 
 #[test]
 fn versions_follow_by_timestamp_and_then_by_key(rt: HostRuntime) -> Result<(), Fail> {
     let alloc = rt.alloc();
-    let b = Key::new(alloc, b"b")?;
-    let mut store = Store::new(alloc);
-    assert_eq!(rt; told_after(alloc, &store, (0, None), u64::MAX)?.len(), 0);
-    write_at(alloc, &mut store, 10, b"abc")?;
-    write_at(alloc, &mut store, 20, b"ac")?;
-    write_at(alloc, &mut store, 30, b"bd")?;
-    // 20 stays undecided, and so does b at 30
-    store.abort(at(10)?, one(alloc, b"c")?.as_slice());
-    store.commit(at(30)?, one(alloc, b"d")?.as_slice());
+    let mut store = store_of_three_timestamps(alloc)?;
     assert_eq!(rt;
         told_after(alloc, &store, (0, None), 99)?.as_slice(),
         b"\x1ed".as_slice()
     );
-    store.commit(at(10)?, one(alloc, b"b")?.as_slice());
-    store.commit(at(10)?, one(alloc, b"a")?.as_slice());
-    assert_eq!(rt;
-        told_after(alloc, &store, (9, Some(&b)), 30)?.as_slice(),
-        b"\x0aa\x0ab\x1ed".as_slice()
-    );
-    assert_eq!(rt;
-        told_after(alloc, &store, (10, Some(&b)), 99)?.as_slice(),
-        b"\x1ed".as_slice()
-    );
-    assert_eq!(rt; told_after(alloc, &store, (10, None), 29)?.len(), 0);
-    assert_eq!(rt;
-        told_after(alloc, &store, (0, None), 10)?.as_slice(),
-        b"\x0aa\x0ab".as_slice()
-    );
-    assert_eq!(rt; told_after(alloc, &store, (10, Some(&b)), 9)?.len(), 0);
+    // the greater key first
+    commit(alloc, &mut store, 10, b"b")?;
+    commit(alloc, &mut store, 10, b"a")?;
+    let b = Key::new(alloc, b"b")?;
+    let asked: [(u64, Option<&Key>, u64, &[u8]); 5] = [
+        (9, Some(&b), 30, b"\x0aa\x0ab\x1ed"),
+        (10, Some(&b), 99, b"\x1ed"),
+        (10, None, 29, b""),
+        (0, None, 10, b"\x0aa\x0ab"),
+        (10, Some(&b), 9, b""),
+    ];
+    for (ts, key, through, want) in asked {
+        assert_eq!(rt;
+            told_after(alloc, &store, (ts, key), through)?.as_slice(),
+            want
+        );
+    }
     Ok(())
 }
 
 #[test]
 fn the_greatest_timestamp_follows(rt: HostRuntime) -> Result<(), Fail> {
     let alloc = rt.alloc();
-    let a = Key::new(alloc, b"a")?;
     let last = timestamps::ts::MAX;
     let mut store = Store::new(alloc);
-    write_at(alloc, &mut store, last, b"b")?;
-    store.commit(at(last)?, one(alloc, b"b")?.as_slice());
+    assert_eq!(rt; told_after(alloc, &store, (0, None), u64::MAX)?.len(), 0);
+    write(alloc, &mut store, last, b"b")?;
+    commit(alloc, &mut store, last, b"b")?;
     // the key of a place needs no version
-    assert_eq!(rt;
-        told_after(alloc, &store, (last, Some(&a)), u64::MAX)?.as_slice(),
-        b"\0b".as_slice()
-    );
-    assert_eq!(rt; told_after(alloc, &store, (last, None), u64::MAX)?.len(), 0);
-    assert_eq!(rt;
-        told_after(alloc, &store, (u64::MAX, Some(&a)), u64::MAX)?.len(),
-        0
-    );
+    let a = Key::new(alloc, b"a")?;
+    let asked: [(u64, Option<&Key>, u64, &[u8]); 3] = [
+        (last, Some(&a), u64::MAX, b"\0b"),
+        (last, None, u64::MAX, b""),
+        (u64::MAX, Some(&a), u64::MAX, b""),
+    ];
+    for (ts, key, through, want) in asked {
+        assert_eq!(rt;
+            told_after(alloc, &store, (ts, key), through)?.as_slice(),
+            want
+        );
+    }
     Ok(())
 }
