@@ -28,7 +28,6 @@
 mod extent;
 mod joining;
 mod marks;
-mod neighbours;
 mod patch;
 mod piece;
 mod readers;

@@ -9,8 +9,9 @@ ghost use Rattle.read_marks.specs.Patches.{AreEdited, HaveGaps, holds};
 ghost use Rattle.read_marks.specs.Joining.{IsExtentOf, IsPartOf, IsWithin};
 ghost use Rattle.read_marks.specs.Editing.{AreParts, AreStarts, HasEnds, IsPart, IsSegment, IsStart, puts, puts_parts};
 
+mod neighbours;
+
 use crate::extent::Extent;
-use crate::neighbours::Neighbours;
 use crate::patch::Patch;
 use crate::readers::Readers;
 use crate::start::Start;
@@ -20,12 +21,6 @@ use std::ops::Bound;
 
 /// New readers for some starts.
 type Part = Vec<(Start, Readers)>;
-
-// The latest reader of a segment, where there is one and it has any.
-fn latest_of(segment: Option<(&Start, &Readers)>) -> Option<u64> {
-    let (_, readers) = segment?;
-    readers.latest()
-}
 
 /// The readers of each key: those of the greatest start that is not above it.
 #[derive(Debug, Drop)]
@@ -201,79 +196,6 @@ impl Segments {
         }
     }
 
-    // Whether the readers of a start are those of the segment before it.
-    fn is_repeated(&self, start: &Start) -> bool
-        ensures { IsTrue result → get key_cmp self.now.starts start.now ≡ Some (readers_before self.now start.now) }
-    {
-        let mut back = self
-            .starts
-            .range((Bound::Unbounded, Bound::Included(start)));
-        let Some((last, readers)) = back.next_back() else {
-            return false;
-        };
-        if last != start {
-            return false;
-        }
-        match back.next_back() {
-            None => readers.is_empty(),
-            Some((_, before)) => readers.is_same(before),
-        }
-    }
-
-    // Joins a segment with the one before it, where their readers are the same.
-    fn join_at(&mut self, start: &Start)
-        ensures { (x : List ℕ) → readers_at self.new x ≡ readers_at self.old x }
-    {
-        self.see_order();
-        if self.is_repeated(start) {
-            self.starts.remove(start);
-        }
-    }
-
-    // The greatest start from `lo` on and up to `end` whose readers are those of the segment before it.
-    fn last_repeated(&self, lo: &Start, end: Bound<&Start>) -> Option<Start> {
-        let mut later: Option<(&Start, &Readers)> = None;
-        for (start, readers) in self.starts.range((Bound::Unbounded, end)).rev() {
-            if let Some((next, next_readers)) = later {
-                if next_readers.is_same(readers) {
-                    return Some(next.copy());
-                }
-            }
-            if start < lo {
-                return None;
-            }
-            later = Some((start, readers));
-        }
-        match later {
-            Some((first, readers)) if readers.is_empty() => Some(first.copy()),
-            _ => None,
-        }
-    }
-
-    // Joins the segments that start in a patch or where it ends, the last of them first: what follows
-    // one that goes was compared with the same readers.
-    fn join(&mut self, patch: &Patch)
-        ensures { (x : List ℕ) → readers_at self.new x ≡ readers_at self.old x }
-    {
-        let mut found = self.last_repeated(&patch.lo, patch.up_to_end());
-        for _ in 0..self.starts.len() {
-            let Some(start) = found else {
-                return;
-            };
-            self.join_at(&start);
-            found = self.last_repeated(&patch.lo, Bound::Excluded(&start));
-        }
-    }
-
-    // The same for each patch.
-    fn join_all(&mut self, patches: &[Patch])
-        ensures { (x : List ℕ) → readers_at self.new x ≡ readers_at self.old x }
-    {
-        for patch in patches {
-            self.join(patch);
-        }
-    }
-
     // The readers of the patches' keys are edited. A refusal may leave some segments split.
     fn edit_split(&mut self, patches: &[Patch], ts: u64, forgotten: u64) -> Result<(), AllocError>
         requires late { forgotten < ts }
@@ -286,30 +208,6 @@ impl Segments {
         let parts = self.edited_all(patches, ts, forgotten)?;
         self.put_all(parts);
         Ok(())
-    }
-
-    // What stands beside a patch that is one segment: one starts where it begins, and the next where it
-    // ends. These are the last starts up to its end, so that one search finds them all.
-    fn neighbours(&self, patch: &Patch) -> Option<Neighbours>
-        ensures { IfSome result (λ _. IsSegment self.now.starts patch.now) }
-    {
-        let mut back = self.starts.range((Bound::Unbounded, patch.up_to_end()));
-        let after = match &patch.hi {
-            None => None,
-            Some(hi) => {
-                let (end, readers) = back.next_back()?;
-                if end != hi {
-                    return None;
-                }
-                readers.latest()
-            }
-        };
-        let (start, _) = back.next_back()?;
-        if *start != patch.lo {
-            return None;
-        }
-        let before = latest_of(back.next_back());
-        Some(Neighbours { before, after })
     }
 
     // The readers of a patch that is one segment are edited in place. It tells the latest of them.
@@ -332,22 +230,6 @@ impl Segments {
                 readers.edit(patch, ts, forgotten)?;
                 Ok(readers.latest())
             }
-        }
-    }
-
-    // Joins a segment with those beside it, where their readers are the same. Those that aren't mostly
-    // differ in the latest, so it is asked first. An edited segment has a reader, so that it is never
-    // joined with keys that have none.
-    fn join_beside(&mut self, patch: &Patch, neighbours: Neighbours, latest: Option<u64>)
-        ensures { (x : List ℕ) → readers_at self.new x ≡ readers_at self.old x }
-    {
-        if let Some(hi) = &patch.hi {
-            if neighbours.after == latest {
-                self.join_at(hi);
-            }
-        }
-        if neighbours.before == latest {
-            self.join_at(&patch.lo);
         }
     }
 
