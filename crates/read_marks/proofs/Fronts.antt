@@ -123,22 +123,11 @@ spelt (a ∷ b ∷ c ∷ d ∷ e ∷ f ∷ []) = omega arith
 spelt (a ∷ b ∷ c ∷ d ∷ e ∷ f ∷ g ∷ []) = omega arith
 spelt (a ∷ b ∷ c ∷ d ∷ e ∷ f ∷ g ∷ h ∷ xs) = omega arith
 
--- a byte among the first, or zero
-taken : (n : ℕ) (xs : List ℕ) (k : ℕ) → ((j : ℕ) → n ≤ j → get_or xs j 0 ≡ 0) → get_or (take n xs) k 0 ≡ get_or xs k 0
-taken zero xs k zeros = sym (zeros k (omega arith))
-taken (suc n) [] k zeros = refl
-taken (suc n) (x ∷ xs) zero zeros = refl
-taken (suc n) (x ∷ xs) (suc k) zeros = taken n xs k (λ j le. zeros (suc j) (omega arith))
-
-pub front_read : (xs : List ℕ) (n : ℕ) → ((k : ℕ) → n ≤ k → get_or xs k 0 ≡ 0) → front_from 8 0 (take n xs)
-    ≡ get_or xs 0 0 * 72057594037927936 + get_or xs 1 0 * 281474976710656 + get_or xs 2 0 * 1099511627776 + get_or xs 3 0 * 4294967296 + get_or xs 4 0 * 16777216 + get_or xs 5 0 * 65536 + get_or xs 6 0 * 256 + get_or xs 7 0
-front_read xs n zeros = spelt (take n xs) ∙ (rw (taken n xs 0 zeros, taken n xs 1 zeros, taken n xs 2 zeros, taken n xs 3 zeros, taken n xs 4 zeros, taken n xs 5 zeros, taken n xs 6 zeros, taken n xs 7 zeros) refl)
-
-pub bytes_kept : (n : ℕ) (xs : List ℕ) → AreBytes xs → AreBytes (take n xs)
-bytes_kept zero xs h k = omega arith
-bytes_kept (suc n) [] h k = omega arith
-bytes_kept (suc n) (x ∷ xs) h zero = h 0
-bytes_kept (suc n) (x ∷ xs) h (suc k) = bytes_kept n xs (λ j. h (suc j)) k
+-- eight bytes that are the first of a list, or zeros where those are missing
+pub front_read : (xs first : List ℕ) → ((k : ℕ) → k < 8 → get_or first k 0 ≡ get_or xs k 0) → front_from 8 0 xs
+    ≡ get_or first 0 0 * 72057594037927936 + get_or first 1 0 * 281474976710656 + get_or first 2 0 * 1099511627776 + get_or first 3 0 * 4294967296 + get_or first 4 0 * 16777216 + get_or first 5 0 * 65536 + get_or first 6 0 * 256 + get_or first 7 0
+front_read xs first same =
+    rw (same 0 (omega arith), same 1 (omega arith), same 2 (omega arith), same 3 (omega arith), same 4 (omega arith), same 5 (omega arith), same 6 (omega arith), same 7 (omega arith)) (spelt xs)
 
 -- bytes before zeros
 pub zeros_left : (m n k : ℕ) → get_or (drop m (replicate {A = ℕ} n 0)) k 0 ≡ 0
@@ -148,12 +137,14 @@ zeros_left zero (suc n) (suc k) = zeros_left zero n k
 zeros_left (suc m) zero k = refl
 zeros_left (suc m) (suc n) k = zeros_left m n k
 
-pub padded_bytes : (xs zs : List ℕ) → AreBytes xs → ((k : ℕ) → get_or zs k 0 ≡ 0) → AreBytes (xs ++ zs)
-padded_bytes [] zs h zeros k = let none : get_or zs k 0 ≡ 0 = zeros k in omega arith
-padded_bytes (x ∷ xs) zs h zeros zero = h 0
-padded_bytes (x ∷ xs) zs h zeros (suc k) = padded_bytes xs zs (λ j. h (suc j)) zeros k
+pub padded : (xs zs : List ℕ) (k : ℕ) → ((j : ℕ) → get_or zs j 0 ≡ 0) → get_or (xs ++ zs) k 0 ≡ get_or xs k 0
+padded [] zs k zeros = zeros k
+padded (x ∷ xs) zs zero zeros = refl
+padded (x ∷ xs) zs (suc k) zeros = padded xs zs k zeros
 
-pub padded_zeros : (xs zs : List ℕ) (k : ℕ) → length xs ≤ k → ((j : ℕ) → get_or zs j 0 ≡ 0) → get_or (xs ++ zs) k 0 ≡ 0
-padded_zeros [] zs k le zeros = zeros k
-padded_zeros (x ∷ xs) zs zero le zeros = absurd (omega arith)
-padded_zeros (x ∷ xs) zs (suc k) le zeros = padded_zeros xs zs k (omega arith) zeros
+-- what was filled up is all there
+pub taken_back : (n : ℕ) (xs zs : List ℕ) → n ≡ length xs → take n (xs ++ zs) ≡ xs
+taken_back zero [] zs e = refl
+taken_back zero (x ∷ xs) zs e = absurd (omega arith)
+taken_back (suc n) [] zs e = absurd (omega arith)
+taken_back (suc n) (x ∷ xs) zs e = ap (λ ys. x ∷ ys) (taken_back n xs zs (omega arith))

@@ -49,7 +49,9 @@ impl Marks {
         ensures { IsTrue result ↔ IsBetween (is_marked_in self.now key.now) above to }
     {
         let above = above.max(self.forgotten);
-        match self.segments.readers(&Start::of(key.bytes())) {
+        let mut start = Start::new();
+        start.set(key.bytes());
+        match self.segments.readers(&start) {
             None => false,
             Some(readers) => readers.any_between(above, to),
         }

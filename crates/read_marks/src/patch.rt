@@ -52,7 +52,7 @@ impl Patch {
     /// One that holds all keys, in no gap.
     pub(crate) fn of_all_keys() -> Patch {
         Patch {
-            lo: Start::of(&[]),
+            lo: Start::new(),
             hi: None,
             above: 0,
             until: 0,

@@ -1,5 +1,5 @@
 //! The readers of one segment.
-ghost use Rattle.std.specs.Prelude.{◌≡◌, ℕ, List, [], ◌<◌, ◌≤◌, ◌↔◌, IfOk, OnOk, OnErr, IsTrue, length, nat_lt, filter};
+ghost use Rattle.std.specs.Prelude.{◌≡◌, ℕ, List, [], ◌<◌, ◌≤◌, ◌↔◌, IfOk, OnOk, OnErr, IsTrue, length, nat_lt, filter, ◌-◌, slice_get};
 ghost use Rattle.std.specs.List.Sorted.{IsNonDecreasing};
 ghost use Rattle.kept.specs.Marks.{IsBetween, IsPiece};
 ghost use Rattle.read_marks.specs.Readers.{is_kept, is_reader, SplitsAt};
@@ -46,7 +46,9 @@ impl Readers {
     }
 
     /// The latest.
-    pub(crate) fn latest(&self) -> Option<u64> {
+    pub(crate) fn latest(&self) -> Option<u64>
+        ensures { result ≡ slice_get self.now (length self.now - 1) }
+    {
         self.list.last().copied()
     }
 

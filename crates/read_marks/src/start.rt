@@ -1,5 +1,5 @@
 //! Where a segment of keys begins.
-ghost use Rattle.std.specs.Prelude.{◌≡◌, ℕ, List, [], ◌<◌, ◌≤◌, Some, refl, length, bytes_eq, slice_index, unwrap_or};
+ghost use Rattle.std.specs.Prelude.{◌≡◌, ℕ, List, [], ◌<◌, ◌≤◌, Some, refl, length, bytes_eq, slice_index, unwrap_or, ◌++◌, drop};
 ghost use Rattle.std.specs.Cmp.{partial_equiv_from_equiv};
 ghost use Rattle.std.specs.Cmp.Lexicographic.{nat_list_eq_equiv, nat_list_cmp_total, texts_ties, texts_po};
 ghost use Rattle.timestamps.specs.Bytes.{key_cmp};
@@ -13,36 +13,78 @@ use std::marker::Model;
 const FRONT_BYTES: usize = 8;
 
 /// A key, a bound, or no byte at all, which is below every key: at most 65 bytes. It lies in place and
-/// needs no memory of its own, so that a look-up takes none. Zeros fill its place, so that its front can
-/// be read whole.
+/// needs no memory of its own, so that a look-up takes none. Its first bytes lie beside it as a number,
+/// so that a comparison waits for no byte that has just been written.
 #[derive(Debug, Drop)]
 pub(crate) struct Start {
+    front: u64,
     bytes: [u8; 65],
-    len: usize,
+    len: u8,
 }
 
 impl Model for Start {
     ghost use Rattle.std.specs.Prelude.{ℕ, List, ◌≡◌, ◌<◌, ◌≤◌, slice_index, take};
+    ghost use Rattle.read_marks.specs.Fronts.{front_of};
 
     ghost Value = { List ℕ };
 
     ghost view = { λ s. take s.len s.bytes };
 
-    ghost invariant = { λ s. (s.len ≤ 65) × ((k : ℕ) → slice_index s.bytes k < 256) × ((k : ℕ) → s.len ≤ k → slice_index s.bytes k ≡ 0) };
+    ghost invariant = { λ s. (s.len ≤ 65) × ((k : ℕ) → slice_index (take s.len s.bytes) k < 256) × (s.front ≡ front_of (take s.len s.bytes)) };
+}
+
+// The first bytes as one number, where zeros stand for those that are missing.
+fn front(bytes: &[u8]) -> u64
+    ensures { result ≡ front_of bytes.now }
+{
+    if let Some(first) = bytes.first_chunk() {
+        return u64::from_be_bytes(*first);
+    }
+    let mut first = [0; FRONT_BYTES];
+    first[..bytes.len()].copy_from_slice(bytes);
+    u64::from_be_bytes(first)
+}
+
+// Puts bytes at the front of a place.
+fn put(place: &mut [u8; 65], bytes: &[u8])
+    requires { length bytes.now ≤ 65 }
+    ensures { place.new ≡ bytes.now ++ drop (length bytes.now) place.old }
+{
+    place[..bytes.len()].copy_from_slice(bytes);
 }
 
 impl Start {
+    /// That of all keys: it has no byte.
+    #[inline]
+    pub(crate) fn new() -> Start
+        ensures { result ≡ [] }
+    {
+        Start {
+            front: 0,
+            bytes: [0; 65],
+            len: 0,
+        }
+    }
+
+    /// It becomes the start of these bytes, where it lies. A look-up makes its own so: to move bytes that
+    /// were written just before is to wait for them.
+    pub(crate) fn set(&mut self, bytes: &[u8])
+        requires { length bytes.now ≤ 65 }
+        ensures { self.new ≡ bytes.now }
+    {
+        put(&mut self.bytes, bytes);
+        self.front = front(bytes);
+        self.len = bytes.len() as u8;
+    }
+
     /// The start of these bytes.
     pub(crate) fn of(bytes: &[u8]) -> Start
         requires { length bytes.now ≤ 65 }
         ensures { result ≡ bytes.now }
     {
-        let mut all = [0; 65];
-        all[..bytes.len()].copy_from_slice(bytes);
-        Start {
-            bytes: all,
-            len: bytes.len(),
-        }
+        let mut start = Start::new();
+        start.set(bytes);
+        start
     }
 
     /// Where the keys at or above a bound begin.
@@ -50,7 +92,7 @@ impl Start {
         ensures { result ≡ unwrap_or low.now [] }
     {
         match low {
-            None => Start::of(&[]),
+            None => Start::new(),
             Some(low) => Start::of(low.bytes()),
         }
     }
@@ -70,7 +112,7 @@ impl Start {
         ensures bytes { result.now ≡ self.now }
         ensures in_range { length self.now ≤ 65 }
     {
-        &self.bytes[..self.len]
+        &self.bytes[..self.len as usize]
     }
 
     /// The same start once more.
@@ -79,27 +121,10 @@ impl Start {
         ensures { result ≡ self.now }
     {
         Start {
+            front: self.front,
             bytes: self.bytes,
             len: self.len,
         }
-    }
-
-    // Its first bytes as one number, where zeros stand for those that it lacks.
-    #[inline]
-    fn front(&self) -> u64
-        ensures front { result ≡ front_of self.now }
-        ensures bytes { (k : ℕ) → slice_index self.now k < 256 }
-    {
-        u64::from_be_bytes([
-            self.bytes[0],
-            self.bytes[1],
-            self.bytes[2],
-            self.bytes[3],
-            self.bytes[4],
-            self.bytes[5],
-            self.bytes[6],
-            self.bytes[7],
-        ])
     }
 }
 
@@ -142,11 +167,10 @@ impl Ord for Start {
     // front, it begins the other.
     #[inline]
     fn cmp(&self, other: &Start) -> Ordering {
-        let (front, others) = (self.front(), other.front());
-        if front != others {
-            return front.cmp(&others);
+        if self.front != other.front {
+            return self.front.cmp(&other.front);
         }
-        if self.len.min(other.len) <= FRONT_BYTES {
+        if self.len.min(other.len) as usize <= FRONT_BYTES {
             return self.len.cmp(&other.len);
         }
         self.bytes().cmp(other.bytes())

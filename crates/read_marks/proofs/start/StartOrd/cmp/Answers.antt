@@ -1,20 +1,24 @@
-use Rattle.std.proofs.Common.{◌≡◌, ◌≤◌, ◌∙◌, length, length-take-le, min, sym, arith}
-use Rattle.read_marks.proofs.Fronts.{fronts_differ, fronts_same}
+use Rattle.std.proofs.Common.{◌≡◌, ◌≤◌, ◌∙◌, ℕ, List, length, length-take-le, min, sym, arith}
+use Rattle.read_marks.specs.Fronts.{front_of}
+use Rattle.read_marks.proofs.Fronts.{AreBytes, fronts_differ, fronts_same}
 use Rattle.read_marks.proofs.start.StartOrd.cmp.Goals as goal
 
-pub returns-then-front-others : goal.returns-then-front-others
-returns-then-front-others c =
-    let left = c.front-front.ensures in
-    let right = c.front-others.ensures in
-    let differ = fronts_differ 8 0 c.args.self.now c.args.other.now left.bytes right.bytes (λ same. c.if-front-others.true (left.front ∙ same ∙ sym right.front)) in
-    c.cmp.ensures ∙ (rw (left.front, right.front) (sym differ))
+abbrev IsFront : ℕ → List ℕ → Type 0
+IsFront front xs = AreBytes xs × (front ≡ front_of xs)
+
+pub returns-then-self-other : goal.returns-then-self-other
+returns-then-self-other c =
+    let left : IsFront c.self.inside.front c.args.self.now = rw (← c.self.view_is) (c.self.invariant.1, c.self.invariant.2) in
+    let right : IsFront c.other.inside.front c.args.other.now = rw (← c.other.view_is) (c.other.invariant.1, c.other.invariant.2) in
+    let differ = fronts_differ 8 0 c.args.self.now c.args.other.now left.0 right.0 (λ same. c.if-self-other.true (left.1 ∙ same ∙ sym right.1)) in
+    c.cmp.ensures ∙ (rw (left.1, right.1) (sym differ))
 
 pub returns-then-min-le-FRONT_BYTES : goal.returns-then-min-le-FRONT_BYTES
 returns-then-min-le-FRONT_BYTES c =
-    let left = c.front-front.ensures in
-    let right = c.front-others.ensures in
+    let left : IsFront c.self.inside.front c.args.self.now = rw (← c.self.view_is) (c.self.invariant.1, c.self.invariant.2) in
+    let right : IsFront c.other.inside.front c.args.other.now = rw (← c.other.view_is) (c.other.invariant.1, c.other.invariant.2) in
     let len : length c.args.self.now ≡ c.self.inside.len = rw (← c.self.view_is) (length-take-le c.self.inside.len c.self.inside.bytes (omega (arith, c.self.told, c.self.invariant.0))) in
     let other : length c.args.other.now ≡ c.other.inside.len = rw (← c.other.view_is) (length-take-le c.other.inside.len c.other.inside.bytes (omega (arith, c.other.told, c.other.invariant.0))) in
     let short : min (length c.args.self.now) (length c.args.other.now) ≤ 8 = omega (arith, len, other, c.min.ensures, c.if-min-le-FRONT_BYTES.true) in
-    let same = fronts_same 8 0 c.args.self.now c.args.other.now left.bytes right.bytes (sym left.front ∙ c.if-front-others.false ∙ right.front) short in
+    let same = fronts_same 8 0 c.args.self.now c.args.other.now left.0 right.0 (sym left.1 ∙ c.if-self-other.false ∙ right.1) short in
     c.cmp-then-min-le-FRONT_BYTES.ensures ∙ (rw (← len, ← other) (sym same))
