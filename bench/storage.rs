@@ -539,69 +539,82 @@ impl Phases {
 
 const BATCH: usize = 4;
 
-/// Writes and commits a version of each key, four keys a transaction.
-fn write_round(store: &mut Store, keys: &[Key], last: &mut u64) {
+fn many<T: Default>(copies: u64) -> Vec<T> {
+    (0..copies).map(|_| T::default()).collect()
+}
+
+/// Writes and commits a version of each key in each store, four keys a transaction.
+fn write_round(stores: &mut [Store], keys: &[Key], last: &mut u64) {
     for batch in keys.chunks(BATCH) {
         *last += 1;
-        for key in batch {
-            store.write(key, *last, Some(VALUE));
+        for store in stores.iter_mut() {
+            for key in batch {
+                store.write(key, *last, Some(VALUE));
+            }
+            store.commit(*last, batch);
         }
-        store.commit(*last, batch);
     }
 }
 
-fn find_newest(store: &Store, keys: &[Key], times: u64, last: u64) -> u64 {
+fn find_newest(stores: &[Store], keys: &[Key], times: u64, last: u64) -> u64 {
     let mut random = Random::new();
     let mut sum = 0u64;
     for _ in 0..times {
-        let key = random.pick(keys);
-        let found = store.newest_at(key, random.below(last + 2));
-        sum = sum.wrapping_add(found.map_or(1, |version| version.ts));
+        for store in stores {
+            let key = random.pick(keys);
+            let found = store.newest_at(key, random.below(last + 2));
+            sum = sum.wrapping_add(found.map_or(1, |version| version.ts));
+        }
     }
     sum
 }
 
-fn find_next(store: &Store, keys: &[Key], times: u64, last: u64) -> u64 {
+fn find_next(stores: &[Store], keys: &[Key], times: u64, last: u64) -> u64 {
     let mut random = Random::new();
     let mut sum = 0u64;
     for _ in 0..times {
-        let key = random.pick(keys);
-        let found = store.next_above(key, random.below(last + 2));
-        sum = sum.wrapping_add(found.unwrap_or(1));
+        for store in stores {
+            let key = random.pick(keys);
+            let found = store.next_above(key, random.below(last + 2));
+            sum = sum.wrapping_add(found.unwrap_or(1));
+        }
     }
     sum
 }
 
 /// `rounds` versions of each key, and then as many searches of either kind as there are versions.
-fn versions(keys: &[Key], rounds: u64) {
-    let mut store = Store::default();
+fn versions(keys: &[Key], rounds: u64, copies: u64) {
+    let mut stores: Vec<Store> = many(copies);
     let mut last = 0;
     let mut phases = Phases::begin();
     for _ in 0..rounds {
-        write_round(&mut store, keys, &mut last);
+        write_round(&mut stores, keys, &mut last);
     }
-    phases.end("write", store.count);
-    let sum = find_newest(&store, keys, store.count, last);
+    let count = stores[0].count;
+    phases.end("write", count);
+    let sum = find_newest(&stores, keys, count, last);
     phases.end("newest", sum);
-    let sum = find_next(&store, keys, store.count, last);
+    let sum = find_next(&stores, keys, count, last);
     phases.end("next", sum);
 }
 
 /// Ten versions of each key, collected at ten horizons.
-fn collections(size: u64) {
+fn collections(size: u64, copies: u64) {
     let keys = keys(size / 10, SCATTERED);
-    let mut store = Store::default();
+    let mut stores: Vec<Store> = many(copies);
     let mut last = 0;
     for _ in 0..10 {
-        write_round(&mut store, &keys, &mut last);
+        write_round(&mut stores, &keys, &mut last);
     }
     let mut sum = 0u64;
     let mut phases = Phases::begin();
     for step in 1..=10 {
-        let dropped = store.drop_dead(last * step / 10);
-        sum = sum.wrapping_mul(31).wrapping_add(dropped);
+        for store in &mut stores {
+            let dropped = store.drop_dead(last * step / 10);
+            sum = sum.wrapping_mul(31).wrapping_add(dropped);
+        }
     }
-    phases.end("collect", sum.wrapping_add(store.count));
+    phases.end("collect", sum.wrapping_add(stores[0].count));
 }
 
 struct Mark {
@@ -641,39 +654,43 @@ fn marks_of_key(key: &[u8], readers: u64, has_versions: bool) -> Vec<Mark> {
     marks
 }
 
-fn ask(marks: &Marks, keys: &[Key], times: u64, last: u64, gap: u64) -> u64 {
+fn ask(all: &[Marks], keys: &[Key], times: u64, last: u64, gap: u64) -> u64 {
     let mut random = Random::new();
     let mut sum = 0u64;
     for number in 0..times {
-        let key = random.pick(keys);
-        let above = random.below(last);
-        let to = if number % 2 == 0 { Some(above + gap) } else { None };
-        sum = sum.wrapping_mul(31).wrapping_add(marks.any_between(key, above, to) as u64);
+        for marks in all {
+            let key = random.pick(keys);
+            let above = random.below(last);
+            let to = if number % 2 == 0 { Some(above + gap) } else { None };
+            sum = sum.wrapping_mul(31).wrapping_add(marks.any_between(key, above, to) as u64);
+        }
     }
     sum
 }
 
 /// Marks, and then asks as often.
-fn reads(adds: &[Mark], keys: &[Key], last: u64, gap: u64) {
-    let mut marks = Marks::default();
+fn reads(adds: &[Mark], keys: &[Key], last: u64, gap: u64, copies: u64) {
+    let mut all: Vec<Marks> = many(copies);
     let mut phases = Phases::begin();
     for mark in adds {
-        marks.add_pieces(slice::from_ref(&mark.piece), mark.ts);
+        for marks in &mut all {
+            marks.add_pieces(slice::from_ref(&mark.piece), mark.ts);
+        }
     }
-    phases.end("mark", marks.starts.values().filter(|readers| !readers.is_empty()).count() as u64);
-    let sum = ask(&marks, keys, adds.len() as u64, last, gap);
+    phases.end("mark", all[0].starts.values().filter(|readers| !readers.is_empty()).count() as u64);
+    let sum = ask(&all, keys, adds.len() as u64, last, gap);
     phases.end("ask", sum);
 }
 
-fn marks(size: u64) {
+fn marks(size: u64, copies: u64) {
     let keys = keys(size / 10, RISING);
     let gap = size / 8;
-    reads(&marks_of_spans(&keys, size, gap), &keys, size, gap);
+    reads(&marks_of_spans(&keys, size, gap), &keys, size, gap, copies);
 }
 
-fn hot_key(size: u64, has_versions: bool) {
+fn hot_key(size: u64, has_versions: bool, copies: u64) {
     let keys = keys(1, RISING);
-    reads(&marks_of_key(&keys[0], size, has_versions), &keys, 2 * size, 2);
+    reads(&marks_of_key(&keys[0], size, has_versions), &keys, 2 * size, 2, copies);
 }
 
 const SCANS: u64 = 1000;
@@ -684,7 +701,7 @@ fn scans(size: u64) {
     let keys = keys(size, RISING);
     let mut rules = Rules::default();
     let mut last = 0;
-    write_round(&mut rules.store, &keys, &mut last);
+    write_round(slice::from_mut(&mut rules.store), &keys, &mut last);
     let mut random = Random::new();
     let mut places = Vec::new();
     for number in 1..=SCANS {
@@ -728,15 +745,17 @@ fn transaction(rules: &mut Rules, keys: &[Key], random: &mut Random, ts: u64) ->
     sum.wrapping_mul(31).wrapping_add(committed.unwrap_or_else(code))
 }
 
-fn transactions(size: u64) {
+fn transactions(size: u64, copies: u64) {
     let keys = keys(size, SCATTERED);
-    let mut rules = Rules::default();
+    let mut all: Vec<Rules> = many(copies);
     let mut random = Random::new();
     let mut sum = 0u64;
     let mut phases = Phases::begin();
     for number in 0..size {
-        let answered = transaction(&mut rules, &keys, &mut random, interleaved(number));
-        sum = sum.wrapping_mul(31).wrapping_add(answered);
+        for rules in &mut all {
+            let answered = transaction(rules, &keys, &mut random, interleaved(number));
+            sum = sum.wrapping_mul(31).wrapping_add(answered);
+        }
     }
     phases.end("transact", sum);
 }
@@ -779,15 +798,16 @@ fn closings(size: u64) {
 fn main() {
     let words: Vec<String> = std::env::args().collect();
     let size: u64 = words[2].parse().expect("a size");
+    let copies: u64 = words.get(3).map_or(1, |word| word.parse().expect("a number"));
     match words[1].as_str() {
-        "keys" => versions(&keys(size / 4, SCATTERED), 4),
-        "chain" => versions(&keys(1, SCATTERED), size),
-        "collections" => collections(size),
-        "marks" => marks(size),
-        "hot" => hot_key(size, false),
-        "hot_versions" => hot_key(size, true),
+        "keys" => versions(&keys(size / 4, SCATTERED), 4, copies),
+        "chain" => versions(&keys(1, SCATTERED), size, copies),
+        "collections" => collections(size, copies),
+        "marks" => marks(size, copies),
+        "hot" => hot_key(size, false, copies),
+        "hot_versions" => hot_key(size, true, copies),
         "scans" => scans(size),
-        "transactions" => transactions(size),
+        "transactions" => transactions(size, copies),
         "closings" => closings(size),
         workload => panic!("no workload {workload}"),
     }
