@@ -1,5 +1,6 @@
 // The workloads of `bench_storage` as a plain Rust program over std: the same shapes of data, searched and edited in the
-// same way. `storage WORKLOAD SIZE` prints for each phase its name, how many nanoseconds it took, and a checksum.
+// same way. `storage WORKLOAD SIZE COPIES` prints for each phase its name, how many nanoseconds it took, and a checksum.
+// Copies, one where no number is given, are used in turn.
 use std::collections::btree_map::Entry;
 use std::collections::{BTreeMap, BTreeSet};
 use std::ops::Bound::{Excluded, Included, Unbounded};
