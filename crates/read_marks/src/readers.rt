@@ -160,7 +160,8 @@ impl Readers {
         Ok(readers)
     }
 
-    // Those up to `through` go where they are half of all: not at each edit, since the rest moves.
+    // Those up to `through` go where they are half of all, rounded down: not at each edit, since the
+    // rest moves.
     fn trim(&mut self, through: u64)
         ensures { (j : ℕ) → is_kept through self.new j ≡ is_kept through self.old j }
     {

@@ -164,7 +164,7 @@ impl Ord for Start {
     ghost matches_eq = { texts_ties };
 
     // Most starts differ in their fronts. Where those are the same and one of them is no longer than its
-    // front, it begins the other.
+    // front, the shorter begins the other.
     #[inline]
     fn cmp(&self, other: &Start) -> Ordering {
         if self.front != other.front {

@@ -159,6 +159,27 @@ fn what_is_forgotten_leaves_no_start(rt: HostRuntime) -> Result<(), Fail> {
     Ok(())
 }
 
+/// Marks keys of one byte, each alone.
+fn mark_keys(alloc: Global, marks: &mut Marks, keys: &[u8], reader: u64) -> Result<(), Fail> {
+    for byte in keys {
+        marks.add(&span(alloc, &[*byte], &[*byte, 0])?, ts(reader)?)?;
+    }
+    Ok(())
+}
+
+// 64 starts are the fewest that are swept, and each key has two.
+#[test]
+fn what_is_forgotten_is_swept_once_the_starts_have_doubled(rt: HostRuntime) -> Result<(), Fail> {
+    let alloc = rt.alloc();
+    let mut marks = Marks::new(alloc);
+    mark_keys(alloc, &mut marks, b"abcdefghijklmnopqrstuvwxyzABCD", 5)?;
+    marks.forget_through(5);
+    assert_eq!(rt; marks.spans(), 30);
+    mark_keys(alloc, &mut marks, b"0123", 6)?;
+    assert_eq!(rt; marks.spans(), 4);
+    Ok(())
+}
+
 #[test]
 fn a_mark_in_place_is_joined_with_its_neighbours(rt: HostRuntime) -> Result<(), Fail> {
     let alloc = rt.alloc();

@@ -22,7 +22,7 @@ use std::ops;
 use timestamps::key::{Key, MAX_KEY_BYTES};
 
 /// The keys of a span that have a version, rising, each with its chain. A step goes to the next key,
-/// and the first one above the span is the last that is looked at.
+/// and ends at the first one above the span.
 #[derive(Drop)]
 pub struct InSpan<'a> {
     span: &'a Span,
@@ -92,7 +92,7 @@ fn is_from(low: &Option<Bound>, key: &Key) -> bool
 }
 
 /// Where keys at or above the bound begin. A bound may have one byte more than a key: then the keys
-/// above it are those above its other bytes.
+/// above it are those above its first 64.
 pub(crate) fn start_at(alloc: Global, low: &Option<Bound>) -> Result<ops::Bound<Key>, AllocError>
     ensures { IfOk result (λ start. start ≡ start_of low.now) }
 {

@@ -13,11 +13,11 @@
 //! drop what is dead by 30    30*         30*        30 apple pear                2    in_span - p is apple
 //! ```
 //! Of k keys and v versions of one, each search compares about log k keys and reads at most as many
-//! timestamps as v has binary digits; a commit and an abort do so for each key that they are given, and
-//! an abort goes to the index. A write searches the chains once, twice for a key that had no version,
+//! timestamps as v has binary digits; a commit and an abort do so and read up to two more, for each key
+//! that they are given, and an abort goes to the index. A write searches the chains once, twice for a key that had no version,
 //! and then the index once; it looks at the end of its chain first, and moves the versions above its
-//! own. A collection looks at what was written between the last horizon and its own, and at what is at
-//! or below its own in the chains in which something is dead; the versions above are moved once. What
+//! own. A collection looks at what was written between the last horizon, or what has been committed
+//! below it since, and its own, and at what is at or below its own in the chains in which something is dead; the versions above are moved once. What
 //! follows a place is read off the index, which is searched at the place; each version that it lists
 //! from there is a search, and the first that is committed ends it. The count is one read.
 //!
