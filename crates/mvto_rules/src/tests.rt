@@ -162,6 +162,12 @@ fn a_blocked_read_leaves_no_mark(rt: HostRuntime) -> Result<(), Fail> {
     Ok(())
 }
 
+/// Whether a reader of the key is kept that is above `above` and at most `to`.
+fn has_reader(alloc: Global, rules: &Rules, key: &[u8], above: u64, to: u64) -> Result<bool, Fail> {
+    let key = Key::new(alloc, key)?;
+    Ok(rules.marks.any_between(&key, above, Some(to)))
+}
+
 #[test]
 fn readers_of_two_versions_are_told_apart(rt: HostRuntime) -> Result<(), Fail> {
     let alloc = rt.alloc();
@@ -171,6 +177,9 @@ fn readers_of_two_versions_are_told_apart(rt: HostRuntime) -> Result<(), Fail> {
     assert!(rt; is_committed(&rules.commit(0, 0, 10), 1));
     assert!(rt; are_rows(&scan(alloc, &mut rules, 30, b"a", b"")?, &[(b"b", b'1')]));
     assert!(rt; is_found(&get(alloc, &mut rules, 40, b"b")?, Some(b'1')));
+    // of the readers of one version only the greatest is kept
+    assert!(rt; !has_reader(alloc, &rules, b"b", 10, 39)?);
+    assert!(rt; has_reader(alloc, &rules, b"b", 39, 40)?);
     assert!(rt; is_written(&put(alloc, &mut rules, 50, b"b", Some(b'2'))?));
     assert!(rt; is_committed(&rules.commit(0, 0, 50), 1));
     assert!(rt; is_found(&get(alloc, &mut rules, 60, b"b")?, Some(b'2')));
