@@ -20,9 +20,10 @@
 //! With n starts and m readers of one, a look-up costs O(log n + log m) and forgetting O(1); neither
 //! takes memory. A mark on one whole segment, as on a key or a span that was read before, edits its
 //! readers in place by two searches of the starts: O(log n + log m), and those above its gap move; a
-//! neighbour with the same latest reader is compared whole. Any other copies them, O(log n + m) for each
-//! start that it touches. What is forgotten there goes, in place once it is half. Where the starts have doubled, or a reader comes that counts as forgotten, a walk sweeps all of
-//! them. [`Marks::spans`] walks.
+//! neighbour with the same latest reader is compared whole. Any other copies them, O(log n + m) for
+//! each start that it touches. What is forgotten there goes, in place once it is half. Where the starts
+//! have doubled, or a reader comes that counts as forgotten, a walk sweeps all of them.
+//! [`Marks::spans`] walks.
 #![tactic(auto)]
 
 mod extent;
