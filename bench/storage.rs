@@ -599,7 +599,10 @@ fn versions(keys: &[Key], rounds: u64, copies: u64) {
     phases.end("next", sum);
 }
 
-/// Ten versions of each key, collected at ten horizons.
+/// How far a collection's horizon is above the last one. Some thousand versions are dead between them.
+const HORIZONS: u64 = 250;
+
+/// Ten versions of each key, collected in steps of one length.
 fn collections(size: u64, copies: u64) {
     let keys = keys(size / 10, SCATTERED);
     let mut stores: Vec<Store> = many(copies);
@@ -609,9 +612,9 @@ fn collections(size: u64, copies: u64) {
     }
     let mut sum = 0u64;
     let mut phases = Phases::begin();
-    for step in 1..=10 {
+    for step in 1..=last.div_ceil(HORIZONS) {
         for store in &mut stores {
-            let dropped = store.drop_dead(last * step / 10);
+            let dropped = store.drop_dead(last.min(step * HORIZONS));
             sum = sum.wrapping_mul(31).wrapping_add(dropped);
         }
     }

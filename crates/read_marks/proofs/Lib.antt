@@ -5,6 +5,7 @@ pub mod Merging
 pub mod Steps
 pub mod Editing
 pub mod Picking
+pub mod Apart
 pub mod Keeping
 pub mod Alike
 pub mod Extents

@@ -164,7 +164,7 @@ keys-filter p [] = refl
 keys-filter p (e ∷ es) = keys-turn e _ _ (p e.0) (keys-filter p es)
 
 -- the last of sorted entries is the only one from its start on
-below-last : (k lo v : List ℕ) (t : Entries) → AllByRecursion (λ q. key_cmp k q ≡ Less) (keys_of (t ++ (lo, v) ∷ [])) → key_cmp k lo ≡ Less
+pub below-last : (k lo v : List ℕ) (t : Entries) → AllByRecursion (λ q. key_cmp k q ≡ Less) (keys_of (t ++ (lo, v) ∷ [])) → key_cmp k lo ≡ Less
 below-last k lo v [] h = h.0
 below-last k lo v (e ∷ t) h = below-last k lo v t h.1
 
@@ -181,14 +181,19 @@ and-swap true false = refl
 and-swap false true = refl
 and-swap false false = refl
 
+pub sorted_filter : (q : List ℕ → Bool) (es : Entries) → IsStrictlySortedBy key_cmp (keys_of es) → IsStrictlySortedBy key_cmp (keys_of (filter (λ e. q e.0) es))
+sorted_filter q es s = rw (keys-filter q es) (IsStrictlySortedBy-filter key_cmp q (keys_of es) s)
+
+-- those that lie in a patch are those from its beginning on, of those below its end
+pub picked_from : (p : Patch) (q : List ℕ → Bool) (es : Entries) → ((k : List ℕ) → picks p k ≡ (is_le (key_cmp p.lo k) && q k)) → filter (λ e. picks p e.0) es ≡ filter (λ e. is_le (key_cmp p.lo e.0)) (filter (λ e. q e.0) es)
+picked_from p q es same = filter-both q (λ k. is_le (key_cmp p.lo k)) (picks p) es (λ k. same k ∙ and-swap (is_le (key_cmp p.lo k)) (q k))
+
 -- a start up to which, of those below the end of the patch, it is the last, lies in it alone
 alone_last : (p : Patch) (q : List ℕ → Bool) (es t : Entries) (v : List ℕ) → IsStrictlySortedBy key_cmp (keys_of es) → ((k : List ℕ) → picks p k ≡ (is_le (key_cmp p.lo k) && q k)) → filter (λ e. q e.0) es ≡ t ++ (p.lo, v) ∷ []
     → filter (λ e. picks p e.0) es ≡ (p.lo, v) ∷ []
 alone_last p q es t v s same is =
-    let stays : IsStrictlySortedBy key_cmp (keys_of (filter (λ e. q e.0) es)) = rw (keys-filter q es) (IsStrictlySortedBy-filter key_cmp q (keys_of es) s) in
-    let sorted : IsStrictlySortedBy key_cmp (keys_of (t ++ (p.lo, v) ∷ [])) = subst (λ (gs : Entries). IsStrictlySortedBy key_cmp (keys_of gs)) is stays in
-    let both : filter (λ e. picks p e.0) es ≡ filter (λ e. is_le (key_cmp p.lo e.0)) (filter (λ e. q e.0) es) = filter-both q (λ k. is_le (key_cmp p.lo k)) (picks p) es (λ k. same k ∙ and-swap (is_le (key_cmp p.lo k)) (q k)) in
-    both ∙ ap (λ gs. filter (λ e. is_le (key_cmp p.lo e.0)) gs) is ∙ from-last p.lo v t sorted
+    let sorted : IsStrictlySortedBy key_cmp (keys_of (t ++ (p.lo, v) ∷ [])) = subst (λ (gs : Entries). IsStrictlySortedBy key_cmp (keys_of gs)) is (sorted_filter q es s) in
+    picked_from p q es same ∙ ap (λ gs. filter (λ e. is_le (key_cmp p.lo e.0)) gs) is ∙ from-last p.lo v t sorted
 
 -- the starts up to a bound, of which the last is the end of the patch and the one before it its beginning
 abbrev pub starts_to : Bound (List ℕ) → Entries → Entries

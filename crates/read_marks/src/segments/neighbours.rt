@@ -1,5 +1,5 @@
 //! Segments that stand beside each other, and their joining where their readers are the same.
-ghost use Rattle.std.specs.Prelude.{◌≡◌, ℕ, List, IfSome, IsTrue, Some};
+ghost use Rattle.std.specs.Prelude.{◌≡◌, ℕ, List, MatchOption, IsTrue, Some};
 ghost use Rattle.std.specs.BTreeMap.{get};
 ghost use Rattle.timestamps.specs.Bytes.{key_cmp};
 ghost use Rattle.read_marks.specs.Segments.{readers_at, readers_before};
@@ -26,9 +26,10 @@ fn latest_of(segment: Option<(&Start, &Readers)>) -> Option<u64> {
 
 impl Segments {
     // What stands beside a patch that is one segment: one starts where it begins, and the next where it
-    // ends. These are the last starts up to its end, so that one search finds them all.
+    // ends. These are the last starts up to its end, so that one search finds them all. It is `None` where
+    // the patch isn't one segment.
     pub(super) fn neighbours(&self, patch: &Patch) -> Option<Neighbours>
-        ensures { IfSome result (λ _. IsSegment self.now.starts patch.now) }
+        ensures { MatchOption result (IsSegment self.now.starts patch.now → ⊥) (λ _. IsSegment self.now.starts patch.now) }
     {
         let mut back = self.starts.range((Bound::Unbounded, patch.up_to_end()));
         let after = match &patch.hi {
