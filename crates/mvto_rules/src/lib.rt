@@ -20,11 +20,12 @@
 //! Of the readers of one version only the greatest is kept. A read of one's own version marks nothing.
 //!
 //! Cost, of k keys, v versions and m readers of one, and s spans that are marked: a read and a write
-//! O(log k + log v + log s + log m), and the readers or versions above theirs move; a scan so for each
-//! key that it finds and each marked span that it meets; a commit O(log k + log v) for each key written,
-//! and so an abort, which a write that is too late is as well. Where the marked spans have doubled, a
-//! read goes over all of them. A commit, an abort, a write that is too late and a read that is blocked
-//! need no memory; a scan that finds no memory goes over its keys once more, to see whether it is blocked.
+//! O(log k + log v + log s + log m), and the readers or versions above theirs move; a read of a key that
+//! shares its readers with others copies them. A scan costs so for each key that it finds and each marked
+//! span that it meets; a commit O(log k + log v) for each key written, and so an abort, which a write that
+//! is too late is as well. Where the marked spans have doubled, a read goes over all of them. A commit, an
+//! abort, a write that is too late and a read that is blocked need no memory; a scan that finds no memory
+//! goes over its keys once more, to see whether it is blocked.
 #![tactic(auto)]
 
 mod cut;

@@ -85,6 +85,13 @@ rises_set (w ∷ vs) (suc k) v r p =
       rises_set vs k v r.1 (record { within = lt; here = λ d. p.here d }),
     )
 
+-- one to read a list by where there is none
+pub some_version : Version
+some_version = record { ts = 0; after = None; decided = false }
+
+pub rises_commit : (vs : List Version) (k t : ℕ) (d : Version) → DoRise vs → IsPlaceOf vs t k → DoRise (set vs k (committed (get_or vs k d)))
+rises_commit vs k t d r p = rises_set vs k (committed (get_or vs k d)) r (record { within = p.within; here = λ e. p.here e ∙ sym (p.here d) })
+
 above_remove : (vs : List Version) (t k : ℕ) → AreAbove t vs → AreAbove t (remove vs k)
 above_remove [] t zero a = tt
 above_remove [] t (suc k) a = tt

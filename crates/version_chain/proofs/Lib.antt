@@ -10,5 +10,6 @@ pub mod Soundness
 pub mod Spent
 pub mod Chained
 pub mod Thinning
+pub mod Gone
 pub mod Listing
 pub mod Following

@@ -6,6 +6,7 @@ ghost use Rattle.version_chain.specs.Spent.{is_spent_version, newest_of, is_spen
 ghost use Rattle.version_chain.specs.Versions.{DoRise, version_of, committed, IsPlaceAbove, IsNoneUpTo, IsNewestOf, IsNoneAbove, IsLeastAbove, IsPlaceOf, IsFreePlace};
 
 use crate::steps::Steps;
+use crate::versions::Versions;
 use std::alloc::{AllocError, Global};
 use std::marker::Model;
 use timestamps::halves::Halves;
@@ -36,7 +37,7 @@ impl Version {
 /// The versions of a key, by rising timestamp.
 #[derive(Debug, Drop)]
 pub struct Chain {
-    versions: Vec<Version>,
+    versions: Versions,
 }
 
 impl Model for Chain {
@@ -46,12 +47,21 @@ impl Model for Chain {
 
     ghost Value = { List Version };
 
-    ghost view = { λ c. c.versions.items };
+    ghost view = { λ c. c.versions };
 
-    ghost invariant = { λ c. DoRise c.versions.items };
+    ghost invariant = { λ c. DoRise c.versions };
 }
 
 impl Chain {
+    /// All versions.
+    #[inline]
+    fn all(&self) -> &[Version]
+        ensures versions { result.now ≡ self.now }
+        ensures rises { DoRise self.now }
+    {
+        self.versions.as_slice()
+    }
+
     /// The timestamp of the version at place `i`: one step.
     pub fn ts_at(&self, i: usize, steps: &mut Steps) -> u64
         requires { i < length self.now }
@@ -59,7 +69,7 @@ impl Chain {
         ensures steps { steps.new.count ≡ suc steps.old.count }
     {
         *steps = Steps::after(steps);
-        self.versions[i].ts.get()
+        self.all()[i].ts.get()
     }
 
     /// How many versions are at or below `t`, which is the place where those above it begin.
@@ -67,7 +77,7 @@ impl Chain {
         ensures place { IsPlaceAbove self.now t result }
         ensures steps { (d : ℕ) → length self.now < 2 ^ d → steps.new.count ≤ steps.old.count + d }
     {
-        let mut left = Halves::of(self.versions.len());
+        let mut left = Halves::of(self.all().len());
         while left.size > 0 {
             let read = self.ts_at(left.middle(), steps);
             left = left.after(read, t);
@@ -79,13 +89,14 @@ impl Chain {
     fn place_near_end(&self, t: u64) -> usize
         ensures { IsPlaceAbove self.now t result }
     {
-        let Some(last) = self.versions.last() else {
+        let versions = self.all();
+        let Some(last) = versions.last() else {
             return 0;
         };
         if last.ts.get() > t {
             return self.place_above(t, &mut Steps::new());
         }
-        self.versions.len()
+        versions.len()
     }
 
     /// The version with the greatest timestamp at or below `t`. It reads at most as many timestamps as
@@ -98,7 +109,7 @@ impl Chain {
         if place == 0 {
             return None;
         }
-        Some(&self.versions[place - 1])
+        Some(&self.all()[place - 1])
     }
 
     /// The version with the least timestamp above `t`. It reads at most as many timestamps as the
@@ -108,18 +119,17 @@ impl Chain {
         ensures steps { (d : ℕ) → length self.now < 2 ^ d → steps.new.count ≤ steps.old.count + d }
     {
         let place = self.place_above(t, steps);
-        if place == self.versions.len() {
+        if place == self.all().len() {
             return None;
         }
-        Some(&self.versions[place])
+        Some(&self.all()[place])
     }
 
     /// A chain of one version.
     pub(crate) fn of(alloc: Global, version: Version) -> Result<Chain, AllocError>
         ensures { IfOk result (λ chain. chain ≡ version ∷ []) }
     {
-        let mut versions = Vec::new(alloc);
-        versions.push(version)?;
+        let versions = Versions::of(alloc, version)?;
         Ok(Chain { versions })
     }
 
@@ -127,7 +137,7 @@ impl Chain {
     pub(crate) fn is_empty(&self) -> bool
         ensures { IsTrue result ↔ (self.now ≡ []) }
     {
-        self.versions.is_empty()
+        self.all().is_empty()
     }
 
     /// The place of the version of `ts`, or where one would stand.
@@ -138,7 +148,7 @@ impl Chain {
         if place == 0 {
             return Err(0);
         }
-        if self.versions[place - 1].ts.get() != ts {
+        if self.all()[place - 1].ts.get() != ts {
             return Err(place);
         }
         Ok(place - 1)
@@ -154,7 +164,7 @@ impl Chain {
     {
         match self.place_of(version.ts.get()) {
             Ok(place) => {
-                self.versions[place] = version;
+                self.versions.set(place, version);
                 Ok(false)
             }
             Err(place) => {
@@ -170,7 +180,7 @@ impl Chain {
             ≡ (if ts == i then option_map committed (version_of self.old i) else version_of self.old i) }
     {
         if let Ok(place) = self.place_of(ts) {
-            self.versions[place].decided = true;
+            self.versions.commit(place);
         }
     }
 
@@ -193,7 +203,7 @@ impl Chain {
         ensures { result.now ≡ filter (λ (v : Version). nat_le v.ts t) self.now }
     {
         let place = self.place_above(t, &mut Steps::new());
-        &self.versions[..place]
+        &self.all()[..place]
     }
 
     /// The timestamp of the newest committed version at or below the horizon, 0 where there is none.
@@ -203,8 +213,9 @@ impl Chain {
         let mut place = self.place_above(horizon, &mut Steps::new());
         while place > 0 {
             place -= 1;
-            if self.versions[place].decided {
-                return self.versions[place].ts.get();
+            let version = &self.all()[place];
+            if version.decided {
+                return version.ts.get();
             }
         }
         0
@@ -223,31 +234,16 @@ impl Chain {
         false
     }
 
-    /// Drops the versions that are dead by the horizon, and says how many. Those above it are only
-    /// moved.
+    /// Drops the versions that are dead by the horizon, and says how many. Those above it are not
+    /// looked at.
     pub(crate) fn drop_spent(&mut self, horizon: u64, top: u64) -> u64
         ensures left { self.new ≡ filter (λ (v : Version). not (is_spent_version horizon top v)) self.old }
         ensures count { result ≡ length (filter (is_spent_version horizon top) self.old) }
         ensures rising { DoRise self.old }
     {
-        let before = self.versions.len();
+        let before = self.all().len();
         let place = self.place_above(horizon, &mut Steps::new());
-        drop_before(&mut self.versions, place, horizon, top);
-        (before - self.versions.len()) as u64
+        self.versions.drop_before(place, horizon, top);
+        (before - self.all().len()) as u64
     }
-}
-
-/// Drops those before the place that are dead by the horizon.
-fn drop_before(versions: &mut Vec<Version>, place: usize, horizon: u64, top: u64)
-    requires { place ≤ length versions.old.items }
-    ensures { versions.new.items ≡ filter (λ (v : Version). not (is_spent_version horizon top v)) (take place versions.old.items) ++ drop place versions.old.items }
-{
-    let mut kept = 0;
-    for i in 0..place {
-        if !versions[i].is_spent(horizon, top) {
-            versions.swap(kept, i);
-            kept += 1;
-        }
-    }
-    versions.drain(kept..place);
 }

@@ -14,12 +14,14 @@
 //! ```
 //! Of k keys and v versions of one, each search compares about log k keys and reads at most as many
 //! timestamps as v has binary digits; a commit and an abort do so and read up to two more, for each key
-//! that they are given, and an abort goes to the index. A write searches the chains once, twice for a key that had no version,
-//! and then the index once; it looks at the end of its chain first, and moves the versions above its
-//! own. A collection looks at what was written between the last horizon, or what has been committed
-//! below it since, and its own, and at what is at or below its own in the chains in which something is dead; the versions above are moved once. What
-//! follows a place is read off the index, which is searched at the place; each version that it lists
-//! from there is a search, and the first that is committed ends it. The count is one read.
+//! that they are given, and an abort goes to the index. A write searches the chains once, twice for a key
+//! that had no version, and then the index once; it looks at the end of its chain first, and moves the
+//! versions above its own. A collection looks at what was written between the last horizon, or what has
+//! been committed below it since, and its own, and at what is at or below its own in the chains of those
+//! keys. What goes there leaves its place behind, and the versions above stay where they are: a chain is
+//! moved where half of its places are left over. What follows a place is read off the index, which is
+//! searched at the place; each version that it lists from there is a search, and the first that is
+//! committed ends it. The count is one read.
 //!
 //! A write and the list of what is dead alone need memory. A write that finds no room for its place in
 //! the index takes its version out again, and a collection makes its list before anything goes. The
@@ -34,6 +36,7 @@ mod steps;
 mod store;
 #[cfg(test)]
 mod tests;
+mod versions;
 
 pub use steps::Steps;
 pub use store::Store;

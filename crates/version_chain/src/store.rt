@@ -213,8 +213,9 @@ impl Store {
 
     /// Drops the versions that are dead by the horizon, and says how many: a committed one at or below
     /// it is dead where it is a delete or where a newer one of its key is committed at or below it. It
-    /// looks at what was written above the horizon of the last collection, or from what has been committed
-    /// below that since, and at chains where something is dead. What is dead is listed before anything goes; without room for that list nothing goes.
+    /// looks at the keys that were written above the horizon of the last collection, or from what has
+    /// been committed below that since, and at what their chains have at or below its own. What is dead
+    /// is listed before anything goes; without room for that list nothing goes.
     pub fn drop_dead(&mut self, horizon: u64) -> Result<u64, AllocError>
         ensures ok { IfOk result (λ count. IsCollectedIn self.old self.new horizon count) }
         ensures err { OnErr result (IsAsBefore self.old self.new) }

@@ -319,6 +319,59 @@ fn what_is_dead_goes(rt: HostRuntime) -> Result<(), Fail> {
     Ok(())
 }
 
+/// Six versions of a key, all committed.
+fn store_of_one_chain(alloc: Global, key: &Key) -> Result<Store, Fail> {
+    let value = Value::new(alloc, b"7")?;
+    let mut store = Store::new(alloc);
+    for number in [10, 20, 30, 40, 50, 60] {
+        store.write(key, at(number)?, Some(&value))?;
+        commit(alloc, &mut store, number, key.bytes())?;
+    }
+    Ok(store)
+}
+
+#[test]
+fn what_goes_at_the_front_leaves_the_rest(rt: HostRuntime) -> Result<(), Fail> {
+    let alloc = rt.alloc();
+    let apple = Key::new(alloc, b"apple")?;
+    let mut store = store_of_one_chain(alloc, &apple)?;
+    // a horizon, what it drops, and the first version that is left: two places are left over, then three,
+    // which are half of all and go, and then two of three
+    let collected = [
+        (10, 0, 10),
+        (30, 2, 30),
+        (30, 0, 30),
+        (40, 1, 40),
+        (60, 2, 60),
+    ];
+    for (horizon, dropped, first) in collected {
+        assert_eq!(rt; store.drop_dead(horizon)?, dropped);
+        assert_eq!(rt; store.next_above(&apple, 0), Some(first));
+    }
+    assert_eq!(rt; store.versions(), 1);
+    assert_eq!(rt; newest(&store, &apple, 99), 1060);
+    Ok(())
+}
+
+#[test]
+fn a_first_version_takes_a_place_that_is_left_over(rt: HostRuntime) -> Result<(), Fail> {
+    let alloc = rt.alloc();
+    let apple = Key::new(alloc, b"apple")?;
+    let mut store = store_of_one_chain(alloc, &apple)?;
+    assert_eq!(rt; store.drop_dead(30)?, 2);
+    // two places are left over: the third version moves the others
+    for number in [17, 16, 15] {
+        write(alloc, &mut store, number, b"apple")?;
+        assert_eq!(rt; store.next_above(&apple, 0), Some(number));
+        assert_eq!(rt; newest(&store, &apple, 29), 17);
+    }
+    abort(alloc, &mut store, 15, b"apple")?;
+    assert_eq!(rt; store.next_above(&apple, 0), Some(16));
+    assert_eq!(rt; newest(&store, &apple, 99), 1060);
+    assert_eq!(rt; store.versions(), 6);
+    Ok(())
+}
+
 /// What follows a place: of each version its timestamp, where that is a byte, and the last byte of its key.
 fn told_after(
     alloc: Global,

@@ -10,7 +10,8 @@ pub overflow_sub-result : goal.overflow_sub-result
 overflow_sub-result c =
     let left = ap length (thinned_whole c.args.top c.self.view_is c.place_above-place.ensures.place c.drop_before.ensures) in
     let both = length-filter_both (is_spent_version c.args.horizon c.args.top) (λ (v : Version). not (is_spent_version c.args.horizon c.args.top v)) (λ v. refl) c.args.self.now in
-    let same = ap length c.self.view_is in
+    let before = ap length c.all-before.ensures.versions in
+    let after = ap length c.all.ensures.versions in
     omega arith
 
 pub invariant_of-self : goal.invariant_of-self
@@ -24,5 +25,6 @@ pub returns-clause-count : goal.returns-clause-count
 returns-clause-count c =
     let left = ap length (thinned_whole c.args.top c.self.view_is c.place_above-place.ensures.place c.drop_before.ensures) in
     let both = length-filter_both (is_spent_version c.args.horizon c.args.top) (λ (v : Version). not (is_spent_version c.args.horizon c.args.top v)) (λ v. refl) c.args.self.now in
-    let same = ap length c.self.view_is in
+    let before = ap length c.all-before.ensures.versions in
+    let after = ap length c.all.ensures.versions in
     omega arith

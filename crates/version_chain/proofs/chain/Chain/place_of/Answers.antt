@@ -1,5 +1,5 @@
-use Rattle.std.proofs.Common.{◌-◌, ◌∙◌, ap, sym, arith, get_or, subst}
-use Rattle.version_chain.specs.Versions.{DoRise}
+use Rattle.std.proofs.Common.{◌-◌, ◌∙◌, sym, arith}
+use Rattle.version_chain.proofs.Places.{is_read}
 use Rattle.version_chain.proofs.Edits.{free_at_start, free_after, place_is}
 use Rattle.version_chain.proofs.chain.Chain.place_of.Goals as goal
 
@@ -8,10 +8,12 @@ returns-then-place-eq0 c = free_at_start _ _ _ c.place_near_end-place.ensures c.
 
 pub returns-then-get-ts : goal.returns-then-get-ts
 returns-then-get-ts c =
-    free_after c.args.self.now c.args.ts c.place_near_end-place.result c.index.result.now (subst DoRise c.self.view_is c.self.invariant) c.place_near_end-place.ensures (omega arith)
-    (c.index.ensures ∙ ap (λ vs. get_or vs (c.place_near_end-place.result - 1) c.index.result.now) c.self.view_is) (λ same. c.if-get-ts.true (c.get.ensures.number ∙ same))
+    let place = c.place_near_end-place.result in
+    free_after c.args.self.now c.args.ts place _ c.all.ensures.rises c.place_near_end-place.ensures (omega arith)
+    (is_read (place - 1) c.index-all-place.result c.all.ensures.versions (omega (arith, c.place_near_end-place.ensures.within))) (λ same. c.if-get-ts.true (c.get.ensures.number ∙ same))
 
 pub returns : goal.returns
 returns c =
-    place_is c.args.self.now c.args.ts c.place_near_end-place.result c.index.result.now c.place_near_end-place.ensures (omega arith)
-    (c.index.ensures ∙ ap (λ vs. get_or vs (c.place_near_end-place.result - 1) c.index.result.now) c.self.view_is) (sym c.get.ensures.number ∙ c.if-get-ts.false)
+    let place = c.place_near_end-place.result in
+    place_is c.args.self.now c.args.ts place _ c.place_near_end-place.ensures (omega arith)
+    (is_read (place - 1) c.index-all-place.result c.all.ensures.versions (omega (arith, c.place_near_end-place.ensures.within))) (sym c.get.ensures.number ∙ c.if-get-ts.false)

@@ -6,26 +6,26 @@ use Rattle.version_chain.proofs.chain.Chain.write.Goals as goal
 
 pub invariant_of-self : goal.invariant_of-self
 invariant_of-self c =
-    let place : IsPlaceOf c.self.inside.versions.items c.get.result c.in-Ok.place = subst (λ vs. IsPlaceOf vs c.get.result c.in-Ok.place) (sym c.self.view_is) c.in-Ok.ensures in
-    rises_set c.self.inside.versions.items c.in-Ok.place c.args.version c.self.invariant (subst (λ t. IsPlaceOf c.self.inside.versions.items t c.in-Ok.place) c.get.ensures.number place)
+    let place : IsPlaceOf c.self.inside.versions c.get.result c.in-Ok.place = subst (λ vs. IsPlaceOf vs c.get.result c.in-Ok.place) (sym c.self.view_is) c.in-Ok.ensures in
+    subst DoRise (sym c.set.ensures) (rises_set c.self.inside.versions c.in-Ok.place c.args.version c.self.invariant (subst (λ t. IsPlaceOf c.self.inside.versions t c.in-Ok.place) c.get.ensures.number place))
 
 pub returns-in-Ok-clause-ok : goal.returns-in-Ok-clause-ok
 returns-in-Ok-clause-ok c = λ i.
-    rw (← c.self.view_is) (
-    let place : IsPlaceOf c.self.inside.versions.items c.get.result c.in-Ok.place = subst (λ vs. IsPlaceOf vs c.get.result c.in-Ok.place) (sym c.self.view_is) c.in-Ok.ensures in
-    set_finds c.self.inside.versions.items c.in-Ok.place c.args.version i c.self.invariant (subst (λ t. IsPlaceOf c.self.inside.versions.items t c.in-Ok.place) c.get.ensures.number place)
+    rw (c.set.ensures, ← c.self.view_is) (
+    let place : IsPlaceOf c.self.inside.versions c.get.result c.in-Ok.place = subst (λ vs. IsPlaceOf vs c.get.result c.in-Ok.place) (sym c.self.view_is) c.in-Ok.ensures in
+    set_finds c.self.inside.versions c.in-Ok.place c.args.version i c.self.invariant (subst (λ t. IsPlaceOf c.self.inside.versions t c.in-Ok.place) c.get.ensures.number place)
     )
 
 pub invariant_of-self-in-Err : goal.invariant_of-self-in-Err
 invariant_of-self-in-Err c =
-    let place : IsFreePlace c.self.inside.versions.items c.get.result c.in-Err.place = subst (λ vs. IsFreePlace vs c.get.result c.in-Err.place) (sym c.self.view_is) c.in-Err.ensures in
-    subst DoRise (sym c.in_ok-insert-in-Err.ensures.items) (rises_insert c.self.inside.versions.items c.in-Err.place c.args.version c.self.invariant (subst (λ t. IsFreePlace c.self.inside.versions.items t c.in-Err.place) c.get.ensures.number place))
+    let place : IsFreePlace c.self.inside.versions c.get.result c.in-Err.place = subst (λ vs. IsFreePlace vs c.get.result c.in-Err.place) (sym c.self.view_is) c.in-Err.ensures in
+    subst DoRise (sym c.in_ok-insert-in-Err.ensures.ok) (rises_insert c.self.inside.versions c.in-Err.place c.args.version c.self.invariant (subst (λ t. IsFreePlace c.self.inside.versions t c.in-Err.place) c.get.ensures.number place))
 
 pub returns-in_ok-insert-in-Err-clause-ok : goal.returns-in_ok-insert-in-Err-clause-ok
 returns-in_ok-insert-in-Err-clause-ok c = λ i.
-    rw (c.in_ok-insert-in-Err.ensures.items, ← c.self.view_is) (
-    let place : IsFreePlace c.self.inside.versions.items c.get.result c.in-Err.place = subst (λ vs. IsFreePlace vs c.get.result c.in-Err.place) (sym c.self.view_is) c.in-Err.ensures in
-    insert_finds c.self.inside.versions.items c.in-Err.place c.args.version i (subst (λ t. IsFreePlace c.self.inside.versions.items t c.in-Err.place) c.get.ensures.number place)
+    rw (c.in_ok-insert-in-Err.ensures.ok, ← c.self.view_is) (
+    let place : IsFreePlace c.self.inside.versions c.get.result c.in-Err.place = subst (λ vs. IsFreePlace vs c.get.result c.in-Err.place) (sym c.self.view_is) c.in-Err.ensures in
+    insert_finds c.self.inside.versions c.in-Err.place c.args.version i (subst (λ t. IsFreePlace c.self.inside.versions t c.in-Err.place) c.get.ensures.number place)
     )
 
 pub returns-in-Ok-clause-new : goal.returns-in-Ok-clause-new
