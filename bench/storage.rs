@@ -24,22 +24,105 @@ impl Version {
     }
 }
 
-fn newest_of(chain: &[Version], t: u64) -> Option<&Version> {
-    chain[..chain.partition_point(|v| v.ts <= t)].last()
+/// The versions of a key, behind the places of some that are gone.
+struct Chain {
+    places: Vec<Version>,
+    gone: usize,
 }
 
-fn next_of(chain: &[Version], t: u64) -> Option<&Version> {
-    chain.get(chain.partition_point(|v| v.ts <= t))
-}
+impl Chain {
+    fn of(version: Version) -> Chain {
+        Chain { places: vec![version], gone: 0 }
+    }
 
-fn newest_committed(chain: &[Version], horizon: u64) -> u64 {
-    let through = &chain[..chain.partition_point(|v| v.ts <= horizon)];
-    through.iter().rev().find(|v| v.decided).map_or(0, |v| v.ts)
+    fn all(&self) -> &[Version] {
+        &self.places[self.gone..]
+    }
+
+    fn through(&self, t: u64) -> &[Version] {
+        let all = self.all();
+        &all[..all.partition_point(|v| v.ts <= t)]
+    }
+
+    fn newest_at(&self, t: u64) -> Option<&Version> {
+        self.through(t).last()
+    }
+
+    fn next_above(&self, t: u64) -> Option<&Version> {
+        self.all().get(self.through(t).len())
+    }
+
+    fn newest_committed(&self, horizon: u64) -> u64 {
+        self.through(horizon).iter().rev().find(|v| v.decided).map_or(0, |v| v.ts)
+    }
+
+    /// The place of the version of `ts`, or where one would stand, which is mostly the end.
+    fn place_of(&self, ts: u64) -> Result<usize, usize> {
+        let all = self.all();
+        match all.last() {
+            Some(last) if last.ts > ts => all.binary_search_by_key(&ts, |v| v.ts),
+            Some(last) if last.ts == ts => Ok(all.len() - 1),
+            _ => Err(all.len()),
+        }
+    }
+
+    /// Puts a version in, and says whether none stood in its place.
+    fn write(&mut self, version: Version) -> bool {
+        match self.place_of(version.ts) {
+            Ok(place) => self.places[self.gone + place] = version,
+            Err(0) if self.gone > 0 => {
+                self.gone -= 1;
+                self.places[self.gone] = version;
+                return true;
+            }
+            Err(place) => {
+                self.places.insert(self.gone + place, version);
+                return true;
+            }
+        }
+        false
+    }
+
+    fn commit(&mut self, ts: u64) {
+        if let Ok(place) = self.place_of(ts) {
+            self.places[self.gone + place].decided = true;
+        }
+    }
+
+    fn remove(&mut self, ts: u64) -> bool {
+        let Ok(place) = self.place_of(ts) else { return false };
+        self.places.remove(self.gone + place);
+        true
+    }
+
+    /// Drops what is dead by the horizon, and says how many versions that was.
+    fn drop_spent(&mut self, horizon: u64, top: u64) -> usize {
+        let place = self.through(horizon).len();
+        let versions = &mut self.places[self.gone..][..place];
+        let mut kept = 0;
+        for i in 0..place {
+            if !versions[i].is_spent(horizon, top) {
+                versions.swap(kept, i);
+                kept += 1;
+            }
+        }
+        versions.rotate_left(kept);
+        let spent = place - kept;
+        for version in &mut versions[..spent] {
+            version.after = None;
+        }
+        self.gone += spent;
+        if self.gone >= self.places.len() / 2 {
+            self.places.drain(..self.gone);
+            self.gone = 0;
+        }
+        spent
+    }
 }
 
 #[derive(Default)]
 struct Store {
-    chains: BTreeMap<Key, Vec<Version>>,
+    chains: BTreeMap<Key, Chain>,
     /// The keys that have a version at each timestamp.
     index: BTreeMap<u64, BTreeSet<Key>>,
     count: u64,
@@ -49,26 +132,24 @@ struct Store {
 
 impl Store {
     fn newest_at(&self, key: &[u8], t: u64) -> Option<&Version> {
-        newest_of(self.chains.get(key)?, t)
+        self.chains.get(key)?.newest_at(t)
     }
 
     fn next_above(&self, key: &[u8], t: u64) -> Option<u64> {
-        Some(next_of(self.chains.get(key)?, t)?.ts)
+        Some(self.chains.get(key)?.next_above(t)?.ts)
     }
 
     fn write(&mut self, key: &[u8], ts: u64, after: Option<&[u8]>) {
         let version = Version { ts, after: after.map(<[u8]>::to_vec), decided: false };
         match self.chains.get_mut(key) {
             None => {
-                self.chains.insert(key.to_vec(), vec![version]);
+                self.chains.insert(key.to_vec(), Chain::of(version));
             }
-            Some(chain) => match chain.binary_search_by_key(&ts, |v| v.ts) {
-                Ok(place) => {
-                    chain[place] = version;
+            Some(chain) => {
+                if !chain.write(version) {
                     return;
                 }
-                Err(place) => chain.insert(place, version),
-            },
+            }
         }
         self.index.entry(ts).or_default().insert(key.to_vec());
         self.count += 1;
@@ -76,9 +157,8 @@ impl Store {
 
     fn commit(&mut self, ts: u64, keys: &[Key]) {
         for key in keys {
-            let Some(chain) = self.chains.get_mut(key) else { continue };
-            if let Ok(place) = chain.binary_search_by_key(&ts, |v| v.ts) {
-                chain[place].decided = true;
+            if let Some(chain) = self.chains.get_mut(key) {
+                chain.commit(ts);
             }
         }
         self.dropped_through = self.dropped_through.min(ts - 1);
@@ -87,9 +167,10 @@ impl Store {
     fn abort(&mut self, ts: u64, keys: &[Key]) {
         for key in keys {
             let Some(chain) = self.chains.get_mut(key) else { continue };
-            let Ok(place) = chain.binary_search_by_key(&ts, |v| v.ts) else { continue };
-            chain.remove(place);
-            if chain.is_empty() {
+            if !chain.remove(ts) {
+                continue;
+            }
+            if chain.all().is_empty() {
                 self.chains.remove(key);
             }
             unlist(&mut self.index, ts, key);
@@ -116,7 +197,7 @@ impl Store {
         for (&ts, keys) in self.index.range((Excluded(self.dropped_through), Included(horizon))) {
             for key in keys {
                 let Some(chain) = self.chains.get(key) else { continue };
-                if newest_committed(chain, horizon) == ts && chain.iter().any(|v| v.is_spent(horizon, ts)) {
+                if chain.newest_committed(horizon) == ts && chain.through(horizon).iter().any(|v| v.is_spent(horizon, ts)) {
                     spent.push((key.clone(), ts));
                 }
             }
@@ -126,16 +207,11 @@ impl Store {
 
     fn thin(&mut self, key: &[u8], horizon: u64, top: u64) {
         let Some(chain) = self.chains.get_mut(key) else { return };
-        let before = chain.len();
-        chain.retain(|version| {
-            let spent = version.is_spent(horizon, top);
-            if spent {
-                unlist(&mut self.index, version.ts, key);
-            }
-            !spent
-        });
-        self.count -= (before - chain.len()) as u64;
-        if chain.is_empty() {
+        for version in chain.through(horizon).iter().filter(|v| v.is_spent(horizon, top)) {
+            unlist(&mut self.index, version.ts, key);
+        }
+        self.count -= chain.drop_spent(horizon, top) as u64;
+        if chain.all().is_empty() {
             self.chains.remove(key);
         }
     }
@@ -235,6 +311,19 @@ impl Marks {
 
     fn add(&mut self, piece: &Piece, ts: u64) {
         let Piece { lo, hi, above, until } = piece;
+        if let Some((before, after)) = self.beside(lo, hi.as_deref()) {
+            let readers = self.starts.get_mut(lo).expect("it is a segment");
+            merge(readers, *above, *until, ts);
+            trim(readers, self.forgotten);
+            let latest = readers.last().copied();
+            if let Some(hi) = hi.as_ref().filter(|_| after == latest) {
+                self.join_at(hi);
+            }
+            if before == latest {
+                self.join_at(lo);
+            }
+            return;
+        }
         if hi.as_ref().is_some_and(|hi| hi <= lo) {
             return;
         }
@@ -248,6 +337,29 @@ impl Marks {
             merge(readers, *above, *until, ts);
         }
         self.join(lo, hi.as_deref());
+    }
+
+    /// The latest readers of the segments before and after one that starts and ends so, where there is such a one.
+    fn beside(&self, lo: &[u8], hi: Option<&[u8]>) -> Option<(Option<u64>, Option<u64>)> {
+        let end = hi.map_or(Unbounded, Included);
+        let mut back = self.starts.range::<[u8], _>((Unbounded, end)).rev();
+        let after = match hi {
+            None => None,
+            Some(hi) => back.next().filter(|(end, _)| *end == hi)?.1.last().copied(),
+        };
+        back.next().filter(|(start, _)| *start == lo)?;
+        let before = back.next().and_then(|(_, readers)| readers.last().copied());
+        Some((before, after))
+    }
+
+    /// Joins a segment with the one before it, where their readers are the same.
+    fn join_at(&mut self, start: &[u8]) {
+        let mut back = self.starts.range::<[u8], _>((Unbounded, Included(start))).rev();
+        let readers = back.next().map(|(_, readers)| readers);
+        let before = back.next().map(|(_, readers)| readers);
+        if readers == before {
+            self.starts.remove(start);
+        }
     }
 
     fn split_at(&mut self, key: &[u8]) {
@@ -301,6 +413,14 @@ fn merge(readers: &mut Vec<u64>, above: u64, until: u64, ts: u64) {
     readers.drain(from + 1..to);
 }
 
+/// Those that are forgotten go where they are half of all.
+fn trim(readers: &mut Vec<u64>, forgotten: u64) {
+    let count = readers.partition_point(|r| *r <= forgotten);
+    if count >= readers.len() / 2 {
+        readers.drain(..count);
+    }
+}
+
 // ---- transactions
 
 #[derive(Clone, Copy, PartialEq)]
@@ -333,8 +453,11 @@ impl Txns {
 
     fn add_key(&mut self, ts: u64, key: &[u8]) {
         let Some(transaction) = self.table.get_mut(&ts) else { return };
-        if let Err(place) = transaction.keys.binary_search_by(|k| k.as_slice().cmp(key)) {
-            transaction.keys.insert(place, key.to_vec());
+        let keys = &mut transaction.keys;
+        if keys.last().is_none_or(|last| last.as_slice() < key) {
+            keys.push(key.to_vec());
+        } else if let Err(place) = keys.binary_search_by(|k| k.as_slice().cmp(key)) {
+            keys.insert(place, key.to_vec());
         }
     }
 
@@ -455,7 +578,7 @@ impl Rules {
         let mut pieces = Vec::new();
         let mut from = lo.to_vec();
         for (key, chain) in self.store.chains.range::<[u8], _>((Included(lo), Excluded(hi))) {
-            let newest = newest_of(chain, ts);
+            let newest = chain.newest_at(ts);
             let sight = sight(newest, ts);
             if let Sight::Blocked(by) = sight {
                 return Err(Refusal::Blocked { by });
@@ -464,7 +587,7 @@ impl Rules {
             let lo = std::mem::replace(&mut from, next.clone());
             pieces.push(Piece { lo, hi: Some(key.clone()), above: 0, until: u64::MAX });
             if let Sight::Other(above) = sight {
-                let until = next_of(chain, ts).map_or(u64::MAX, |version| version.ts);
+                let until = chain.next_above(ts).map_or(u64::MAX, |version| version.ts);
                 pieces.push(Piece { lo: key.clone(), hi: Some(next), above, until });
             }
             if let Some(value) = newest.and_then(|version| version.after.as_ref()) {
@@ -599,22 +722,22 @@ fn versions(keys: &[Key], rounds: u64, copies: u64) {
     phases.end("next", sum);
 }
 
-/// How far a collection's horizon is above the last one. Some thousand versions are dead between them.
-const HORIZONS: u64 = 250;
+/// About so many versions are dead between two horizons.
+const COLLECTED: u64 = 1000;
 
-/// Ten versions of each key, collected in steps of one length.
-fn collections(size: u64, copies: u64) {
-    let keys = keys(size / 10, SCATTERED);
+/// `rounds` versions of each key, collected in steps of one length.
+fn collections(keys: &[Key], rounds: u64, copies: u64) {
     let mut stores: Vec<Store> = many(copies);
     let mut last = 0;
-    for _ in 0..10 {
-        write_round(&mut stores, &keys, &mut last);
+    for _ in 0..rounds {
+        write_round(&mut stores, keys, &mut last);
     }
+    let step = COLLECTED / BATCH.min(keys.len()) as u64;
     let mut sum = 0u64;
     let mut phases = Phases::begin();
-    for step in 1..=last.div_ceil(HORIZONS) {
+    for number in 1..=last.div_ceil(step) {
         for store in &mut stores {
-            let dropped = store.drop_dead(last.min(step * HORIZONS));
+            let dropped = store.drop_dead(last.min(number * step));
             sum = sum.wrapping_mul(31).wrapping_add(dropped);
         }
     }
@@ -799,6 +922,18 @@ fn closings(size: u64) {
     phases.end("close", sum.wrapping_add(txns.undecided.len() as u64));
 }
 
+/// A place of 64 bytes for each version, each read as often as it is drawn: what memory alone takes.
+fn memory(size: u64) {
+    let places: Vec<[u64; 8]> = (0..size).map(|number| [number; 8]).collect();
+    let mut random = Random::new();
+    let mut sum = 0u64;
+    let mut phases = Phases::begin();
+    for _ in 0..size {
+        sum = sum.wrapping_add(places[random.below(size) as usize][0]);
+    }
+    phases.end("read", sum);
+}
+
 fn main() {
     let words: Vec<String> = std::env::args().collect();
     let size: u64 = words[2].parse().expect("a size");
@@ -806,13 +941,15 @@ fn main() {
     match words[1].as_str() {
         "keys" => versions(&keys(size / 4, SCATTERED), 4, copies),
         "chain" => versions(&keys(1, SCATTERED), size, copies),
-        "collections" => collections(size, copies),
+        "collections" => collections(&keys(size / 10, SCATTERED), 10, copies),
+        "chain_collections" => collections(&keys(1, SCATTERED), size, copies),
         "marks" => marks(size, copies),
         "hot" => hot_key(size, false, copies),
         "hot_versions" => hot_key(size, true, copies),
         "scans" => scans(size),
         "transactions" => transactions(size, copies),
         "closings" => closings(size),
+        "memory" => memory(size),
         workload => panic!("no workload {workload}"),
     }
 }
