@@ -17,8 +17,8 @@ use std::marker::Model;
 /// 40 50 60               30 goes: three places are half of all, and the others move to the front
 /// ```
 ///
-/// Where they move, no more move than have gone since the last time: so what goes at the front costs
-/// what goes, and not what stays.
+/// Where they move, at most one more moves than has gone since the last time: so what goes at the front
+/// costs what goes, and not what stays.
 #[derive(Debug, Drop)]
 pub(crate) struct Versions {
     places: Vec<Version>,
