@@ -255,8 +255,10 @@ impl Marks {
     fn any_between(&self, key: &[u8], above: u64, to: Option<u64>) -> bool {
         let above = above.max(self.forgotten);
         let readers = self.readers(key);
-        let next = readers.get(readers.partition_point(|r| *r <= above));
-        next.is_some_and(|reader| to.is_none_or(|to| *reader <= to))
+        if readers.last().is_none_or(|latest| *latest <= above) {
+            return false;
+        }
+        to.is_none_or(|to| readers[readers.partition_point(|r| *r <= above)] <= to)
     }
 
     fn add_pieces(&mut self, pieces: &[Piece], ts: u64) {
@@ -413,11 +415,10 @@ fn merge(readers: &mut Vec<u64>, above: u64, until: u64, ts: u64) {
     readers.drain(from + 1..to);
 }
 
-/// Those that are forgotten go where they are half of all.
+/// Those that are forgotten go where they are more than half of all, which the one in the middle tells.
 fn trim(readers: &mut Vec<u64>, forgotten: u64) {
-    let count = readers.partition_point(|r| *r <= forgotten);
-    if count >= readers.len() / 2 {
-        readers.drain(..count);
+    if readers.get(readers.len() / 2).is_some_and(|middle| *middle <= forgotten) {
+        readers.drain(..readers.partition_point(|r| *r <= forgotten));
     }
 }
 

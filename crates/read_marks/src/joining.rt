@@ -13,7 +13,6 @@ use crate::extent::Extent;
 use crate::patch::Patch;
 use crate::piece::Piece;
 use crate::segments::Segments;
-use crate::start::Start;
 use spans::span::Span;
 use std::alloc::{AllocError, Global};
 
@@ -39,17 +38,11 @@ fn push(patches: &mut Vec<Patch>, patch: Patch) -> Result<(), AllocError>
 
 /// From the beginning of the first piece to the end of the last; where there is none, no key.
 fn around(pieces: &[Piece]) -> Patch {
-    match (pieces.first(), pieces.last()) {
-        (Some(first), Some(last)) => Patch {
-            lo: Start::from_low(&first.span.lo),
-            hi: Start::from_high(&last.span.hi),
-            ..Patch::of_all_keys()
-        },
-        _ => Patch {
-            hi: Some(Start::of(&[])),
-            ..Patch::of_all_keys()
-        },
+    let mut around = Patch::new();
+    if let (Some(first), Some(last)) = (pieces.first(), pieces.last()) {
+        around.set_ends(&first.span.lo, &last.span.hi);
     }
+    around
 }
 
 /// Whether no reader of a patch's keys, nor `ts`, is outside its gap. What is known of the keys around

@@ -15,6 +15,7 @@ use crate::segments::Segments;
 use crate::start::Start;
 use spans::span::Span;
 use std::alloc::{AllocError, Global};
+use std::slice;
 use timestamps::key::Key;
 use timestamps::ts::Ts;
 
@@ -70,7 +71,9 @@ impl Marks {
         ensures err { OnErr result ((x : List ℕ) (j : ℕ) → is_marked_in self.new x j ≡ is_marked_in self.old x j) }
     {
         let ts = ts.get();
-        self.edit(&[Patch::own(span, ts)], ts)
+        let mut patch = Patch::new();
+        patch.set_own(span, ts);
+        self.edit(slice::from_ref(&patch), ts)
     }
 
     /// The keys of the spans are marked by `ts`.
@@ -96,7 +99,9 @@ impl Marks {
     {
         let ts = ts.get();
         if let [piece] = pieces {
-            return self.edit(&[Patch::of(piece)], ts);
+            let mut patch = Patch::new();
+            patch.set(piece);
+            return self.edit(slice::from_ref(&patch), ts);
         }
         self.make_room_for(ts);
         let patches = patches_of(self.alloc, &self.segments, pieces, ts, self.forgotten)?;

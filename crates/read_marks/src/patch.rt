@@ -1,5 +1,5 @@
 //! A piece by the starts of its span.
-ghost use Rattle.std.specs.Prelude.{◌≡◌, ◌<◌, ◌≤◌, IsTrue, List, ℕ, false, true};
+ghost use Rattle.std.specs.Prelude.{◌≡◌, ◌<◌, ◌≤◌, IsTrue, List, [], ℕ, false, true, unwrap_or};
 ghost use Rattle.std.specs.Range.Bound.{bound_map};
 ghost use Rattle.spans.specs.KeyOrder.{below_high};
 ghost use Rattle.read_marks.specs.Patches.{holds, patch_of, own_piece};
@@ -8,6 +8,7 @@ ghost use Rattle.read_marks.specs.Joining.{GoesOn, IsInside, RunsForward, in_wid
 
 use crate::piece::Piece;
 use crate::start::Start;
+use spans::bound;
 use spans::span::Span;
 use std::ops::Bound;
 
@@ -22,41 +23,78 @@ pub(crate) struct Patch {
 }
 
 impl Patch {
-    /// That of a piece.
-    pub(crate) fn of(piece: &Piece) -> Patch
-        ensures is { result ≡ patch_of piece.now }
-        ensures in_range { result.until ≤ 18446744073709551615 }
-    {
-        let Piece { above, until, .. } = piece;
+    /// One that holds no key, in no gap.
+    pub(crate) fn new() -> Patch {
         Patch {
-            lo: Start::from_low(&piece.span.lo),
-            hi: Start::from_high(&piece.span.hi),
-            above: *above,
-            until: *until,
-        }
-    }
-
-    /// The one of a span in whose gap `ts` meets no reader but itself.
-    pub(crate) fn own(span: &Span, ts: u64) -> Patch
-        requires { 0 < ts }
-        ensures { result ≡ patch_of (own_piece ts span.now) }
-    {
-        Patch {
-            lo: Start::from_low(&span.lo),
-            hi: Start::from_high(&span.hi),
-            above: ts - 1,
-            until: ts,
+            lo: Start::new(),
+            hi: Some(Start::new()),
+            above: 0,
+            until: 0,
         }
     }
 
     /// One that holds all keys, in no gap.
     pub(crate) fn of_all_keys() -> Patch {
         Patch {
-            lo: Start::new(),
             hi: None,
-            above: 0,
-            until: 0,
+            ..Patch::new()
         }
+    }
+
+    /// Its keys become those between two bounds.
+    pub(crate) fn set_ends(&mut self, low: &Option<bound::Bound>, high: &Option<bound::Bound>)
+        ensures { self.new ≡ record self.old { lo = unwrap_or low.now []; hi = high.now } }
+    {
+        match low {
+            None => self.lo.set(&[]),
+            Some(low) => self.lo.set(low.bytes()),
+        }
+        match high {
+            None => self.hi = None,
+            Some(high) => self.hi.get_or_insert_with(Start::new).set(high.bytes()),
+        }
+    }
+
+    /// It becomes that of a piece, where it lies: to move starts that were written just before is to
+    /// wait for them.
+    pub(crate) fn set(&mut self, piece: &Piece)
+        ensures is { self.new ≡ patch_of piece.now }
+        ensures in_range { self.new.until ≤ 18446744073709551615 }
+    {
+        let Piece { span, above, until } = piece;
+        self.set_ends(&span.lo, &span.hi);
+        self.above = *above;
+        self.until = *until;
+    }
+
+    /// It becomes the one of a span in whose gap `ts` meets no reader but itself.
+    pub(crate) fn set_own(&mut self, span: &Span, ts: u64)
+        requires { 0 < ts }
+        ensures { self.new ≡ patch_of (own_piece ts span.now) }
+    {
+        self.set_ends(&span.lo, &span.hi);
+        self.above = ts - 1;
+        self.until = ts;
+    }
+
+    /// That of a piece.
+    pub(crate) fn of(piece: &Piece) -> Patch
+        ensures is { result ≡ patch_of piece.now }
+        ensures in_range { result.until ≤ 18446744073709551615 }
+    {
+        let mut patch = Patch::new();
+        patch.set(piece);
+        patch
+    }
+
+    /// That of a span, for `ts` alone.
+    pub(crate) fn own(span: &Span, ts: u64) -> Patch
+        requires { 0 < ts }
+        ensures { result ≡ patch_of (own_piece ts span.now) }
+    {
+        let mut patch = Patch::new();
+        patch.set_own(span, ts);
+        patch
     }
 
     /// Its gap becomes the widest.

@@ -1,5 +1,5 @@
 //! The readers of one segment.
-ghost use Rattle.std.specs.Prelude.{◌≡◌, ℕ, List, [], ◌<◌, ◌≤◌, ◌↔◌, IfOk, OnOk, OnErr, IsTrue, length, nat_lt, filter, ◌-◌, slice_get};
+ghost use Rattle.std.specs.Prelude.{◌≡◌, ℕ, List, [], ◌<◌, ◌≤◌, ◌↔◌, IfOk, OnOk, OnErr, IsTrue, length, nat_lt, filter, take, drop, ◌++◌, ◌-◌, slice_get};
 ghost use Rattle.std.specs.List.Sorted.{IsNonDecreasing};
 ghost use Rattle.kept.specs.Marks.{IsBetween, IsPiece};
 ghost use Rattle.read_marks.specs.Readers.{is_kept, is_reader, SplitsAt};
@@ -26,6 +26,17 @@ impl Model for Readers {
     ghost view = { λ r. r.list.items };
 
     ghost invariant = { λ r. IsNonDecreasing r.list.items };
+}
+
+// Takes out what stands between two places. Mostly that is nothing, and a drain of nothing costs too.
+fn cut(list: &mut Vec<u64>, from: usize, to: usize)
+    requires rises { from ≤ to }
+    requires bound { to ≤ length list.old.items }
+    ensures { list.new.items ≡ take from list.old.items ++ drop to list.old.items }
+{
+    if from < to {
+        list.drain(from..to);
+    }
 }
 
 impl Readers {
@@ -81,18 +92,22 @@ impl Readers {
         left.low
     }
 
-    /// Whether one is above `above` and, where `to` is given, at most that.
+    /// Whether one is above `above` and, where `to` is given, at most that. It is mostly the latest
+    /// that tells.
     pub(crate) fn any_between(&self, above: u64, to: Option<u64>) -> bool
         ensures { IsTrue result ↔ IsBetween (is_reader self.now) above to }
     {
-        let at = self.count_through(above);
-        if at == self.list.len() {
+        let Some(latest) = self.list.last() else {
+            return false;
+        };
+        if *latest <= above {
             return false;
         }
-        match to {
-            None => true,
-            Some(top) => self.list[at] <= top,
-        }
+        let Some(top) = to else {
+            return true;
+        };
+        let at = self.count_through(above);
+        self.list[at] <= top
     }
 
     /// An extent, and beside it those above `forgotten`.
@@ -121,7 +136,7 @@ impl Readers {
         let to = self.count_through(until);
         if from < to {
             self.list[from] = self.list[to - 1].max(ts);
-            self.list.drain(from + 1..to);
+            cut(&mut self.list, from + 1, to);
             Ok(())
         } else {
             self.list.insert(from, ts)?;
@@ -160,13 +175,14 @@ impl Readers {
         Ok(readers)
     }
 
-    // Those up to `through` go where they are half of all, rounded down: not at each edit, since the
-    // rest moves.
+    // Those up to `through` go where they are more than half of all, which the one in the middle tells:
+    // not at each edit, since the rest moves.
     fn trim(&mut self, through: u64)
         ensures { (j : ℕ) → is_kept through self.new j ≡ is_kept through self.old j }
     {
-        if self.count_through(through) >= self.list.len() / 2 {
-            self.forget_through(through);
+        match self.list.get(self.list.len() / 2) {
+            Some(middle) if *middle <= through => self.forget_through(through),
+            _ => {}
         }
     }
 
@@ -175,6 +191,6 @@ impl Readers {
         ensures { self.new ≡ filter (nat_lt through) self.old }
     {
         let count = self.count_through(through);
-        self.list.drain(..count);
+        cut(&mut self.list, 0, count);
     }
 }

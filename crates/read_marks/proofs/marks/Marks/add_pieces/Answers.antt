@@ -1,4 +1,4 @@
-use Rattle.std.proofs.Common.{ℕ, List, [], ◌∷◌, Bool, ◌≡◌, ◌<◌, arith, map, subst, sym}
+use Rattle.std.proofs.Common.{ℕ, List, [], ◌∷◌, Bool, ◌≡◌, ◌<◌, ◌∙◌, ap, arith, map, subst, sym}
 use Rattle.std.proofs.lemmas.Result.{on_ok_weaker}
 use Rattle.read_marks.specs.Marks.{HaveGaps, is_marked_in}
 use Rattle.read_marks.specs.Patches as patching
@@ -16,16 +16,18 @@ edit-requires c =
     let one : c.args.pieces.now ≡ c.piece-item.result ∷ [] = only c.args.pieces.now c.piece-item.result c.in-len1.len_at_least c.in-len1.len_below c.piece-item.is in
     let gaps : HaveGaps c.get-ts.result c.args.pieces.now = rw c.get-ts.ensures.number c.requires.gaps in
     let all : patching.HaveGaps c.get-ts.result (patch_of c.piece-item.result ∷ []) = piece_gaps c.get-ts.result (c.piece-item.result ∷ []) (subst (HaveGaps c.get-ts.result) one gaps) in
-    record { low = low; gaps = subst (λ (p : Patch). patching.HaveGaps c.get-ts.result (p ∷ [])) (sym c.of.ensures.is) all }
+    let own : c.from_ref.result.now ≡ patch_of c.piece-item.result ∷ [] = c.from_ref.ensures.value ∙ ap (λ p. p ∷ []) c.set.ensures.is in
+    record { low = low; gaps = subst (patching.HaveGaps c.get-ts.result) (sym own) all }
 
-edited-alone : (c : goal.After-edit) (x : List ℕ) → AreEdited (λ p. holds p x) c.get-ts.result (c.of.result ∷ []) (is_marked_in c.args.self.now x) (is_marked_in c.edit.new.self x)
+edited-alone : (c : goal.After-edit) (x : List ℕ) → AreEdited (λ p. holds p x) c.get-ts.result c.from_ref.result.now (is_marked_in c.args.self.now x) (is_marked_in c.edit.new.self x)
     → AreEdited (λ p. holds p x) c.get-ts.result (map patch_of c.args.pieces.now) (is_marked_in c.args.self.now x) (is_marked_in c.edit.new.self x)
 edited-alone c x edited =
     let m = is_marked_in c.args.self.now x in
     let m' = is_marked_in c.edit.new.self x in
     let one : c.args.pieces.now ≡ c.piece-item.result ∷ [] = only c.args.pieces.now c.piece-item.result c.in-len1.len_at_least c.in-len1.len_below c.piece-item.is in
+    let own : c.from_ref.result.now ≡ map patch_of (c.piece-item.result ∷ []) = c.from_ref.ensures.value ∙ ap (λ p. p ∷ []) c.set.ensures.is in
     subst (λ (ps : List Piece). AreEdited (λ p. holds p x) c.get-ts.result (map patch_of ps) m m') (sym one)
-    (subst (λ (p : Patch). AreEdited (λ q. holds q x) c.get-ts.result (p ∷ []) m m') c.of.ensures.is edited)
+    (subst (λ (ps : List Patch). AreEdited (λ p. holds p x) c.get-ts.result ps m m') own edited)
 
 pub returns-in-len1-clause-inside : goal.returns-in-len1-clause-inside
 returns-in-len1-clause-inside c =

@@ -1,26 +1,20 @@
-use Rattle.std.proofs.Common.{arith, rules, leb-true, le-leb, None, Some, ◌≡◌, ◌<◌, ◌≤◌, length, get_or}
-use Rattle.std.proofs.lemmas.Grind.{common_steps}
-use Rattle.read_marks.proofs.Between.{none_above, has_first, first_up_to}
+use Rattle.std.proofs.Common.{arith, rules, leb-true, le-leb, Some, ◌≡◌, ◌<◌, ◌≤◌, ◌-◌, length, get_or, slice_get, sym}
+use Rattle.read_marks.proofs.Between.{first_up_to, has_first, has_latest, none_above_latest, place_inside}
 use Rattle.read_marks.proofs.readers.Readers.any_between.Goals as goal
 
-pub returns-then-at-len : goal.returns-then-at-len
-returns-then-at-len c =
-    let end : c.count_through-at.result ≡ length c.args.self.now = rw (← c.self.view_is) (grind (arith, common_steps)) in
-    (λ f. cc f, λ b. absurd (none_above _ _ _ _ c.count_through-at.ensures.splits end b))
+pub returns-then-latest-above : goal.returns-then-latest-above
+returns-then-latest-above c =
+    let is : slice_get c.args.self.now (length c.args.self.now - 1) ≡ Some c.in-Some.latest.now = rw (← c.self.view_is, ← c.deref.ensures.value) (sym c.in-Some.ensures.value) in
+    (λ f. cc f, λ b. absurd (none_above_latest c.args.self.now c.in-Some.latest.now is c.args.above c.args.to (rw (← c.self.view_is) c.self.invariant) c.if-latest-above.true b))
 
-pub returns-in-None : goal.returns-in-None
-returns-in-None c =
-    let n : length c.args.self.now ≡ c.len.result = rw (← c.self.view_is) (grind (arith, common_steps)) in
-    let bound : c.count_through-at.result ≤ length c.args.self.now = c.count_through-at.ensures.bound in
-    let apart = c.if-at-len.false in
-    let lt : c.count_through-at.result < length c.args.self.now = grind (arith, apart) in
-    rw c.in-None.is (λ _. has_first _ _ _ None (get_or c.args.self.now c.count_through-at.result 0) c.count_through-at.ensures.splits lt (search rules) tt, λ b. search rules)
+pub returns-in_default-to : goal.returns-in_default-to
+returns-in_default-to c =
+    let is : slice_get c.args.self.now (length c.args.self.now - 1) ≡ Some c.in-Some.latest.now = rw (← c.self.view_is, ← c.deref.ensures.value) (sym c.in-Some.ensures.value) in
+    rw c.in_default-to.is (λ _. has_latest c.args.self.now c.in-Some.latest.now is c.args.above (omega (arith, c.if-latest-above.false)), λ b. search rules)
 
-pub returns-in-Some : goal.returns-in-Some
-returns-in-Some c =
-    let n : length c.args.self.now ≡ c.len.result = rw (← c.self.view_is) (grind (arith, common_steps)) in
-    let bound : c.count_through-at.result ≤ length c.args.self.now = c.count_through-at.ensures.bound in
-    let apart = c.if-at-len.false in
-    let lt : c.count_through-at.result < length c.args.self.now = grind (arith, apart) in
+pub returns : goal.returns
+returns c =
+    let latest : slice_get c.args.self.now (length c.args.self.now - 1) ≡ Some c.in-Some.latest.now = rw (← c.self.view_is, ← c.deref.ensures.value) (sym c.in-Some.ensures.value) in
+    let lt : c.count_through-at.result < length c.args.self.now = place_inside c.args.self.now c.in-Some.latest.now latest c.args.above _ c.count_through-at.ensures.splits (omega (arith, c.if-latest-above.false)) in
     let is : c.index.result.now ≡ get_or c.args.self.now c.count_through-at.result c.index.result.now = rw (← c.self.view_is) c.index.ensures in
-    rw c.in-Some.is (λ t. has_first _ _ _ (Some c.in-Some.top) c.index.result.now c.count_through-at.ensures.splits lt is (leb-true c.index.result.now c.in-Some.top t), λ b. let h : c.index.result.now ≤ c.in-Some.top = first_up_to _ _ _ _ _ c.count_through-at.ensures.rises c.count_through-at.ensures.splits lt is b in le-leb c.index.result.now c.in-Some.top h)
+    rw c.in-Some-to.is (λ t. has_first _ _ _ (Some c.in-Some-to.top) c.index.result.now c.count_through-at.ensures.splits lt is (leb-true c.index.result.now c.in-Some-to.top t), λ b. let h : c.index.result.now ≤ c.in-Some-to.top = first_up_to _ _ _ _ _ c.count_through-at.ensures.rises c.count_through-at.ensures.splits lt is b in le-leb c.index.result.now c.in-Some-to.top h)

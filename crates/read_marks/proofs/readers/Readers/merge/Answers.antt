@@ -4,18 +4,18 @@ use Rattle.read_marks.proofs.Merging.{IsGreatest, greatest_some, greatest_none, 
 use Rattle.read_marks.proofs.readers.Readers.merge.Goals as goal
 
 -- where readers stand in the gap
-top : (c : goal.After-drop-drain) → IsGreatest c.args.self.now c.args.above c.args.until c.args.ts c.max.result
+top : (c : goal.After-cut) → IsGreatest c.args.self.now c.args.above c.args.until c.args.ts c.max.result
 top c =
     let xs = c.args.self.now in
     let is : c.index.result.now ≡ get_or xs (c.count_through-to.result - 1) c.index.result.now = rw (← c.self.view_is) c.index.ensures in
     greatest_some xs c.args.above c.args.until c.args.ts _ _ c.index.result.now _ c.count_through-from.ensures.rises c.count_through-from.ensures.splits c.count_through-to.ensures.splits c.requires.low c.requires.high c.if-from-to.true c.count_through-to.ensures.bound is c.max.ensures
 
-one : (c : goal.After-drop-drain) → c.drop-drain.new.self.0.items ≡ (take c.count_through-from.result c.args.self.now ++ c.max.result ∷ []) ++ drop c.count_through-to.result c.args.self.now
+one : (c : goal.After-cut) → c.cut.new.list.items ≡ (take c.count_through-from.result c.args.self.now ++ c.max.result ∷ []) ++ drop c.count_through-to.result c.args.self.now
 one c =
     let xs = c.args.self.now in
     let from = c.count_through-from.result in
     let to = c.count_through-to.result in
-    let kept : c.drop-drain.new.self.0.items ≡ take (from + 1) (set xs from c.max.result) ++ drop to (set xs from c.max.result) = rw (← c.self.view_is) (c.drop-drain.ensures.items ∙ c.drain.ensures.kept) in
+    let kept : c.cut.new.list.items ≡ take (from + 1) (set xs from c.max.result) ++ drop to (set xs from c.max.result) = rw (← c.self.view_is) c.cut.ensures in
     let some : from < to = c.if-from-to.true in
     let bound : to ≤ length xs = c.count_through-to.ensures.bound in
     let lt : from < length xs = omega arith in
