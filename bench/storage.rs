@@ -412,7 +412,9 @@ fn merge(readers: &mut Vec<u64>, above: u64, until: u64, ts: u64) {
         return;
     }
     readers[from] = readers[to - 1].max(ts);
-    readers.drain(from + 1..to);
+    if from + 1 < to {
+        readers.drain(from + 1..to);
+    }
 }
 
 /// Those that are forgotten go where they are more than half of all, which the one in the middle tells.
@@ -548,17 +550,18 @@ impl Rules {
     fn get(&mut self, closed: u64, seat: u8, ts: u64, key: &[u8]) -> Result<Option<Value>, Refusal> {
         self.undecided(closed, seat, ts)?;
         let newest = self.store.newest_at(key, ts);
-        let after = newest.and_then(|version| version.after.clone());
+        let value = || newest.and_then(|version| version.after.clone());
         match sight(newest, ts) {
-            Sight::Blocked(by) => return Err(Refusal::Blocked { by }),
-            Sight::Own => {}
+            Sight::Blocked(by) => Err(Refusal::Blocked { by }),
+            Sight::Own => Ok(value()),
             Sight::Other(above) => {
+                let after = value();
                 let until = self.store.next_above(key, ts).unwrap_or(u64::MAX);
                 let piece = Piece { lo: key.to_vec(), hi: Some(successor(key)), above, until };
                 self.marks.add_pieces(slice::from_ref(&piece), ts);
+                Ok(after)
             }
         }
-        Ok(after)
     }
 
     fn put(&mut self, closed: u64, seat: u8, ts: u64, key: &[u8], after: Option<&[u8]>) -> Result<(), Refusal> {

@@ -21,8 +21,8 @@
 //! takes memory. A mark on one whole segment, as on a key or a span that was read before, edits its
 //! readers in place by two searches of the starts: O(log n + log m), and those above its gap move; a
 //! neighbour with the same latest reader is compared whole. Any other copies them, O(log n + m) for
-//! each start that it touches. What is forgotten there goes, in place once it is half. Where the starts
-//! have doubled, or a reader comes that counts as forgotten, a walk sweeps all of them.
+//! each start that it touches. What is forgotten there goes, in place once it is more than half. Where
+//! the starts have doubled, or a reader comes that counts as forgotten, a walk sweeps all of them.
 //! [`Marks::spans`] walks.
 #![tactic(auto)]
 

@@ -1,11 +1,10 @@
 //! Where a segment of keys begins.
-ghost use Rattle.std.specs.Prelude.{◌≡◌, ℕ, List, [], ◌<◌, ◌≤◌, Some, refl, length, bytes_eq, slice_index, unwrap_or, ◌++◌, drop};
+ghost use Rattle.std.specs.Prelude.{◌≡◌, ℕ, List, [], ◌<◌, ◌≤◌, Some, refl, length, bytes_eq, slice_index, ◌++◌, drop};
 ghost use Rattle.std.specs.Cmp.{partial_equiv_from_equiv};
 ghost use Rattle.std.specs.Cmp.Lexicographic.{nat_list_eq_equiv, nat_list_cmp_total, texts_ties, texts_po};
 ghost use Rattle.timestamps.specs.Bytes.{key_cmp};
 ghost use Rattle.read_marks.specs.Fronts.{front_of};
 
-use spans::bound::Bound;
 use std::cmp::Ordering;
 use std::marker::Model;
 
@@ -75,36 +74,6 @@ impl Start {
         put(&mut self.bytes, bytes);
         self.front = front(bytes);
         self.len = bytes.len() as u8;
-    }
-
-    /// The start of these bytes.
-    pub(crate) fn of(bytes: &[u8]) -> Start
-        requires { length bytes.now ≤ 65 }
-        ensures { result ≡ bytes.now }
-    {
-        let mut start = Start::new();
-        start.set(bytes);
-        start
-    }
-
-    /// Where the keys at or above a bound begin.
-    pub(crate) fn from_low(low: &Option<Bound>) -> Start
-        ensures { result ≡ unwrap_or low.now [] }
-    {
-        match low {
-            None => Start::new(),
-            Some(low) => Start::of(low.bytes()),
-        }
-    }
-
-    /// Where the keys below a bound end, if there is one.
-    pub(crate) fn from_high(high: &Option<Bound>) -> Option<Start>
-        ensures { result ≡ high.now }
-    {
-        match high {
-            None => None,
-            Some(high) => Some(Start::of(high.bytes())),
-        }
     }
 
     /// Its bytes.

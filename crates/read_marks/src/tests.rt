@@ -4,6 +4,7 @@ use crate::joining::patches_of;
 use crate::marks::Marks;
 use crate::patch::Patch;
 use crate::piece::Piece;
+use crate::readers::Readers;
 use crate::segments::Segments;
 use crate::start::Start;
 use spans::bound::Bound;
@@ -338,8 +339,39 @@ fn a_later_reader_keeps_pieces_apart(rt: HostRuntime) -> Result<(), Fail> {
     let patches = patches_of(alloc, &segments, &pieces, 7, 0)?;
     assert_eq!(rt; patches.len(), 3);
     segments.edit(&patches, 7, 0)?;
-    let readers = segments.readers(&Start::of(b"b")).ok_or("no readers")?;
+    let mut start = Start::new();
+    start.set(b"b");
+    let readers = segments.readers(&start).ok_or("no readers")?;
     assert!(rt; readers.any_between(0, Some(7)));
     assert!(rt; readers.any_between(7, Some(9)));
+    Ok(())
+}
+
+/// Marks a reader in a gap that holds no other.
+fn mark(alloc: Global, readers: &mut Readers, reader: u64, forgotten: u64) -> Result<(), Fail> {
+    if reader <= forgotten {
+        return Err(Fail::new("a reader that is forgotten"));
+    }
+    let patch = Patch::own(&span(alloc, b"a", b"b")?, reader);
+    Ok(readers.edit(&patch, reader, forgotten)?)
+}
+
+/// The readers from one to another.
+fn readers_of(alloc: Global, first: u64, last: u64) -> Result<Readers, Fail> {
+    let mut readers = Readers::new(alloc);
+    for reader in first..=last {
+        mark(alloc, &mut readers, reader, 0)?;
+    }
+    Ok(readers)
+}
+
+#[test]
+fn what_is_forgotten_of_a_key_goes_once_it_is_more_than_half(rt: HostRuntime) -> Result<(), Fail> {
+    let alloc = rt.alloc();
+    let mut readers = readers_of(alloc, 1, 5)?;
+    mark(alloc, &mut readers, 6, 3)?;
+    assert!(rt; readers.is_same(&readers_of(alloc, 1, 6)?));
+    mark(alloc, &mut readers, 7, 4)?;
+    assert!(rt; readers.is_same(&readers_of(alloc, 5, 7)?));
     Ok(())
 }
