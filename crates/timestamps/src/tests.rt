@@ -1,5 +1,6 @@
 //! What no clause says: that good input is taken, at its limits.
 use crate::key::Key;
+use crate::moment::Moment;
 use crate::row::Row;
 use crate::ts::{MAX, Ts};
 use crate::value::Value;
@@ -44,6 +45,18 @@ fn order(rt: HostRuntime) -> Result<(), Fail> {
         assert!(rt; low < high);
         assert!(rt; low == low.copy()?);
         assert!(rt; low != high);
+    }
+    Ok(())
+}
+
+#[test]
+fn moments_are_ordered_as_their_numbers(rt: HostRuntime) -> Result<(), Fail> {
+    let rising = [0, 1, 2, MAX, u64::MAX];
+    for a in rising {
+        for b in rising {
+            assert_eq!(rt; Moment(a).cmp(&Moment(b)), a.cmp(&b));
+            assert_eq!(rt; Moment(a) == Moment(b), a == b);
+        }
     }
     Ok(())
 }

@@ -13,10 +13,11 @@ use crate::transaction::{Outcome, Transaction};
 use std::alloc::AllocError;
 use std::collections::{BTreeMap, BTreeSet};
 use timestamps::key::Key;
+use timestamps::moment::Moment;
 
 /// Notes that the transaction of `ts` wrote the key.
 pub(crate) fn add_key_at(
-    table: &mut BTreeMap<u64, Transaction>,
+    table: &mut BTreeMap<Moment, Transaction>,
     ts: u64,
     key: &Key,
 ) -> Result<(), AllocError>
@@ -25,29 +26,29 @@ pub(crate) fn add_key_at(
     ensures err { OnErr result (table.new.entries ≡ table.old.entries) }
     ensures absent { OnErr result (has key.now (keys_of (transaction_in table.old.entries ts)) ≡ false) }
 {
-    match table.get_mut(&ts) {
+    match table.get_mut(&Moment(ts)) {
         None => Ok(()),
         Some(transaction) => transaction.add_key(key),
     }
 }
 
 /// Ends the transaction of `ts`.
-pub(crate) fn decide_at(table: &mut BTreeMap<u64, Transaction>, ts: u64, outcome: Outcome)
+pub(crate) fn decide_at(table: &mut BTreeMap<Moment, Transaction>, ts: u64, outcome: Outcome)
     ensures { (i : ℕ) → transaction_in table.new.entries i
         ≡ (if ts == i then option_map (decided outcome) (transaction_in table.old.entries i) else transaction_in table.old.entries i) }
 {
-    if let Some(transaction) = table.get_mut(&ts) {
+    if let Some(transaction) = table.get_mut(&Moment(ts)) {
         transaction.decide(outcome);
     }
 }
 
 /// Drops the transactions at or below `ts`.
-pub(crate) fn forget_transactions(table: &mut BTreeMap<u64, Transaction>, ts: u64)
+pub(crate) fn forget_transactions(table: &mut BTreeMap<Moment, Transaction>, ts: u64)
     ensures { (i : ℕ) → transaction_in table.new.entries i
         ≡ (if nat_lt ts i then transaction_in table.old.entries i else None) }
 {
     while let Some((first, _)) = table.first_key_value() {
-        if *first > ts {
+        if first.0 > ts {
             break;
         }
         table.pop_first();
@@ -55,12 +56,12 @@ pub(crate) fn forget_transactions(table: &mut BTreeMap<u64, Transaction>, ts: u6
 }
 
 /// Drops the timestamps at or below `ts`.
-pub(crate) fn forget_undecided(undecided: &mut BTreeSet<u64>, ts: u64)
+pub(crate) fn forget_undecided(undecided: &mut BTreeSet<Moment>, ts: u64)
     ensures { (i : ℕ) → contains nat_cmp undecided.new i
         ≡ (nat_lt ts i && contains nat_cmp undecided.old i) }
 {
     while let Some(oldest) = undecided.first() {
-        if *oldest > ts {
+        if oldest.0 > ts {
             break;
         }
         undecided.pop_first();

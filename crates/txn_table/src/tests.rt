@@ -38,7 +38,7 @@ fn written(alloc: Global, txns: &Txns, number: u64) -> Result<Vec<u8>, Fail> {
 fn undecided(alloc: Global, txns: &Txns, to: u64) -> Result<Vec<u64>, Fail> {
     let mut numbers = Vec::new(alloc);
     for number in txns.undecided_through(to) {
-        numbers.push(*number)?;
+        numbers.push(number.0)?;
     }
     Ok(numbers)
 }

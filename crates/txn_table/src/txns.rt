@@ -18,14 +18,15 @@ use std::collections::btree_set::Range;
 use std::collections::{BTreeMap, BTreeSet};
 use std::marker::Model;
 use timestamps::key::Key;
+use timestamps::moment::Moment;
 use timestamps::ts::Ts;
 
 /// The transactions, and which of them are undecided.
 #[derive(Debug, Drop)]
 pub struct Txns {
     alloc: Global,
-    table: BTreeMap<u64, Transaction>,
-    undecided: BTreeSet<u64>,
+    table: BTreeMap<Moment, Transaction>,
+    undecided: BTreeSet<Moment>,
 }
 
 impl Model for Txns {
@@ -60,7 +61,7 @@ impl Txns {
         ensures err { OnErr result (self.new ≡ self.old) }
         ensures free { OnErr result (transaction_in self.old ts ≡ None) }
     {
-        let ts = ts.get();
+        let ts = Moment(ts.get());
         match self.table.entry(ts)? {
             Entry::Occupied(_) => Ok(false),
             Entry::Vacant(place) => {
@@ -75,7 +76,7 @@ impl Txns {
     pub fn owner(&self, ts: u64) -> Option<u8>
         ensures { result ≡ option_map (λ (n : Transaction). n.seat) (transaction_in self.now ts) }
     {
-        match self.table.get(&ts) {
+        match self.table.get(&Moment(ts)) {
             None => None,
             Some(transaction) => Some(transaction.seat()),
         }
@@ -85,7 +86,7 @@ impl Txns {
     pub fn state(&self, ts: u64) -> Option<State>
         ensures { result ≡ option_map state_of (transaction_in self.now ts) }
     {
-        match self.table.get(&ts) {
+        match self.table.get(&Moment(ts)) {
             None => None,
             Some(transaction) => Some(transaction.state()),
         }
@@ -96,7 +97,7 @@ impl Txns {
         ensures keys { result.now ≡ keys_of (transaction_in self.now ts) }
         ensures rising { RisingKeys result.now }
     {
-        match self.table.get(&ts) {
+        match self.table.get(&Moment(ts)) {
             None => &[],
             Some(transaction) => transaction.keys(),
         }
@@ -106,7 +107,7 @@ impl Txns {
     pub fn has_key(&self, ts: u64, key: &Key) -> bool
         ensures { result ≡ has key.now (keys_of (transaction_in self.now ts)) }
     {
-        match self.table.get(&ts) {
+        match self.table.get(&Moment(ts)) {
             None => false,
             Some(transaction) => transaction.has_key(key),
         }
@@ -129,14 +130,17 @@ impl Txns {
             ≡ (if ts == i then option_map (decided outcome) (transaction_in self.old i) else transaction_in self.old i) }
     {
         decide_at(&mut self.table, ts.get(), outcome);
-        self.undecided.remove(&ts.get());
+        self.undecided.remove(&Moment(ts.get()));
     }
 
     /// The least timestamp that is undecided.
     pub fn oldest_undecided(&self) -> Option<u64>
         ensures { IsOldest (transaction_in self.now) result }
     {
-        self.undecided.first().copied()
+        match self.undecided.first() {
+            None => None,
+            Some(oldest) => Some(oldest.0),
+        }
     }
 
     /// How many transactions are undecided.
@@ -147,11 +151,11 @@ impl Txns {
     }
 
     /// The undecided timestamps at or below `to`, rising.
-    pub fn undecided_through(&self, to: u64) -> Range<'_, u64>
+    pub fn undecided_through(&self, to: u64) -> Range<'_, Moment>
         ensures those { AreThose (λ t. nat_le t to && is_open (transaction_in self.now t)) result }
         ensures rising { IsStrictlyIncreasing result }
     {
-        self.undecided.range(..=to)
+        self.undecided.range(..=Moment(to))
     }
 
     /// Forgets the transactions at or below `ts`, undecided ones too. It takes no memory.

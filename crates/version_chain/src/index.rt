@@ -10,12 +10,13 @@ use std::collections::btree_map::{Entry, Range};
 use std::collections::{BTreeMap, BTreeSet};
 use std::ops::Bound;
 use timestamps::key::Key;
+use timestamps::moment::Moment;
 
 /// The keys of each timestamp at which there are some.
 #[derive(Drop)]
 pub(crate) struct Index {
     alloc: Global,
-    keys: BTreeMap<u64, BTreeSet<Key>>,
+    keys: BTreeMap<Moment, BTreeSet<Key>>,
 }
 
 impl Index {
@@ -36,7 +37,7 @@ impl Index {
         ensures err { OnErr result ((y : List ℕ) (i : ℕ) → is_listed self.new y i ≡ is_listed self.old y i) }
     {
         let key = key.copy()?;
-        match self.keys.entry(ts)? {
+        match self.keys.entry(Moment(ts))? {
             Entry::Occupied(entry) => {
                 entry.into_mut().insert(key)?;
             }
@@ -54,12 +55,12 @@ impl Index {
         ensures { (y : List ℕ) (i : ℕ) → is_listed self.new y i
             ≡ (if (ts == i) && bytes_eq key.now y then false else is_listed self.old y i) }
     {
-        let Some(keys) = self.keys.get_mut(&ts) else {
+        let Some(keys) = self.keys.get_mut(&Moment(ts)) else {
             return;
         };
         keys.remove(key);
         if keys.is_empty() {
-            self.keys.remove(&ts);
+            self.keys.remove(&Moment(ts));
         }
     }
 
@@ -79,16 +80,17 @@ impl Index {
     pub(crate) fn keys_at(&self, ts: u64) -> Option<&BTreeSet<Key>>
         ensures { (y : List ℕ) → is_among (option_copied result) y ≡ is_listed self.now y ts }
     {
-        self.keys.get(&ts)
+        self.keys.get(&Moment(ts))
     }
 
     /// The timestamps above `after` and at or below `through`, rising, each with its keys.
-    pub(crate) fn between(&self, after: u64, through: u64) -> Range<'_, u64, BTreeSet<Key>>
+    pub(crate) fn between(&self, after: u64, through: u64) -> Range<'_, Moment, BTreeSet<Key>>
         requires { after < through }
         ensures listed { (y : List ℕ) (i : ℕ) → after < i → i ≤ through → listed_in result y i ≡ is_listed self.now y i }
         ensures rising { AreBetween after through result }
     {
-        self.keys
-            .range((Bound::Excluded(after), Bound::Included(through)))
+        let after = Bound::Excluded(Moment(after));
+        let through = Bound::Included(Moment(through));
+        self.keys.range((after, through))
     }
 }

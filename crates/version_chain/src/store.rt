@@ -129,7 +129,7 @@ impl Store {
         }
         for (ts, keys) in self.index.between(after, through) {
             let all = keys.range(..);
-            if let Some(found) = self.chains.first_committed(all, *ts) {
+            if let Some(found) = self.chains.first_committed(all, ts.0) {
                 return Some(found);
             }
         }
@@ -233,7 +233,7 @@ impl Store {
             return Ok(keys);
         }
         for (ts, written) in self.index.between(self.dropped_through, horizon) {
-            self.chains.add_spent(&mut keys, written, *ts, horizon)?;
+            self.chains.add_spent(&mut keys, written, ts.0, horizon)?;
         }
         Ok(keys)
     }

@@ -246,7 +246,7 @@ impl Layers {
 fn take_back_through(rules: &mut Rules, to: u64) -> Result<u64, Fail> {
     let mut count = 0u64;
     for ts in rules.txns.undecided_through(to) {
-        let ts = Ts::new(*ts).ok_or("no timestamp")?;
+        let ts = Ts::new(ts.0).ok_or("no timestamp")?;
         rules.store.abort(ts, rules.txns.write_set(ts.get()));
         count = count.saturating_add(1);
     }

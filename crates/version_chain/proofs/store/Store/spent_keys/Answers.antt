@@ -20,7 +20,7 @@ pub loop-ts-preserved : goal.loop-ts-preserved
 loop-ts-preserved c = λ y i dead. elim (c.loop-ts.invariant y i dead) [
   | inl e ↦ inl (c.in_ok-add_spent.ensures.keeps y e)
   | inr listed ↦ (elim (listed_first c.in-Some.ts.now c.in-Some.written.now c.next.new.self y (newest_of (chain_of c.self.inside.chains y) c.args.horizon) (ap (λ es. listed_in es y (newest_of (chain_of c.self.inside.chains y) c.args.horizon)) (sym c.in-Some.ensures.steps) ∙ listed)) [
-    | inl at ↦ inl (c.in_ok-add_spent.ensures.adds y i at.1 at.0 (subst (λ t. is_spent_at c.args.horizon t (chain_of c.self.inside.chains y) i ≡ true) at.0 (dead_at c.self.inside.chains c.args.horizon y i dead)))
+    | inl at ↦ inl (c.in_ok-add_spent.ensures.adds y i at.1 (at.0 ∙ sym c.ts.view_is) (subst (λ t. is_spent_at c.args.horizon t (chain_of c.self.inside.chains y) i ≡ true) (at.0 ∙ sym c.ts.view_is) (dead_at c.self.inside.chains c.args.horizon y i dead)))
     | inr rest ↦ inr rest
   ])
 ]
