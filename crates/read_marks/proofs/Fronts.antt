@@ -79,10 +79,10 @@ module _ (n a x y : ℕ) (xs ys : List ℕ) where
   differ-turn Equal e h g more = let same : x ≡ y = e in more same ∙ ap (nat_cmp ahead) (same-byte same)
   differ-turn Greater l h g more = let t : y < x = l in sym (above ahead others (rises n (a * 256 + y) (a * 256 + x) ys xs g (omega arith)))
 
-  same-turn : (r : Ordering) → MatchOrdering r (x < y) (x ≡ y) (y < x) → AreBytes xs → AreBytes ys → ahead ≡ others → (x ≡ y → key_cmp xs ys ≡ nat_cmp (suc (length xs)) (suc (length ys))) → ordering_then r (key_cmp xs ys) ≡ nat_cmp (suc (length xs)) (suc (length ys))
-  same-turn Less l h g e more = let t : x < y = l in let up : ahead < others = rises n (a * 256 + x) (a * 256 + y) xs ys h (omega arith) in absurd (omega arith)
-  same-turn Equal l h g e more = more l
-  same-turn Greater l h g e more = let t : y < x = l in let down : others < ahead = rises n (a * 256 + y) (a * 256 + x) ys xs g (omega arith) in absurd (omega arith)
+  same-turn : (r : Ordering) → MatchOrdering r (x < y) (x ≡ y) (y < x) → AreBytes xs → AreBytes ys → ahead ≡ others → (q : Ordering) → (x ≡ y → key_cmp xs ys ≡ q) → ordering_then r (key_cmp xs ys) ≡ q
+  same-turn Less l h g e q more = let t : x < y = l in let up : ahead < others = rises n (a * 256 + x) (a * 256 + y) xs ys h (omega arith) in absurd (omega arith)
+  same-turn Equal l h g e q more = more l
+  same-turn Greater l h g e q more = let t : y < x = l in let down : others < ahead = rises n (a * 256 + y) (a * 256 + x) ys xs g (omega arith) in absurd (omega arith)
 
 -- fronts that differ stand as their bytes do
 pub fronts_differ : (n a : ℕ) (xs ys : List ℕ) → AreBytes xs → AreBytes ys → (front_from n a xs ≡ front_from n a ys → ⊥) → key_cmp xs ys ≡ nat_cmp (front_from n a xs) (front_from n a ys)
@@ -107,8 +107,17 @@ fronts_same n a [] (y ∷ ys) h g e short = sym (below 0 (suc (length ys)) (omeg
 fronts_same n a (x ∷ xs) [] h g e short = sym (above (suc (length xs)) 0 (omega arith))
 fronts_same zero a (x ∷ xs) (y ∷ ys) h g e short = absurd (omega arith)
 fronts_same (suc n) a (x ∷ xs) (y ∷ ys) h g e short =
-    same-turn n a x y xs ys (nat_cmp x y) (ranks x y) (λ k. h (suc k)) (λ k. g (suc k)) e
+    same-turn n a x y xs ys (nat_cmp x y) (ranks x y) (λ k. h (suc k)) (λ k. g (suc k)) e _
     (λ same. fronts_same n (a * 256 + x) xs ys (λ k. h (suc k)) (λ k. g (suc k)) (e ∙ sym (same-byte n a x y xs ys same)) (omega arith) ∙ longer (length xs) (length ys) _ (ranks (length xs) (length ys)))
+
+-- of two that are both longer the rest decides
+pub fronts_aside : (n a : ℕ) (xs ys : List ℕ) → AreBytes xs → AreBytes ys → front_from n a xs ≡ front_from n a ys → n ≤ length xs → n ≤ length ys → key_cmp xs ys ≡ key_cmp (drop n xs) (drop n ys)
+fronts_aside zero a xs ys h g e long long' = refl
+fronts_aside (suc n) a [] ys h g e long long' = absurd (omega arith)
+fronts_aside (suc n) a (x ∷ xs) [] h g e long long' = absurd (omega arith)
+fronts_aside (suc n) a (x ∷ xs) (y ∷ ys) h g e long long' =
+    same-turn n a x y xs ys (nat_cmp x y) (ranks x y) (λ k. h (suc k)) (λ k. g (suc k)) e _
+    (λ same. fronts_aside n (a * 256 + x) xs ys (λ k. h (suc k)) (λ k. g (suc k)) (e ∙ sym (same-byte n a x y xs ys same)) (omega arith) (omega arith))
 
 -- what was read from a place that zeros fill
 spelt : (xs : List ℕ) → front_from 8 0 xs

@@ -190,6 +190,18 @@ module _ {K V : Type 0} {R : K → K → Ordering} (o : IsTotalOrder R) where
   none-some : (o : Option V) (v : V) → o ≡ None → o ≡ Some v → ⊥
   none-some o v h g = cc
 
+  -- the value at a start that is there
+  here-turn : (b : K) (d v : V) (e : K × V) (es : List (K × V)) (r : Ordering) → R b e.0 ≡ r → AllByRecursion (λ y. R e.0 y ≡ Less) (keys_of es)
+      → cond (is_eq r) (Some e.1) (lookup (is_at (R b)) es) ≡ Some v → (lookup (is_at (R b)) es ≡ Some v → step b e.1 es ≡ v) → cond (not (is_lt r)) (step b e.1 es) d ≡ v
+  here-turn b d v e es Less is later found ih = absurd (none-some _ v (none-found b e.0 es is later) found)
+  here-turn b d v e es Equal is later found ih = let same : e.1 ≡ v = cc in step-unreached b e.1 es (before-turn b e es Equal is refl later) ∙ same
+  here-turn b d v e es Greater is later found ih = ih found
+
+  pub step-here : (b : K) (d v : V) (es : List (K × V)) → IsStrictlySortedBy R (keys_of es) → lookup (is_at (R b)) es ≡ Some v → step b d es ≡ v
+  unfolding IsStrictlySortedBy
+  step-here b d v [] s found = cc
+  step-here b d v (e ∷ es) s found = here-turn b d v e es (R b e.0) refl s.0 found (λ h. step-here b e.1 v es s.1 h)
+
   remove-cases : (b : K) (v d : V) (x : K) (e : K × V) (es : List (K × V)) (r : Ordering) → R b e.0 ≡ r → AllByRecursion (λ y. R e.0 y ≡ Less) (keys_of es)
       → cond (is_eq r) (Some e.1) (lookup (is_at (R b)) es) ≡ Some v → v ≡ cond (not (is_le r)) (step_at (λ k. not (is_le (R b k))) e.1 es) d
       → (lookup (is_at (R b)) es ≡ Some v → v ≡ step_at (λ k. not (is_le (R b k))) e.1 es → step x e.1 (remove_entry (is_at (R b)) es) ≡ step x e.1 es)

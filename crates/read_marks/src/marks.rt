@@ -1,12 +1,12 @@
 //! The marks of all keys.
-ghost use Rattle.std.specs.Prelude.{◌≡◌, ◌↔◌, ◌<◌, ◌==◌, ◌&&◌, ◌||◌, ℕ, List, false, true, IsTrue, OnOk, OnErr, nat_lt};
+ghost use Rattle.std.specs.Prelude.{◌≡◌, ◌↔◌, ◌<◌, ◌≤◌, ◌∷◌, [], ◌==◌, ◌&&◌, ◌||◌, ℕ, List, false, true, IsTrue, OnOk, OnErr, nat_lt};
 ghost use Rattle.std.specs.List.{Contains};
 ghost use Rattle.spans.specs.Keys.{in_span};
 ghost use Rattle.kept.specs.Marks.{IsBetween, IsPiece};
 ghost use Rattle.read_marks.specs.declared.piece.Piece.{Piece};
 ghost use Rattle.read_marks.specs.Marks.{AreApart, HaveGaps, in_any, is_marked_in, marked_spans};
 ghost use Rattle.read_marks.specs.Patches as patching;
-ghost use Rattle.read_marks.specs.Patches.{AreEdited, holds};
+ghost use Rattle.read_marks.specs.Patches.{AreEdited, holds, patch_of};
 
 use crate::joining::{own_patches, patches_of};
 use crate::patch::Patch;
@@ -99,13 +99,24 @@ impl Marks {
     {
         let ts = ts.get();
         if let [piece] = pieces {
-            let mut patch = Patch::new();
-            patch.set(piece);
-            return self.edit(slice::from_ref(&patch), ts);
+            return self.add_piece(piece, ts);
         }
         self.make_room_for(ts);
         let patches = patches_of(self.alloc, &self.segments, pieces, ts, self.forgotten)?;
         self.segments.edit(&patches, ts, self.forgotten)
+    }
+
+    // The same of one piece.
+    fn add_piece(&mut self, piece: &Piece, ts: u64) -> Result<(), AllocError>
+        requires ts { 0 < ts }
+        requires low { piece.now.above < ts }
+        requires high { ts ≤ piece.now.until }
+        ensures ok { OnOk result ((x : List ℕ) → AreEdited (λ p. holds p x) ts (patch_of piece.now ∷ []) (is_marked_in self.old x) (is_marked_in self.new x)) }
+        ensures err { OnErr result ((x : List ℕ) (j : ℕ) → is_marked_in self.new x j ≡ is_marked_in self.old x j) }
+    {
+        let mut patch = Patch::new();
+        patch.set(piece);
+        self.edit(slice::from_ref(&patch), ts)
     }
 
     /// How many spans with readers are kept. Those whose readers are all forgotten count too, until
@@ -128,6 +139,7 @@ impl Marks {
     }
 
     // What is forgotten really goes, in a walk over all segments.
+    #[inline(never)]
     fn sweep(&mut self)
         ensures marks { (x : List ℕ) (j : ℕ) → is_marked_in self.new x j ≡ is_marked_in self.old x j }
         ensures forgotten { self.new.forgotten ≡ 0 }
@@ -139,6 +151,7 @@ impl Marks {
 
     // A pair with a reader that counts as forgotten can't be kept, so that a sweep comes first. One
     // comes too where the starts have doubled since the last.
+    #[inline(always)]
     fn make_room_for(&mut self, ts: u64)
         requires { 0 < ts }
         ensures marks { (x : List ℕ) (j : ℕ) → is_marked_in self.new x j ≡ is_marked_in self.old x j }

@@ -40,8 +40,20 @@ impl Segments {
         }
     }
 
-    /// The readers of the key.
+    /// The readers of the key. One that was read by itself has a segment of its own, and to find that
+    /// costs half of what it costs to find the last start of a range.
     pub(crate) fn readers(&self, key: &Start) -> Option<&Readers>
+        ensures { MatchOption result (readers_at self.now key.now ≡ []) (λ r. readers_at self.now key.now ≡ r.now) }
+    {
+        self.see_order();
+        match self.starts.get(key) {
+            None => self.readers_below(key),
+            Some(readers) => Some(readers),
+        }
+    }
+
+    // The same by the last start that is not above the key.
+    fn readers_below(&self, key: &Start) -> Option<&Readers>
         ensures { MatchOption result (readers_at self.now key.now ≡ []) (λ r. readers_at self.now key.now ≡ r.now) }
     {
         let (_, readers) = self

@@ -84,6 +84,15 @@ impl Start {
         &self.bytes[..self.len as usize]
     }
 
+    // What follows its front.
+    #[inline]
+    fn rest(&self) -> &[u8]
+        requires { 8 < length self.now }
+        ensures { result.now ≡ drop 8 self.now }
+    {
+        &self.bytes[FRONT_BYTES..self.len as usize]
+    }
+
     /// The same start once more.
     #[inline]
     pub(crate) fn copy(&self) -> Start
@@ -133,7 +142,7 @@ impl Ord for Start {
     ghost matches_eq = { texts_ties };
 
     // Most starts differ in their fronts. Where those are the same and one of them is no longer than its
-    // front, the shorter begins the other.
+    // front, the shorter begins the other; else what follows the fronts decides.
     #[inline]
     fn cmp(&self, other: &Start) -> Ordering {
         if self.front != other.front {
@@ -142,6 +151,6 @@ impl Ord for Start {
         if self.len.min(other.len) as usize <= FRONT_BYTES {
             return self.len.cmp(&other.len);
         }
-        self.bytes().cmp(other.bytes())
+        self.rest().cmp(other.rest())
     }
 }

@@ -181,6 +181,40 @@ fn what_is_forgotten_is_swept_once_the_starts_have_doubled(rt: HostRuntime) -> R
     Ok(())
 }
 
+/// Keys with the same seven bytes at least in front.
+const COMMON: [&[u8]; 6] = [
+    b"kkkkkkk",
+    b"kkkkkkkk",
+    b"kkkkkkkk\x00",
+    b"kkkkkkkkkkkkkkkk",
+    b"kkkkkkkkkkkkkkkk\x01",
+    b"kkkkkkkkkkkkkkkkkkkk",
+];
+
+// Starts are compared by their first eight bytes, and then as a whole.
+#[test]
+fn keys_with_a_common_beginning_are_told_apart(rt: HostRuntime) -> Result<(), Fail> {
+    let alloc = rt.alloc();
+    let mut marks = Marks::new(alloc);
+    for (number, key) in (1..).zip(COMMON) {
+        let key = Key::new(alloc, key)?;
+        let hi = Bound::successor(alloc, &key)?;
+        marks.add(
+            &Span {
+                lo: bound(alloc, key.bytes())?,
+                hi: Some(hi),
+            },
+            ts(number)?,
+        )?;
+    }
+    for (number, key) in (1..).zip(COMMON) {
+        assert!(rt; has_readers(alloc, &marks, key, &[number])?);
+    }
+    assert!(rt; has_readers(alloc, &marks, b"kkkkkkkkk", &[])?);
+    assert!(rt; has_readers(alloc, &marks, b"kkkkkkkkkkkkkkkkk", &[])?);
+    Ok(())
+}
+
 #[test]
 fn a_mark_in_place_is_joined_with_its_neighbours(rt: HostRuntime) -> Result<(), Fail> {
     let alloc = rt.alloc();
