@@ -248,6 +248,9 @@ struct Marks {
 
 impl Marks {
     fn readers(&self, key: &[u8]) -> &[u64] {
+        if let Some(readers) = self.starts.get(key) {
+            return readers;
+        }
         let before = self.starts.range::<[u8], _>((Unbounded, Included(key))).next_back();
         before.map_or(&[], |(_, readers)| readers)
     }
@@ -258,7 +261,7 @@ impl Marks {
         if readers.last().is_none_or(|latest| *latest <= above) {
             return false;
         }
-        to.is_none_or(|to| readers[readers.partition_point(|r| *r <= above)] <= to)
+        to.is_none_or(|to| readers[count_through(readers, above)] <= to)
     }
 
     fn add_pieces(&mut self, pieces: &[Piece], ts: u64) {
@@ -302,7 +305,7 @@ impl Marks {
         let inside = self.starts.range::<[u8], _>((Included(lo), end)).map(|(_, readers)| readers.as_slice());
         let (mut least, mut greatest) = (ts, ts);
         for readers in std::iter::once(self.readers(lo)).chain(inside) {
-            let kept = &readers[readers.partition_point(|r| *r <= self.forgotten)..];
+            let kept = &readers[count_through(readers, self.forgotten)..];
             if let [first, ..] = kept {
                 least = least.min(*first);
                 greatest = greatest.max(*kept.last().unwrap());
@@ -335,7 +338,7 @@ impl Marks {
         }
         let end = hi.as_deref().map_or(Unbounded, Excluded);
         for (_, readers) in self.starts.range_mut::<[u8], _>((Included(lo.as_slice()), end)) {
-            readers.drain(..readers.partition_point(|r| *r <= self.forgotten));
+            readers.drain(..count_through(readers, self.forgotten));
             merge(readers, *above, *until, ts);
         }
         self.join(lo, hi.as_deref());
@@ -392,7 +395,7 @@ impl Marks {
         let forgotten = std::mem::take(&mut self.forgotten);
         let mut before = Vec::new();
         self.starts.retain(|_, readers| {
-            readers.drain(..readers.partition_point(|r| *r <= forgotten));
+            readers.drain(..count_through(readers, forgotten));
             let repeated = *readers == before;
             if !repeated {
                 before.clone_from(readers);
@@ -403,10 +406,18 @@ impl Marks {
     }
 }
 
+/// How many are at or below a timestamp: mostly all.
+fn count_through(readers: &[u64], ts: u64) -> usize {
+    if readers.last().is_some_and(|latest| *latest <= ts) {
+        return readers.len();
+    }
+    readers.partition_point(|r| *r <= ts)
+}
+
 /// The readers above `above` and up to `until`, and `ts`, become their greatest one.
 fn merge(readers: &mut Vec<u64>, above: u64, until: u64, ts: u64) {
-    let from = readers.partition_point(|r| *r <= above);
-    let to = readers.partition_point(|r| *r <= until);
+    let from = count_through(readers, above);
+    let to = count_through(readers, until);
     if from == to {
         readers.insert(from, ts);
         return;
@@ -420,7 +431,7 @@ fn merge(readers: &mut Vec<u64>, above: u64, until: u64, ts: u64) {
 /// Those that are forgotten go where they are more than half of all, which the one in the middle tells.
 fn trim(readers: &mut Vec<u64>, forgotten: u64) {
     if readers.get(readers.len() / 2).is_some_and(|middle| *middle <= forgotten) {
-        readers.drain(..readers.partition_point(|r| *r <= forgotten));
+        readers.drain(..count_through(readers, forgotten));
     }
 }
 
