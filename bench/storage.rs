@@ -738,7 +738,7 @@ fn versions(keys: &[Key], rounds: u64, copies: u64) {
 }
 
 /// About so many versions are dead between two horizons.
-const COLLECTED: u64 = 1000;
+const COLLECTED: u64 = 100;
 
 /// `rounds` versions of each key, collected in steps of one length.
 fn collections(keys: &[Key], rounds: u64, copies: u64) {
