@@ -1,6 +1,7 @@
 // The workloads of `bench_storage` as a plain Rust program over std: the same shapes of data, searched and edited in the
-// same way. `storage WORKLOAD SIZE COPIES` prints for each phase its name, how many nanoseconds it took, and a checksum.
-// Copies, one where no number is given, are used in turn.
+// same way, but that a map's keys are a `u64` or a list of bytes, in std's order. `storage WORKLOAD SIZE COPIES` prints
+// for each phase its name, how many nanoseconds it took, and a checksum. Copies, one where no number is given, are used in
+// turn.
 use std::collections::btree_map::Entry;
 use std::collections::{BTreeMap, BTreeSet};
 use std::ops::Bound::{Excluded, Included, Unbounded};
@@ -317,17 +318,18 @@ impl Marks {
     fn add(&mut self, piece: &Piece, ts: u64) {
         let Piece { lo, hi, above, until } = piece;
         if let Some((before, after)) = self.beside(lo, hi.as_deref()) {
-            let readers = self.starts.get_mut(lo).expect("it is a segment");
-            merge(readers, *above, *until, ts);
-            trim(readers, self.forgotten);
-            let latest = readers.last().copied();
-            if let Some(hi) = hi.as_ref().filter(|_| after == latest) {
-                self.join_at(hi);
+            if let Some(readers) = self.starts.get_mut(lo) {
+                merge(readers, *above, *until, ts);
+                trim(readers, self.forgotten);
+                let latest = readers.last().copied();
+                if let Some(hi) = hi.as_ref().filter(|_| after == latest) {
+                    self.join_at(hi);
+                }
+                if before == latest {
+                    self.join_at(lo);
+                }
+                return;
             }
-            if before == latest {
-                self.join_at(lo);
-            }
-            return;
         }
         if hi.as_ref().is_some_and(|hi| hi <= lo) {
             return;
@@ -344,8 +346,13 @@ impl Marks {
         self.join(lo, hi.as_deref());
     }
 
-    /// The latest readers of the segments before and after one that starts and ends so, where there is such a one.
+    /// The latest readers of the segments before and after one that starts and ends so, where there is such a one. Of a key
+    /// it is known only that there is one if one starts at it, and what is before it isn't asked.
     fn beside(&self, lo: &[u8], hi: Option<&[u8]>) -> Option<(Option<u64>, Option<u64>)> {
+        if let Some(hi) = hi.filter(|hi| hi.split_last() == Some((&0, lo))) {
+            let end = self.starts.get(hi)?;
+            return Some((None, end.last().copied()));
+        }
         let end = hi.map_or(Unbounded, Included);
         let mut back = self.starts.range::<[u8], _>((Unbounded, end)).rev();
         let after = match hi {
@@ -406,7 +413,7 @@ impl Marks {
     }
 }
 
-/// How many are at or below a timestamp: mostly all.
+/// How many are at or below a timestamp. Where the latest is, all are: so it is for a gap without an end.
 fn count_through(readers: &[u64], ts: u64) -> usize {
     if readers.last().is_some_and(|latest| *latest <= ts) {
         return readers.len();
@@ -659,6 +666,11 @@ fn keys(count: u64, step: u64) -> Vec<Key> {
     (1..=count).map(|number| number.wrapping_mul(step).to_be_bytes().to_vec()).collect()
 }
 
+/// The same behind sixteen bytes, with which all of them begin.
+fn long_keys(count: u64, step: u64) -> Vec<Key> {
+    keys(count, step).into_iter().map(|key| [&b"the same for all"[..], &key].concat()).collect()
+}
+
 const VALUE: &[u8] = b"a value of 24 bytes long";
 
 struct Phases(Instant);
@@ -824,10 +836,9 @@ fn reads(adds: &[Mark], keys: &[Key], last: u64, gap: u64, copies: u64) {
     phases.end("ask", sum);
 }
 
-fn marks(size: u64, copies: u64) {
-    let keys = keys(size / 10, RISING);
+fn marks(keys: &[Key], size: u64, copies: u64) {
     let gap = size / 8;
-    reads(&marks_of_spans(&keys, size, gap), &keys, size, gap, copies);
+    reads(&marks_of_spans(keys, size, gap), keys, size, gap, copies);
 }
 
 fn hot_key(size: u64, has_versions: bool, copies: u64) {
@@ -958,7 +969,8 @@ fn main() {
         "chain" => versions(&keys(1, SCATTERED), size, copies),
         "collections" => collections(&keys(size / 10, SCATTERED), 10, copies),
         "chain_collections" => collections(&keys(1, SCATTERED), size, copies),
-        "marks" => marks(size, copies),
+        "marks" => marks(&keys(size / 10, RISING), size, copies),
+        "long_marks" => marks(&long_keys(size / 10, RISING), size, copies),
         "hot" => hot_key(size, false, copies),
         "hot_versions" => hot_key(size, true, copies),
         "scans" => scans(size),

@@ -69,7 +69,7 @@ some_below p m q same is one =
 differ : (a b : List ℕ) → a ≡ b → true ≡ not (bytes_eq a b) → ⊥
 differ a b same apart = let equal : bytes_eq a b ≡ true = (bytes_eq-Decides a b).1 same in let no : true ≡ false = apart ∙ ap not equal in cc
 
-alike : (a b : List ℕ) → key_cmp a b ≡ Equal → b ≡ a
+pub alike : (a b : List ℕ) → key_cmp a b ≡ Equal → b ≡ a
 alike a b tied = sym ((bytes_eq-Decides a b).0 (sym (is_eq-slice_cmp a b) ∙ ap is_eq tied))
 
 end_there : (p : Patch) (m : BTreeMap (List ℕ) (List ℕ)) (hi : List ℕ) → p.hi ≡ Some hi → IsSegment m p → IsStart m hi

@@ -6,6 +6,7 @@ pub mod Steps
 pub mod Editing
 pub mod Picking
 pub mod Apart
+pub mod OneKey
 pub mod Keeping
 pub mod Alike
 pub mod Extents

@@ -10,7 +10,7 @@ use Rattle.read_marks.specs.Segments.{reaches}
 use Rattle.read_marks.proofs.Keeping.{piece_alike}
 use Rattle.read_marks.specs.Patches as patching
 use Rattle.read_marks.specs.Patches.{AreEdited, holds, own_piece, patch_of}
-use Rattle.read_marks.specs.Marks.{AreApart, HaveGaps, in_any}
+use Rattle.read_marks.specs.Marks.{AreApart, in_any}
 use Rattle.read_marks.specs.declared.patch.Patch.{Patch}
 use Rattle.read_marks.specs.declared.piece.Piece.{Piece}
 
@@ -97,10 +97,6 @@ one_span_edit ts x m m' span low h j =
     span-turn (in_span span x) false (j == ts) (m' j) (m j) (λ hit. own_piece-is m m' ts j low (h.0 (holds_is (own_piece ts span) x ∙ hit))) (λ miss. h.1 (holds_is (own_piece ts span) x ∙ miss) j) ∙ ap (λ b. (b && (j == ts)) || m j) (or-false (in_span span x))
 
 -- the gaps of the patches
-pub piece_gaps : (ts : ℕ) (ps : List Piece) → HaveGaps ts ps → patching.HaveGaps ts (map patch_of ps)
-piece_gaps ts [] h = tt
-piece_gaps ts (p ∷ ps) h = (h.0, piece_gaps ts ps h.1)
-
 pub own_gaps : (ts : ℕ) (spans : List Span) → 0 < ts → patching.HaveGaps ts (map (λ span. patch_of (own_piece ts span)) spans)
 own_gaps ts [] low = tt
 own_gaps ts (span ∷ spans) low = ((omega arith, omega arith), own_gaps ts spans low)

@@ -106,7 +106,7 @@ impl Marks {
         self.segments.edit(&patches, ts, self.forgotten)
     }
 
-    // The same of one piece.
+    // The same of one piece, as the read of a key or of a span has: its patch needs no memory.
     fn add_piece(&mut self, piece: &Piece, ts: u64) -> Result<(), AllocError>
         requires ts { 0 < ts }
         requires low { piece.now.above < ts }
@@ -138,7 +138,8 @@ impl Marks {
         self.segments.edit(patches, ts, self.forgotten)
     }
 
-    // What is forgotten really goes, in a walk over all segments.
+    // What is forgotten really goes, in a walk over all segments: a call of its own, so that the marks that
+    // need none, which are most, are short.
     #[inline(never)]
     fn sweep(&mut self)
         ensures marks { (x : List ℕ) (j : ℕ) → is_marked_in self.new x j ≡ is_marked_in self.old x j }
@@ -150,7 +151,7 @@ impl Marks {
     }
 
     // A pair with a reader that counts as forgotten can't be kept, so that a sweep comes first. One
-    // comes too where the starts have doubled since the last.
+    // comes too where the starts have doubled since the last. Mostly these are two comparisons.
     #[inline(always)]
     fn make_room_for(&mut self, ts: u64)
         requires { 0 < ts }

@@ -1,7 +1,8 @@
 //! A piece by the starts of its span.
-ghost use Rattle.std.specs.Prelude.{◌≡◌, ◌<◌, ◌≤◌, IsTrue, List, [], ℕ, false, true, unwrap_or};
+ghost use Rattle.std.specs.Prelude.{◌≡◌, ◌<◌, ◌≤◌, IsTrue, List, [], ℕ, MatchOption, Some, false, true, unwrap_or};
 ghost use Rattle.std.specs.Range.Bound.{bound_map};
 ghost use Rattle.spans.specs.KeyOrder.{below_high};
+ghost use Rattle.spans.specs.Successors.{successor};
 ghost use Rattle.read_marks.specs.Patches.{holds, patch_of, own_piece};
 ghost use Rattle.read_marks.specs.Editing.{end_in, picks};
 ghost use Rattle.read_marks.specs.Joining.{GoesOn, IsInside, RunsForward, in_widest_gap};
@@ -113,6 +114,16 @@ impl Patch {
         match &self.hi {
             None => true,
             Some(hi) => self.lo.cmp(hi).is_lt(),
+        }
+    }
+
+    /// Its end, where it holds one key alone.
+    pub(crate) fn end_of_key(&self) -> Option<&Start>
+        ensures { MatchOption result (self.now.hi ≡ Some (successor self.now.lo) → ⊥) (λ hi. (self.now.hi ≡ Some hi.now) × (hi.now ≡ successor self.now.lo)) }
+    {
+        match &self.hi {
+            Some(hi) if hi.is_successor_of(&self.lo) => Some(hi),
+            _ => None,
         }
     }
 

@@ -28,7 +28,8 @@ impl Model for Readers {
     ghost invariant = { λ r. IsNonDecreasing r.list.items };
 }
 
-// Takes out what stands between two places. Mostly that is nothing, and a drain of nothing costs too.
+// Takes out what stands between two places. Mostly that is nothing, and a drain of nothing costs too, so
+// that its callers compare the places and go on.
 #[inline(always)]
 fn cut(list: &mut Vec<u64>, from: usize, to: usize)
     requires rises { from ≤ to }
@@ -80,7 +81,8 @@ impl Readers {
         Ok(Readers { list })
     }
 
-    // How many are at or below a timestamp: mostly all, since readers come mostly at the end.
+    // How many are at or below a timestamp. Where the latest is, all are: so it is for a gap without an
+    // end.
     fn count_through(&self, ts: u64) -> usize
         ensures splits { SplitsAt self.now ts result }
         ensures bound { result ≤ length self.now }

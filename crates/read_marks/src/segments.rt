@@ -1,5 +1,5 @@
 //! A step function from keys to readers.
-ghost use Rattle.std.specs.Prelude.{◌≡◌, ◌<◌, ◌≤◌, ℕ, List, [], ◌∷◌, IfOk, OnOk, OnErr, IfSome, IsTrue, IsSome, Some, MatchOption, nat_lt};
+ghost use Rattle.std.specs.Prelude.{◌≡◌, ◌<◌, ◌≤◌, ℕ, List, [], ◌∷◌, IfOk, OnOk, OnErr, IfSome, IsTrue, IsSome, Some, MatchOption, false, nat_lt};
 ghost use Rattle.std.specs.List.{filter};
 ghost use Rattle.std.specs.BTreeMap.{get, IsOrdered};
 ghost use Rattle.timestamps.specs.Bytes.{key_cmp};
@@ -7,7 +7,7 @@ ghost use Rattle.read_marks.specs.Readers.{is_kept};
 ghost use Rattle.read_marks.specs.Segments.{readers_at, readers_before, segment_count};
 ghost use Rattle.read_marks.specs.Patches.{AreEdited, HaveGaps, holds};
 ghost use Rattle.read_marks.specs.Joining.{IsExtentOf, IsPartOf, IsWithin};
-ghost use Rattle.read_marks.specs.Editing.{AreParts, AreStarts, HasEnds, IsPart, IsSegment, IsStart, puts, puts_parts};
+ghost use Rattle.read_marks.specs.Editing.{AreParts, AreStarts, HasEnds, IsPart, IsStart, puts, puts_parts};
 
 mod neighbours;
 
@@ -40,7 +40,7 @@ impl Segments {
         }
     }
 
-    /// The readers of the key. One that was read by itself has a segment of its own, and to find that
+    /// The readers of the key. One that was read by itself mostly starts a segment, and to find that
     /// costs half of what it costs to find the last start of a range.
     pub(crate) fn readers(&self, key: &Start) -> Option<&Readers>
         ensures { MatchOption result (readers_at self.now key.now ≡ []) (λ r. readers_at self.now key.now ≡ r.now) }
@@ -222,30 +222,30 @@ impl Segments {
         Ok(())
     }
 
-    // The readers of a patch that is one segment are edited in place. It tells the latest of them.
-    fn edit_segment(
-        &mut self,
-        patch: &Patch,
-        ts: u64,
-        forgotten: u64,
-    ) -> Result<Option<u64>, AllocError>
+    // The readers of a patch that is one segment are edited in place, and the segment joined with those
+    // beside it. It tells whether the patch is one.
+    fn edit_segment(&mut self, patch: &Patch, ts: u64, forgotten: u64) -> Result<bool, AllocError>
         requires late { forgotten < ts }
         requires low { patch.now.above < ts }
         requires high { ts ≤ patch.now.until }
-        requires segment { IsSegment self.old.starts patch.now }
-        ensures ok { OnOk result ((x : List ℕ) → AreEdited (λ p. holds p x) ts (patch.now ∷ []) (is_kept forgotten (readers_at self.old x)) (is_kept forgotten (readers_at self.new x))) }
+        ensures edited { IfOk result (λ is_one. IsTrue is_one → (x : List ℕ) → AreEdited (λ p. holds p x) ts (patch.now ∷ []) (is_kept forgotten (readers_at self.old x)) (is_kept forgotten (readers_at self.new x))) }
+        ensures other { IfOk result (λ is_one. is_one ≡ false → self.new ≡ self.old) }
         ensures err { OnErr result ((x : List ℕ) → readers_at self.new x ≡ readers_at self.old x) }
     {
-        match self.starts.get_mut(&patch.lo) {
-            None => Ok(None),
-            Some(readers) => {
-                readers.edit(patch, ts, forgotten)?;
-                Ok(readers.latest())
-            }
-        }
+        let Some(neighbours) = self.neighbours(patch) else {
+            return Ok(false);
+        };
+        let Some(readers) = self.starts.get_mut(&patch.lo) else {
+            return Ok(false);
+        };
+        readers.edit(patch, ts, forgotten)?;
+        let latest = readers.latest();
+        self.join_beside(patch, neighbours, latest);
+        Ok(true)
     }
 
-    /// The readers of the patches' keys are edited, and neighbours with the same readers joined.
+    /// The readers of the patches' keys are edited, and neighbours with the same readers joined, but for
+    /// a key that has a segment of its own, which is joined with what is before it by the next sweep.
     pub(crate) fn edit(
         &mut self,
         patches: &[Patch],
@@ -258,9 +258,7 @@ impl Segments {
         ensures err { OnErr result ((x : List ℕ) → readers_at self.new x ≡ readers_at self.old x) }
     {
         if let [patch] = patches {
-            if let Some(neighbours) = self.neighbours(patch) {
-                let latest = self.edit_segment(patch, ts, forgotten)?;
-                self.join_beside(patch, neighbours, latest);
+            if self.edit_segment(patch, ts, forgotten)? {
                 return Ok(());
             }
             if !patch.runs_forward() {

@@ -191,7 +191,7 @@ const COMMON: [&[u8]; 6] = [
     b"kkkkkkkkkkkkkkkkkkkk",
 ];
 
-// Starts are compared by their first eight bytes, and then as a whole.
+// Starts are compared by their first eight bytes, and then by what follows them.
 #[test]
 fn keys_with_a_common_beginning_are_told_apart(rt: HostRuntime) -> Result<(), Fail> {
     let alloc = rt.alloc();
@@ -231,6 +231,22 @@ fn a_mark_in_place_is_joined_with_its_neighbours(rt: HostRuntime) -> Result<(), 
     add_piece(&mut marks, span(alloc, b"a", b"c")?, 0, u64::MAX, 30)?;
     assert_eq!(rt; marks.spans(), 1);
     assert!(rt; have_readers(alloc, &marks, &[(b"a", &[30]), (b"c", &[30]), (b"d", &[])])?);
+    Ok(())
+}
+
+// A mark of a key alone doesn't ask what is before it, so that they are joined by the next sweep.
+#[test]
+fn a_key_is_joined_with_what_is_before_it_by_a_sweep(rt: HostRuntime) -> Result<(), Fail> {
+    let alloc = rt.alloc();
+    let mut marks = Marks::new(alloc);
+    add(alloc, &mut marks, &[(b"a", b"b", 20), (b"b", b"b\0", 10)])?;
+    add_piece(&mut marks, span(alloc, b"b", b"b\0")?, 0, u64::MAX, 20)?;
+    assert_eq!(rt; marks.spans(), 2);
+    assert!(rt; have_readers(alloc, &marks, &[(b"a", &[20]), (b"b", &[20]), (b"c", &[])])?);
+    // a mark by what counts as forgotten sweeps
+    marks.forget_through(5);
+    add(alloc, &mut marks, &[(b"x", b"y", 5)])?;
+    assert_eq!(rt; marks.spans(), 2);
     Ok(())
 }
 

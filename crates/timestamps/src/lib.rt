@@ -4,8 +4,8 @@
 //! and one more still fits a `u64`. A key is 1 to 64 bytes, ordered byte by byte; a value is 0 to 1024
 //! bytes. Contracts see a timestamp as its number, a key or a value as its list of bytes. Threads that
 //! want timestamps of their own lease them, 32 at a time, from an [`Oracle`](oracle::Oracle). A rising
-//! list of timestamps is searched by [`Halves`](halves::Halves), and a map that is ordered by timestamp
-//! by [`Moment`](moment::Moment)s.
+//! list of timestamps is searched by [`Halves`](halves::Halves), and a map by
+//! [`Moment`](moment::Moment)s, which are keys that are ordered as timestamps are.
 //!
 //! ```text
 //! Ts::new(0)            None                  Key::new(alloc, b"")      Err(KeyLength)

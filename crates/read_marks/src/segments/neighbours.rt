@@ -3,7 +3,7 @@ ghost use Rattle.std.specs.Prelude.{◌≡◌, ℕ, List, MatchOption, IsTrue, S
 ghost use Rattle.std.specs.BTreeMap.{get};
 ghost use Rattle.timestamps.specs.Bytes.{key_cmp};
 ghost use Rattle.read_marks.specs.Segments.{readers_at, readers_before};
-ghost use Rattle.read_marks.specs.Editing.{IsSegment};
+ghost use Rattle.read_marks.specs.Editing.{IsSegment, IsStart};
 
 use super::Segments;
 use crate::patch::Patch;
@@ -11,7 +11,7 @@ use crate::readers::Readers;
 use crate::start::Start;
 use std::ops::Bound;
 
-/// The latest readers of the segments before one and after it, where these have any.
+/// The latest readers of the segments before one and after it, where these have any and were asked.
 #[derive(Debug, Clone, Copy)]
 pub(super) struct Neighbours {
     before: Option<u64>,
@@ -25,10 +25,32 @@ fn latest_of(segment: Option<(&Start, &Readers)>) -> Option<u64> {
 }
 
 impl Segments {
-    // What stands beside a patch that is one segment: one starts where it begins, and the next where it
-    // ends. These are the last starts up to its end, so that one search finds them all. It is `None` where
-    // the patch isn't one segment.
+    // What stands beside a patch that is one segment if a segment starts where it begins. It is `None`
+    // where the patch isn't one segment.
+    //
+    // No start lies in a key, so that one that starts at a key and ends behind it is found by these two
+    // alone, which costs a third of a range of starts. What is before it isn't asked then: a key that
+    // comes to have the readers of what is before it stays apart until the next sweep, and is mostly
+    // read by itself again.
     pub(super) fn neighbours(&self, patch: &Patch) -> Option<Neighbours>
+        ensures { MatchOption result (IsSegment self.now.starts patch.now → ⊥) (λ _. IsStart self.now.starts patch.now.lo → IsSegment self.now.starts patch.now) }
+    {
+        match patch.end_of_key() {
+            None => self.beside(patch),
+            Some(hi) => {
+                self.see_order();
+                let end = self.starts.get(hi)?;
+                Some(Neighbours {
+                    before: None,
+                    after: end.latest(),
+                })
+            }
+        }
+    }
+
+    // The same of any patch, and where it isn't `None` the patch is one segment. The starts that tell are
+    // the last ones up to its end, so that one search finds them all.
+    fn beside(&self, patch: &Patch) -> Option<Neighbours>
         ensures { MatchOption result (IsSegment self.now.starts patch.now → ⊥) (λ _. IsSegment self.now.starts patch.now) }
     {
         let mut back = self.starts.range((Bound::Unbounded, patch.up_to_end()));

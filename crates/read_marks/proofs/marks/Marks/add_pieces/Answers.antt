@@ -1,12 +1,11 @@
-use Rattle.std.proofs.Common.{ℕ, List, [], ◌∷◌, Bool, ◌≡◌, ◌<◌, ◌∙◌, ap, arith, map, subst, sym}
+use Rattle.std.proofs.Common.{ℕ, List, [], ◌∷◌, Bool, ◌≡◌, arith, map, subst, sym}
 use Rattle.std.proofs.lemmas.Result.{on_ok_weaker}
 use Rattle.read_marks.specs.Marks.{HaveGaps, is_marked_in}
-use Rattle.read_marks.specs.Patches as patching
 use Rattle.read_marks.specs.Patches.{AreEdited, holds, patch_of}
 use Rattle.read_marks.specs.declared.patch.Patch.{Patch}
 use Rattle.read_marks.specs.declared.piece.Piece.{Piece}
 use Rattle.read_marks.proofs.Alike.{only}
-use Rattle.read_marks.proofs.Pieces.{edit_alike, piece_gaps, piece_in, piece_out}
+use Rattle.read_marks.proofs.Pieces.{edit_alike, piece_in, piece_out}
 use Rattle.read_marks.proofs.marks.Marks.add_pieces.Goals as goal
 
 -- a piece alone

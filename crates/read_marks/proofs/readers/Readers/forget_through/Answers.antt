@@ -1,4 +1,4 @@
-use Rattle.std.proofs.Common.{◌≡◌, drop, ◌∙◌}
+use Rattle.std.proofs.Common.{◌≡◌, drop}
 use Rattle.read_marks.proofs.Splitting.{filter_above}
 use Rattle.read_marks.proofs.readers.Readers.forget_through.Goals as goal
 

@@ -32,4 +32,4 @@ returns c =
     let long : 8 ≤ length c.args.self.now = omega (arith, len, c.min.ensures, c.if-min-le-FRONT_BYTES.false) in
     let long' : 8 ≤ length c.args.other.now = omega (arith, other, c.min.ensures, c.if-min-le-FRONT_BYTES.false) in
     let rest = fronts_aside 8 0 c.args.self.now c.args.other.now left.0 right.0 (sym left.1 ∙ c.if-self-other.false ∙ right.1) long long' in
-    c.cmp-2.ensures ∙ rw (c.rest.ensures, c.rest-2.ensures) (sym rest)
+    c.order.ensures ∙ rw (c.rest.ensures, c.rest-2.ensures) (sym rest)
