@@ -1,5 +1,5 @@
 -- The order of starts that differ in their first bytes, and of those that don't.
-use Rattle.std.proofs.Common.{ℕ, zero, suc, List, [], ◌∷◌, ◌≡◌, ◌<◌, ◌≤◌, ◌+◌, ◌*◌, refl, sym, ap, ◌∙◌, arith, length, get_or, take, drop, replicate, min, ◌++◌, Ordering, Less, Equal, Greater, nat_cmp}
+use Rattle.std.proofs.Common.{ℕ, zero, suc, List, [], ◌∷◌, ◌≡◌, ◌<◌, ◌≤◌, ◌+◌, ◌*◌, refl, sym, ap, ◌∙◌, arith, length, get_or, drop, min, ◌++◌, Ordering, Less, Equal, Greater, nat_cmp}
 use Rattle.std.specs.Cmp.{ranks}
 use Rattle.std.specs.Ordering.{MatchOrdering, ordering_then}
 use Rattle.timestamps.specs.Bytes.{key_cmp}
@@ -120,7 +120,7 @@ fronts_aside (suc n) a (x ∷ xs) (y ∷ ys) h g e long long' =
     (λ same. fronts_aside n (a * 256 + x) xs ys (λ k. h (suc k)) (λ k. g (suc k)) (e ∙ sym (same-byte n a x y xs ys same)) (omega arith) (omega arith))
 
 -- what was read from a place that zeros fill
-spelt : (xs : List ℕ) → front_from 8 0 xs
+pub spelt : (xs : List ℕ) → front_from 8 0 xs
     ≡ get_or xs 0 0 * 72057594037927936 + get_or xs 1 0 * 281474976710656 + get_or xs 2 0 * 1099511627776 + get_or xs 3 0 * 4294967296 + get_or xs 4 0 * 16777216 + get_or xs 5 0 * 65536 + get_or xs 6 0 * 256 + get_or xs 7 0
 spelt [] = refl
 spelt (a ∷ []) = omega arith
@@ -139,21 +139,7 @@ front_read xs first same =
     rw (same 0 (omega arith), same 1 (omega arith), same 2 (omega arith), same 3 (omega arith), same 4 (omega arith), same 5 (omega arith), same 6 (omega arith), same 7 (omega arith)) (spelt xs)
 
 -- bytes before zeros
-pub zeros_left : (m n k : ℕ) → get_or (drop m (replicate {A = ℕ} n 0)) k 0 ≡ 0
-zeros_left zero zero k = refl
-zeros_left zero (suc n) zero = refl
-zeros_left zero (suc n) (suc k) = zeros_left zero n k
-zeros_left (suc m) zero k = refl
-zeros_left (suc m) (suc n) k = zeros_left m n k
-
 pub padded : (xs zs : List ℕ) (k : ℕ) → ((j : ℕ) → get_or zs j 0 ≡ 0) → get_or (xs ++ zs) k 0 ≡ get_or xs k 0
 padded [] zs k zeros = zeros k
 padded (x ∷ xs) zs zero zeros = refl
 padded (x ∷ xs) zs (suc k) zeros = padded xs zs k zeros
-
--- what was filled up is all there
-pub taken_back : (n : ℕ) (xs zs : List ℕ) → n ≡ length xs → take n (xs ++ zs) ≡ xs
-taken_back zero [] zs e = refl
-taken_back zero (x ∷ xs) zs e = absurd (omega arith)
-taken_back (suc n) [] zs e = absurd (omega arith)
-taken_back (suc n) (x ∷ xs) zs e = ap (λ ys. x ∷ ys) (taken_back n xs zs (omega arith))

@@ -1,4 +1,5 @@
 pub mod Fronts
+pub mod Words
 pub mod Splitting
 pub mod Between
 pub mod Merging

@@ -1,5 +1,5 @@
--- The first bytes of a start as one number.
-use Rattle.std.specs.Prelude.{ℕ, zero, suc, List, [], ◌∷◌, ◌+◌, ◌*◌}
+-- Bytes as numbers of eight bytes each, the first byte the greatest digit.
+use Rattle.std.specs.Prelude.{ℕ, zero, suc, List, [], ◌∷◌, ◌+◌, ◌*◌, ◌/◌, ◌%◌, ◌≡◌, ◌≤◌, take, drop}
 
 -- n bytes after the number `above`, the greatest first: zeros stand for those that are missing
 abbrev pub front_from : (n above : ℕ) → List ℕ → ℕ
@@ -7,5 +7,29 @@ front_from zero above xs = above
 front_from (suc n) above [] = front_from n (above * 256) []
 front_from (suc n) above (x ∷ xs) = front_from n (above * 256 + x) xs
 
+-- the first word of some bytes
 abbrev pub front_of : List ℕ → ℕ
 front_of xs = front_from 8 0 xs
+
+-- their first n words
+abbrev pub words_of : (n : ℕ) → List ℕ → List ℕ
+words_of zero xs = []
+words_of (suc n) xs = front_of xs ∷ words_of n (drop 8 xs)
+
+-- the n lowest bytes of a word, in front of others
+abbrev pub digits : (n word : ℕ) → List ℕ → List ℕ
+digits zero word xs = xs
+digits (suc n) word xs = digits n (word / 256) (word % 256 ∷ xs)
+
+-- the bytes that words spell
+abbrev pub bytes_of : List ℕ → List ℕ
+bytes_of [] = []
+bytes_of (word ∷ words) = digits 8 word (bytes_of words)
+
+-- the text that words spell, as long as is said
+abbrev pub text_of : (words : List ℕ) (len : ℕ) → List ℕ
+text_of words len = take len (bytes_of words)
+
+-- It is at most 65 bytes, and the words are those that it has: what is behind its last byte is 0.
+abbrev pub IsText : (words : List ℕ) (len : ℕ) → Type 0
+IsText words len = (len ≤ 65) × (words ≡ words_of 9 (text_of words len))

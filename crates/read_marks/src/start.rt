@@ -1,74 +1,69 @@
 //! Where a segment of keys begins.
-ghost use Rattle.std.specs.Prelude.{◌≡◌, ℕ, List, [], ◌<◌, ◌≤◌, Some, refl, length, bytes_eq, slice_index, ◌++◌, drop, IsTrue, ◌↔◌};
+ghost use Rattle.std.specs.Prelude.{◌≡◌, ℕ, List, [], ◌<◌, ◌≤◌, Some, refl, length, bytes_eq, IsTrue, ◌↔◌};
 ghost use Rattle.std.specs.Cmp.{partial_equiv_from_equiv};
 ghost use Rattle.std.specs.Cmp.Lexicographic.{nat_list_eq_equiv, nat_list_cmp_total, texts_ties, texts_po};
 ghost use Rattle.timestamps.specs.Bytes.{key_cmp};
 ghost use Rattle.spans.specs.Successors.{successor};
-ghost use Rattle.read_marks.specs.Fronts.{front_of};
+ghost use Rattle.read_marks.specs.Fronts.{front_of, words_of};
 
 use std::cmp::Ordering;
 use std::marker::Model;
 
-/// So many bytes of two starts are compared first, as one number.
-const FRONT_BYTES: usize = 8;
+/// So many bytes are one word, and starts are compared by words.
+const WORD_BYTES: usize = 8;
 
 /// A key, a bound, or no byte at all, which is below every key: at most 65 bytes. It lies in place and
-/// needs no memory of its own, so that a look-up takes none. Its first bytes lie beside it as a number,
-/// so that a comparison waits for no byte that has just been written.
+/// needs no memory of its own, so that a look-up takes none. Its bytes lie as words, numbers of eight bytes
+/// of which the first is the greatest digit, with zeros behind the last byte: keys often begin alike, and
+/// eight bytes are compared at once. Each word is read as it was written, so that a comparison waits for no
+/// byte that has just been written.
 #[derive(Debug, Drop)]
 pub(crate) struct Start {
-    front: u64,
-    bytes: [u8; 65],
+    words: [u64; 9],
     len: u8,
 }
 
 impl Model for Start {
-    ghost use Rattle.std.specs.Prelude.{ℕ, List, ◌≡◌, ◌<◌, ◌≤◌, slice_index, take};
-    ghost use Rattle.read_marks.specs.Fronts.{front_of};
+    ghost use Rattle.std.specs.Prelude.{ℕ, List};
+    ghost use Rattle.read_marks.specs.Fronts.{text_of, IsText};
 
     ghost Value = { List ℕ };
 
-    ghost view = { λ s. take s.len s.bytes };
+    ghost view = { λ s. text_of s.words s.len };
 
-    ghost invariant = { λ s. (s.len ≤ 65) × ((k : ℕ) → slice_index (take s.len s.bytes) k < 256) × (s.front ≡ front_of (take s.len s.bytes)) };
+    ghost invariant = { λ s. IsText s.words s.len };
 }
 
-// The first bytes as one number, where zeros stand for those that are missing.
-fn front(bytes: &[u8]) -> u64
+// The word of fewer bytes than make one whole, where zeros stand for those that are missing. It is made
+// in a register: to read a number where its bytes were just written is to wait for them.
+fn last_word(bytes: &[u8]) -> u64
+    requires { length bytes.now < 8 }
     ensures { result ≡ front_of bytes.now }
 {
-    if let Some(first) = bytes.first_chunk() {
-        return u64::from_be_bytes(*first);
+    let mut word = 0;
+    let mut place: u32 = 64;
+    for byte in bytes {
+        place -= 8;
+        word += (*byte as u64) << place;
     }
-    let mut first = [0; FRONT_BYTES];
-    first[..bytes.len()].copy_from_slice(bytes);
-    u64::from_be_bytes(first)
+    word
 }
 
-// The order of bytes, which are compared eight at a time: keys often begin alike. It is a call of its own,
-// so that starts that differ in their fronts, as most do, are compared in few instructions.
-#[inline(never)]
-fn order(left: &[u8], right: &[u8]) -> Ordering
-    ensures { result ≡ key_cmp left.now right.now }
-{
-    let (mut left, mut right) = (left, right);
-    while left.len() >= FRONT_BYTES && right.len() >= FRONT_BYTES {
-        let (one, other) = (front(left), front(right));
-        if one != other {
-            return one.cmp(&other);
-        }
-        left = &left[FRONT_BYTES..];
-        right = &right[FRONT_BYTES..];
-    }
-    left.cmp(right)
-}
-
-// Puts bytes at the front of a place.
-fn put(place: &mut [u8; 65], bytes: &[u8])
+// Puts the words of bytes into a place, and zeros behind them.
+#[inline]
+fn put_words(words: &mut [u64; 9], bytes: &[u8])
     requires { length bytes.now ≤ 65 }
-    ensures { place.new ≡ bytes.now ++ drop (length bytes.now) place.old }
+    ensures { words.new ≡ words_of 9 bytes.now }
 {
-    place[..bytes.len()].copy_from_slice(bytes);
+    *words = [0; 9];
+    let mut left = bytes;
+    let mut at = 0;
+    while let Some(first) = left.first_chunk() {
+        words[at] = u64::from_be_bytes(*first);
+        left = &left[WORD_BYTES..];
+        at += 1;
+    }
+    words[at] = last_word(left);
 }
 
 impl Start {
@@ -78,8 +73,7 @@ impl Start {
         ensures { result ≡ [] }
     {
         Start {
-            front: 0,
-            bytes: [0; 65],
+            words: [0; 9],
             len: 0,
         }
     }
@@ -90,36 +84,35 @@ impl Start {
         requires { length bytes.now ≤ 65 }
         ensures { self.new ≡ bytes.now }
     {
-        put(&mut self.bytes, bytes);
-        self.front = front(bytes);
+        put_words(&mut self.words, bytes);
         self.len = bytes.len() as u8;
     }
 
-    /// Its bytes.
-    fn bytes(&self) -> &[u8]
-        ensures bytes { result.now ≡ self.now }
-        ensures in_range { length self.now ≤ 65 }
-    {
-        &self.bytes[..self.len as usize]
-    }
-
-    /// Whether it is the first text above a key: that key, and a zero behind it.
+    /// Whether it is the first text above a key: that key, and a zero behind it. Zeros are behind the last
+    /// byte of each start anyhow, so that the two differ in their lengths alone.
     pub(crate) fn is_successor_of(&self, key: &Start) -> bool
         ensures { IsTrue result ↔ (self.now ≡ successor key.now) }
     {
-        match self.bytes().split_last() {
-            None => false,
-            Some((last, bytes)) => *last == 0 && bytes == key.bytes(),
-        }
+        self.len == key.len + 1 && self.words == key.words
     }
 
-    // What follows its front.
-    #[inline]
-    fn rest(&self) -> &[u8]
-        requires { 8 < length self.now }
-        ensures { result.now ≡ drop 8 self.now }
+    // The order of starts whose first words are the same: the first words that differ decide. Where the
+    // shorter ends and none did, it begins the other, and the lengths decide. It is a call of its own, so
+    // that starts that differ in their first words, as most do, are compared in few instructions.
+    #[inline(never)]
+    fn cmp_behind(&self, other: &Start) -> Ordering
+        requires { front_of self.now ≡ front_of other.now }
+        ensures { result ≡ key_cmp self.now other.now }
     {
-        &self.bytes[FRONT_BYTES..self.len as usize]
+        let shorter = self.len.min(other.len) as usize;
+        let mut at = 1;
+        while at * WORD_BYTES < shorter {
+            if self.words[at] != other.words[at] {
+                return self.words[at].cmp(&other.words[at]);
+            }
+            at += 1;
+        }
+        self.len.cmp(&other.len)
     }
 
     /// The same start once more.
@@ -128,8 +121,7 @@ impl Start {
         ensures { result ≡ self.now }
     {
         Start {
-            front: self.front,
-            bytes: self.bytes,
+            words: self.words,
             len: self.len,
         }
     }
@@ -170,16 +162,12 @@ impl Ord for Start {
 
     ghost matches_eq = { texts_ties };
 
-    // Most starts differ in their fronts. Where those are the same and one of them is no longer than its
-    // front, the shorter begins the other; else what follows the fronts decides.
+    // Most starts differ in their first words.
     #[inline]
     fn cmp(&self, other: &Start) -> Ordering {
-        if self.front != other.front {
-            return self.front.cmp(&other.front);
+        if self.words[0] != other.words[0] {
+            return self.words[0].cmp(&other.words[0]);
         }
-        if self.len.min(other.len) as usize <= FRONT_BYTES {
-            return self.len.cmp(&other.len);
-        }
-        order(self.rest(), other.rest())
+        self.cmp_behind(other)
     }
 }

@@ -1,13 +1,9 @@
-use Rattle.std.proofs.Common.{◌≡◌, ◌∙◌, ap, length, refl, sym, take}
-use Rattle.read_marks.specs.Fronts.{front_of}
-use Rattle.read_marks.proofs.Fronts.{taken_back}
+use Rattle.std.proofs.Common.{length, refl}
+use Rattle.read_marks.proofs.Words.{is_made_of, is_text}
 use Rattle.read_marks.proofs.start.Start.set.Goals as goal
 
 pub invariant_of-self : goal.invariant_of-self
-invariant_of-self c =
-    let count = length c.args.bytes.now in
-    let view : take count c.put.new.place ≡ c.args.bytes.now = rw (c.put.ensures) (taken_back count c.args.bytes.now _ refl) in
-    (c.requires, λ k. rw view (c.type_inv.bytes k).fits, c.front-self-inside.ensures ∙ ap front_of (sym view))
+invariant_of-self c = is_text c.put_words.new.words (length c.args.bytes.now) c.args.bytes.now (λ k. (c.type_inv.bytes k).fits) refl c.requires c.put_words.ensures
 
 pub returns : goal.returns
-returns c = rw (c.put.ensures) (taken_back (length c.args.bytes.now) c.args.bytes.now _ refl)
+returns c = is_made_of c.put_words.new.words (length c.args.bytes.now) c.args.bytes.now (λ k. (c.type_inv.bytes k).fits) refl c.requires c.put_words.ensures

@@ -1,0 +1,38 @@
+use Rattle.std.proofs.Common.{◌≡◌, ◌+◌, ◌*◌, ◌-◌, ◌<◌, ◌≤◌, length, length-set, drop, drop-drop, arith, ap, sym, ◌∙◌}
+use Rattle.std.proofs.lemmas.List.{length-drop}
+use Rattle.read_marks.specs.Fronts.{front_of}
+use Rattle.read_marks.proofs.Words.{all_put, chunk_word, next_put, rest_is, zeros_put}
+use Rattle.read_marks.proofs.start.put_words.Goals as goal
+
+pub loop-first-preserved : goal.loop-first-preserved
+loop-first-preserved c =
+    let loop = c.loop-first.invariant in
+    let at = c.loop-first.at in
+    let words = c.loop-first.words in
+    let left = c.loop-first.left.now in
+    let bytes = c.args.bytes.now in
+    let chunk = c.in-Some.ensures.cases in
+    let size : length left ≡ length bytes - 8 * at = ap length loop.left ∙ length-drop (8 * at) bytes in
+    let long : 8 ≤ length left = chunk.enough in
+    let within : at < length words = omega (arith, c.requires) in
+    let word : c.from_be_bytes.result ≡ front_of (drop (8 * at) bytes) = c.from_be_bytes.ensures ∙ sym (chunk_word left c.in-Some.first.now chunk.same) ∙ ap front_of loop.left in
+    let on : 8 * at + 8 ≡ 8 * (at + 1) = omega arith in
+    record {
+      nine = length-set words at c.from_be_bytes.result ∙ loop.nine;
+      within = omega arith;
+      left = rest_is 8 left ∙ ap (drop 8) loop.left ∙ drop-drop 8 (8 * at) bytes ∙ ap (λ k. drop k bytes) on;
+      made = next_put words at c.from_be_bytes.result bytes within word loop.made;
+      zeros = zeros_put words at c.from_be_bytes.result bytes within loop.zeros;
+    }
+
+pub returns : goal.returns
+returns c =
+    let loop = c.loop-first.invariant in
+    let at = c.loop-first.at in
+    let words = c.loop-first.words in
+    let left = c.loop-first.left.now in
+    let bytes = c.args.bytes.now in
+    let size : length left ≡ length bytes - 8 * at = ap length loop.left ∙ length-drop (8 * at) bytes in
+    let short : length left < 8 = c.in_default.ensures.cases in
+    let within : at < length words = omega (arith, c.requires) in
+    all_put words at c.last_word.result bytes within loop.nine (omega arith) (c.last_word.ensures ∙ ap front_of loop.left) loop.made loop.zeros
