@@ -191,7 +191,7 @@ const COMMON: [&[u8]; 6] = [
     b"kkkkkkkkkkkkkkkkkkkk",
 ];
 
-// Starts are compared by their first eight bytes, and then by what follows them.
+// Starts are compared eight bytes at a time.
 #[test]
 fn keys_with_a_common_beginning_are_told_apart(rt: HostRuntime) -> Result<(), Fail> {
     let alloc = rt.alloc();
