@@ -7,7 +7,7 @@ ghost use Rattle.read_marks.specs.Readers.{is_kept};
 ghost use Rattle.read_marks.specs.Segments.{readers_at, readers_before, segment_count};
 ghost use Rattle.read_marks.specs.Patches.{AreEdited, HaveGaps, holds};
 ghost use Rattle.read_marks.specs.Joining.{IsExtentOf, IsPartOf, IsWithin};
-ghost use Rattle.read_marks.specs.Editing.{AreParts, AreStarts, HasEnds, IsPart, IsStart, puts, puts_parts};
+ghost use Rattle.read_marks.specs.Editing.{AreParts, AreStarts, HasEnds, IsPart, IsSegment, IsStart, puts, puts_parts};
 
 mod neighbours;
 
@@ -229,7 +229,7 @@ impl Segments {
         requires low { patch.now.above < ts }
         requires high { ts ≤ patch.now.until }
         ensures edited { IfOk result (λ is_one. IsTrue is_one → (x : List ℕ) → AreEdited (λ p. holds p x) ts (patch.now ∷ []) (is_kept forgotten (readers_at self.old x)) (is_kept forgotten (readers_at self.new x))) }
-        ensures other { IfOk result (λ is_one. is_one ≡ false → self.new ≡ self.old) }
+        ensures other { IfOk result (λ is_one. is_one ≡ false → (self.new ≡ self.old) × (IsSegment self.old.starts patch.now → ⊥)) }
         ensures err { OnErr result ((x : List ℕ) → readers_at self.new x ≡ readers_at self.old x) }
     {
         let Some(neighbours) = self.neighbours(patch) else {
