@@ -1,5 +1,5 @@
 -- The order of starts that differ in their first bytes, and of those that don't.
-use Rattle.std.proofs.Common.{ℕ, zero, suc, List, [], ◌∷◌, ◌≡◌, ◌<◌, ◌≤◌, ◌+◌, ◌*◌, refl, sym, ap, ◌∙◌, arith, length, get_or, drop, min, ◌++◌, Ordering, Less, Equal, Greater, nat_cmp}
+use Rattle.std.proofs.Common.{ℕ, zero, suc, List, [], ◌∷◌, ◌≡◌, ◌<◌, ◌≤◌, ◌+◌, ◌*◌, refl, sym, ap, ◌∙◌, arith, length, get_or, min, ◌++◌, Ordering, Less, Equal, Greater, nat_cmp}
 use Rattle.std.specs.Cmp.{ranks}
 use Rattle.std.specs.Ordering.{MatchOrdering, ordering_then}
 use Rattle.timestamps.specs.Bytes.{key_cmp}
@@ -31,6 +31,15 @@ level x y e = is_equal x y (nat_cmp x y) (ranks x y) e
 
 above : (x y : ℕ) → y < x → nat_cmp x y ≡ Greater
 above x y l = is_greater x y (nat_cmp x y) (ranks x y) l
+
+-- the same before both doesn't count
+cmp_on-turn : (a x y : ℕ) (r : Ordering) → MatchOrdering r (x < y) (x ≡ y) (y < x) → nat_cmp (a + x) (a + y) ≡ r
+cmp_on-turn a x y Less l = let t : x < y = l in below (a + x) (a + y) (omega arith)
+cmp_on-turn a x y Equal e = let t : x ≡ y = e in level (a + x) (a + y) (omega arith)
+cmp_on-turn a x y Greater l = let t : y < x = l in above (a + x) (a + y) (omega arith)
+
+pub cmp_on : (a x y : ℕ) → nat_cmp (a + x) (a + y) ≡ nat_cmp x y
+cmp_on a x y = cmp_on-turn a x y (nat_cmp x y) (ranks x y)
 
 -- zeros are the least of all bytes
 least : (n a b : ℕ) (xs : List ℕ) → a ≤ b → front_from n a [] ≤ front_from n b xs
@@ -109,15 +118,6 @@ fronts_same zero a (x ∷ xs) (y ∷ ys) h g e short = absurd (omega arith)
 fronts_same (suc n) a (x ∷ xs) (y ∷ ys) h g e short =
     same-turn n a x y xs ys (nat_cmp x y) (ranks x y) (λ k. h (suc k)) (λ k. g (suc k)) e _
     (λ same. fronts_same n (a * 256 + x) xs ys (λ k. h (suc k)) (λ k. g (suc k)) (e ∙ sym (same-byte n a x y xs ys same)) (omega arith) ∙ longer (length xs) (length ys) _ (ranks (length xs) (length ys)))
-
--- of two that are both longer the rest decides
-pub fronts_aside : (n a : ℕ) (xs ys : List ℕ) → AreBytes xs → AreBytes ys → front_from n a xs ≡ front_from n a ys → n ≤ length xs → n ≤ length ys → key_cmp xs ys ≡ key_cmp (drop n xs) (drop n ys)
-fronts_aside zero a xs ys h g e long long' = refl
-fronts_aside (suc n) a [] ys h g e long long' = absurd (omega arith)
-fronts_aside (suc n) a (x ∷ xs) [] h g e long long' = absurd (omega arith)
-fronts_aside (suc n) a (x ∷ xs) (y ∷ ys) h g e long long' =
-    same-turn n a x y xs ys (nat_cmp x y) (ranks x y) (λ k. h (suc k)) (λ k. g (suc k)) e _
-    (λ same. fronts_aside n (a * 256 + x) xs ys (λ k. h (suc k)) (λ k. g (suc k)) (e ∙ sym (same-byte n a x y xs ys same)) (omega arith) (omega arith))
 
 -- what was read from a place that zeros fill
 pub spelt : (xs : List ℕ) → front_from 8 0 xs

@@ -7,7 +7,7 @@ use Rattle.std.proofs.lemmas.Bool.{cases_lt}
 use Rattle.std.proofs.lemmas.Nat.{pow-add}
 use Rattle.timestamps.specs.Bytes.{key_cmp}
 use Rattle.read_marks.specs.Fronts.{front_from, front_of, words_of, digits, bytes_of, text_of, IsText}
-use Rattle.read_marks.proofs.Fronts.{AreBytes, front_read, fronts_aside, fronts_differ, padded, spelt}
+use Rattle.read_marks.proofs.Fronts.{AreBytes, cmp_on, front_read, fronts_differ, padded, spelt}
 
 -- how many numbers n bytes can be
 abbrev pub width : ℕ → ℕ
@@ -31,14 +31,13 @@ front_on zero (suc m) n a xs e = absurd (omega arith)
 front_on (suc k) (suc m) n a [] e = front_on k m n (a * 256) [] (omega arith) ∙ ap (front_from n (front_from m (a * 256) [])) (drop-nil m)
 front_on (suc k) (suc m) n a (x ∷ xs) e = front_on k m n (a * 256 + x) xs (omega arith)
 
+-- one word more
+last_front : (m : ℕ) (xs : List ℕ) → front_from (m + 8) 0 xs ≡ front_from m 0 xs * width 8 + front_of (drop m xs)
+last_front m xs = let front = front_from m 0 xs in front_on (m + 8) m 8 0 xs refl ∙ in_front 8 front 0 front (drop m xs) (omega arith)
+
 -- one word more that two lists have alike
 pub alike_on : (m : ℕ) (xs ys : List ℕ) → front_from m 0 xs ≡ front_from m 0 ys → front_of (drop m xs) ≡ front_of (drop m ys) → front_from (m + 8) 0 xs ≡ front_from (m + 8) 0 ys
-alike_on m xs ys same next =
-    let one = front_from m 0 xs in
-    let other = front_from m 0 ys in
-    let left : front_from 8 one (drop m xs) ≡ one * width 8 + front_of (drop m xs) = in_front 8 one 0 one (drop m xs) (omega arith) in
-    let right : front_from 8 other (drop m ys) ≡ other * width 8 + front_of (drop m ys) = in_front 8 other 0 other (drop m ys) (omega arith) in
-    front_on (m + 8) m 8 0 xs refl ∙ left ∙ rw (same, next) refl ∙ sym right ∙ sym (front_on (m + 8) m 8 0 ys refl)
+alike_on m xs ys same next = last_front m xs ∙ rw (same, next) (sym (last_front m ys))
 
 no_more : (front step : ℕ) → front ≡ front + 0 * step
 no_more front step = omega arith
@@ -184,12 +183,17 @@ module _ (words : List ℕ) (len : ℕ) (text : List ℕ) (view : text_of words 
 pub bytes_zero : (xs : List ℕ) → AreBytes xs → AreBytes (xs ++ 0 ∷ [])
 bytes_zero xs h = λ k. rw (padded xs (0 ∷ []) k zero_read) (h k)
 
-drop_bytes : (n : ℕ) (xs : List ℕ) → AreBytes xs → AreBytes (drop n xs)
-drop_bytes n xs h = λ k. rw (get_or-drop n xs k 0) (h (n + k))
+-- the first words that differ decide, since what is before them counts more and is the same
+differ_on : (l r a x y : ℕ) → l ≡ a + x → r ≡ a + y → (x ≡ y → ⊥) → l ≡ r → ⊥
+differ_on l r a x y e e' f same = f (omega arith)
 
--- the first words that differ decide
-pub words_differ : (m : ℕ) (xs ys : List ℕ) → AreBytes xs → AreBytes ys → front_from m 0 xs ≡ front_from m 0 ys → m ≤ length xs → m ≤ length ys → (front_of (drop m xs) ≡ front_of (drop m ys) → ⊥) → key_cmp xs ys ≡ nat_cmp (front_of (drop m xs)) (front_of (drop m ys))
-words_differ m xs ys h g same long long' f = fronts_aside m 0 xs ys h g same long long' ∙ fronts_differ 8 0 (drop m xs) (drop m ys) (drop_bytes m xs h) (drop_bytes m ys g) f
+pub words_differ : (m : ℕ) (xs ys : List ℕ) → AreBytes xs → AreBytes ys → front_from m 0 xs ≡ front_from m 0 ys → (front_of (drop m xs) ≡ front_of (drop m ys) → ⊥) → key_cmp xs ys ≡ nat_cmp (front_of (drop m xs)) (front_of (drop m ys))
+words_differ m xs ys h g same f =
+    let before = front_from m 0 ys * width 8 in
+    let left : front_from (m + 8) 0 xs ≡ before + front_of (drop m xs) = last_front m xs ∙ ap (λ t. t * width 8 + front_of (drop m xs)) same in
+    let right : front_from (m + 8) 0 ys ≡ before + front_of (drop m ys) = last_front m ys in
+    let differ = fronts_differ (m + 8) 0 xs ys h g (differ_on _ _ before _ _ left right f) in
+    differ ∙ rw (left, right) (cmp_on before (front_of (drop m xs)) (front_of (drop m ys)))
 
 -- Words that are put down one after another before zeros: the next one, and that those are all if it is the last.
 module _ (words : List ℕ) (at word : ℕ) (xs : List ℕ) (within : at < length words) where

@@ -92,11 +92,11 @@ impl Segments {
         extent
     }
 
-    // A copy of the readers of the key.
+    // A copy of the readers of a key, where no segment starts at it.
     fn copy_of(&self, key: &Start) -> Result<Readers, AllocError>
         ensures { IfOk result (λ r. r ≡ readers_at self.now key.now) }
     {
-        match self.readers(key) {
+        match self.readers_below(key) {
             None => Ok(Readers::new(self.alloc)),
             Some(readers) => readers.copy(),
         }

@@ -12,6 +12,9 @@ use std::marker::Model;
 /// So many bytes are one word, and starts are compared by words.
 const WORD_BYTES: usize = 8;
 
+/// A start has so many words.
+const WORDS: usize = 9;
+
 /// A key, a bound, or no byte at all, which is below every key: at most 65 bytes. It lies in place and
 /// needs no memory of its own, so that a look-up takes none. Its bytes lie as words, numbers of eight bytes
 /// of which the first is the greatest digit, with zeros behind the last byte: keys often begin alike, and
@@ -19,7 +22,7 @@ const WORD_BYTES: usize = 8;
 /// byte that has just been written.
 #[derive(Debug, Drop)]
 pub(crate) struct Start {
-    words: [u64; 9],
+    words: [u64; WORDS],
     len: u8,
 }
 
@@ -49,13 +52,13 @@ fn last_word(bytes: &[u8]) -> u64
     word
 }
 
-// Puts the words of bytes into a place, and zeros behind them.
+// Puts the words of bytes into a place that holds zeros, which stay behind them.
 #[inline]
-fn put_words(words: &mut [u64; 9], bytes: &[u8])
-    requires { length bytes.now ≤ 65 }
+fn put_words(words: &mut [u64; WORDS], bytes: &[u8])
+    requires zeros { words.old ≡ words_of 9 [] }
+    requires short { length bytes.now ≤ 65 }
     ensures { words.new ≡ words_of 9 bytes.now }
 {
-    *words = [0; 9];
     let mut left = bytes;
     let mut at = 0;
     while let Some(first) = left.first_chunk() {
@@ -73,7 +76,7 @@ impl Start {
         ensures { result ≡ [] }
     {
         Start {
-            words: [0; 9],
+            words: [0; WORDS],
             len: 0,
         }
     }
@@ -84,6 +87,10 @@ impl Start {
         requires { length bytes.now ≤ 65 }
         ensures { self.new ≡ bytes.now }
     {
+        // where it has no byte, its words are zeros already
+        if self.len > 0 {
+            self.words = [0; WORDS];
+        }
         put_words(&mut self.words, bytes);
         self.len = bytes.len() as u8;
     }
@@ -96,17 +103,16 @@ impl Start {
         self.len == key.len + 1 && self.words == key.words
     }
 
-    // The order of starts whose first words are the same: the first words that differ decide. Where the
-    // shorter ends and none did, it begins the other, and the lengths decide. It is a call of its own, so
-    // that starts that differ in their first words, as most do, are compared in few instructions.
+    // The order of starts whose first words are the same: the first words that differ decide. Where none
+    // do, one start is the other with zeros behind it, and the lengths decide. It is a call of its own, so
+    // that most starts, which `cmp` tells apart before, are compared in few instructions.
     #[inline(never)]
     fn cmp_behind(&self, other: &Start) -> Ordering
         requires { front_of self.now ≡ front_of other.now }
         ensures { result ≡ key_cmp self.now other.now }
     {
-        let shorter = self.len.min(other.len) as usize;
         let mut at = 1;
-        while at * WORD_BYTES < shorter {
+        while at < WORDS {
             if self.words[at] != other.words[at] {
                 return self.words[at].cmp(&other.words[at]);
             }
@@ -162,11 +168,14 @@ impl Ord for Start {
 
     ghost matches_eq = { texts_ties };
 
-    // Most starts differ in their first words.
+    // Most starts differ in their first words, and of those that don't one mostly has no other.
     #[inline]
     fn cmp(&self, other: &Start) -> Ordering {
         if self.words[0] != other.words[0] {
             return self.words[0].cmp(&other.words[0]);
+        }
+        if self.len.min(other.len) as usize <= WORD_BYTES {
+            return self.len.cmp(&other.len);
         }
         self.cmp_behind(other)
     }

@@ -17,7 +17,7 @@ returns-then-self-at c =
     let word : get_or self.words at 0 ≡ front_of (drop (at * 8) text) = text_word self.words self.len text c.self.view_is c.self.invariant at (at * 8) (omega arith) (omega arith) in
     let word' : get_or other.words at 0 ≡ front_of (drop (at * 8) others) = text_word other.words other.len others c.other.view_is c.other.invariant at (at * 8) (omega arith) (omega arith) in
     let differ = words_differ (at * 8) text others (text_bytes self.words self.len text c.self.view_is) (text_bytes other.words other.len others c.other.view_is)
-    c.loop-at.invariant.same (omega arith) (omega arith) (λ same. c.if-self-at.true (word ∙ same ∙ sym word')) in
+    c.loop-at.invariant.same (λ same. c.if-self-at.true (word ∙ same ∙ sym word')) in
     c.cmp.ensures ∙ rw (word, word') (sym differ)
 
 pub loop-at-preserved : goal.loop-at-preserved

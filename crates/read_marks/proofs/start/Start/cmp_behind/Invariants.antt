@@ -1,12 +1,12 @@
-use Rattle.std.proofs.Common.{◌≡◌, ◌≤◌, ◌+◌, ◌-◌, ◌*◌}
+use Rattle.std.proofs.Common.{◌≡◌, ◌≤◌, ◌-◌, ◌*◌}
 use Rattle.read_marks.specs.Fronts.{front_from}
 use Rattle.read_marks.proofs.start.Start.cmp_behind.Given as goal
 
 abbrev pub invariant-loop-at : goal.invariant-loop-at
 invariant-loop-at l = record {
-  within : l.at * 8 ≤ l.shorter + 8;
+  within : l.at ≤ 9;
   same : front_from (l.at * 8) 0 l.self ≡ front_from (l.at * 8) 0 l.other;
 }
 
 abbrev pub decreases-loop-at : goal.decreases-loop-at
-decreases-loop-at l = l.shorter - l.at * 8
+decreases-loop-at l = 9 - l.at
