@@ -81,6 +81,15 @@ impl Readers {
         Ok(Readers { list })
     }
 
+    // The same with room for one more.
+    fn copy_with_room(&self) -> Result<Readers, AllocError>
+        ensures { IfOk result (λ r. r ≡ self.now) }
+    {
+        let mut list = Vec::with_capacity(*self.list.allocator(), self.list.len() + 1)?;
+        list.extend_from_slice(&self.list)?;
+        Ok(Readers { list })
+    }
+
     // How many are at or below a timestamp. Where the latest is, all are: so it is for a gap without an
     // end.
     fn count_through(&self, ts: u64) -> usize
@@ -177,7 +186,7 @@ impl Readers {
         requires high { ts ≤ patch.now.until }
         ensures { IfOk result (λ r. IsPiece (is_kept forgotten self.now) (is_kept forgotten r) ts patch.now.above patch.now.until) }
     {
-        let mut readers = self.copy()?;
+        let mut readers = self.copy_with_room()?;
         readers.merge(patch.above, patch.until, ts)?;
         readers.forget_through(forgotten);
         Ok(readers)

@@ -15,6 +15,7 @@ use crate::extent::Extent;
 use crate::patch::Patch;
 use crate::readers::Readers;
 use crate::start::Start;
+use neighbours::Neighbours;
 use std::alloc::{AllocError, Global};
 use std::collections::BTreeMap;
 use std::ops::Bound;
@@ -222,6 +223,30 @@ impl Segments {
         Ok(())
     }
 
+    // What stands beside a patch that is one segment, and a key is made one. A refusal may leave it split.
+    #[inline(always)]
+    fn see_segment(&mut self, patch: &Patch) -> Result<Option<Neighbours>, AllocError>
+        ensures readers { (x : List ℕ) → readers_at self.new x ≡ readers_at self.old x }
+        ensures beside { IfOk result (λ beside. MatchOption beside (IsSegment self.new.starts patch.now → ⊥) (λ _. IsStart self.new.starts patch.now.lo → IsSegment self.new.starts patch.now)) }
+    {
+        let beside = self.neighbours(patch);
+        if beside.is_some() || patch.end_of_key().is_none() {
+            return Ok(beside);
+        }
+        self.split_segment(patch)
+    }
+
+    // The same once segments start at both ends of a patch: a call of its own, so that an edit of what is
+    // a segment already, as most are, is short.
+    #[inline(never)]
+    fn split_segment(&mut self, patch: &Patch) -> Result<Option<Neighbours>, AllocError>
+        ensures readers { (x : List ℕ) → readers_at self.new x ≡ readers_at self.old x }
+        ensures beside { IfOk result (λ beside. MatchOption beside (IsSegment self.new.starts patch.now → ⊥) (λ _. IsSegment self.new.starts patch.now)) }
+    {
+        self.split_ends(patch)?;
+        Ok(self.beside(patch))
+    }
+
     // The readers of a patch that is one segment are edited in place, and the segment joined with those
     // beside it. It tells whether the patch is one.
     fn edit_segment(&mut self, patch: &Patch, ts: u64, forgotten: u64) -> Result<bool, AllocError>
@@ -229,10 +254,10 @@ impl Segments {
         requires low { patch.now.above < ts }
         requires high { ts ≤ patch.now.until }
         ensures edited { IfOk result (λ is_one. IsTrue is_one → (x : List ℕ) → AreEdited (λ p. holds p x) ts (patch.now ∷ []) (is_kept forgotten (readers_at self.old x)) (is_kept forgotten (readers_at self.new x))) }
-        ensures other { IfOk result (λ is_one. is_one ≡ false → (self.new ≡ self.old) × (IsSegment self.old.starts patch.now → ⊥)) }
+        ensures other { IfOk result (λ is_one. is_one ≡ false → ((x : List ℕ) → readers_at self.new x ≡ readers_at self.old x) × (IsSegment self.new.starts patch.now → ⊥)) }
         ensures err { OnErr result ((x : List ℕ) → readers_at self.new x ≡ readers_at self.old x) }
     {
-        let Some(neighbours) = self.neighbours(patch) else {
+        let Some(neighbours) = self.see_segment(patch)? else {
             return Ok(false);
         };
         let Some(readers) = self.starts.get_mut(&patch.lo) else {
@@ -258,8 +283,13 @@ impl Segments {
         ensures err { OnErr result ((x : List ℕ) → readers_at self.new x ≡ readers_at self.old x) }
     {
         if let [patch] = patches {
-            if self.edit_segment(patch, ts, forgotten)? {
-                return Ok(());
+            match self.edit_segment(patch, ts, forgotten) {
+                Ok(true) => return Ok(()),
+                Ok(false) => {}
+                Err(refusal) => {
+                    self.join(patch);
+                    return Err(refusal);
+                }
             }
             if !patch.runs_forward() {
                 return Ok(());

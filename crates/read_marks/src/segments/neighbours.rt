@@ -50,7 +50,7 @@ impl Segments {
 
     // The same of any patch, and where it isn't `None` the patch is one segment. The starts that tell are
     // the last ones up to its end, so that one search finds them all.
-    fn beside(&self, patch: &Patch) -> Option<Neighbours>
+    pub(super) fn beside(&self, patch: &Patch) -> Option<Neighbours>
         ensures { MatchOption result (IsSegment self.now.starts patch.now → ⊥) (λ _. IsSegment self.now.starts patch.now) }
     {
         let mut back = self.starts.range((Bound::Unbounded, patch.up_to_end()));
