@@ -249,9 +249,10 @@ struct Marks {
 
 impl Marks {
     fn readers(&self, key: &[u8]) -> &[u64] {
-        if let Some(readers) = self.starts.get(key) {
-            return readers;
-        }
+        self.starts.get(key).map_or_else(|| self.readers_below(key), Vec::as_slice)
+    }
+
+    fn readers_below(&self, key: &[u8]) -> &[u64] {
         let before = self.starts.range::<[u8], _>((Unbounded, Included(key))).next_back();
         before.map_or(&[], |(_, readers)| readers)
     }
@@ -317,7 +318,7 @@ impl Marks {
 
     fn add(&mut self, piece: &Piece, ts: u64) {
         let Piece { lo, hi, above, until } = piece;
-        if let Some((before, after)) = self.beside(lo, hi.as_deref()) {
+        if let Some((before, after)) = self.see_segment(lo, hi.as_deref()) {
             if let Some(readers) = self.starts.get_mut(lo) {
                 merge(readers, *above, *until, ts);
                 trim(readers, self.forgotten);
@@ -346,13 +347,21 @@ impl Marks {
         self.join(lo, hi.as_deref());
     }
 
-    /// The latest readers of the segments before and after one that starts and ends so, where there is such a one. Of a key
-    /// it is known only that there is one if one starts at it, and what is before it isn't asked.
-    fn beside(&self, lo: &[u8], hi: Option<&[u8]>) -> Option<(Option<u64>, Option<u64>)> {
+    /// What `beside` says, and a key is made a segment. Of one that ends where a segment starts it is known only that it is
+    /// one if a segment starts at it, and what is before it isn't asked.
+    fn see_segment(&mut self, lo: &[u8], hi: Option<&[u8]>) -> Option<(Option<u64>, Option<u64>)> {
         if let Some(hi) = hi.filter(|hi| hi.split_last() == Some((&0, lo))) {
-            let end = self.starts.get(hi)?;
-            return Some((None, end.last().copied()));
+            if let Some(end) = self.starts.get(hi) {
+                return Some((None, end.last().copied()));
+            }
+            self.split_at(lo);
+            self.split_at(hi);
         }
+        self.beside(lo, hi)
+    }
+
+    /// The latest readers of the segments before and after one that starts and ends so, where there is such a one.
+    fn beside(&self, lo: &[u8], hi: Option<&[u8]>) -> Option<(Option<u64>, Option<u64>)> {
         let end = hi.map_or(Unbounded, Included);
         let mut back = self.starts.range::<[u8], _>((Unbounded, end)).rev();
         let after = match hi {
@@ -376,7 +385,7 @@ impl Marks {
 
     fn split_at(&mut self, key: &[u8]) {
         if !self.starts.contains_key(key) {
-            let readers = self.readers(key).to_vec();
+            let readers = self.readers_below(key).to_vec();
             self.starts.insert(key.to_vec(), readers);
         }
     }
