@@ -1,7 +1,7 @@
 // The workloads of `bench_storage` as a plain Rust program over std: the same shapes of data, searched and edited in the
-// same way, but that a map's keys are a `u64` or a list of bytes, in std's order. `storage WORKLOAD SIZE COPIES` prints
-// for each phase its name, how many nanoseconds it took, and a checksum. Copies, one where no number is given, are used in
-// turn.
+// same way, but that a map's keys are a `u64` or a list of bytes, in std's order, and that the segments of a span are edited
+// as it walks over them. `storage WORKLOAD SIZE COPIES` prints for each phase its name, how many nanoseconds it took, and a
+// checksum. Copies, one where no number is given, are used in turn.
 use std::collections::btree_map::Entry;
 use std::collections::{BTreeMap, BTreeSet};
 use std::ops::Bound::{Excluded, Included, Unbounded};
@@ -318,7 +318,7 @@ impl Marks {
 
     fn add(&mut self, piece: &Piece, ts: u64) {
         let Piece { lo, hi, above, until } = piece;
-        if let Some((before, after)) = self.see_segment(lo, hi.as_deref()) {
+        if let Some((before, after)) = self.find_segment(lo, hi.as_deref()) {
             if let Some(readers) = self.starts.get_mut(lo) {
                 merge(readers, *above, *until, ts);
                 trim(readers, self.forgotten);
@@ -347,9 +347,9 @@ impl Marks {
         self.join(lo, hi.as_deref());
     }
 
-    /// What `beside` says, and a key is made a segment. Of one that ends where a segment starts it is known only that it is
-    /// one if a segment starts at it, and what is before it isn't asked.
-    fn see_segment(&mut self, lo: &[u8], hi: Option<&[u8]>) -> Option<(Option<u64>, Option<u64>)> {
+    /// What `beside` says, once a key behind which no segment starts is made a segment. Of any other key it is known only
+    /// that it is one if a segment starts at it, and what is before it isn't asked.
+    fn find_segment(&mut self, lo: &[u8], hi: Option<&[u8]>) -> Option<(Option<u64>, Option<u64>)> {
         if let Some(hi) = hi.filter(|hi| hi.split_last() == Some((&0, lo))) {
             if let Some(end) = self.starts.get(hi) {
                 return Some((None, end.last().copied()));

@@ -15,13 +15,14 @@
 //! A piece is what a read marks: of a key's readers above the version that was read and up to the next
 //! one, only the greatest can refuse a write. Where no reader stands outside that gap, the widest gap
 //! does the same, so that most pieces of a scan are one before anything is split. Neighbours with the
-//! same readers are joined; a key that comes to have those of what is before it is joined with that by
-//! the next sweep.
+//! same readers are joined; a key that has a segment, and comes to have the readers of what is before
+//! it, is joined with that by the next sweep.
 //!
 //! With n starts and m readers of one, a look-up costs O(log n + log m) and forgetting O(1); neither
 //! takes memory. A mark on one whole segment, as on a key or a span that was read before, edits its
 //! readers in place by two searches of the starts: O(log n + log m), and those above its gap move; a
-//! neighbour that is asked and has the same latest reader is compared whole. Any other copies them,
+//! neighbour that is asked and has the same latest reader is compared whole. A key behind which no
+//! segment starts is split off first, and copies the readers around it. Any other mark copies readers,
 //! O(log n + m) for each start that it touches. What is forgotten there goes, in place once it is more
 //! than half. Where the starts have doubled, or a reader comes that counts as forgotten, a walk sweeps
 //! all of them. [`Marks::spans`] walks.

@@ -93,7 +93,8 @@ impl Segments {
         extent
     }
 
-    // A copy of the readers of a key, where no segment starts at it.
+    // A copy of the readers of the key. It is asked where no segment starts at the key, so that none is
+    // looked for.
     fn copy_of(&self, key: &Start) -> Result<Readers, AllocError>
         ensures { IfOk result (λ r. r ≡ readers_at self.now key.now) }
     {
@@ -223,32 +224,33 @@ impl Segments {
         Ok(())
     }
 
-    // What stands beside a patch that is one segment, and a key is made one. A refusal may leave it split.
+    // What stands beside a patch that is one segment. A key behind which no segment starts is made one
+    // before; a refusal may leave it split.
     #[inline(always)]
-    fn see_segment(&mut self, patch: &Patch) -> Result<Option<Neighbours>, AllocError>
+    fn find_segment(&mut self, patch: &Patch) -> Result<Option<Neighbours>, AllocError>
         ensures readers { (x : List ℕ) → readers_at self.new x ≡ readers_at self.old x }
-        ensures beside { IfOk result (λ beside. MatchOption beside (IsSegment self.new.starts patch.now → ⊥) (λ _. IsStart self.new.starts patch.now.lo → IsSegment self.new.starts patch.now)) }
+        ensures beside { IfOk result (λ found. MatchOption found (IsSegment self.new.starts patch.now → ⊥) (λ _. IsStart self.new.starts patch.now.lo → IsSegment self.new.starts patch.now)) }
     {
-        let beside = self.neighbours(patch);
-        if beside.is_some() || patch.end_of_key().is_none() {
-            return Ok(beside);
+        let found = self.neighbours(patch);
+        if found.is_some() || patch.end_of_key().is_none() {
+            return Ok(found);
         }
-        self.split_segment(patch)
+        self.split_off(patch)
     }
 
-    // The same once segments start at both ends of a patch: a call of its own, so that an edit of what is
-    // a segment already, as most are, is short.
+    // Sees that segments start at both ends of a patch, and tells what stands beside it if it is one then:
+    // a call of its own, so that an edit of what is a segment already, as most are, is short.
     #[inline(never)]
-    fn split_segment(&mut self, patch: &Patch) -> Result<Option<Neighbours>, AllocError>
+    fn split_off(&mut self, patch: &Patch) -> Result<Option<Neighbours>, AllocError>
         ensures readers { (x : List ℕ) → readers_at self.new x ≡ readers_at self.old x }
-        ensures beside { IfOk result (λ beside. MatchOption beside (IsSegment self.new.starts patch.now → ⊥) (λ _. IsSegment self.new.starts patch.now)) }
+        ensures beside { IfOk result (λ found. MatchOption found (IsSegment self.new.starts patch.now → ⊥) (λ _. IsSegment self.new.starts patch.now)) }
     {
         self.split_ends(patch)?;
         Ok(self.beside(patch))
     }
 
-    // The readers of a patch that is one segment are edited in place, and the segment joined with those
-    // beside it. It tells whether the patch is one.
+    // The readers of a patch that is one segment, or of a key that is made one, are edited in place, and
+    // the segment joined with those beside it. It tells whether the patch is one.
     fn edit_segment(&mut self, patch: &Patch, ts: u64, forgotten: u64) -> Result<bool, AllocError>
         requires late { forgotten < ts }
         requires low { patch.now.above < ts }
@@ -257,7 +259,7 @@ impl Segments {
         ensures other { IfOk result (λ is_one. is_one ≡ false → ((x : List ℕ) → readers_at self.new x ≡ readers_at self.old x) × (IsSegment self.new.starts patch.now → ⊥)) }
         ensures err { OnErr result ((x : List ℕ) → readers_at self.new x ≡ readers_at self.old x) }
     {
-        let Some(neighbours) = self.see_segment(patch)? else {
+        let Some(neighbours) = self.find_segment(patch)? else {
             return Ok(false);
         };
         let Some(readers) = self.starts.get_mut(&patch.lo) else {

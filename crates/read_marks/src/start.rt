@@ -103,16 +103,17 @@ impl Start {
         self.len == key.len + 1 && self.words == key.words
     }
 
-    // The order of starts whose first words are the same: the first words that differ decide. Where none
-    // do, one start is the other with zeros behind it, and the lengths decide. It is a call of its own, so
-    // that most starts, which `cmp` tells apart before, are compared in few instructions.
+    // The order of starts whose first words are the same: the first words that differ decide, even behind
+    // the end of the other, where zeros are. Where none do, one start begins the other, and the lengths
+    // decide. It is a call of its own, so that most starts, which `cmp` tells apart before, are compared
+    // in few instructions.
     #[inline(never)]
     fn cmp_behind(&self, other: &Start) -> Ordering
         requires { front_of self.now ≡ front_of other.now }
         ensures { result ≡ key_cmp self.now other.now }
     {
         let mut at = 1;
-        while at < WORDS {
+        while at * WORD_BYTES < self.len as usize {
             if self.words[at] != other.words[at] {
                 return self.words[at].cmp(&other.words[at]);
             }
@@ -168,7 +169,8 @@ impl Ord for Start {
 
     ghost matches_eq = { texts_ties };
 
-    // Most starts differ in their first words, and of those that don't one mostly has no other.
+    // Most starts differ in their first words. Where they don't, one of them mostly has no further word and
+    // begins the other, and the lengths decide.
     #[inline]
     fn cmp(&self, other: &Start) -> Ordering {
         if self.words[0] != other.words[0] {
