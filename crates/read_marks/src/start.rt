@@ -105,15 +105,15 @@ impl Start {
 
     // The order of starts whose first words are the same: the first words that differ decide, even behind
     // the end of the other, where zeros are. Where none do, one start begins the other, and the lengths
-    // decide. It is a call of its own, so that most starts, which `cmp` tells apart before, are compared
-    // in few instructions.
+    // decide. The walk has no bound but the number of words, so that no loop is left of it. It is a call
+    // of its own, so that most starts, which `cmp` tells apart before, are compared in few instructions.
     #[inline(never)]
     fn cmp_behind(&self, other: &Start) -> Ordering
         requires { front_of self.now ≡ front_of other.now }
         ensures { result ≡ key_cmp self.now other.now }
     {
         let mut at = 1;
-        while at * WORD_BYTES < self.len as usize {
+        while at < WORDS {
             if self.words[at] != other.words[at] {
                 return self.words[at].cmp(&other.words[at]);
             }
