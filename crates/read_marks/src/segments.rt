@@ -243,6 +243,7 @@ impl Segments {
     #[inline(never)]
     fn split_off(&mut self, patch: &Patch) -> Result<Option<Neighbours>, AllocError>
         ensures readers { (x : List ℕ) → readers_at self.new x ≡ readers_at self.old x }
+        ensures ends { OnOk result (HasEnds self.new.starts patch.now) }
         ensures beside { IfOk result (λ found. MatchOption found (IsSegment self.new.starts patch.now → ⊥) (λ _. IsSegment self.new.starts patch.now)) }
     {
         self.split_ends(patch)?;
