@@ -3,7 +3,7 @@ use Rattle.std.proofs.Common.{ℕ, zero, suc, List, [], ◌∷◌, ◌≡◌, �
 use Rattle.std.specs.Cmp.{ranks}
 use Rattle.std.specs.Ordering.{MatchOrdering, ordering_then}
 use Rattle.timestamps.specs.Bytes.{key_cmp}
-use Rattle.read_marks.specs.Fronts.{front_from}
+use Rattle.read_marks.specs.Words.{front_from}
 
 abbrev pub AreBytes : List ℕ → Type 0
 AreBytes xs = (k : ℕ) → get_or xs k 0 < 256

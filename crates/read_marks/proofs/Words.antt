@@ -6,20 +6,20 @@ use Rattle.std.proofs.lemmas.List.{drop-drop, drop_all, get_or-drop, get_or-set_
 use Rattle.std.proofs.lemmas.Bool.{cases_lt}
 use Rattle.std.proofs.lemmas.Nat.{pow-add}
 use Rattle.timestamps.specs.Bytes.{key_cmp}
-use Rattle.read_marks.specs.Fronts.{front_from, front_of, words_of, digits, bytes_of, text_of, IsText}
+use Rattle.read_marks.specs.Words.{front_from, front_of, words_of, digits, bytes_of, text_of, IsText}
 use Rattle.read_marks.proofs.Fronts.{AreBytes, cmp_on, front_read, fronts_differ, padded, spelt}
 
 -- how many numbers n bytes can be
-abbrev pub width : ℕ → ℕ
+abbrev width : ℕ → ℕ
 width zero = 1
 width (suc n) = 256 * width n
 
-pub width_is : (n : ℕ) → 2 ^ (8 * n) ≡ width n
+width_is : (n : ℕ) → 2 ^ (8 * n) ≡ width n
 width_is zero = refl
 width_is (suc n) = let e : 8 * suc n ≡ 8 + 8 * n = omega arith in rw (e, pow-add 2 8 (8 * n)) (ap (λ t. 256 * t) (width_is n))
 
 -- what stands in front of n bytes
-pub in_front : (n a b c : ℕ) (xs : List ℕ) → c ≡ a + b → front_from n c xs ≡ a * width n + front_from n b xs
+in_front : (n a b c : ℕ) (xs : List ℕ) → c ≡ a + b → front_from n c xs ≡ a * width n + front_from n b xs
 in_front zero a b c xs e = omega arith
 in_front (suc n) a b c [] e = in_front n (a * 256) (b * 256) (c * 256) [] (omega arith) ∙ ap (λ t. t + front_from n (b * 256) []) (mul_assoc a 256 (width n))
 in_front (suc n) a b c (x ∷ xs) e = in_front n (a * 256) (b * 256 + x) (c * 256 + x) xs (omega arith) ∙ ap (λ t. t + front_from n (b * 256 + x) xs) (mul_assoc a 256 (width n))
@@ -36,7 +36,7 @@ last_front : (m : ℕ) (xs : List ℕ) → front_from (m + 8) 0 xs ≡ front_fro
 last_front m xs = let front = front_from m 0 xs in front_on (m + 8) m 8 0 xs refl ∙ in_front 8 front 0 front (drop m xs) (omega arith)
 
 -- one word more that two lists have alike
-pub alike_on : (m : ℕ) (xs ys : List ℕ) → front_from m 0 xs ≡ front_from m 0 ys → front_of (drop m xs) ≡ front_of (drop m ys) → front_from (m + 8) 0 xs ≡ front_from (m + 8) 0 ys
+alike_on : (m : ℕ) (xs ys : List ℕ) → front_from m 0 xs ≡ front_from m 0 ys → front_of (drop m xs) ≡ front_of (drop m ys) → front_from (m + 8) 0 xs ≡ front_from (m + 8) 0 ys
 alike_on m xs ys same next = last_front m xs ∙ rw (same, next) (sym (last_front m ys))
 
 no_more : (front step : ℕ) → front ≡ front + 0 * step
@@ -85,12 +85,12 @@ pub words_zero : (n : ℕ) (xs : List ℕ) → words_of n (xs ++ 0 ∷ []) ≡ w
 words_zero n xs = words_alike n (xs ++ 0 ∷ []) xs (λ k. padded xs (0 ∷ []) k zero_read)
 
 -- each of the words, and that there are no others
-pub word_at : (n i : ℕ) (xs : List ℕ) → i < n → get_or (words_of n xs) i 0 ≡ front_of (drop (8 * i) xs)
+word_at : (n i : ℕ) (xs : List ℕ) → i < n → get_or (words_of n xs) i 0 ≡ front_of (drop (8 * i) xs)
 word_at zero i xs l = absurd (omega arith)
 word_at (suc n) zero xs l = refl
 word_at (suc n) (suc i) xs l = let e : 8 + 8 * i ≡ 8 * suc i = omega arith in word_at n i (drop 8 xs) (omega arith) ∙ ap front_of (drop-drop (8 * i) 8 xs ∙ ap (λ k. drop k xs) e)
 
-pub words_made : (n : ℕ) (words xs : List ℕ) → length words ≡ n → ((i : ℕ) → i < n → get_or words i 0 ≡ front_of (drop (8 * i) xs)) → words ≡ words_of n xs
+words_made : (n : ℕ) (words xs : List ℕ) → length words ≡ n → ((i : ℕ) → i < n → get_or words i 0 ≡ front_of (drop (8 * i) xs)) → words ≡ words_of n xs
 words_made zero [] xs e at = refl
 words_made zero (w ∷ words) xs e at = absurd (omega arith)
 words_made (suc n) [] xs e at = absurd (omega arith)
@@ -123,7 +123,7 @@ taken_filled (suc m) [] zs e = refl
 taken_filled (suc m) (x ∷ xs) zs e = ap (λ t. x ∷ t) (taken_filled m xs zs e)
 
 -- the words of a text spell it
-pub spelt_back : (n : ℕ) (xs : List ℕ) → AreBytes xs → length xs ≤ 8 * n → take (length xs) (bytes_of (words_of n xs)) ≡ xs
+spelt_back : (n : ℕ) (xs : List ℕ) → AreBytes xs → length xs ≤ 8 * n → take (length xs) (bytes_of (words_of n xs)) ≡ xs
 spelt_back zero [] h short = refl
 spelt_back zero (x ∷ xs) h short = absurd (omega arith)
 spelt_back (suc n) xs h short =
@@ -177,7 +177,7 @@ module _ (words : List ℕ) (len : ℕ) (text : List ℕ) (view : text_of words 
   pub text_words : IsText words len → words ≡ words_of 9 text
   text_words is = is.1 ∙ ap (words_of 9) view
 
-  pub text_word : IsText words len → (i k : ℕ) → i < 9 → 8 * i ≡ k → get_or words i 0 ≡ front_of (drop k text)
+  text_word : IsText words len → (i k : ℕ) → i < 9 → 8 * i ≡ k → get_or words i 0 ≡ front_of (drop k text)
   text_word is i k l e = ap (λ t. get_or t i 0) (text_words is) ∙ word_at 9 i text l ∙ ap (λ t. front_of (drop t text)) e
 
 pub bytes_zero : (xs : List ℕ) → AreBytes xs → AreBytes (xs ++ 0 ∷ [])
@@ -187,13 +187,27 @@ bytes_zero xs h = λ k. rw (padded xs (0 ∷ []) k zero_read) (h k)
 differ_on : (l r a x y : ℕ) → l ≡ a + x → r ≡ a + y → (x ≡ y → ⊥) → l ≡ r → ⊥
 differ_on l r a x y e e' f same = f (omega arith)
 
-pub words_differ : (m : ℕ) (xs ys : List ℕ) → AreBytes xs → AreBytes ys → front_from m 0 xs ≡ front_from m 0 ys → (front_of (drop m xs) ≡ front_of (drop m ys) → ⊥) → key_cmp xs ys ≡ nat_cmp (front_of (drop m xs)) (front_of (drop m ys))
+words_differ : (m : ℕ) (xs ys : List ℕ) → AreBytes xs → AreBytes ys → front_from m 0 xs ≡ front_from m 0 ys → (front_of (drop m xs) ≡ front_of (drop m ys) → ⊥) → key_cmp xs ys ≡ nat_cmp (front_of (drop m xs)) (front_of (drop m ys))
 words_differ m xs ys h g same f =
     let before = front_from m 0 ys * width 8 in
     let left : front_from (m + 8) 0 xs ≡ before + front_of (drop m xs) = last_front m xs ∙ ap (λ t. t * width 8 + front_of (drop m xs)) same in
     let right : front_from (m + 8) 0 ys ≡ before + front_of (drop m ys) = last_front m ys in
     let differ = fronts_differ (m + 8) 0 xs ys h g (differ_on _ _ before _ _ left right f) in
     differ ∙ rw (left, right) (cmp_on before (front_of (drop m xs)) (front_of (drop m ys)))
+
+-- Two texts in words that are the same up to one of them: where these words differ they decide, and where they don't the texts are the same up to the next.
+module _ (words words' : List ℕ) (len len' : ℕ) (text text' : List ℕ) (view : text_of words len ≡ text) (view' : text_of words' len' ≡ text') (is : IsText words len) (is' : IsText words' len') (at k : ℕ) (place : 8 * at ≡ k) (within : at < 9) (same : front_from k 0 text ≡ front_from k 0 text') where
+  word : get_or words at 0 ≡ front_of (drop k text)
+  word = text_word words len text view is at k within place
+
+  word' : get_or words' at 0 ≡ front_of (drop k text')
+  word' = text_word words' len' text' view' is' at k within place
+
+  pub words_decide : (get_or words at 0 ≡ get_or words' at 0 → ⊥) → nat_cmp (get_or words at 0) (get_or words' at 0) ≡ key_cmp text text'
+  words_decide differ = rw (word, word') (sym (words_differ k text text' (text_bytes words len text view) (text_bytes words' len' text' view') same (λ e. differ (word ∙ e ∙ sym word'))))
+
+  pub words_go_on : get_or words at 0 ≡ get_or words' at 0 → front_from (k + 8) 0 text ≡ front_from (k + 8) 0 text'
+  words_go_on e = alike_on k text text' same (sym word ∙ e ∙ word')
 
 -- Words that are put down one after another before zeros: the next one, and that those are all if it is the last.
 module _ (words : List ℕ) (at word : ℕ) (xs : List ℕ) (within : at < length words) where

@@ -1,4 +1,4 @@
-pub mod Fronts
+pub mod Words
 pub mod Readers
 pub mod Segments
 pub mod Patches

@@ -4,7 +4,7 @@ ghost use Rattle.std.specs.Cmp.{partial_equiv_from_equiv};
 ghost use Rattle.std.specs.Cmp.Lexicographic.{nat_list_eq_equiv, nat_list_cmp_total, texts_ties, texts_po};
 ghost use Rattle.timestamps.specs.Bytes.{key_cmp};
 ghost use Rattle.spans.specs.Successors.{successor};
-ghost use Rattle.read_marks.specs.Fronts.{front_of, words_of};
+ghost use Rattle.read_marks.specs.Words.{front_of, words_of};
 
 use std::cmp::Ordering;
 use std::marker::Model;
@@ -28,7 +28,7 @@ pub(crate) struct Start {
 
 impl Model for Start {
     ghost use Rattle.std.specs.Prelude.{ℕ, List};
-    ghost use Rattle.read_marks.specs.Fronts.{text_of, IsText};
+    ghost use Rattle.read_marks.specs.Words.{text_of, IsText};
 
     ghost Value = { List ℕ };
 

@@ -1,6 +1,6 @@
 use Rattle.std.proofs.Common.{◌≡◌, ◌+◌, ◌*◌, ◌-◌, ◌<◌, ◌≤◌, length, length-set, drop, drop-drop, arith, ap, sym, ◌∙◌}
 use Rattle.std.proofs.lemmas.List.{length-drop}
-use Rattle.read_marks.specs.Fronts.{front_of}
+use Rattle.read_marks.specs.Words.{front_of}
 use Rattle.read_marks.proofs.Words.{all_put, chunk_word, next_put, rest_is, zeros_put}
 use Rattle.read_marks.proofs.start.put_words.Goals as goal
 

@@ -1,7 +1,7 @@
-use Rattle.std.proofs.Common.{◌≡◌, ◌+◌, ◌*◌, ◌≤◌, length, get_or, drop, arith, sym, ◌∙◌, subst}
-use Rattle.read_marks.specs.Fronts.{front_from, front_of}
+use Rattle.std.proofs.Common.{◌≡◌, ◌+◌, ◌*◌, ◌≤◌, length, arith, sym, ◌∙◌, subst}
+use Rattle.read_marks.specs.Words.{front_from}
 use Rattle.read_marks.proofs.Fronts.{fronts_same}
-use Rattle.read_marks.proofs.Words.{alike_on, text_bytes, text_length, text_word, words_differ}
+use Rattle.read_marks.proofs.Words.{text_bytes, text_length, words_decide, words_go_on}
 use Rattle.read_marks.proofs.start.Start.cmp_behind.Goals as goal
 
 pub returns-then-self-at : goal.returns-then-self-at
@@ -11,14 +11,7 @@ returns-then-self-at c =
     let text = c.args.self.now in
     let others = c.args.other.now in
     let at = c.loop-at.at in
-    let len : length text ≡ self.len = text_length self.words self.len text c.self.view_is c.self.invariant c.self.told in
-    let len' : length others ≡ other.len = text_length other.words other.len others c.other.view_is c.other.invariant c.other.told in
-    let small : self.len ≤ 65 = c.self.invariant.0 in
-    let word : get_or self.words at 0 ≡ front_of (drop (at * 8) text) = text_word self.words self.len text c.self.view_is c.self.invariant at (at * 8) (omega arith) (omega arith) in
-    let word' : get_or other.words at 0 ≡ front_of (drop (at * 8) others) = text_word other.words other.len others c.other.view_is c.other.invariant at (at * 8) (omega arith) (omega arith) in
-    let differ = words_differ (at * 8) text others (text_bytes self.words self.len text c.self.view_is) (text_bytes other.words other.len others c.other.view_is)
-    c.loop-at.invariant.same (λ same. c.if-self-at.true (word ∙ same ∙ sym word')) in
-    c.cmp.ensures ∙ rw (word, word') (sym differ)
+    c.cmp.ensures ∙ words_decide self.words other.words self.len other.len text others c.self.view_is c.other.view_is c.self.invariant c.other.invariant at (at * 8) (omega arith) (omega arith) c.loop-at.invariant.same c.if-self-at.true
 
 pub loop-at-preserved : goal.loop-at-preserved
 loop-at-preserved c =
@@ -27,13 +20,10 @@ loop-at-preserved c =
     let text = c.args.self.now in
     let others = c.args.other.now in
     let at = c.loop-at.at in
-    let small : self.len ≤ 65 = c.self.invariant.0 in
-    let word : get_or self.words at 0 ≡ front_of (drop (at * 8) text) = text_word self.words self.len text c.self.view_is c.self.invariant at (at * 8) (omega arith) (omega arith) in
-    let word' : get_or other.words at 0 ≡ front_of (drop (at * 8) others) = text_word other.words other.len others c.other.view_is c.other.invariant at (at * 8) (omega arith) (omega arith) in
     let on : at * 8 + 8 ≡ (at + 1) * 8 = omega arith in
     record {
       within = omega arith;
-      same = subst (λ k. front_from k 0 text ≡ front_from k 0 others) on (alike_on (at * 8) text others c.loop-at.invariant.same (sym word ∙ c.if-self-at.false ∙ word'));
+      same = subst (λ k. front_from k 0 text ≡ front_from k 0 others) on (words_go_on self.words other.words self.len other.len text others c.self.view_is c.other.view_is c.self.invariant c.other.invariant at (at * 8) (omega arith) (omega arith) c.loop-at.invariant.same c.if-self-at.false);
     }
 
 pub returns : goal.returns
@@ -45,6 +35,7 @@ returns c =
     let at = c.loop-at.at in
     let len : length text ≡ self.len = text_length self.words self.len text c.self.view_is c.self.invariant c.self.told in
     let len' : length others ≡ other.len = text_length other.words other.len others c.other.view_is c.other.invariant c.other.told in
+    let small : self.len ≤ 65 = c.self.invariant.0 in
     let same = fronts_same (at * 8) 0 text others (text_bytes self.words self.len text c.self.view_is) (text_bytes other.words other.len others c.other.view_is)
     c.loop-at.invariant.same (omega arith) in
     c.cmp-2.ensures ∙ rw (← len, ← len') (sym same)

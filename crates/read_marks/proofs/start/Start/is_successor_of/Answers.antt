@@ -1,7 +1,7 @@
 use Rattle.std.proofs.Common.{[], ◌∷◌, ◌++◌, ◌≡◌, ◌≤◌, arith, length, sym, ap, ◌∙◌}
 use Rattle.std.proofs.lemmas.List.{length-append}
 use Rattle.std.proofs.lemmas.Slice.Eq.{bytes_eq-Decides}
-use Rattle.read_marks.specs.Fronts.{words_of}
+use Rattle.read_marks.specs.Words.{words_of}
 use Rattle.read_marks.proofs.Words.{bytes_zero, is_made_of, text_bytes, text_length, text_words, words_zero}
 use Rattle.read_marks.proofs.start.Start.is_successor_of.Goals as goal
 
