@@ -6,8 +6,7 @@ use Rattle.std.proofs.lemmas.Bool.{eqb-true}
 use Rattle.spans.specs.declared.calls.messages.Message.{Message}
 use Rattle.spans.specs.Effects.{Effect, Opens, Polls, Cancels}
 use Rattle.spans.specs.Transactions.{closed_of}
-use Rattle.spans.specs.Streams.{stream_of}
-use Rattle.spans.specs.Feeds.{feeds_opened, Feed, feed_of, told_to, next_messages}
+use Rattle.spans.specs.Feeds.{feeds_opened, Feed, feed_of, told_to, list_of, next_messages}
 use Rattle.spans.specs.FeedRight.{FeedIsRight}
 use Rattle.spans.specs.Collection.{floor_of, live_feeds}
 use Rattle.spans.proofs.Steps.{by_test}
@@ -19,14 +18,14 @@ use Rattle.feed_book.proofs.Telling.{next_is}
 
 -- an effect of no feed leaves the tie
 pub feeds_kept : (book : List FeedRecord) (p : List Effect) (d : Effect) → IsOfNoFeed d → FeedsTied book p → FeedsTied book (d ∷ p)
-feeds_kept book p (Opens f seat span cursor) other tied = absurd other
+feeds_kept book p (Opens f seat kind span cursor) other tied = absurd other
 feeds_kept book p (Polls f max ms) other tied = absurd other
 feeds_kept book p (Cancels f) other tied = absurd other
 feeds_kept book p (_) other tied = record { opened = tied.opened; feeds = tied.feeds; told = tied.told; cancelled = tied.cancelled; live = tied.live }
 
 -- a feed was opened
 pub feeds_open : (book : List FeedRecord) (p : List Effect) (x : FeedRecord) (f : ℕ) → f ≡ suc (length book) → x.told ≡ [] → is_live x ≡ true → FeedsTied book p
-    → FeedsTied (book ++ x ∷ []) (Opens f x.seat x.span x.cursor ∷ p)
+    → FeedsTied (book ++ x ∷ []) (Opens f x.seat x.kind x.span x.cursor ∷ p)
 feeds_open book p x f at told live tied = rw at (record {
   opened = ap suc tied.opened ∙ (let e = length_push book x in sym (e ∙ (omega arith)));
   feeds = λ g. rw (record_push book x g) (by_test (suc (length book) == g)
@@ -109,13 +108,13 @@ feeds_floors book p tied = ap (map (floor_of p)) tied.live ∙ floors_are p 1 bo
 
 -- what a feed is told next
 pub feeds_next : (book : List FeedRecord) (p : List Effect) (f : ℕ) (feed : Feed) (x : FeedRecord) (max : ℕ) → FeedsTied book p → feed_of p f ≡ Some (feed_part x) → record_at book f ≡ Some x → feed_of p f ≡ Some feed → FeedIsRight p f feed
-    → next_in x max (closed_of p) (stream_of p feed.span feed.cursor (closed_of p)) ≡ next_messages p f feed max
+    → next_in x max (closed_of p) (list_of p feed (closed_of p)) ≡ next_messages p f feed max
 feeds_next book p f feed x max tied has at is right =
     let e : feed ≡ feed_part x = (let both : Some feed ≡ Some (feed_part x) = sym is ∙ has in cc) in
-    next_is p f feed x max (tied.told f ∙ ap told_in at) (ap (λ (v : Feed). v.cursor) e) right
+    next_is p f feed x max (tied.told f ∙ ap told_in at) e right
 
 -- each feed was opened by an effect of its own
 pub opened_at_most : (p : List Effect) → feeds_opened p ≤ length p
 opened_at_most [] = omega arith
-opened_at_most (Opens f seat span cursor ∷ p) = let before = opened_at_most p in omega arith
+opened_at_most (Opens f seat kind span cursor ∷ p) = let before = opened_at_most p in omega arith
 opened_at_most (_ ∷ p) = let before = opened_at_most p in omega arith

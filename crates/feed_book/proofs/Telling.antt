@@ -1,6 +1,6 @@
 -- What a feed is told next, and what its last message says.
 use Rattle.std.proofs.Common.{◌≡◌, ℕ, zero, suc, ◌-◌, ◌<◌, ◌≤◌, List, [], ◌∷◌, ◌++◌, map, length, take, drop, Option, Some, None, refl, sym, ◌∙◌, ap, arith}
-use Rattle.std.specs.Prelude.{slice_get, nat_lt, if◌then◌else◌}
+use Rattle.std.specs.Prelude.{slice_get, if◌then◌else◌}
 use Rattle.std.proofs.lemmas.List.{length-map}
 use Rattle.std.proofs.Math.Seq.{drop-append_seam}
 use Rattle.timestamps.specs.declared.row.Row.{Row}
@@ -8,13 +8,12 @@ use Rattle.spans.specs.declared.calls.messages.Message.{Message}
 use Rattle.spans.specs.declared.calls.messages.Message.TheVariants as messages
 use Rattle.spans.specs.Effects.{Effect}
 use Rattle.spans.specs.Transactions.{closed_of}
-use Rattle.spans.specs.Streams.{stream_of}
-use Rattle.spans.specs.Feeds.{Feed, told_to, rows_in, last_resolved, due_message, untold_rows, next_messages}
+use Rattle.spans.specs.Feeds.{Feed, told_to, rows_in, last_resolved, list_of, start_of, is_due, due_message, untold_rows, next_messages}
 use Rattle.spans.specs.FeedRight.{FeedIsRight}
 use Rattle.spans.specs.Collection.{floor_after}
 use Rattle.spans.proofs.Feeding.{untold_is}
 use Rattle.feed_book.specs.declared.record.FeedRecord.{FeedRecord}
-use Rattle.feed_book.specs.Records.{due_at, due_in, next_in}
+use Rattle.feed_book.specs.Records.{due_at, due_in, feed_part, next_in}
 
 none_left : (n : ℕ) → let none : List Message = [] in none ≡ take n none
 none_left zero = refl
@@ -60,24 +59,24 @@ floor_last n (messages.Row r ∷ y ∷ ms) (suc i) m at is = floor_last (r.ts - 
 floor_last n (messages.Resolved t ∷ y ∷ ms) (suc i) m at is = floor_last t (y ∷ ms) i m (omega arith) is
 
 -- the next messages by the record are those by the effects
-pub next_is : (p : List Effect) (f : ℕ) (feed : Feed) (x : FeedRecord) (max : ℕ) → told_to p f ≡ x.told → feed.cursor ≡ x.cursor → FeedIsRight p f feed
-    → next_in x max (closed_of p) (stream_of p feed.span feed.cursor (closed_of p)) ≡ next_messages p f feed max
-next_is p f feed x max told cursor right = ap (take max) (rows ∙ due)
+pub next_is : (p : List Effect) (f : ℕ) (feed : Feed) (x : FeedRecord) (max : ℕ) → told_to p f ≡ x.told → feed ≡ feed_part x → FeedIsRight p f feed
+    → next_in x max (closed_of p) (list_of p feed (closed_of p)) ≡ next_messages p f feed max
+next_is p f feed x max told is right = ap (take max) (rows ∙ due)
   where
-    begins : (rest : List Row) × (stream_of p feed.span feed.cursor (closed_of p) ≡ rows_in (told_to p f) ++ rest)
+    begins : (rest : List Row) × (list_of p feed (closed_of p) ≡ rows_in (told_to p f) ++ rest)
     begins = right.begins (closed_of p) (omega arith)
 
-    left : drop (length (rows_in x.told)) (stream_of p feed.span feed.cursor (closed_of p)) ≡ untold_rows p f feed
+    left : drop (length (rows_in x.told)) (list_of p feed (closed_of p)) ≡ untold_rows p f feed
     left =
-        ap (λ ms. drop (length (rows_in ms)) (stream_of p feed.span feed.cursor (closed_of p))) (sym told)
+        ap (λ ms. drop (length (rows_in ms)) (list_of p feed (closed_of p))) (sym told)
         ∙ ap (drop (length (rows_in (told_to p f)))) begins.1
         ∙ drop-append_seam (rows_in (told_to p f)) begins.0
         ∙ sym (untold_is p f feed begins.0 begins.1)
 
-    rows : map messages.Row (drop (length (rows_in x.told)) (stream_of p feed.span feed.cursor (closed_of p))) ++ due_in x (closed_of p) ≡ map messages.Row (untold_rows p f feed) ++ due_in x (closed_of p)
+    rows : map messages.Row (drop (length (rows_in x.told)) (list_of p feed (closed_of p))) ++ due_in x (closed_of p) ≡ map messages.Row (untold_rows p f feed) ++ due_in x (closed_of p)
     rows = ap (λ l. map messages.Row l ++ due_in x (closed_of p)) left
 
     due : map messages.Row (untold_rows p f feed) ++ due_in x (closed_of p) ≡ map messages.Row (untold_rows p f feed) ++ due_message p f feed
     due = ap (λ l. map messages.Row (untold_rows p f feed) ++ l)
-        (ap (λ c. if nat_lt (last_resolved c x.told) (closed_of p) then messages.Resolved (closed_of p) ∷ [] else []) (sym cursor)
-        ∙ ap (λ ms. if nat_lt (last_resolved feed.cursor ms) (closed_of p) then messages.Resolved (closed_of p) ∷ [] else []) (sym told))
+        (ap (λ (w : Feed). if is_due w.kind (last_resolved (start_of w) x.told) (closed_of p) then messages.Resolved (closed_of p) ∷ [] else []) (sym is)
+        ∙ ap (λ ms. if is_due feed.kind (last_resolved (start_of feed) ms) (closed_of p) then messages.Resolved (closed_of p) ∷ [] else []) (sym told))

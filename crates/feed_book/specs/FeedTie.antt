@@ -24,7 +24,7 @@ pub record IsOpened (book : List FeedRecord) (f : ℕ) : Type 0 where
 
 -- the effect is none of a feed
 abbrev pub IsOfNoFeed : Effect → Type 0
-IsOfNoFeed (Opens f seat span cursor) = ⊥
+IsOfNoFeed (Opens f seat kind span cursor) = ⊥
 IsOfNoFeed (Polls f max ms) = ⊥
 IsOfNoFeed (Cancels f) = ⊥
 IsOfNoFeed _ = Unit {0}

@@ -1,18 +1,19 @@
 -- What a list of feed records says: feed n is the record at place n - 1.
-use Rattle.std.specs.Prelude.{ℕ, zero, suc, List, [], ◌∷◌, ◌++◌, map, take, drop, length, Bool, true, false, nat_lt, if◌then◌else◌, Option, Some, None, slice_get}
+use Rattle.std.specs.Prelude.{ℕ, zero, suc, List, [], ◌∷◌, ◌++◌, map, take, drop, length, max, Bool, true, false, if◌then◌else◌, Option, Some, None, slice_get}
 use Rattle.timestamps.specs.declared.row.Row.{Row}
+use Rattle.spans.specs.declared.kind.Kind.{Kind}
 use Rattle.spans.specs.declared.span.Span.{Span}
 use Rattle.spans.specs.declared.calls.messages.Message.{Message}
 use Rattle.spans.specs.declared.calls.messages.Message.TheVariants as messages
-use Rattle.spans.specs.Feeds.{Feed, rows_in, last_resolved}
+use Rattle.spans.specs.Feeds.{Feed, rows_in, last_resolved, start_at, is_due}
 use Rattle.spans.specs.Collection.{LiveFeed, floor_after}
 use Rattle.feed_book.specs.declared.record.FeedRecord.{FeedRecord}
 use Rattle.feed_book.specs.declared.record.FeedState.{FeedState}
 use Rattle.feed_book.specs.declared.record.FeedState.TheVariants.{Live, Cancelled}
 
 -- a feed that has just been opened
-abbrev pub new_record : ℕ → Span → ℕ → FeedRecord
-new_record seat span cursor = record { seat = seat; span = span; cursor = cursor; told = []; state = Live }
+abbrev pub new_record : ℕ → Kind → Span → ℕ → FeedRecord
+new_record seat kind span cursor = record { seat = seat; kind = kind; span = span; cursor = cursor; told = []; state = Live }
 
 -- a feed that was told more
 abbrev pub telling : List Message → FeedRecord → FeedRecord
@@ -33,9 +34,9 @@ abbrev pub record_at : List FeedRecord → ℕ → Option FeedRecord
 record_at book zero = None
 record_at book (suc i) = slice_get book i
 
--- whose the feed is, what it watches, and from where on
+-- whose the feed is, of which kind, what it watches, and from where on
 abbrev pub feed_part : FeedRecord → Feed
-feed_part x = record { seat = x.seat; span = x.span; cursor = x.cursor }
+feed_part x = record { seat = x.seat; kind = x.kind; span = x.span; cursor = x.cursor }
 
 abbrev pub told_in : Option FeedRecord → List Message
 told_in None = []
@@ -64,7 +65,7 @@ live_in n (x ∷ xs) = live_in (suc n) xs ++ live_one n x
 
 -- up to where all is told to the feed
 abbrev pub floor_in : FeedRecord → ℕ
-floor_in x = floor_after x.cursor x.told
+floor_in x = max x.cursor (floor_after x.cursor x.told)
 
 abbrev pub floor_one : FeedRecord → List ℕ
 floor_one x = if is_live x then floor_in x ∷ [] else []
@@ -76,12 +77,12 @@ floors_in (x ∷ xs) = floors_in xs ++ floor_one x
 
 -- the resolved message that is due
 abbrev pub due_in : FeedRecord → ℕ → List Message
-due_in x closed = if nat_lt (last_resolved x.cursor x.told) closed then messages.Resolved closed ∷ [] else []
+due_in x closed = if is_due x.kind (last_resolved (start_at x.kind x.cursor) x.told) closed then messages.Resolved closed ∷ [] else []
 
 abbrev pub due_at : Option ℕ → List Message
 due_at None = []
 due_at (Some t) = messages.Resolved t ∷ []
 
--- the rows of the stream without as many as were told, then what is due: the first max of these
+-- the rows of the list without as many as were told, then what is due: the first n of these
 abbrev pub next_in : FeedRecord → ℕ → ℕ → List Row → List Message
-next_in x max closed stream = take max (map messages.Row (drop (length (rows_in x.told)) stream) ++ due_in x closed)
+next_in x n closed list = take n (map messages.Row (drop (length (rows_in x.told)) list) ++ due_in x closed)

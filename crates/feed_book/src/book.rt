@@ -5,8 +5,7 @@ ghost use Rattle.timestamps.specs.declared.ts.TheConstants.{MAX};
 ghost use Rattle.spans.specs.declared.calls.replies.Refusal.TheVariants.{NoFeed, FeedCancelled};
 ghost use Rattle.spans.specs.Effects.{Effect, Opens, Cancels, Polls};
 ghost use Rattle.spans.specs.Transactions.{closed_of, least_of};
-ghost use Rattle.spans.specs.Streams.{stream_of};
-ghost use Rattle.spans.specs.Feeds.{Feed, feed_of, feeds_opened, is_cancelled, next_messages};
+ghost use Rattle.spans.specs.Feeds.{Feed, feed_of, feeds_opened, is_cancelled, list_of, next_messages};
 ghost use Rattle.spans.specs.FeedRight.{FeedIsRight};
 ghost use Rattle.spans.specs.Collection.{floor_of, live_feeds};
 ghost use Rattle.spans.specs.Answer.{first_refusal};
@@ -15,6 +14,7 @@ ghost use Rattle.feed_book.specs.FeedTie.{FeedsTied, IsOpened, refusal_of_poll};
 
 use crate::record::{FeedRecord, FeedState};
 use spans::calls::{Message, Messages, Refusal};
+use spans::kind::Kind;
 use spans::span::Span;
 use std::alloc::{AllocError, Global};
 use std::marker::Model;
@@ -55,15 +55,21 @@ impl FeedBook {
     }
 
     /// Opens a feed, and answers its number.
-    pub fn open(&mut self, seat: u8, span: &Span, cursor: u64) -> Result<u64, AllocError>
+    pub fn open(
+        &mut self,
+        seat: u8,
+        kind: Kind,
+        span: &Span,
+        cursor: u64,
+    ) -> Result<u64, AllocError>
         requires room { length self.old < u64.MAX }
         ensures number { IfOk result (λ number. (p : List Effect) → FeedsTied self.old p →
             number ≡ suc (feeds_opened p)) }
         ensures opened { IfOk result (λ number. (p : List Effect) → FeedsTied self.old p →
-            FeedsTied self.new (Opens number seat span.now cursor ∷ p)) }
+            FeedsTied self.new (Opens number seat kind span.now cursor ∷ p)) }
         ensures err { OnErr result (self.new ≡ self.old) }
     {
-        let feed = FeedRecord::new(self.alloc, seat, span, cursor)?;
+        let feed = FeedRecord::new(self.alloc, seat, kind, span, cursor)?;
         self.feeds.push(feed)?;
         Ok(self.feeds.len() as u64)
     }
@@ -122,7 +128,7 @@ impl FeedBook {
         cancel_at(&mut self.feeds, (feed - 1) as usize);
     }
 
-    /// A feed that was opened: its span and cursor say which stream a poll wants.
+    /// A feed that was opened: its kind, span and cursor say which list a poll wants.
     pub fn feed(&self, number: u64) -> &FeedRecord
         requires opened { IsOpened self.now number }
         ensures record { record_at self.now number ≡ Some result.now }
@@ -132,24 +138,24 @@ impl FeedBook {
         &self.feeds[(number - 1) as usize]
     }
 
-    /// The next messages of a feed, at most `max`, where `stream` is that of its span and cursor
-    /// through `closed`. The feed isn't told them yet.
+    /// The next messages of a feed, at most `max`, where `list` is the feed's list through `closed`.
+    /// The feed isn't told them yet.
     pub fn next_messages(
         &self,
         alloc: Global,
         feed: u64,
         max: u64,
         closed: u64,
-        stream: &[Row],
+        list: &[Row],
     ) -> Result<Messages, AllocError>
         requires opened { IsOpened self.now feed }
         requires closed { closed ≤ MAX }
         ensures { IfOk result (λ messages. (p : List Effect) (f : Feed) →
             FeedsTied self.now p → feed_of p feed ≡ Some f → FeedIsRight p feed f →
-            closed ≡ closed_of p → stream.now ≡ stream_of p f.span f.cursor closed →
+            closed ≡ closed_of p → list.now ≡ list_of p f closed →
             messages ≡ next_messages p feed f max) }
     {
-        self.feed(feed).next_messages(alloc, max, closed, stream)
+        self.feed(feed).next_messages(alloc, max, closed, list)
     }
 
     /// Keeps that a feed was told these messages.
@@ -216,7 +222,13 @@ fn tell_at(
 fn count_live(feeds: &[FeedRecord]) -> usize
     ensures { result ≡ count_by is_live feeds.now }
 {
-    feeds.iter().filter(|feed| feed.is_live()).count()
+    let mut count = 0;
+    for feed in feeds {
+        if feed.is_live() {
+            count += 1;
+        }
+    }
+    count
 }
 
 fn least_live_floor(feeds: &[FeedRecord], n: u64) -> u64

@@ -10,7 +10,7 @@
 //! cancel                      told 10, 20, to 30      none: it holds no horizon back
 //! ```
 //!
-//! A poll walks what its feed was told and the stream that it is given. The floors, the count of
+//! A poll walks what its feed was told and the list that it is given. The floors, the count of
 //! live feeds and the protections are walks of all; each other call looks at one record.
 #![tactic(auto)]
 
@@ -18,8 +18,6 @@ mod book;
 mod horizon;
 mod protections;
 mod record;
-#[cfg(test)]
-mod tests;
 mod told;
 
 pub use book::FeedBook;

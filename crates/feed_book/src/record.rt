@@ -5,6 +5,7 @@ ghost use Rattle.feed_book.specs.Records.{new_record, is_live, floor_in, due_at,
 
 use crate::told::Told;
 use spans::calls::{Message, Messages};
+use spans::kind::Kind;
 use spans::span::Span;
 use std::alloc::{AllocError, Global};
 use timestamps::row::Row;
@@ -22,8 +23,9 @@ pub(crate) enum FeedState {
 pub struct FeedRecord {
     /// The seat that opened it.
     pub seat: u8,
+    pub kind: Kind,
     pub span: Span,
-    /// It tells versions above this timestamp.
+    /// Its stream has the versions above this timestamp.
     pub cursor: u64,
     pub(crate) told: Told,
     pub(crate) state: FeedState,
@@ -34,14 +36,16 @@ impl FeedRecord {
     pub(crate) fn new(
         alloc: Global,
         seat: u8,
+        kind: Kind,
         span: &Span,
         cursor: u64,
     ) -> Result<FeedRecord, AllocError>
-        ensures { IfOk result (λ feed. feed ≡ new_record seat span.now cursor) }
+        ensures { IfOk result (λ feed. feed ≡ new_record seat kind span.now cursor) }
     {
         let span = span.copy()?;
         Ok(FeedRecord {
             seat,
+            kind,
             span,
             cursor,
             told: Told::new(alloc),
@@ -59,26 +63,26 @@ impl FeedRecord {
         }
     }
 
-    /// Up to where all is told.
+    /// Up to where all is told, and never below the cursor.
     pub(crate) fn floor(&self) -> u64
         ensures { result ≡ floor_in self.now }
     {
-        self.told.floor_from(self.cursor)
+        self.cursor.max(self.told.floor_from(self.cursor))
     }
 
-    /// The rows of the stream that follow those that were told, then the resolved message that is
+    /// The rows of the feed's list that follow those that were told, then the resolved message that is
     /// due: the first `max` of these.
     pub(crate) fn next_messages(
         &self,
         alloc: Global,
         max: u64,
         closed: u64,
-        stream: &[Row],
+        list: &[Row],
     ) -> Result<Messages, AllocError>
         requires { closed ≤ MAX }
-        ensures { IfOk result (λ messages. messages ≡ next_in self.now max closed stream.now) }
+        ensures { IfOk result (λ messages. messages ≡ next_in self.now max closed list.now) }
     {
-        let untold = rows_after(stream, self.told.row_count());
+        let untold = rows_after(list, self.told.row_count());
         let mut messages = row_messages(alloc, first_rows(untold, max))?;
         if (messages.len() as u64) < max {
             if let Some(at) = self.due(closed) {
@@ -93,7 +97,8 @@ impl FeedRecord {
         requires { closed ≤ MAX }
         ensures { due_in self.now closed ≡ due_at result }
     {
-        if self.told.resolved_from(self.cursor) < closed {
+        let resolved = self.told.resolved_from(self.kind.start(self.cursor));
+        if self.kind.is_due(resolved, closed) {
             return Ts::new(closed);
         }
         None
@@ -101,13 +106,13 @@ impl FeedRecord {
 }
 
 /// The rows from a place on.
-fn rows_after(stream: &[Row], told: usize) -> &[Row]
-    ensures { result.now ≡ drop told stream.now }
+fn rows_after(list: &[Row], told: usize) -> &[Row]
+    ensures { result.now ≡ drop told list.now }
 {
-    if told >= stream.len() {
-        return &stream[stream.len()..];
+    if told >= list.len() {
+        return &list[list.len()..];
     }
-    &stream[told..]
+    &list[told..]
 }
 
 /// The first `max` rows.

@@ -56,11 +56,11 @@ impl Told {
         count_rows(self.list.as_slice())
     }
 
-    /// The greatest of the cursor and the resolved timestamps.
-    pub(crate) fn resolved_from(&self, cursor: u64) -> u64
-        ensures { result ≡ last_resolved cursor self.now }
+    /// The greatest of the start and the resolved timestamps.
+    pub(crate) fn resolved_from(&self, start: u64) -> u64
+        ensures { result ≡ last_resolved start self.now }
     {
-        greatest_resolved(cursor, self.list.as_slice())
+        greatest_resolved(start, self.list.as_slice())
     }
 
     /// Up to where the last message says that all is told; the cursor where there is none.
@@ -106,10 +106,10 @@ fn count_rows(messages: &[Message]) -> usize
     count
 }
 
-fn greatest_resolved(cursor: u64, messages: &[Message]) -> u64
-    ensures { result ≡ last_resolved cursor messages.now }
+fn greatest_resolved(start: u64, messages: &[Message]) -> u64
+    ensures { result ≡ last_resolved start messages.now }
 {
-    let mut greatest = cursor;
+    let mut greatest = start;
     for message in messages {
         if let Message::Resolved(t) = message {
             greatest = greatest.max(t.get());

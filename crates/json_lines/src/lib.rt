@@ -26,8 +26,6 @@ mod fault;
 mod message_line;
 pub mod numbers;
 mod reading;
-#[cfg(test)]
-mod tests;
 mod texts;
 mod tree;
 mod written;

@@ -40,7 +40,7 @@ use Rattle.version_book.proofs.ChainSteps.{keys_in, keys_with_write, version_at_
 -- ---- the events
 
 abbrev pub IsOfFeed : Effect → Type 0
-IsOfFeed (Opens f seat span cursor) = Unit {0}
+IsOfFeed (Opens f seat kind span cursor) = Unit {0}
 IsOfFeed (Polls f max ms) = Unit {0}
 IsOfFeed (Cancels f) = Unit {0}
 IsOfFeed _ = ⊥
@@ -321,7 +321,7 @@ tied_snapshot_scan db p t span rows tied = record {
 
 -- something of a feed happens
 pub tied_feeds : (db : Database) (p : List Effect) (e : Effect) (feeds : List FeedRecord) → IsOfFeed e → IsTied db p → FeedsTied feeds (e ∷ p) → IsTied (record db { feeds = feeds }) (e ∷ p)
-tied_feeds db p (Opens f seat span cursor) feeds is tied now = record { closed_at = tied.closed_at; owners = tied.owners; committed = tied.committed; aborted = tied.aborted; single = tied.single; keys = tied.keys; versions = tied.versions; counts = tied.counts; once = tied.once; reads = tied.reads; horizon_at = tied.horizon_at; feeds = now; protections = protections_kept db.protections p (Opens f seat span cursor) tt tied.protections }
+tied_feeds db p (Opens f seat kind span cursor) feeds is tied now = record { closed_at = tied.closed_at; owners = tied.owners; committed = tied.committed; aborted = tied.aborted; single = tied.single; keys = tied.keys; versions = tied.versions; counts = tied.counts; once = tied.once; reads = tied.reads; horizon_at = tied.horizon_at; feeds = now; protections = protections_kept db.protections p (Opens f seat kind span cursor) tt tied.protections }
 tied_feeds db p (Polls f max ms) feeds is tied now = record { closed_at = tied.closed_at; owners = tied.owners; committed = tied.committed; aborted = tied.aborted; single = tied.single; keys = tied.keys; versions = tied.versions; counts = tied.counts; once = tied.once; reads = tied.reads; horizon_at = tied.horizon_at; feeds = now; protections = protections_kept db.protections p (Polls f max ms) tt tied.protections }
 tied_feeds db p (Cancels f) feeds is tied now = record { closed_at = tied.closed_at; owners = tied.owners; committed = tied.committed; aborted = tied.aborted; single = tied.single; keys = tied.keys; versions = tied.versions; counts = tied.counts; once = tied.once; reads = tied.reads; horizon_at = tied.horizon_at; feeds = now; protections = protections_kept db.protections p (Cancels f) tt tied.protections }
 tied_feeds db p _ feeds is tied now = absurd is

@@ -40,6 +40,12 @@ impl Database {
             Cmd::Protect { t } => Ok(self.answer_protect(*t)),
             Cmd::Release { id } => Ok(self.answer_release(*id)),
             Cmd::Open { span: _, cursor } => Ok(self.answer_open(*cursor)),
+            Cmd::OpenInitial { span: _, cursor } => Ok(self.answer_open_initial(*cursor)),
+            Cmd::OpenEvery {
+                span: _,
+                cursor,
+                gap,
+            } => Ok(self.answer_open_every(*cursor, *gap)),
             Cmd::Cancel { feed } => Ok(self.answer_cancel(*feed)),
             Cmd::Collect { to } => Ok(self.answer_collect(*to)),
             Cmd::Poll { feed, max } => self.answer_poll(seat, *feed, *max),

@@ -1,15 +1,18 @@
 //! Snapshots, hard closings, and what holds the horizon back: protections and feeds.
-ghost use Rattle.std.specs.Prelude.{◌≡◌, ◌<◌, ℕ, List, ◌∷◌, length, true, Option, IfOk, OnErr, OnOk};
+ghost use Rattle.std.specs.Prelude.{◌≡◌, ◌<◌, ℕ, suc, List, ◌∷◌, length, true, Option, IfOk, OnErr, OnOk};
 ghost use Rattle.spans.specs.declared.calls.events.Event.{Event};
 ghost use Rattle.spans.specs.declared.span.Span.{Span};
-ghost use Rattle.spans.specs.declared.calls.commands.Cmd.TheVariants.{ReadAt, CloseHard, Protect, Release, Open, Cancel};
-ghost use Rattle.spans.specs.Effects.{effects_of, event};
+ghost use Rattle.spans.specs.declared.calls.commands.Cmd.TheVariants.{ReadAt, CloseHard, Protect, Release, Open, OpenInitial, OpenEvery, Cancel};
+ghost use Rattle.spans.specs.declared.calls.replies.Reply.TheVariants.{Opened};
+ghost use Rattle.spans.specs.Effects.{effects_of, event, open_cmd};
+ghost use Rattle.spans.specs.Feeds.{feeds_opened};
 ghost use Rattle.spans.specs.Answer.{first_refusal, snapshot_tests, horizon_tests, answer_of};
 ghost use Rattle.spans.specs.Legal.{IsRightEvent, is_accepted};
 ghost use Rattle.reference.specs.Tied.{Represents};
 
 use crate::database::Database;
 use spans::calls::{Refusal, Reply};
+use spans::kind::Kind;
 use spans::span::Span as KeySpan;
 use std::alloc::AllocError;
 use timestamps::key::Key;
@@ -144,6 +147,45 @@ impl Database {
         if let Some(refusal) = self.horizon_refusal(cursor) {
             return Reply::Refused(refusal);
         }
+        self.opened()
+    }
+
+    pub(crate) fn answer_open_initial(&self, cursor: u64) -> Reply
+        ensures { (h : List Event) (seat : ℕ) (span : Span) → Represents self.now h → length h < 18446744073709551615 → result ≡ answer_of (effects_of h) seat (OpenInitial span cursor) }
+    {
+        if let Some(refusal) = self.horizon_refusal(cursor) {
+            return Reply::Refused(refusal);
+        }
+        // what the feed tells first is read at its cursor
+        if cursor > self.closed {
+            return Reply::Refused(Refusal::NotClosed {
+                closed: self.closed,
+            });
+        }
+        self.opened()
+    }
+
+    pub(crate) fn answer_open_every(&self, cursor: u64, gap: u64) -> Reply
+        ensures { (h : List Event) (seat : ℕ) (span : Span) → Represents self.now h → length h < 18446744073709551615 → result ≡ answer_of (effects_of h) seat (OpenEvery span cursor gap) }
+    {
+        if cursor > MAX {
+            return Reply::Refused(Refusal::TsRange);
+        }
+        if gap == 0 || gap > MAX {
+            return Reply::Refused(Refusal::GapRange);
+        }
+        if cursor < self.horizon {
+            return Reply::Refused(Refusal::BelowHorizon {
+                horizon: self.horizon,
+            });
+        }
+        self.opened()
+    }
+
+    /// The reply to an opening that isn't refused.
+    fn opened(&self) -> Reply
+        ensures { (h : List Event) → Represents self.now h → length h < 18446744073709551615 → result ≡ Opened (suc (feeds_opened (effects_of h))) }
+    {
         // no more were opened than there were commands, so a number is left
         Reply::Opened {
             feed: self.feeds.opened().saturating_add(1),
@@ -153,11 +195,12 @@ impl Database {
     pub(crate) fn record_open(
         &mut self,
         seat: u8,
+        kind: Kind,
         span: &KeySpan,
         cursor: u64,
         reply: &Reply,
     ) -> Result<(), AllocError>
-        ensures ok { OnOk result ((h : List Event) (n : ℕ) → Represents self.old h → IsRightEvent (effects_of h) (event n seat (Open span.now cursor) reply.now) → Represents self.new (event n seat (Open span.now cursor) reply.now ∷ h)) }
+        ensures ok { OnOk result ((h : List Event) (n : ℕ) → Represents self.old h → IsRightEvent (effects_of h) (event n seat (open_cmd kind span.now cursor) reply.now) → Represents self.new (event n seat (open_cmd kind span.now cursor) reply.now ∷ h)) }
         ensures err { OnErr result (self.new ≡ self.old) }
         ensures memory { OnErr result (is_accepted reply.now ≡ true) }
     {
@@ -166,7 +209,7 @@ impl Database {
                 if self.feeds.opened() == u64::MAX {
                     return Err(AllocError);
                 }
-                let _feed = self.feeds.open(seat, span, cursor)?;
+                let _feed = self.feeds.open(seat, kind, span, cursor)?;
                 Ok(())
             }
             _ => Ok(()),

@@ -37,7 +37,7 @@ impl Database {
             None => Ok(Messages::from_vec(Vec::new(self.alloc))),
             Some(closed) => {
                 let record = self.feeds.feed(feed);
-                let rows = self.stream(&record.span, record.cursor, closed)?;
+                let rows = self.list(record, closed)?;
                 self.feeds
                     .next_messages(self.alloc, feed, max, closed.get(), rows.as_slice())
             }

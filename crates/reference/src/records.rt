@@ -14,6 +14,7 @@ ghost use Rattle.version_book.specs.declared.transactions.State.TheVariants as s
 
 use crate::database::Database;
 use spans::calls::{Cmd, Refusal, Reply};
+use spans::kind::Kind;
 use std::alloc::AllocError;
 use timestamps::key::Key;
 use timestamps::value::Value;
@@ -40,7 +41,15 @@ impl Database {
             Cmd::ScanAt { t: _, span: _ } => {}
             Cmd::Protect { t } => self.record_protect(*t, reply)?,
             Cmd::Release { id } => self.record_release(*id, reply),
-            Cmd::Open { span, cursor } => self.record_open(seat, span, *cursor, reply)?,
+            Cmd::Open { span, cursor } => {
+                self.record_open(seat, Kind::Plain, span, *cursor, reply)?
+            }
+            Cmd::OpenInitial { span, cursor } => {
+                self.record_open(seat, Kind::Initial, span, *cursor, reply)?
+            }
+            Cmd::OpenEvery { span, cursor, gap } => {
+                self.record_open(seat, Kind::Every { gap: *gap }, span, *cursor, reply)?
+            }
             Cmd::Cancel { feed } => self.record_cancel(*feed, reply),
             Cmd::Collect { to } => self.record_collect(*to, reply),
             Cmd::Poll { feed, max: _ } => self.record_poll(seat, *feed, reply)?,

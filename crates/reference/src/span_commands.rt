@@ -88,7 +88,7 @@ impl Database {
     }
 
     /// The rows of a span that were committed at `t`.
-    fn committed_rows(&self, span: &Span, t: u64) -> Result<Rows, AllocError>
+    pub(crate) fn committed_rows(&self, span: &Span, t: u64) -> Result<Rows, AllocError>
         ensures { IfOk result (λ rows. (h : List Event) → Represents self.now h →
             rows ≡ pairs_of (λ x. committed_value (effects_of h) x t) (filter (in_span span.now) (written_keys (effects_of h)))) }
     {

@@ -1,18 +1,54 @@
 //! The rows that transactions committed, in the order of streams: gathered key by key, and sorted by timestamp. The
 //! sort is stable, so the keys of one timestamp stay in their order.
-ghost use Rattle.std.specs.Prelude.{◌≡◌, List, IfOk};
+ghost use Rattle.std.specs.Prelude.{◌≡◌, ◌≤◌, ℕ, List, Some, map, IfOk};
 ghost use Rattle.spans.specs.declared.calls.events.Event.{Event};
 ghost use Rattle.spans.specs.Effects.{effects_of};
-ghost use Rattle.spans.specs.Streams.{stream_of};
+ghost use Rattle.spans.specs.Streams.{stream_of, snapshot_rows, pair_row};
+ghost use Rattle.spans.specs.Feeds.{Feed, feed_of, list_of};
+ghost use Rattle.spans.specs.Transactions.{closed_of};
+ghost use Rattle.feed_book.specs.Records.{feed_part};
 ghost use Rattle.reference.specs.Tied.{Represents};
 
 use crate::database::Database;
+use feed_book::FeedRecord;
+use spans::kind::Kind;
 use spans::span::Span;
-use std::alloc::AllocError;
+use std::alloc::{AllocError, Global};
+use timestamps::key::Key;
 use timestamps::row::Row;
 use timestamps::ts::Ts;
+use timestamps::value::Value;
 
 impl Database {
+    /// The list of a feed through `through`, by timestamp and then by key.
+    pub(crate) fn list(&self, feed: &FeedRecord, through: Ts) -> Result<Vec<Row>, AllocError>
+        ensures { IfOk result (λ rows. (h : List Event) → Represents self.now h → (f : ℕ) → feed_of (effects_of h) f ≡ Some (feed_part feed.now) → rows.items ≡ list_of (effects_of h) (feed_part feed.now) through) }
+    {
+        let mut stream = self.stream(&feed.span, feed.cursor, through)?;
+        match feed.kind {
+            Kind::Plain | Kind::Every { .. } => Ok(stream),
+            Kind::Initial => {
+                let mut list = self.snapshot(&feed.span, feed.cursor)?;
+                list.append(&mut stream)?;
+                Ok(list)
+            }
+        }
+    }
+
+    /// What a span holds at a closed timestamp, as rows of it, by rising key.
+    fn snapshot(&self, span: &Span, t: u64) -> Result<Vec<Row>, AllocError>
+        ensures { IfOk result (λ rows. (h : List Event) → Represents self.now h → t ≤ closed_of (effects_of h) → rows.items ≡ snapshot_rows (effects_of h) span.now t) }
+    {
+        match Ts::new(t) {
+            // nothing is committed at 0
+            None => Ok(Vec::new(self.alloc)),
+            Some(ts) => {
+                let pairs = self.committed_rows(span, t)?;
+                rows_at(self.alloc, ts, pairs.as_slice())
+            }
+        }
+    }
+
     /// The committed rows of a span above the cursor and at or below `through`, by timestamp and then by key.
     pub(crate) fn stream(
         &self,
@@ -28,4 +64,17 @@ impl Database {
         rows.sort_by_key(|row| row.ts.get())?;
         Ok(rows)
     }
+}
+
+/// Copies of keys and values, as rows of a timestamp.
+fn rows_at(alloc: Global, ts: Ts, pairs: &[(Key, Value)]) -> Result<Vec<Row>, AllocError>
+    ensures { IfOk result (λ rows. rows.items ≡ map (pair_row ts) pairs.now) }
+{
+    let mut rows = Vec::new(alloc);
+    for (key, value) in pairs {
+        let key = key.copy()?;
+        let after = Some(value.copy()?);
+        rows.push(Row { ts, key, after })?;
+    }
+    Ok(rows)
 }

@@ -66,6 +66,7 @@ refusal_again refusal.NoProtection is = refl
 refusal_again refusal.NoFeed is = refl
 refusal_again refusal.FeedCancelled is = refl
 refusal_again refusal.NoMemory is = refl
+refusal_again refusal.GapRange is = refl
 
 -- a reply is read from its words
 reply_again : (r : Reply) → IsReply r → reply_at (reply_words r) ≡ Ok (shape_of r)

@@ -52,6 +52,7 @@ reason_name reason.NoProtection = codes "noprotection"
 reason_name reason.NoFeed = codes "nofeed"
 reason_name reason.FeedCancelled = codes "feedcancelled"
 reason_name reason.NoMemory = codes "nomemory"
+reason_name reason.GapRange = codes "gaprange"
 
 -- the name of a reply
 abbrev kind_name : Kind → List ℕ
@@ -117,6 +118,7 @@ refusal_found reason.NoProtection ws x e = says_alone refusal_words IsRefusal (c
 refusal_found reason.NoFeed ws x e = says_alone refusal_words IsRefusal (codes "nofeed") refusal.NoFeed ws x refl tt e
 refusal_found reason.FeedCancelled ws x e = says_alone refusal_words IsRefusal (codes "feedcancelled") refusal.FeedCancelled ws x refl tt e
 refusal_found reason.NoMemory ws x e = says_alone refusal_words IsRefusal (codes "nomemory") refusal.NoMemory ws x refl tt e
+refusal_found reason.GapRange ws x e = says_alone refusal_words IsRefusal (codes "gaprange") refusal.GapRange ws x refl tt e
 
 stats_found : (ws : List (List ℕ)) (x : Reply × List (List ℕ)) → stats_at ws ≡ Ok x → Says reply_words (λ r. IsReply r × (following_lines r ≡ [])) (codes "stats") ws x
 unfolding stats_at reply_words IsReply following_lines
@@ -171,7 +173,7 @@ Names r = r.0 ≡ kind_name r.1
 
 -- each row of the table has the name of its kind
 replies_right : AllByRecursion Names replies
-replies_right = (refl, (refl, (refl, (refl, (refl, (refl, (refl, (refl, (refl, (refl, (refl, (refl, (refl, (refl, (refl, (refl, (refl, (refl, (refl, (refl, (refl, (refl, (refl, (refl, (refl, (refl, (refl, (refl, (refl, tt)))))))))))))))))))))))))))))
+replies_right = (refl, (refl, (refl, (refl, (refl, (refl, (refl, (refl, (refl, (refl, (refl, (refl, (refl, (refl, (refl, (refl, (refl, (refl, (refl, (refl, (refl, (refl, (refl, (refl, (refl, (refl, (refl, (refl, (refl, (refl, tt))))))))))))))))))))))))))))))
 
 kind_by : (same : Bool) (row : List ℕ × Kind) (rows : List (List ℕ × Kind)) (name : List ℕ) (k : Kind) → bytes_eq row.0 name ≡ same → Names row → (kind_of rows name ≡ Some k → name ≡ kind_name k) → cond same (Some row.1) (kind_of rows name) ≡ Some k → name ≡ kind_name k
 kind_by true row rows name k is right ih e = let same : row.1 ≡ k = cc in sym ((bytes_eq-Decides row.0 name).0 is) ∙ right ∙ ap kind_name same

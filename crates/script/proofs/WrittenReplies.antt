@@ -25,6 +25,7 @@ refusal_are_words refusal.NoProtection is = ((omega arith, refl), tt)
 refusal_are_words refusal.NoFeed is = ((omega arith, refl), tt)
 refusal_are_words refusal.FeedCancelled is = ((omega arith, refl), tt)
 refusal_are_words refusal.NoMemory is = ((omega arith, refl), tt)
+refusal_are_words refusal.GapRange is = ((omega arith, refl), tt)
 
 pub reply_are_words : (r : Reply) → IsReply r → AllByRecursion IsWord (reply_words r)
 unfolding reply_words IsReply

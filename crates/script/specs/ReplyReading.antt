@@ -52,6 +52,7 @@ refusal_at reason.NoProtection words = Ok (refusal.NoProtection, words)
 refusal_at reason.NoFeed words = Ok (refusal.NoFeed, words)
 refusal_at reason.FeedCancelled words = Ok (refusal.FeedCancelled, words)
 refusal_at reason.NoMemory words = Ok (refusal.NoMemory, words)
+refusal_at reason.GapRange words = Ok (refusal.GapRange, words)
 
 unfoldable pub stats_at : List (List ℕ) → Result (Reply × List (List ℕ)) LineFault
 stats_at words = do

@@ -15,7 +15,7 @@ replies =
     ∷ (codes "blocked", kind.Refused reason.Blocked) ∷ (codes "notxn", kind.Refused reason.NoTxn) ∷ (codes "notowner", kind.Refused reason.NotOwner)
     ∷ (codes "ended", kind.Refused reason.Ended) ∷ (codes "toolate", kind.Refused reason.TooLate) ∷ (codes "notclosed", kind.Refused reason.NotClosed)
     ∷ (codes "belowhorizon", kind.Refused reason.BelowHorizon) ∷ (codes "noprotection", kind.Refused reason.NoProtection) ∷ (codes "nofeed", kind.Refused reason.NoFeed)
-    ∷ (codes "feedcancelled", kind.Refused reason.FeedCancelled) ∷ (codes "nomemory", kind.Refused reason.NoMemory) ∷ []
+    ∷ (codes "feedcancelled", kind.Refused reason.FeedCancelled) ∷ (codes "nomemory", kind.Refused reason.NoMemory) ∷ (codes "gaprange", kind.Refused reason.GapRange) ∷ []
 
 -- which reply has a name
 abbrev pub kind_of : List (List ℕ × Kind) → List ℕ → Option Kind

@@ -121,6 +121,7 @@ fn take_refusal(reason: Reason, words: &mut Words) -> Result<Refusal, ReadError>
         Reason::NoFeed => Refusal::NoFeed,
         Reason::FeedCancelled => Refusal::FeedCancelled,
         Reason::NoMemory => Refusal::NoMemory,
+        Reason::GapRange => Refusal::GapRange,
     };
     Ok(refusal)
 }

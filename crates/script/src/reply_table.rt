@@ -40,10 +40,11 @@ pub(crate) enum Reason {
     NoFeed,
     FeedCancelled,
     NoMemory,
+    GapRange,
 }
 
 /// All replies, the most frequent first.
-pub(crate) static REPLIES: [(&[u8], Kind); 29] = [
+pub(crate) static REPLIES: [(&[u8], Kind); 30] = [
     (b"started", Kind::Started),
     (b"none", Kind::Absent),
     (b"value", Kind::Value),
@@ -73,6 +74,7 @@ pub(crate) static REPLIES: [(&[u8], Kind); 29] = [
     (b"nofeed", Kind::Refused(Reason::NoFeed)),
     (b"feedcancelled", Kind::Refused(Reason::FeedCancelled)),
     (b"nomemory", Kind::Refused(Reason::NoMemory)),
+    (b"gaprange", Kind::Refused(Reason::GapRange)),
 ];
 
 /// The reply of a name among the rows.

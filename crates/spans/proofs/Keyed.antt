@@ -1,6 +1,6 @@
 -- Rising keys, and the rows that they give.
 use Rattle.std.proofs.Common.{◌≡◌, ℕ, ◌⊎◌, Bool, true, false, cond, List, [], ◌∷◌, Option, Some, None, refl, sym, ◌∙◌, ap, subst, inl, inr}
-use Rattle.std.specs.Prelude.{◌↔◌, filter, bytes_eq}
+use Rattle.std.specs.Prelude.{◌↔◌, filter, is_some, bytes_eq}
 use Rattle.std.proofs.lemmas.Bool.{both_ways}
 use Rattle.std.specs.declared.cmp.Ordering.{Ordering}
 use Rattle.std.specs.declared.cmp.Ordering.TheVariants.{Less, Equal, Greater}
@@ -148,3 +148,63 @@ among_rows span m rows are x inside = by_value (value_among rows x) refl (m x) r
     by_value (Some v) e q f = e ∙ sym ((are.each x v).0 (pair_among rows x v e)).1
     by_value None e None f = e ∙ sym f
     by_value None e (Some v) f = absurd (none_among rows x v e ((are.each x v).1 (inside, f)))
+
+-- no two keys are each before the other
+pub key_clash : (x y : List ℕ) → key_cmp x y ≡ Less → key_cmp y x ≡ Less → ⊥
+key_clash x y e h = let r : key_cmp y x ≡ ordering_reverse (key_cmp x y) = nat_list_cmp_total.antisymm y x in let no' : Less ≡ Greater = sym h ∙ r ∙ ap ordering_reverse e in cc
+
+-- keys that rise are determined by which they are
+pub only_keys : (xs ys : List (List ℕ)) → RisingKeys xs → RisingKeys ys → ((z : List ℕ) → IsIn z xs ↔ IsIn z ys) → xs ≡ ys
+only_keys [] [] h k same = refl
+only_keys [] (y ∷ ys) h k same = absurd ((same y).1 (inl refl))
+only_keys (x ∷ xs) [] h k same = absurd ((same x).0 (inl refl))
+only_keys (x ∷ xs) (y ∷ ys) h k same =
+    let e : x ≡ y = first in
+    heads e (only_keys xs ys h.1 k.1 (λ z. (
+      λ i. elim ((same z).0 (inr i)) [ inl here ↦ absurd (let b : key_cmp x x ≡ Less = subst (λ n. key_cmp x n ≡ Less) (sym (e ∙ here)) (h.0 z i) in key_clash x x b b) | inr there ↦ there ],
+      λ i. elim ((same z).1 (inr i)) [ inl here ↦ absurd (let b : key_cmp y y ≡ Less = subst (λ n. key_cmp y n ≡ Less) (sym (sym e ∙ here)) (k.0 z i) in key_clash y y b b) | inr there ↦ there ],
+    )))
+  where
+    heads : {x y : List ℕ} {xs ys : List (List ℕ)} → x ≡ y → xs ≡ ys → (x ∷ xs) ≡ (y ∷ ys)
+    heads e h = rw (e, h) refl
+
+    first : x ≡ y
+    first = elim ((same x).0 (inl refl)) [
+      | inl e ↦ sym e
+      | inr later ↦ elim ((same y).1 (inl refl)) [
+        | inl e ↦ e
+        | inr later' ↦ absurd (key_clash x y (h.0 y later') (k.0 x later))
+      ]
+    ]
+
+-- of rising keys those that pass a test are alike where what passes it is in both or in neither
+pub filtered_same : (q : List ℕ → Bool) (xs ys : List (List ℕ)) → RisingKeys xs → RisingKeys ys → ((z : List ℕ) → q z ≡ true → IsIn z xs ↔ IsIn z ys) → filter q xs ≡ filter q ys
+filtered_same q xs ys h k same = only_keys (filter q xs) (filter q ys) (filter_rises q xs h) (filter_rises q ys k) (λ z. let a = filter_in q z xs in let b = filter_in q z ys in (
+  λ i. let m = a.0 i in b.1 (m.0, (same z m.0).0 m.1),
+  λ i. let m = b.0 i in a.1 (m.0, (same z m.0).1 m.1),
+))
+
+-- keys without a value give no row
+pub pairs_of_some : (m : List ℕ → Option (List ℕ)) (xs : List (List ℕ)) → pairs_of m xs ≡ pairs_of m (filter (λ x. is_some (m x)) xs)
+pairs_of_some m [] = refl
+pairs_of_some m (x ∷ xs) = by_value (m x) refl (pairs_of_some m xs)
+  where
+    by_value : (o : Option (List ℕ)) → m x ≡ o → pairs_of m xs ≡ pairs_of m (filter (λ x. is_some (m x)) xs) → with_value x o (pairs_of m xs) ≡ pairs_of m (cond (is_some o) (x ∷ filter (λ x. is_some (m x)) xs) (filter (λ x. is_some (m x)) xs))
+    by_value None e more = more
+    by_value (Some v) e more = ap (λ l. (x, v) ∷ l) more ∙ sym (ap (λ o. with_value x o (pairs_of m (filter (λ x. is_some (m x)) xs))) e)
+
+-- maps that are alike give the same rows
+pub pairs_alike : (m n : List ℕ → Option (List ℕ)) (xs : List (List ℕ)) → ((x : List ℕ) → m x ≡ n x) → pairs_of m xs ≡ pairs_of n xs
+pairs_alike m n [] same = refl
+pairs_alike m n (x ∷ xs) same = rw (same x, pairs_alike m n xs same) refl
+
+-- keys that have the same values give the same rows
+pub pairs_only : (m : List ℕ → Option (List ℕ)) (xs ys : List (List ℕ)) → RisingKeys xs → RisingKeys ys → ((x v : List ℕ) → m x ≡ Some v → IsIn x xs × IsIn x ys) → pairs_of m xs ≡ pairs_of m ys
+pairs_only m xs ys h k both =
+    pairs_of_some m xs
+    ∙ ap (pairs_of m) (filtered_same (λ x. is_some (m x)) xs ys h k (λ x is. let v = some_of (m x) is in let b = both x v.0 v.1 in (λ i. b.1, λ i. b.0)))
+    ∙ sym (pairs_of_some m ys)
+  where
+    some_of : (o : Option (List ℕ)) → is_some o ≡ true → (v : List ℕ) × (o ≡ Some v)
+    some_of None is = cc
+    some_of (Some v) is = (v, refl)

@@ -6,6 +6,7 @@ pub mod Marks
 pub mod Open
 pub mod WriteSets
 pub mod StreamOrder
+pub mod RowOrder
 pub mod Feeding
 pub mod Viewing
 pub mod Taking
@@ -16,3 +17,5 @@ pub mod Histories
 pub mod Ascending
 pub mod Succeeding
 pub mod Cutting
+pub mod Streaming
+pub mod Listing

@@ -4,8 +4,7 @@ use Rattle.std.specs.Prelude.{◌↔◌, is_some, bytes_eq, nat_lt, filter}
 use Rattle.std.specs.List.{list_any}
 use Rattle.std.specs.declared.cmp.Ordering.{Ordering}
 use Rattle.std.specs.declared.cmp.Ordering.TheVariants.{Less, Equal, Greater}
-use Rattle.std.specs.Ordering.{ordering_reverse, is_lt}
-use Rattle.std.proofs.lemmas.Cmp.{nat_list_cmp_total}
+use Rattle.std.specs.Ordering.{is_lt}
 use Rattle.std.proofs.lemmas.Bool.{and_parts, or_cases, and_from, or_left, or_right, ltb-true, lt-ltb, eqb-true, eq-eqb, false_from_ne_true}
 use Rattle.std.proofs.lemmas.Bool.Decides.{nat_tests}
 use Rattle.timestamps.specs.Bytes.{key_cmp}
@@ -18,7 +17,7 @@ use Rattle.spans.specs.Versions.{write_of, write_set}
 use Rattle.spans.specs.Streams.{row_lt, written_value, rows_of, stream_of}
 use Rattle.spans.specs.Feeds.{same_version}
 use Rattle.spans.proofs.Steps.{by_test, same_key, key_itself}
-use Rattle.spans.proofs.Keyed.{IsIn, RisingKeys, filter_in, filter_rises}
+use Rattle.spans.proofs.Keyed.{IsIn, RisingKeys, key_clash, filter_in, filter_rises}
 use Rattle.spans.proofs.WriteSets.{has_in, has_written, write_set_rises}
 
 abbrev pub IsRowIn : Row → List Row → Type 0
@@ -28,9 +27,6 @@ IsRowIn r (s ∷ rows) = (s ≡ r) ⊎ IsRowIn r rows
 abbrev pub RisingRows : List Row → Type 0
 RisingRows [] = Unit {0}
 RisingRows (r ∷ rows) = ((s : Row) → IsRowIn s rows → row_lt r s ≡ true) × RisingRows rows
-
-key_clash : (x y : List ℕ) → key_cmp x y ≡ Less → key_cmp y x ≡ Less → ⊥
-key_clash x y e h = let r : key_cmp y x ≡ ordering_reverse (key_cmp x y) = nat_list_cmp_total.antisymm y x in let no : Less ≡ Greater = sym h ∙ r ∙ ap ordering_reverse e in cc
 
 less_is : (o : Ordering) → is_lt o ≡ true → o ≡ Less
 less_is Less e = refl

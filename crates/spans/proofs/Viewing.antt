@@ -1,5 +1,5 @@
 -- A consumer has the map at each resolved timestamp.
-use Rattle.std.proofs.Common.{◌≡◌, ℕ, zero, suc, ◌<◌, ◌≤◌, Bool, true, false, cond, ◌&&◌, List, [], ◌∷◌, ◌++◌, map, Option, Some, None, refl, sym, ◌∙◌, ap, subst, arith, append_assoc}
+use Rattle.std.proofs.Common.{◌≡◌, ℕ, zero, suc, ◌<◌, ◌≤◌, Bool, true, false, cond, ◌&&◌, ◌||◌, List, [], ◌∷◌, ◌++◌, map, Option, Some, None, refl, sym, ◌∙◌, ap, subst, arith, append_assoc}
 use Rattle.std.specs.Prelude.{is_some, bytes_eq, nat_lt, filter}
 use Rattle.std.proofs.lemmas.List.{append-nil}
 use Rattle.std.proofs.lemmas.Bool.{ltb-true}
@@ -8,17 +8,22 @@ use Rattle.spans.specs.declared.span.Span.{Span}
 use Rattle.timestamps.specs.declared.row.Row.{Row}
 use Rattle.spans.specs.declared.calls.messages.Message.{Message}
 use Rattle.spans.specs.declared.calls.messages.Message.TheVariants as messages
+use Rattle.spans.specs.declared.kind.Kind.{Kind}
+use Rattle.spans.specs.declared.kind.Kind.TheVariants.{Plain, Initial, Every}
 use Rattle.spans.specs.Effects.{After, Effect}
 use Rattle.spans.specs.Transactions.{is_committed}
-use Rattle.spans.specs.Versions.{write_of, write_set}
-use Rattle.spans.specs.Keys.{in_span}
-use Rattle.spans.specs.Serial.{Map, put, serial_run, map_at}
-use Rattle.spans.specs.Feeds.{Feed, told_to, rows_in}
-use Rattle.spans.specs.Streams.{rows_of, written_value, stream_of}
-use Rattle.spans.specs.FeedRight.{DividesStream, ResolvedRise}
-use Rattle.spans.specs.Consumer.{view_of, span_part}
+use Rattle.spans.specs.Versions.{write_of, write_set, written_keys}
+use Rattle.spans.specs.Keys.{in_span, pairs_of, with_value}
+use Rattle.spans.specs.Serial.{Map, put, serial_run, map_at, span_part}
+use Rattle.spans.specs.Feeds.{Feed, told_to, rows_in, first_rows, list_of, start_of}
+use Rattle.spans.specs.Streams.{rows_of, written_value, stream_of, pair_row}
+use Rattle.spans.specs.FeedRight.{DividesList}
+use Rattle.spans.proofs.Feeding.{ResolvedRise}
+use Rattle.spans.specs.Consumer.{view_of, seed_of}
 use Rattle.spans.proofs.Steps.{by_test, same_key, or_else, after_is}
-use Rattle.spans.proofs.WriteSets.{has, has_written, has_filtered}
+use Rattle.spans.proofs.WriteSets.{has, has_in, has_written, has_filtered}
+use Rattle.spans.proofs.Streaming.{stream_none}
+use Rattle.spans.proofs.Listing.{start_next, part_in}
 
 -- the map changed by rows
 abbrev pub by_rows : Map → List Row → Map
@@ -46,11 +51,6 @@ by_keys f t m (y ∷ ys) x = by_keys f t (put m y (f y)) ys x ∙ by_test (bytes
     alike true v = refl
     alike false v = refl
 
--- nothing streams at or below the cursor
-pub stream_none : (p : List Effect) (span : Span) (c n : ℕ) → n ≤ c → stream_of p span c n ≡ []
-stream_none p span c zero low = refl
-stream_none p span c (suc n) low = let not_yet : nat_lt c (suc n) ≡ false = grind (arith, nat_tests) in rw (stream_none p span c n (omega arith), not_yet) refl
-
 -- the stream leads from map to map
 pub streamed : (p : List Effect) (span : Span) (c t : ℕ) (x : List ℕ) → c ≤ t → by_rows (span_part span (map_at p c)) (stream_of p span c t) x ≡ span_part span (map_at p t) x
 streamed p span c zero x low = let e : c ≡ 0 = omega arith in rw e refl
@@ -75,7 +75,7 @@ streamed p span c (suc t) x low =
         ∙ by_write (write_of p (suc t) x) (in_span span x) (m x) (map_at p t x) e
         ∙ ap (λ v. cond (in_span span x) v None) (sym (after_is p (suc t) (map_at p t) x))
 
-divides_at : (p : List Effect) (feed : Feed) (acc : List Row) (before rest : List Message) (t : ℕ) → DividesStream p feed acc (before ++ messages.Resolved t ∷ rest) → acc ++ rows_in before ≡ stream_of p feed.span feed.cursor t
+divides_at : (p : List Effect) (feed : Feed) (acc : List Row) (before rest : List Message) (t : ℕ) → DividesList p feed acc (before ++ messages.Resolved t ∷ rest) → acc ++ rows_in before ≡ list_of p feed t
 divides_at p feed acc [] rest t h = append-nil acc ∙ h.0
 divides_at p feed acc (messages.Row r ∷ ms) rest t h = sym (append_assoc acc (r ∷ []) (rows_in ms)) ∙ divides_at p feed (acc ++ r ∷ []) ms rest t h
 divides_at p feed acc (messages.Resolved n ∷ ms) rest t h = divides_at p feed acc ms rest t h.1
@@ -85,10 +85,54 @@ rises_at n [] rest t h = h.0
 rises_at n (messages.Row r ∷ ms) rest t h = rises_at n ms rest t h
 rises_at n (messages.Resolved k ∷ ms) rest t h = let later : k < t = rises_at k ms rest t h.1 in omega (arith, h.0)
 
-pub views : (p : List Effect) (f : ℕ) (feed : Feed) → DividesStream p feed [] (told_to p f) → ResolvedRise feed.cursor (told_to p f) → (before rest : List Message) (t : ℕ) → told_to p f ≡ before ++ messages.Resolved t ∷ rest
-    → (x : List ℕ) → view_of (span_part feed.span (map_at p feed.cursor)) before x ≡ span_part feed.span (map_at p t) x
+-- rows change maps that are alike to maps that are alike
+by_rows_like : (m n : Map) (rows : List Row) (x : List ℕ) → ((y : List ℕ) → m y ≡ n y) → by_rows m rows x ≡ by_rows n rows x
+by_rows_like m n [] x same = same x
+by_rows_like m n (r ∷ rows) x same = by_rows_like (put m r.key r.after) (put n r.key r.after) rows x (λ y. ap (λ v. cond (bytes_eq r.key y) r.after v) (same y))
+
+-- a value, and another where there is none
+abbrev value_or : After → After → After
+value_or None w = w
+value_or (Some v) w = Some v
+
+-- the rows of some keys, each with its value in a map, give that map at those keys
+by_pairs : (m f : Map) (t : ℕ) (keys : List (List ℕ)) (x : List ℕ) → by_rows m (map (pair_row t) (pairs_of f keys)) x ≡ cond (has x keys) (value_or (f x) (m x)) (m x)
+by_pairs m f t [] x = refl
+by_pairs m f t (y ∷ ys) x = by_value (f y) refl (λ n. by_pairs n f t ys x)
+  where
+    same : (b : Bool) (v : After) → cond b v v ≡ v
+    same true v = refl
+    same false v = refl
+
+    by_value : (o : After) → f y ≡ o → ((n : Map) → by_rows n (map (pair_row t) (pairs_of f ys)) x ≡ cond (has x ys) (value_or (f x) (n x)) (n x))
+        → by_rows m (map (pair_row t) (with_value y o (pairs_of f ys))) x ≡ cond (bytes_eq y x || has x ys) (value_or (f x) (m x)) (m x)
+    by_value None e more = more m ∙ by_test (bytes_eq y x)
+        (λ here. let none : f x ≡ None = ap f (sym (same_key y x here)) ∙ e in rw (here, none) (same (has x ys) (m x)))
+        (λ there. rw there refl)
+    by_value (Some v) e more = more (put m y (Some v)) ∙ by_test (bytes_eq y x)
+        (λ here. let some : f x ≡ Some v = ap f (sym (same_key y x here)) ∙ e in rw (here, some) (same (has x ys) (Some v)))
+        (λ there. rw there refl)
+
+-- what a feed tells first leads from the consumer's seed to the map at the cursor
+seeded : (kind : Kind) (p : List Effect) (span : Span) (c : ℕ) (x : List ℕ) → by_rows (seed_of kind p span c) (first_rows kind p span c) x ≡ span_part span (map_at p c) x
+seeded Plain p span c x = refl
+seeded Initial p span c x = by_pairs (λ y. None) (span_part span (map_at p c)) c (written_keys p) x ∙ by_value (span_part span (map_at p c) x) refl
+  where
+    by_value : (o : After) → span_part span (map_at p c) x ≡ o → cond (has x (written_keys p)) (value_or o None) None ≡ o
+    by_value None e = none (has x (written_keys p))
+      where
+        none : (b : Bool) → cond b (value_or None None) None ≡ None
+        none true = refl
+        none false = refl
+    by_value (Some v) e = let here : has x (written_keys p) ≡ true = (has_in x (written_keys p)).0 (part_in p span c x v e) in rw here refl
+seeded (Every gap) p span c x = refl
+
+pub views : (p : List Effect) (f : ℕ) (feed : Feed) → DividesList p feed [] (told_to p f) → ResolvedRise (start_of feed) (told_to p f) → (before rest : List Message) (t : ℕ) → told_to p f ≡ before ++ messages.Resolved t ∷ rest
+    → (x : List ℕ) → view_of (seed_of feed.kind p feed.span feed.cursor) before x ≡ span_part feed.span (map_at p t) x
 views p f feed divides rises before rest t is x =
-    let above : feed.cursor < t = rises_at feed.cursor before rest t (subst (ResolvedRise feed.cursor) is rises) in
-    ap (λ m. m x) (view_rows (span_part feed.span (map_at p feed.cursor)) before)
-    ∙ ap (λ rs. by_rows (span_part feed.span (map_at p feed.cursor)) rs x) (divides_at p feed [] before rest t (subst (DividesStream p feed []) is divides))
-    ∙ streamed p feed.span feed.cursor t x (omega arith)
+    let above : start_of feed < t = rises_at (start_of feed) before rest t (subst (ResolvedRise (start_of feed)) is rises) in
+    ap (λ m. m x) (view_rows (seed_of feed.kind p feed.span feed.cursor) before)
+    ∙ ap (λ rs. by_rows (seed_of feed.kind p feed.span feed.cursor) rs x) (divides_at p feed [] before rest t (subst (DividesList p feed []) is divides))
+    ∙ ap (λ m. m x) (by_rows_join (seed_of feed.kind p feed.span feed.cursor) (first_rows feed.kind p feed.span feed.cursor) (stream_of p feed.span feed.cursor t))
+    ∙ by_rows_like (by_rows (seed_of feed.kind p feed.span feed.cursor) (first_rows feed.kind p feed.span feed.cursor)) (span_part feed.span (map_at p feed.cursor)) (stream_of p feed.span feed.cursor t) x (seeded feed.kind p feed.span feed.cursor)
+    ∙ streamed p feed.span feed.cursor t x (start_next feed.kind feed.cursor t above)

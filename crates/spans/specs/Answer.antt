@@ -2,12 +2,14 @@
 use Rattle.std.specs.Prelude.{ℕ, suc, List, [], ◌∷◌, ◌++◌, map, filter, length, Bool, false, not, ◌&&◌, ◌||◌, ◌==◌, ◌-◌, nat_lt, nat_le, max, if◌then◌else◌, Option, Some, None, is_some}
 use Rattle.timestamps.specs.declared.ts.TheConstants.{MAX}
 use Rattle.spans.specs.declared.calls.commands.Cmd.{Cmd}
-use Rattle.spans.specs.declared.calls.commands.Cmd.TheVariants.{Begin, Get, Scan, Put, Del, Commit, Abort, Close, CloseHard, Protect, Release, Collect, Open, Poll, Cancel, Stats, ReadAt, ScanAt}
+use Rattle.spans.specs.declared.calls.commands.Cmd.TheVariants.{Begin, Get, Scan, Put, Del, Commit, Abort, Close, CloseHard, Protect, Release, Collect, Open, OpenInitial, OpenEvery, Poll, Cancel, Stats, ReadAt, ScanAt}
 use Rattle.spans.specs.declared.calls.replies.Reply.{Reply}
 use Rattle.spans.specs.declared.calls.replies.Reply.TheVariants.{Started, Found, Rows, Written, Committed, Aborted, Closed, Protected, Released, Collected, Opened, Messages, Cancelled, Refused}
 use Rattle.spans.specs.declared.calls.replies.Reply.TheVariants as replies
 use Rattle.spans.specs.declared.calls.replies.Refusal.{Refusal}
-use Rattle.spans.specs.declared.calls.replies.Refusal.TheVariants.{BelowClosed, TsUsed, TsRange, Blocked, NoTxn, NotOwner, Ended, TooLate, NotClosed, BelowHorizon, NoProtection, NoFeed, FeedCancelled}
+use Rattle.spans.specs.declared.calls.replies.Refusal.TheVariants.{BelowClosed, TsUsed, TsRange, Blocked, NoTxn, NotOwner, Ended, TooLate, NotClosed, BelowHorizon, NoProtection, NoFeed, FeedCancelled, GapRange}
+use Rattle.spans.specs.declared.kind.Kind.{Kind}
+use Rattle.spans.specs.declared.kind.Kind.TheVariants.{Plain, Initial, Every}
 use Rattle.spans.specs.Effects.{Effect, Collects}
 use Rattle.spans.specs.Keys.{in_span, pairs_of}
 use Rattle.spans.specs.Transactions.{owner_of, closed_of, is_committed, is_aborted, undecided_timestamps, decided_through}
@@ -57,6 +59,19 @@ snapshot_tests p t = (nat_lt (closed_of p) t, NotClosed (closed_of p)) ∷ (nat_
 abbrev pub horizon_tests : List Effect → ℕ → List (Bool × Refusal)
 horizon_tests p t = (nat_lt MAX t, TsRange) ∷ (nat_lt t (horizon_of p), BelowHorizon (horizon_of p)) ∷ []
 
+-- the tests of an opening, by the feed's kind. What an initial feed tells first is read at its cursor, so that has to be
+-- closed; a gap is in the range of timestamps
+abbrev pub opening_tests : Kind → List Effect → ℕ → List (Bool × Refusal)
+opening_tests Plain p cursor = horizon_tests p cursor
+opening_tests Initial p cursor =
+    (nat_lt MAX cursor, TsRange) ∷ (nat_lt cursor (horizon_of p), BelowHorizon (horizon_of p)) ∷ (nat_lt (closed_of p) cursor, NotClosed (closed_of p)) ∷ []
+opening_tests (Every gap) p cursor =
+    (nat_lt MAX cursor, TsRange) ∷ (not (is_timestamp gap), GapRange) ∷ (nat_lt cursor (horizon_of p), BelowHorizon (horizon_of p)) ∷ []
+
+-- the answer to the command that opens a feed of the kind
+abbrev pub opening_answer : Kind → List Effect → ℕ → Reply
+opening_answer kind p cursor = first_refusal_or (opening_tests kind p cursor) (Opened (suc (feeds_opened p)))
+
 -- the answer to a seat's command after p. The statistics are the versions that aren't dead, the undecided transactions,
 -- the live feeds, closed and the horizon
 abbrev pub answer_of : List Effect → ℕ → Cmd → Reply
@@ -83,7 +98,9 @@ answer_of p seat (Release id) = first_refusal_or ((not (is_protected p id), NoPr
 answer_of p seat (Collect to) =
     first_refusal_or ((nat_lt MAX to, TsRange) ∷ [])
     (let n = collection_horizon p to in Collected n (length (dead_of (Collects n ∷ p)) - length (dead_of p)))
-answer_of p seat (Open span cursor) = first_refusal_or (horizon_tests p cursor) (Opened (suc (feeds_opened p)))
+answer_of p seat (Open span cursor) = opening_answer Plain p cursor
+answer_of p seat (OpenInitial span cursor) = opening_answer Initial p cursor
+answer_of p seat (OpenEvery span cursor gap) = opening_answer (Every gap) p cursor
 answer_of p seat (Poll f max) = with_feed p seat f (feed_of p f) (λ feed. Messages (next_messages p f feed max))
 answer_of p seat (Cancel f) =
     first_refusal_or ((not (is_some (feed_of p f)), NoFeed) ∷ (is_cancelled p f, FeedCancelled) ∷ []) Cancelled

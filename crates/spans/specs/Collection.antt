@@ -43,7 +43,7 @@ pub record LiveFeed : Type 0 where
 
 abbrev pub live_feeds : List Effect → List LiveFeed
 live_feeds [] = []
-live_feeds (Opens f seat span cursor ∷ p) = record { number = f; cursor = cursor } ∷ live_feeds p
+live_feeds (Opens f seat kind span cursor ∷ p) = record { number = f; cursor = cursor } ∷ live_feeds p
 live_feeds (Cancels f ∷ p) = filter (λ (n : LiveFeed). not (n.number == f)) (live_feeds p)
 live_feeds (_ ∷ p) = live_feeds p
 
@@ -54,8 +54,9 @@ floor_after n [] = n
 floor_after n (messages.Row r ∷ ms) = floor_after (r.ts - 1) ms
 floor_after n (messages.Resolved t ∷ ms) = floor_after t ms
 
+-- the floor of a feed, never below its cursor: an initial feed's rows at its cursor are read there
 abbrev pub floor_of : List Effect → LiveFeed → ℕ
-floor_of p n = floor_after n.cursor (told_to p n.number)
+floor_of p n = max n.cursor (floor_after n.cursor (told_to p n.number))
 
 -- the horizon that a collection through `to` reaches: no protection and no live feed is passed, and it never falls
 abbrev pub collection_horizon : List Effect → ℕ → ℕ

@@ -9,11 +9,14 @@
 -- A name in small letters computes: a number, a list, a test (`Bool`). A name that begins with a capital is a
 -- proposition or a type (`Type 0`): × is "and", ⊎ "or", ↔ "exactly where", (n : A) × .. "there is an n", (n : A) → ..
 -- "for all n", Unit "true", ⊥ "false"; .0, .1 .. are the parts of what × joins. Commands, replies, refusals and messages
--- are the types of `src/calls`, with their fields in the order in which they stand there.
+-- are the types of `src/calls`, and the kinds of feeds that of `src/kind`, with their fields in the order in which they stand
+-- there.
 use Rattle.std.specs.Prelude.{ℕ, List, map, Option, Some, None}
 use Rattle.spans.specs.declared.span.Span.{Span}
+use Rattle.spans.specs.declared.kind.Kind.{Kind}
+use Rattle.spans.specs.declared.kind.Kind.TheVariants.{Plain, Initial, Every}
 use Rattle.spans.specs.declared.calls.commands.Cmd.{Cmd}
-use Rattle.spans.specs.declared.calls.commands.Cmd.TheVariants.{Begin, Get, Scan, Put, Del, Commit, Abort, Close, CloseHard, Protect, Release, Collect, Open, Poll, Cancel, ReadAt, ScanAt}
+use Rattle.spans.specs.declared.calls.commands.Cmd.TheVariants.{Begin, Get, Scan, Put, Del, Commit, Abort, Close, CloseHard, Protect, Release, Collect, Open, OpenInitial, OpenEvery, Poll, Cancel, ReadAt, ScanAt}
 use Rattle.spans.specs.declared.calls.replies.Reply.{Reply}
 use Rattle.spans.specs.declared.calls.replies.Reply.TheVariants.{Started, Found, Rows, Written, Committed, Aborted, Closed, Protected, Released, Collected, Opened, Messages, Cancelled, Refused}
 use Rattle.spans.specs.declared.calls.replies.Refusal.TheVariants.{TooLate}
@@ -40,7 +43,7 @@ pub data Effect : Type 0 where
   Protects : (id t : ℕ) → Effect
   Releases : (id : ℕ) → Effect
   Collects : (horizon : ℕ) → Effect
-  Opens : (feed seat : ℕ) (span : Span) (cursor : ℕ) → Effect
+  Opens : (feed seat : ℕ) (kind : Kind) (span : Span) (cursor : ℕ) → Effect
   Polls : (feed max : ℕ) (messages : List Message) → Effect
   Cancels : (feed : ℕ) → Effect
   NoEffect : Effect
@@ -64,10 +67,18 @@ effect seat (ScanAt t span) (Rows rows) = SnapshotScans t span rows
 effect seat (Protect t) (Protected id) = Protects id t
 effect seat (Release id) Released = Releases id
 effect seat (Collect to) (Collected horizon removed) = Collects horizon
-effect seat (Open span cursor) (Opened feed) = Opens feed seat span cursor
+effect seat (Open span cursor) (Opened feed) = Opens feed seat Plain span cursor
+effect seat (OpenInitial span cursor) (Opened feed) = Opens feed seat Initial span cursor
+effect seat (OpenEvery span cursor gap) (Opened feed) = Opens feed seat (Every gap) span cursor
 effect seat (Poll feed max) (Messages ms) = Polls feed max ms
 effect seat (Cancel feed) Cancelled = Cancels feed
 effect seat cmd reply = NoEffect
+
+-- the command that opens a feed of the kind
+abbrev pub open_cmd : Kind → Span → ℕ → Cmd
+open_cmd Plain span cursor = Open span cursor
+open_cmd Initial span cursor = OpenInitial span cursor
+open_cmd (Every gap) span cursor = OpenEvery span cursor gap
 
 abbrev pub effect_of : Event → Effect
 effect_of e = effect e.seat e.cmd e.reply

@@ -2,16 +2,18 @@
 -- `kept` and what stands on it read this). Versions that are
 -- dead are gone, and so are transactions at or below closed and marks of readers there; each layer of an engine keeps
 -- its part of the record. The length of the history is kept beside it.
-use Rattle.std.specs.Prelude.{ℕ, List, Bool, true, ◌≡◌, ◌<◌, ◌↔◌, nat_lt, if◌then◌else◌, Option, Some, None, option_map}
-use Rattle.timestamps.specs.declared.row.Row.{Row}
+use Rattle.std.specs.Prelude.{ℕ, List, [], ◌∷◌, Bool, true, ◌≡◌, ◌<◌, ◌↔◌, nat_lt, if◌then◌else◌, Option, Some, None, option_map}
 use Rattle.spans.specs.declared.span.Span.{Span}
+use Rattle.spans.specs.declared.kind.Kind.{Kind}
+use Rattle.spans.specs.declared.calls.messages.Message.{Message}
+use Rattle.spans.specs.declared.calls.messages.Message.TheVariants as messages
 use Rattle.spans.specs.Effects.{After, Effect}
 use Rattle.spans.specs.Transactions.{owner_of, closed_of, is_committed, is_aborted}
 use Rattle.spans.specs.Versions.{write_set, version_of, committed_version_of}
 use Rattle.spans.specs.Reads.{too_late}
-use Rattle.spans.specs.Feeds.{Feed, feed_of, feeds_opened, is_cancelled, told_to, last_resolved}
-use Rattle.spans.specs.Collection.{Protection, version_name, horizon_of, protections_of, protections_made, is_dead}
-use Rattle.spans.specs.Consumer.{last_row}
+use Rattle.spans.specs.Feeds.{Feed, feed_of, feeds_opened, is_cancelled, told_to, resolved_of}
+use Rattle.spans.specs.Collection.{Protection, VersionName, version_name, horizon_of, protections_of, protections_made, is_dead}
+use Rattle.spans.specs.Consumer.{name_of}
 
 -- a transaction: its owner, how it ended, and the keys that it wrote, rising
 pub record Transaction : Type 0 where
@@ -20,12 +22,15 @@ pub record Transaction : Type 0 where
   pub aborted : Bool
   pub keys : List (List ℕ)
 
--- a live feed's place: the greatest of its cursor and its resolved timestamps, and the row that was told last
+-- a live feed and its place: the greatest of its start and its resolved timestamps, and the name of the row that was told
+-- last. The kind and the cursor say what an initial feed tells first, and where it is read
 pub record Place : Type 0 where
   pub seat : ℕ
+  pub kind : Kind
   pub span : Span
+  pub cursor : ℕ
   pub after : ℕ
-  pub row : Option Row
+  pub row : Option VersionName
 
 -- what is kept, as the layers of an engine are seen: a version at a key and a timestamp, whether it is committed, the
 -- readers that are marked at a key, the transactions, the protections and the live feeds
@@ -52,8 +57,14 @@ transaction_with p t seat = record { seat = seat; committed = is_committed p t; 
 abbrev pub transaction_of : List Effect → ℕ → Option Transaction
 transaction_of p t = if nat_lt (closed_of p) t then option_map (transaction_with p t) (owner_of p t) else None
 
+-- the name of the row that was told last, where there was one
+abbrev pub last_name : Option VersionName → List Message → Option VersionName
+last_name o [] = o
+last_name o (messages.Row r ∷ ms) = last_name (Some (name_of r)) ms
+last_name o (messages.Resolved t ∷ ms) = last_name o ms
+
 abbrev pub place_with : List Effect → ℕ → Feed → Place
-place_with p f feed = record { seat = feed.seat; span = feed.span; after = last_resolved feed.cursor (told_to p f); row = last_row None (told_to p f) }
+place_with p f feed = record { seat = feed.seat; kind = feed.kind; span = feed.span; cursor = feed.cursor; after = resolved_of p f feed; row = last_name None (told_to p f) }
 
 -- the place of a feed that lives
 abbrev pub place_of : List Effect → ℕ → Option Place

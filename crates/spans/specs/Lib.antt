@@ -5,15 +5,16 @@ pub mod Transactions
 pub mod Newest
 pub mod Versions
 pub mod Reads
+pub mod Serial
 pub mod Streams
 pub mod Feeds
 pub mod Collection
 pub mod Answer
 pub mod Legal
-pub mod Serial
 pub mod FeedRight
 pub mod Consumer
 pub mod Kept
 pub mod WorkedHistories
 pub mod Pieces
 pub mod Successors
+pub mod Starting

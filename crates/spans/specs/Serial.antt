@@ -2,8 +2,9 @@
 -- rising timestamp (one-copy serializability of Bernstein, Hadzilacos and Goodman, section 5.2, in timestamp order). The
 -- book compares which write each read was given, and here the values are compared; the law says both.
 use Rattle.std.specs.Prelude.{ℕ, zero, suc, List, [], ◌∷◌, true, ◌==◌, ◌≡◌, if◌then◌else◌, None, bytes_eq}
+use Rattle.spans.specs.declared.span.Span.{Span}
 use Rattle.spans.specs.Effects.{After, Effect, Reads, Scans, SnapshotReads, SnapshotScans, Writes}
-use Rattle.spans.specs.Keys.{AreRows}
+use Rattle.spans.specs.Keys.{in_span, AreRows}
 use Rattle.spans.specs.Transactions.{is_committed}
 
 -- a map from keys to values
@@ -24,6 +25,10 @@ serial_run (_ ∷ p) t m = serial_run p t m
 abbrev pub map_at : List Effect → ℕ → Map
 map_at p zero = λ x. None
 map_at p (suc t) = if is_committed p (suc t) then serial_run p (suc t) (map_at p t) else map_at p t
+
+-- the part of a map in a span
+abbrev pub span_part : Span → Map → Map
+span_part span m = λ x. if in_span span x then m x else None
 
 -- each read of t found what the map has at that point of its run on m
 abbrev pub ReadsAgree : List Effect → ℕ → Map → Type 0

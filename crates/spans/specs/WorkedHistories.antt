@@ -1,16 +1,17 @@
 -- Worked histories, each computed from the definitions: calls of seats in turn, and the replies to them.
-use Rattle.std.specs.Prelude.{◌≡◌, ℕ, List, [], ◌∷◌, Some, None, refl}
+use Rattle.std.specs.Prelude.{◌≡◌, ℕ, List, [], ◌∷◌, Option, Some, None, refl}
 use Rattle.spans.specs.declared.calls.commands.Cmd.{Cmd}
-use Rattle.spans.specs.declared.calls.commands.Cmd.TheVariants.{Begin, Get, Scan, Put, Del, Commit, Abort, Close, CloseHard, Protect, Release, Collect, Open, Poll, Cancel, Stats, ReadAt, ScanAt}
+use Rattle.spans.specs.declared.calls.commands.Cmd.TheVariants.{Begin, Get, Scan, Put, Del, Commit, Abort, Close, CloseHard, Protect, Release, Collect, Open, OpenInitial, OpenEvery, Poll, Cancel, Stats, ReadAt, ScanAt}
 use Rattle.spans.specs.declared.calls.replies.Reply.{Reply}
 use Rattle.spans.specs.declared.calls.replies.Reply.TheVariants.{Started, Found, Rows, Written, Committed, Aborted, Closed, Protected, Released, Collected, Opened, Messages, Cancelled, Refused}
 use Rattle.spans.specs.declared.calls.replies.Reply.TheVariants as replies
-use Rattle.spans.specs.declared.calls.replies.Refusal.TheVariants.{BelowClosed, TsUsed, TsRange, Blocked, NoTxn, NotOwner, Ended, TooLate, NotClosed, BelowHorizon, NoProtection, NoFeed, FeedCancelled}
+use Rattle.spans.specs.declared.calls.replies.Refusal.TheVariants.{BelowClosed, TsUsed, TsRange, Blocked, NoTxn, NotOwner, Ended, TooLate, NotClosed, BelowHorizon, NoProtection, NoFeed, FeedCancelled, GapRange}
 use Rattle.spans.specs.declared.calls.messages.Message.{Message}
 use Rattle.spans.specs.declared.calls.messages.Message.TheVariants as messages
 use Rattle.spans.specs.declared.span.Span.{Span}
 use Rattle.spans.specs.Effects.{After, Effect, effect}
 use Rattle.spans.specs.Answer.{answer_of}
+use Rattle.spans.specs.Consumer.{ApplyFault, NotAfter, OutsideSpan, ResolvedBack, apply_fault}
 
 -- the replies to calls of seats, after the effects p
 abbrev pub replies_to : List Effect → List (ℕ × Cmd) → List Reply
@@ -34,6 +35,9 @@ two = 50 ∷ []
 
 abbrev three : List ℕ
 three = 51 ∷ []
+
+abbrev four : List ℕ
+four = 52 ∷ []
 
 abbrev whole : Span
 whole = record { lo = None; hi = None }
@@ -171,3 +175,77 @@ collections = refl
 pub holding_and_letting_go : replies_to [] ((0, Open whole 0) ∷ (0, Close 10) ∷ (0, Poll 1 9) ∷ (0, Close 30) ∷ (0, Collect 30) ∷ (1, Cancel 1) ∷ (0, Collect 20) ∷ (1, Poll 1 9) ∷ (0, Protect 20) ∷ (0, Release 1) ∷ (0, Protect 20) ∷ [])
     ≡ Opened 1 ∷ Closed 10 0 ∷ Messages (messages.Resolved 10 ∷ []) ∷ Closed 30 0 ∷ Collected 10 0 ∷ Cancelled ∷ Collected 20 0 ∷ Refused FeedCancelled ∷ Protected 1 ∷ Released ∷ Protected 2 ∷ []
 holding_and_letting_go = refl
+
+-- an initial feed: the map at its cursor, keys rising, and then what was committed above it. It holds the horizon at its cursor
+-- while only the map was told, and begins at a cursor that is closed
+pub initial_scan : replies_to [] ((0, Begin 5) ∷ (0, Put 5 a one) ∷ (0, Put 5 b two) ∷ (0, Put 5 c three) ∷ (0, Commit 5) ∷ (0, Begin 8) ∷ (0, Del 8 b) ∷ (0, Put 8 c four) ∷ (0, Commit 8)
+    ∷ (0, Close 9) ∷ (1, OpenInitial whole 10) ∷ (1, OpenInitial whole 7) ∷ (1, Poll 1 2) ∷ (0, Collect 9) ∷ (1, Poll 1 10) ∷ (0, Collect 9) ∷ (1, OpenInitial whole 9) ∷ (1, Poll 2 10) ∷ (1, OpenInitial whole 8) ∷ [])
+    ≡ Started ∷ Written ∷ Written ∷ Written ∷ Committed 3 ∷ Started ∷ Written ∷ Written ∷ Committed 2
+    ∷ Closed 9 0 ∷ Refused (NotClosed 9) ∷ Opened 1 ∷ Messages (told 7 a (Some one) ∷ told 7 b (Some two) ∷ []) ∷ Collected 7 0
+    ∷ Messages (told 7 c (Some three) ∷ told 8 b None ∷ told 8 c (Some four) ∷ messages.Resolved 9 ∷ []) ∷ Collected 9 3
+    ∷ Opened 2 ∷ Messages (told 9 a (Some one) ∷ told 9 c (Some four) ∷ messages.Resolved 9 ∷ []) ∷ Refused (BelowHorizon 9) ∷ []
+initial_scan = refl
+
+-- a feed with a least gap: closed is told once it is that far above what was told of it last, whatever rows were told between
+pub least_gap : replies_to [] ((0, OpenEvery whole 0 10) ∷ (0, Close 9) ∷ (0, Poll 1 5) ∷ (0, Close 10) ∷ (0, Poll 1 5) ∷ (1, Begin 15) ∷ (1, Put 15 a one) ∷ (1, Commit 15) ∷ (0, Close 19) ∷ (0, Poll 1 5)
+    ∷ (0, Collect 19) ∷ (0, Close 20) ∷ (0, Poll 1 5) ∷ (0, OpenEvery whole 20 0) ∷ [])
+    ≡ Opened 1 ∷ Closed 9 0 ∷ Messages [] ∷ Closed 10 0 ∷ Messages (messages.Resolved 10 ∷ []) ∷ Started ∷ Written ∷ Committed 1 ∷ Closed 19 0 ∷ Messages (told 15 a (Some one) ∷ [])
+    ∷ Collected 14 0 ∷ Closed 20 0 ∷ Messages (messages.Resolved 20 ∷ []) ∷ Refused GapRange ∷ []
+least_gap = refl
+
+-- an initial feed at cursor 0 has nothing to tell first, one whose cursor is closed resolves it, and one of a span tells no
+-- key outside it; the tests of the openings, in their order
+pub initial_edges : replies_to [] ((0, OpenInitial whole 0) ∷ (0, Poll 1 5) ∷ (1, Begin 2) ∷ (1, Put 2 a one) ∷ (1, Put 2 b two) ∷ (1, Commit 2) ∷ (0, Close 3) ∷ (0, OpenInitial (record { lo = Some b; hi = None }) 3) ∷ (0, Poll 2 1) ∷ (0, Poll 2 5) ∷ (0, Poll 2 5)
+    ∷ (0, Poll 1 5) ∷ (0, Collect 3) ∷ (0, OpenEvery whole 1 0) ∷ (0, OpenEvery whole 1 5) ∷ (0, OpenInitial whole 2) ∷ (0, OpenInitial whole 4) ∷ [])
+    ≡ Opened 1 ∷ Messages [] ∷ Started ∷ Written ∷ Written ∷ Committed 2 ∷ Closed 3 0 ∷ Opened 2 ∷ Messages (told 3 b (Some two) ∷ []) ∷ Messages (messages.Resolved 3 ∷ []) ∷ Messages []
+    ∷ Messages (told 2 a (Some one) ∷ told 2 b (Some two) ∷ messages.Resolved 3 ∷ []) ∷ Collected 3 0 ∷ Refused GapRange ∷ Refused (BelowHorizon 3) ∷ Refused (BelowHorizon 3) ∷ Refused (NotClosed 3) ∷ []
+initial_edges = refl
+
+-- the tests of the openings in their order, with numbers above the greatest timestamp; kinds share their numbers
+pub opening_ranges : replies_to [] ((0, OpenInitial whole 9223372036854775808) ∷ (0, OpenEvery whole 9223372036854775808 0) ∷ (0, OpenEvery whole 0 9223372036854775808)
+    ∷ (0, OpenEvery whole 9223372036854775807 9223372036854775807) ∷ (0, OpenInitial whole 0) ∷ (0, Open whole 9) ∷ (1, Poll 1 1) ∷ (0, Stats) ∷ [])
+    ≡ Refused TsRange ∷ Refused TsRange ∷ Refused GapRange ∷ Opened 1 ∷ Opened 2 ∷ Opened 3 ∷ Refused NotOwner ∷ replies.Stats 0 0 3 0 0 ∷ []
+opening_ranges = refl
+
+-- a gap is measured from the cursor and then from what was resolved, and not in multiples of itself
+pub gap_from_a_cursor : replies_to [] ((0, OpenEvery whole 3 10) ∷ (0, Close 12) ∷ (0, Poll 1 5) ∷ (0, Close 15) ∷ (0, Poll 1 0) ∷ (0, Poll 1 1) ∷ (0, Close 24) ∷ (0, Poll 1 5) ∷ (0, Close 25) ∷ (0, Poll 1 5) ∷ (0, Poll 1 5)
+    ∷ (0, OpenEvery whole 25 1) ∷ (0, Poll 2 5) ∷ (0, Close 26) ∷ (0, Poll 2 5) ∷ [])
+    ≡ Opened 1 ∷ Closed 12 0 ∷ Messages [] ∷ Closed 15 0 ∷ Messages [] ∷ Messages (messages.Resolved 15 ∷ []) ∷ Closed 24 0 ∷ Messages [] ∷ Closed 25 0 ∷ Messages (messages.Resolved 25 ∷ []) ∷ Messages []
+    ∷ Opened 2 ∷ Messages [] ∷ Closed 26 0 ∷ Messages (messages.Resolved 26 ∷ []) ∷ []
+gap_from_a_cursor = refl
+
+-- an initial feed at the timestamp of a transaction, collected between its polls: it holds its cursor before its first message
+-- too, and lets go as other feeds do once it tells rows above it. One of an empty span resolves its cursor at once
+pub scans_and_collections : replies_to [] ((0, Begin 2) ∷ (0, Put 2 a one) ∷ (0, Put 2 b one) ∷ (0, Put 2 c []) ∷ (0, Commit 2) ∷ (0, Begin 5) ∷ (0, Put 5 a two) ∷ (0, Del 5 b) ∷ (0, Commit 5) ∷ (0, Begin 8) ∷ (0, Put 8 a three) ∷ (0, Commit 8)
+    ∷ (0, CloseHard 9) ∷ (1, OpenInitial whole 5) ∷ (0, Collect 9) ∷ (1, Poll 1 1) ∷ (0, Collect 9) ∷ (1, Poll 1 2) ∷ (0, Collect 9) ∷ (1, Poll 1 1)
+    ∷ (1, OpenInitial (record { lo = Some b; hi = Some c }) 9) ∷ (1, Poll 2 5) ∷ (1, OpenInitial (record { lo = None; hi = Some c }) 9) ∷ (1, Poll 3 1) ∷ (0, Cancel 3) ∷ (1, Poll 3 1) ∷ (0, Collect 9) ∷ [])
+    ≡ Started ∷ Written ∷ Written ∷ Written ∷ Committed 3 ∷ Started ∷ Written ∷ Written ∷ Committed 2 ∷ Started ∷ Written ∷ Committed 1
+    ∷ Closed 9 0 ∷ Opened 1 ∷ Collected 5 3 ∷ Messages (told 5 a (Some two) ∷ []) ∷ Collected 5 0 ∷ Messages (told 5 c (Some []) ∷ told 8 a (Some three) ∷ []) ∷ Collected 7 0 ∷ Messages (messages.Resolved 9 ∷ [])
+    ∷ Opened 2 ∷ Messages (messages.Resolved 9 ∷ []) ∷ Opened 3 ∷ Messages (told 9 a (Some three) ∷ []) ∷ Cancelled ∷ Refused FeedCancelled ∷ Collected 9 1 ∷ []
+scans_and_collections = refl
+
+-- an initial feed resolves its cursor, once; another feed resolves nothing at its cursor
+pub at_the_edge : replies_to [] ((0, Close 9) ∷ (0, OpenInitial whole 9) ∷ (0, Poll 1 5) ∷ (0, Poll 1 5) ∷ (0, Open whole 9) ∷ (0, Poll 2 5) ∷ [])
+    ≡ Closed 9 0 ∷ Opened 1 ∷ Messages (messages.Resolved 9 ∷ []) ∷ Messages [] ∷ Opened 2 ∷ Messages [] ∷ []
+at_the_edge = refl
+
+-- the tests of a consumer, by the start of its feed: an initial feed of cursor 7 starts at 6, and another at 7
+abbrev from : ℕ → Message → Option ApplyFault
+from start m = apply_fault whole start [] m
+
+pub starts : (from 6 (told 6 a None) ≡ Some NotAfter) × (from 6 (told 7 a None) ≡ None) × (from 7 (told 7 a None) ≡ Some NotAfter) × (from 7 (told 8 a None) ≡ None)
+    × (from 6 (messages.Resolved 6) ≡ Some ResolvedBack) × (from 6 (messages.Resolved 7) ≡ None) × (from 7 (messages.Resolved 7) ≡ Some ResolvedBack) × (from 7 (messages.Resolved 8) ≡ None)
+starts = (refl, refl, refl, refl, refl, refl, refl, refl)
+
+-- messages taken one by one: rows rise by timestamp and then by key, and no message goes back behind a resolved one
+abbrev behind : List Message → Message → Option ApplyFault
+behind taken m = apply_fault whole 0 taken m
+
+pub taken_in_order : (behind (told 10 b (Some one) ∷ []) (told 10 a (Some one)) ≡ Some NotAfter) × (behind (told 10 b (Some one) ∷ []) (told 20 a (Some one)) ≡ None)
+    × (behind (told 10 b (Some one) ∷ told 20 a (Some one) ∷ []) (messages.Resolved 19) ≡ Some ResolvedBack)
+    × (behind (told 10 b (Some one) ∷ told 20 a (Some one) ∷ []) (messages.Resolved 20) ≡ None)
+    × (behind (told 20 a (Some one) ∷ messages.Resolved 20 ∷ []) (messages.Resolved 20) ≡ Some ResolvedBack)
+    × (behind (told 20 a (Some one) ∷ messages.Resolved 20 ∷ []) (told 20 c (Some one)) ≡ Some NotAfter)
+    × (behind (told 20 a (Some one) ∷ messages.Resolved 20 ∷ []) (told 25 b None) ≡ None)
+    × (apply_fault (record { lo = Some b; hi = Some c }) 0 [] (told 5 (100 ∷ []) (Some one)) ≡ Some OutsideSpan)
+taken_in_order = (refl, refl, refl, refl, refl, refl, refl, refl)

@@ -3,6 +3,8 @@ ghost use Rattle.std.specs.Prelude.{◌≡◌, ℕ, List, Some, ◌<◌, ◌≤�
 ghost use Rattle.std.specs.Cmp.{partial_equiv_from_equiv};
 ghost use Rattle.std.specs.Cmp.Lexicographic.{nat_list_eq_equiv};
 ghost use Rattle.spans.specs.KeyOrder.{from_low, below_high, key_lt};
+ghost use Rattle.std.specs.Range.Bound.{bound_map};
+ghost use Rattle.spans.specs.Starting.{start_of};
 ghost use Rattle.spans.specs.Successors.{successor};
 ghost use Rattle.spans.specs.declared.bound.TheConstants.{MAX_BOUND_BYTES};
 ghost use Rattle.spans.specs.declared.bound.BoundError.TheVariants.{BoundLength, NoMemory};
@@ -10,25 +12,31 @@ ghost use Rattle.spans.specs.declared.bound.BoundError.TheVariants.{BoundLength,
 use std::alloc::{AllocError, Global};
 use std::cmp::Ordering;
 use std::marker::Model;
-use timestamps::key::Key;
+use std::ops;
+use timestamps::key::{Key, MAX_KEY_BYTES};
 
 /// The most bytes that a bound has: one more than a key.
 pub const MAX_BOUND_BYTES: usize = 65;
 
 /// A place among the keys: 1 to [`MAX_BOUND_BYTES`] bytes, compared with keys byte by byte.
+///
+/// Its first bytes, as many as a key may have, are kept as a key. So a map of keys is searched by a bound, and no
+/// search makes a key. The few bounds that have one byte more keep all their bytes beside that.
 #[derive(Debug, Drop)]
 pub struct Bound {
-    bytes: Vec<u8>,
+    first: Key,
+    all: Option<Vec<u8>>,
 }
 
 impl Model for Bound {
-    ghost use Rattle.std.specs.Prelude.{ℕ, List, ◌≤◌, length};
+    ghost use Rattle.std.specs.Prelude.{ℕ, List, option_map, unwrap_or};
+    ghost use Rattle.spans.specs.Starting.{IsCut};
 
     ghost Value = { List ℕ };
 
-    ghost view = { λ b. b.bytes.items };
+    ghost view = { λ b. unwrap_or (option_map (λ v. v.items) b.all) b.first };
 
-    ghost invariant = { λ b. (1 ≤ length b.bytes.items) × (length b.bytes.items ≤ 65) };
+    ghost invariant = { λ b. IsCut b.first (option_map (λ v. v.items) b.all) };
 }
 
 /// Why bytes are no bound.
@@ -53,7 +61,30 @@ impl Bound {
             return Err(BoundError::BoundLength);
         }
         match bytes.to_vec(alloc) {
-            Ok(bytes) => Ok(Bound { bytes }),
+            Ok(bytes) => Bound::of(alloc, bytes),
+            Err(_) => Err(BoundError::NoMemory),
+        }
+    }
+
+    /// The bound of these bytes, which it keeps. Where they are one more than a key has, the first of them are copied.
+    fn of(alloc: Global, bytes: Vec<u8>) -> Result<Bound, BoundError>
+        requires some { 1 ≤ length bytes.items }
+        requires few { length bytes.items ≤ 65 }
+        ensures bytes { IfOk result (λ b. b ≡ bytes.items) }
+        ensures memory { IfErr result (λ e. e ≡ NoMemory) }
+    {
+        if bytes.len() <= MAX_KEY_BYTES {
+            return Ok(Bound {
+                first: Key::of(bytes),
+                all: None,
+            });
+        }
+        let first = &bytes.as_slice()[..MAX_KEY_BYTES];
+        match first.to_vec(alloc) {
+            Ok(first) => Ok(Bound {
+                first: Key::of(first),
+                all: Some(bytes),
+            }),
             Err(_) => Err(BoundError::NoMemory),
         }
     }
@@ -67,7 +98,10 @@ impl Bound {
         let mut bytes = Vec::with_capacity(alloc, key.len() + 1)?;
         bytes.extend_from_slice(key)?;
         bytes.push(0)?;
-        Ok(Bound { bytes })
+        match Bound::of(alloc, bytes) {
+            Ok(bound) => Ok(bound),
+            Err(_) => Err(AllocError),
+        }
     }
 
     /// Its bytes.
@@ -75,15 +109,38 @@ impl Bound {
         ensures bytes { result.now ≡ self.now }
         ensures in_range { (1 ≤ length self.now) × (length self.now ≤ MAX_BOUND_BYTES) }
     {
-        self.bytes.as_slice()
+        match &self.all {
+            None => self.first.bytes(),
+            Some(all) => all.as_slice(),
+        }
+    }
+
+    /// Where the keys at or above the bound begin, as a map of keys is asked for a range. A bound may have one byte
+    /// more than a key. Then the keys above it are those above its first bytes.
+    pub fn start(&self) -> ops::Bound<&Key>
+        ensures { bound_map (λ k. k.now) result ≡ start_of (Some self.now) }
+    {
+        match &self.all {
+            None => ops::Bound::Included(&self.first),
+            Some(_) => ops::Bound::Excluded(&self.first),
+        }
     }
 
     /// The same bound once more.
     pub fn copy(&self) -> Result<Bound, AllocError>
         ensures { IfOk result (λ b. b ≡ self.now) }
     {
-        let bytes = self.bytes.clone()?;
-        Ok(Bound { bytes })
+        let first = self.first.copy()?;
+        match &self.all {
+            None => Ok(Bound { first, all: None }),
+            Some(all) => {
+                let all = all.clone()?;
+                Ok(Bound {
+                    first,
+                    all: Some(all),
+                })
+            }
+        }
     }
 }
 

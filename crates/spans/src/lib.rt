@@ -21,8 +21,7 @@
 
 pub mod bound;
 pub mod calls;
+pub mod kind;
 pub mod law;
 mod pieces;
 pub mod span;
-#[cfg(test)]
-mod tests;

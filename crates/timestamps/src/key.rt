@@ -57,6 +57,15 @@ impl Key {
         }
     }
 
+    /// The key of these bytes, which it keeps.
+    pub fn of(bytes: Vec<u8>) -> Key
+        requires some { 1 ≤ length bytes.items }
+        requires few { length bytes.items ≤ MAX_KEY_BYTES }
+        ensures { result ≡ bytes.items }
+    {
+        Key { bytes }
+    }
+
     /// Its bytes.
     pub fn bytes(&self) -> &[u8]
         ensures bytes { result.now ≡ self.now }

@@ -23,12 +23,8 @@ mod blocks;
 pub mod halves;
 pub mod key;
 pub mod lease;
-#[cfg(test)]
-mod lease_tests;
 pub mod moment;
 pub mod oracle;
 pub mod row;
-#[cfg(test)]
-mod tests;
 pub mod ts;
 pub mod value;

@@ -23,8 +23,6 @@
 
 mod same;
 mod taking;
-#[cfg(test)]
-mod tests;
 
 ghost use Rattle.std.specs.Prelude.{◌≡◌, ◌↔◌, ◌+◌, ℕ, true, IfOk};
 ghost use Rattle.trace_check.specs.declared.Verdict.TheVariants.{Yes, No};

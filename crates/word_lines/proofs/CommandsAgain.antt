@@ -130,6 +130,22 @@ read_again (cmd.Open span cursor) rest is =
       count = refl;
       read = rw (span_again span (decimal cursor ∷ rest) is.0, number_again cursor rest is.1) refl;
     }
+read_again (cmd.OpenInitial span cursor) rest is =
+    record {
+      row = record { name = codes "openinitial"; verb = verb.OpenInitial; arguments = 3 };
+      front = bound_word span.lo ∷ bound_word span.hi ∷ decimal cursor ∷ [];
+      named = refl;
+      count = refl;
+      read = rw (span_again span (decimal cursor ∷ rest) is.0, number_again cursor rest is.1) refl;
+    }
+read_again (cmd.OpenEvery span cursor gap) rest is =
+    record {
+      row = record { name = codes "openevery"; verb = verb.OpenEvery; arguments = 4 };
+      front = bound_word span.lo ∷ bound_word span.hi ∷ decimal cursor ∷ decimal gap ∷ [];
+      named = refl;
+      count = refl;
+      read = rw (span_again span (decimal cursor ∷ decimal gap ∷ rest) is.0, number_again cursor (decimal gap ∷ rest) is.1, number_again gap rest is.2) refl;
+    }
 read_again (cmd.Poll feed max) rest is =
     record {
       row = record { name = codes "poll"; verb = verb.Poll; arguments = 2 };

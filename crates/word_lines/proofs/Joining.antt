@@ -39,6 +39,8 @@ some_words (cmd.Protect t) = omega arith
 some_words (cmd.Release id) = omega arith
 some_words (cmd.Collect to) = omega arith
 some_words (cmd.Open span cursor) = omega arith
+some_words (cmd.OpenInitial span cursor) = omega arith
+some_words (cmd.OpenEvery span cursor gap) = omega arith
 some_words (cmd.Poll feed max) = omega arith
 some_words (cmd.Cancel feed) = omega arith
 some_words cmd.Stats = omega arith
@@ -58,6 +60,7 @@ some_refusal_words refusal.NoProtection = omega arith
 some_refusal_words refusal.NoFeed = omega arith
 some_refusal_words refusal.FeedCancelled = omega arith
 some_refusal_words refusal.NoMemory = omega arith
+some_refusal_words refusal.GapRange = omega arith
 
 pub some_reply_words : (r : Reply) → 0 < length (reply_words r)
 unfolding reply_words

@@ -40,6 +40,8 @@ name_of verb.Protect = codes "protect"
 name_of verb.Release = codes "release"
 name_of verb.Collect = codes "collect"
 name_of verb.Open = codes "open"
+name_of verb.OpenInitial = codes "openinitial"
+name_of verb.OpenEvery = codes "openevery"
 name_of verb.Poll = codes "poll"
 name_of verb.Cancel = codes "cancel"
 name_of verb.Stats = codes "stats"
@@ -61,6 +63,8 @@ arity_of verb.Protect = 1
 arity_of verb.Release = 1
 arity_of verb.Collect = 1
 arity_of verb.Open = 3
+arity_of verb.OpenInitial = 3
+arity_of verb.OpenEvery = 4
 arity_of verb.Poll = 2
 arity_of verb.Cancel = 1
 arity_of verb.Stats = 0
@@ -130,6 +134,22 @@ arguments_found verb.Open ws x e =
     let b = number_word s.0.1 n.0 n.1 in
     subst (λ (y : Cmd × List (List ℕ)). Begins (codes "open") 3 ws y) (ok_is (cmd.Open s.0.0 n.0.0, n.0.1) x n.2)
     (record { text = ap (λ (z : List (List ℕ)). codes "open" ∷ z) (a.0 ∙ ap (λ (z : List (List ℕ)). bound_word s.0.0.lo ∷ bound_word s.0.0.hi ∷ z) b.0); count = omega arith; lawful = (a.1, b.1) })
+arguments_found verb.OpenInitial ws x e =
+    let s = bind_ok (span_at ws) (λ span. number_at span.1 >>= λ n. Ok (cmd.OpenInitial span.0 n.0, n.1)) x e in
+    let n = bind_ok (number_at s.0.1) (λ n. Ok (cmd.OpenInitial s.0.0 n.0, n.1)) x s.2 in
+    let a = span_words ws s.0 s.1 in
+    let b = number_word s.0.1 n.0 n.1 in
+    subst (λ (y : Cmd × List (List ℕ)). Begins (codes "openinitial") 3 ws y) (ok_is (cmd.OpenInitial s.0.0 n.0.0, n.0.1) x n.2)
+    (record { text = ap (λ (z : List (List ℕ)). codes "openinitial" ∷ z) (a.0 ∙ ap (λ (z : List (List ℕ)). bound_word s.0.0.lo ∷ bound_word s.0.0.hi ∷ z) b.0); count = omega arith; lawful = (a.1, b.1) })
+arguments_found verb.OpenEvery ws x e =
+    let s = bind_ok (span_at ws) (λ span. number_at span.1 >>= λ n. number_at n.1 >>= λ gap. Ok (cmd.OpenEvery span.0 n.0 gap.0, gap.1)) x e in
+    let n = bind_ok (number_at s.0.1) (λ n. number_at n.1 >>= λ gap. Ok (cmd.OpenEvery s.0.0 n.0 gap.0, gap.1)) x s.2 in
+    let g = bind_ok (number_at n.0.1) (λ gap. Ok (cmd.OpenEvery s.0.0 n.0.0 gap.0, gap.1)) x n.2 in
+    let a = span_words ws s.0 s.1 in
+    let b = number_word s.0.1 n.0 n.1 in
+    let d = number_word n.0.1 g.0 g.1 in
+    subst (λ (y : Cmd × List (List ℕ)). Begins (codes "openevery") 4 ws y) (ok_is (cmd.OpenEvery s.0.0 n.0.0 g.0.0, g.0.1) x g.2)
+    (record { text = ap (λ (z : List (List ℕ)). codes "openevery" ∷ z) (a.0 ∙ ap (λ (z : List (List ℕ)). bound_word s.0.0.lo ∷ bound_word s.0.0.hi ∷ z) (b.0 ∙ ap (λ (z : List (List ℕ)). decimal n.0.0 ∷ z) d.0)); count = omega arith; lawful = (a.1, b.1, d.1) })
 arguments_found verb.Poll ws x e =
     let n = bind_ok (number_at ws) (λ n. number_at n.1 >>= λ most. Ok (cmd.Poll n.0 most.0, most.1)) x e in
     let m = bind_ok (number_at n.0.1) (λ most. Ok (cmd.Poll n.0.0 most.0, most.1)) x n.2 in
@@ -162,7 +182,7 @@ row_found (row ∷ rows) name r right e = row_by (bytes_eq row.name name) row ro
 
 -- each row has the name and the number of arguments of its verb
 pub table_right : AllByRecursion IsRight table
-table_right = (record { name = refl; arguments = refl }, (record { name = refl; arguments = refl }, (record { name = refl; arguments = refl }, (record { name = refl; arguments = refl }, (record { name = refl; arguments = refl }, (record { name = refl; arguments = refl }, (record { name = refl; arguments = refl }, (record { name = refl; arguments = refl }, (record { name = refl; arguments = refl }, (record { name = refl; arguments = refl }, (record { name = refl; arguments = refl }, (record { name = refl; arguments = refl }, (record { name = refl; arguments = refl }, (record { name = refl; arguments = refl }, (record { name = refl; arguments = refl }, (record { name = refl; arguments = refl }, (record { name = refl; arguments = refl }, (record { name = refl; arguments = refl }, tt))))))))))))))))))
+table_right = (record { name = refl; arguments = refl }, (record { name = refl; arguments = refl }, (record { name = refl; arguments = refl }, (record { name = refl; arguments = refl }, (record { name = refl; arguments = refl }, (record { name = refl; arguments = refl }, (record { name = refl; arguments = refl }, (record { name = refl; arguments = refl }, (record { name = refl; arguments = refl }, (record { name = refl; arguments = refl }, (record { name = refl; arguments = refl }, (record { name = refl; arguments = refl }, (record { name = refl; arguments = refl }, (record { name = refl; arguments = refl }, (record { name = refl; arguments = refl }, (record { name = refl; arguments = refl }, (record { name = refl; arguments = refl }, (record { name = refl; arguments = refl }, (record { name = refl; arguments = refl }, (record { name = refl; arguments = refl }, tt))))))))))))))))))))
 
 -- ---- lines
 

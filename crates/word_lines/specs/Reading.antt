@@ -134,6 +134,15 @@ arguments_at verb.Open words = do
   span ← span_at words
   n ← number_at span.1
   Ok (cmd.Open span.0 n.0, n.1)
+arguments_at verb.OpenInitial words = do
+  span ← span_at words
+  n ← number_at span.1
+  Ok (cmd.OpenInitial span.0 n.0, n.1)
+arguments_at verb.OpenEvery words = do
+  span ← span_at words
+  n ← number_at span.1
+  gap ← number_at n.1
+  Ok (cmd.OpenEvery span.0 n.0 gap.0, gap.1)
 arguments_at verb.Poll words = do
   n ← number_at words
   most ← number_at n.1

@@ -24,6 +24,7 @@ refusal_words refusal.NoProtection = codes "noprotection" ∷ []
 refusal_words refusal.NoFeed = codes "nofeed" ∷ []
 refusal_words refusal.FeedCancelled = codes "feedcancelled" ∷ []
 refusal_words refusal.NoMemory = codes "nomemory" ∷ []
+refusal_words refusal.GapRange = codes "gaprange" ∷ []
 
 unfoldable pub reply_words : Reply → List (List ℕ)
 reply_words reply.Started = codes "started" ∷ []

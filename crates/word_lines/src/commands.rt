@@ -163,6 +163,15 @@ pub fn take_arguments(alloc: Global, verb: Verb, words: &mut Words) -> Result<Cm
             span: take_span(alloc, words)?,
             cursor: take_number(words)?,
         },
+        Verb::OpenInitial => Cmd::OpenInitial {
+            span: take_span(alloc, words)?,
+            cursor: take_number(words)?,
+        },
+        Verb::OpenEvery => Cmd::OpenEvery {
+            span: take_span(alloc, words)?,
+            cursor: take_number(words)?,
+            gap: take_number(words)?,
+        },
         Verb::Poll => Cmd::Poll {
             feed: take_number(words)?,
             max: take_number(words)?,
@@ -238,10 +247,11 @@ pub(crate) fn put_words(out: &mut Vec<u8>, cmd: &Cmd) -> Result<(), AllocError>
         Cmd::Protect { t } => put_named(out, b" protect ", *t),
         Cmd::Release { id } => put_named(out, b" release ", *id),
         Cmd::Collect { to } => put_named(out, b" collect ", *to),
-        Cmd::Open { span, cursor } => {
-            out.extend_from_slice(b" open")?;
-            put_span(out, span)?;
-            put_named(out, b" ", *cursor)
+        Cmd::Open { span, cursor } => put_opening(out, b" open", span, *cursor),
+        Cmd::OpenInitial { span, cursor } => put_opening(out, b" openinitial", span, *cursor),
+        Cmd::OpenEvery { span, cursor, gap } => {
+            put_opening(out, b" openevery", span, *cursor)?;
+            put_named(out, b" ", *gap)
         }
         Cmd::Poll { feed, max } => {
             put_named(out, b" poll ", *feed)?;
@@ -250,6 +260,17 @@ pub(crate) fn put_words(out: &mut Vec<u8>, cmd: &Cmd) -> Result<(), AllocError>
         Cmd::Cancel { feed } => put_named(out, b" cancel ", *feed),
         Cmd::Stats => out.extend_from_slice(b" stats"),
     }
+}
+
+/// Writes a name, a span and a cursor.
+#[tactic(auto, using(crate::proofs::Writing::keeping))]
+fn put_opening(out: &mut Vec<u8>, name: &[u8], span: &Span, cursor: u64) -> Result<(), AllocError>
+    ensures ok { OnOk result (out.new.items ≡ out.old.items ++ (name.now ++ 32 ∷ joined (bound_word span.now.lo ∷ bound_word span.now.hi ∷ decimal cursor ∷ []))) }
+    ensures err { OnErr result (Keeps out.old.items out.new.items) }
+{
+    out.extend_from_slice(name)?;
+    put_span(out, span)?;
+    put_named(out, b" ", cursor)
 }
 
 /// Writes a name, which ends in a space, and a number.

@@ -106,6 +106,7 @@ fn put_refusal(out: &mut Vec<u8>, refusal: Refusal) -> Result<(), AllocError>
         Refusal::NoFeed => out.extend_from_slice(b"nofeed"),
         Refusal::FeedCancelled => out.extend_from_slice(b"feedcancelled"),
         Refusal::NoMemory => out.extend_from_slice(b"nomemory"),
+        Refusal::GapRange => out.extend_from_slice(b"gaprange"),
     }
 }
 

@@ -20,6 +20,8 @@ pub enum Verb {
     Release,
     Collect,
     Open,
+    OpenInitial,
+    OpenEvery,
     Poll,
     Cancel,
     Stats,
@@ -34,7 +36,7 @@ pub struct Form {
 }
 
 /// All commands, the most frequent first.
-pub(crate) static FORMS: [Form; 18] = [
+pub(crate) static FORMS: [Form; 20] = [
     Form {
         name: b"begin",
         verb: Verb::Begin,
@@ -109,6 +111,16 @@ pub(crate) static FORMS: [Form; 18] = [
         name: b"open",
         verb: Verb::Open,
         arguments: 3,
+    },
+    Form {
+        name: b"openinitial",
+        verb: Verb::OpenInitial,
+        arguments: 3,
+    },
+    Form {
+        name: b"openevery",
+        verb: Verb::OpenEvery,
+        arguments: 4,
     },
     Form {
         name: b"poll",

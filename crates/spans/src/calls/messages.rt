@@ -8,10 +8,11 @@ use timestamps::ts::Ts;
 /// A message of a feed.
 #[derive(Debug, Drop, PartialEq, Eq)]
 pub enum Message {
-    /// A committed version of the feed's span.
+    /// A committed version of the feed's span; of an initial feed first a key's value at the cursor,
+    /// as a row at the cursor.
     Row(Row),
     /// Every version of the span above the feed's cursor and at or below this timestamp was told
-    /// before, and none comes after.
+    /// before, and none comes after; of an initial feed so were all values at the cursor.
     Resolved(Ts),
 }
 

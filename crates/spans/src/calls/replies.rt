@@ -75,6 +75,8 @@ pub enum Refusal {
     FeedCancelled,
     /// A growth of memory was refused.
     NoMemory,
+    /// The number is no gap between resolved messages.
+    GapRange,
 }
 
 /// The keys that a scan found, rising, each with its value.

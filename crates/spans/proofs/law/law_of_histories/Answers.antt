@@ -2,7 +2,7 @@ use Rattle.spans.specs.Effects.{effects_of}
 use Rattle.spans.proofs.Legal.{legal_allowed, law}
 use Rattle.spans.proofs.Marks.{late_across, across_late}
 use Rattle.spans.proofs.Copies.{reads_from}
-use Rattle.spans.proofs.Feeding.{fed, feeding}
+use Rattle.spans.proofs.Feeding.{fed, feed_rises, feeding}
 use Rattle.spans.proofs.Taking.{told_taken}
 use Rattle.spans.proofs.Viewing.{views}
 use Rattle.spans.proofs.law.law_of_histories.Goals as goal
@@ -24,6 +24,6 @@ returns-clause-consumers c = λ h legal f feed is.
     let all = legal_allowed h legal in
     let right = fed (effects_of h) all f feed is in
     let so_far = feeding (effects_of h) all f feed is in record {
-      takes = told_taken (effects_of h) f feed so_far.begins.0 so_far.begins.1 so_far.divides so_far.rises so_far.below;
-      views = views (effects_of h) f feed right.divides right.rises;
+      takes = told_taken (effects_of h) f feed so_far.begins.0 so_far.begins.1 so_far.divides (feed_rises (effects_of h) f feed so_far) so_far.below;
+      views = views (effects_of h) f feed right.divides (feed_rises (effects_of h) f feed so_far);
     }

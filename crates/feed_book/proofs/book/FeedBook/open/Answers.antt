@@ -9,5 +9,5 @@ pub returns-clause-opened : goal.returns-clause-opened
 returns-clause-opened c = λ p tied.
     let grown : length c.push.new.self.items ≡ length c.self.inside.feeds.items + 1 = ap length c.in_ok-push.ensures.items ∙ length_push c.self.inside.feeds.items c.in_ok-feed.feed in
     rw (c.in_ok-push.ensures.items, c.in_ok-feed.ensures)
-    (feeds_open c.self.inside.feeds.items p (new_record c.args.seat c.args.span.now c.args.cursor) c.len.result (omega (arith, c.push.new.self.ok)) refl refl
+    (feeds_open c.self.inside.feeds.items p (new_record c.args.seat c.args.kind c.args.span.now c.args.cursor) c.len.result (omega (arith, c.push.new.self.ok)) refl refl
     (subst (λ book. FeedsTied book p) (sym c.self.view_is) tied))

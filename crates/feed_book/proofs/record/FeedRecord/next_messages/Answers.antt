@@ -10,9 +10,9 @@ use Rattle.feed_book.proofs.record.FeedRecord.next_messages.Goals.{then-len-max+
 
 pub returns : goal.returns
 returns c =
-    let untold : List Row = drop (length (rows_in c.args.self.now.told)) c.args.stream.now in
+    let untold : List Row = drop (length (rows_in c.args.self.now.told)) c.args.list.now in
     let first : c.in_ok-messages.messages.items ≡ map messages.Row (take c.args.max untold) =
-    c.in_ok-messages.ensures ∙ ap (map messages.Row) (c.first_rows.ensures ∙ ap (take c.args.max) (c.rows_after-untold.ensures ∙ ap (λ n. drop n c.args.stream.now) c.row_count.ensures)) in
+    c.in_ok-messages.ensures ∙ ap (map messages.Row) (c.first_rows.ensures ∙ ap (take c.args.max) (c.rows_after-untold.ensures ∙ ap (λ n. drop n c.args.list.now) c.row_count.ensures)) in
     c.from_vec.ensures
     ∙ elim c.if-len-max.branch [
       | then-len-max+in-Some+in_ok-push w ↦

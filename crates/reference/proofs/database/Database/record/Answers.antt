@@ -43,6 +43,12 @@ returns-in-Release-clause-ok c = λ h n. rw c.in-Release.is (c.record_release.en
 pub returns-in_ok-record_open-in-Open-clause-ok : goal.returns-in_ok-record_open-in-Open-clause-ok
 returns-in_ok-record_open-in-Open-clause-ok c = λ h n. rw c.in-Open.is (c.in_ok-record_open-in-Open.ensures.ok h n)
 
+pub returns-in_ok-record_open-in-OpenInitial-clause-ok : goal.returns-in_ok-record_open-in-OpenInitial-clause-ok
+returns-in_ok-record_open-in-OpenInitial-clause-ok c = λ h n. rw c.in-OpenInitial.is (c.in_ok-record_open-in-OpenInitial.ensures.ok h n)
+
+pub returns-in_ok-record_open-in-OpenEvery-clause-ok : goal.returns-in_ok-record_open-in-OpenEvery-clause-ok
+returns-in_ok-record_open-in-OpenEvery-clause-ok c = λ h n. rw c.in-OpenEvery.is (c.in_ok-record_open-in-OpenEvery.ensures.ok h n)
+
 pub returns-in-Cancel-clause-ok : goal.returns-in-Cancel-clause-ok
 returns-in-Cancel-clause-ok c = λ h n. rw c.in-Cancel.is (c.record_cancel.ensures h n c.args.seat)
 

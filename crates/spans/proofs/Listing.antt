@@ -1,0 +1,230 @@
+-- What a feed's list is: the map at the cursor first, where the feed is initial, and then the stream.
+use Rattle.std.proofs.Common.{◌≡◌, ℕ, zero, suc, ◌<◌, ◌≤◌, ◌⊎◌, ◌==◌, Bool, true, false, cond, List, [], ◌∷◌, ◌++◌, map, Some, None, refl, sym, ◌∙◌, ap, inl, inr, arith, append_assoc}
+use Rattle.std.specs.Prelude.{◌↔◌, filter, is_some}
+use Rattle.std.specs.Ordering.{is_lt}
+use Rattle.std.proofs.lemmas.Bool.{and_from, or_left, or_right, lt-ltb, eq-eqb}
+use Rattle.std.proofs.lemmas.Bool.Decides.{nat_tests}
+use Rattle.timestamps.specs.declared.row.Row.{Row}
+use Rattle.spans.specs.declared.span.Span.{Span}
+use Rattle.spans.specs.Keys.{in_span, pairs_of, IsPairIn, KeysRise}
+use Rattle.spans.specs.declared.kind.Kind.{Kind}
+use Rattle.spans.specs.declared.kind.Kind.TheVariants.{Plain, Initial, Every}
+use Rattle.spans.specs.Effects.{After, Effect, Writes, Commits}
+use Rattle.spans.specs.Transactions.{closed_of, is_committed}
+use Rattle.spans.specs.Versions.{committed_value, written_keys}
+use Rattle.spans.specs.Serial.{Map, serial_run, map_at, span_part}
+use Rattle.spans.specs.Streams.{stream_of, pair_row, snapshot_rows}
+use Rattle.spans.specs.Feeds.{Feed, first_rows, list_of, start_at, start_of}
+use Rattle.spans.proofs.Steps.{by_test, map_at_is}
+use Rattle.spans.proofs.Copies.{Allowed}
+use Rattle.spans.proofs.Keyed.{IsIn, is_pair_of, pairs_rise, pairs_only, stays_in}
+use Rattle.spans.proofs.Legal.{keys_rise, settled_in}
+use Rattle.spans.proofs.StreamOrder.{IsRowIn, RisingRows, in_append, rises_append, IsStreamed, in_stream, stream_rises}
+use Rattle.spans.proofs.Streaming.{RowsAbove, stream_stays, stream_goes_on, stream_above}
+
+-- what is closed stays, in the map too
+pub map_stays : (p : List Effect) (d : Effect) → Allowed p d → (t : ℕ) → t ≤ closed_of p → map_at (d ∷ p) t ≡ map_at p t
+map_stays p d allowed zero low = refl
+map_stays p d allowed (suc t) low = ran d allowed (map_stays p d allowed t (omega arith))
+  where
+    ran : (d : Effect) → Allowed p d → map_at (d ∷ p) t ≡ map_at p t
+        → cond (is_committed (d ∷ p) (suc t)) (serial_run (d ∷ p) (suc t) (map_at (d ∷ p) t)) (map_at (d ∷ p) t) ≡ cond (is_committed p (suc t)) (serial_run p (suc t) (map_at p t)) (map_at p t)
+    ran (Writes k y a) allowed e = let other : (k == suc t) ≡ false = grind (arith, nat_tests, allowed.0.above) in rw (other, e) refl
+    ran (Commits k) allowed e = let other : (k == suc t) ≡ false = grind (arith, nat_tests, allowed.above) in rw (other, e) refl
+    ran (_) allowed e = rw e refl
+
+-- a key with a value in a part of the map was written
+pub part_in : (p : List Effect) (span : Span) (t : ℕ) (x v : List ℕ) → span_part span (map_at p t) x ≡ Some v → IsIn x (written_keys p)
+part_in p span t x v is = by_test (in_span span x)
+    (λ inside. settled_in p x t v (sym (map_at_is p t x) ∙ rw inside at is))
+    (λ out. absurd (let no' : None ≡ Some v = rw out at is in cc))
+
+-- so the map's rows stay
+snapshot_stays : (p : List Effect) (d : Effect) → Allowed p d → (span : Span) (t : ℕ) → t ≤ closed_of p → snapshot_rows (d ∷ p) span t ≡ snapshot_rows p span t
+snapshot_stays p d allowed span t low =
+    ap (λ m. map (pair_row t) (pairs_of (span_part span m) (written_keys (d ∷ p)))) (map_stays p d allowed t low)
+    ∙ ap (map (pair_row t)) (pairs_only (span_part span (map_at p t)) (written_keys (d ∷ p)) (written_keys p) (keys_rise (d ∷ p)) (keys_rise p)
+    (λ x v is. let i = part_in p span t x v is in (grows d x i, i)))
+  where
+    grows : (d : Effect) (x : List ℕ) → IsIn x (written_keys p) → IsIn x (written_keys (d ∷ p))
+    grows (Writes k y a) x i = stays_in y x (written_keys p) i
+    grows (_) x i = i
+
+-- a row of the map at t
+pub record IsScanned (p : List Effect) (span : Span) (t : ℕ) (r : Row) : Type 0 where
+  pub at : r.ts ≡ t
+  pub some : 0 < t
+  pub inside : in_span span r.key ≡ true
+  pub has : map_at p t r.key ≡ r.after
+  pub value : is_some r.after ≡ true
+
+-- rows of pairs
+in_pairs : (t : ℕ) (r : Row) (pairs : List (List ℕ × List ℕ)) → IsRowIn r (map (pair_row t) pairs) ↔ ((r.ts ≡ t) × (v : List ℕ) × (r.after ≡ Some v) × IsPairIn pairs r.key v)
+in_pairs t r [] = (λ i. absurd i, λ i. absurd i.3)
+in_pairs t r (pair ∷ pairs) = let more = in_pairs t r pairs in (
+  λ i. elim i [
+    | inl here ↦ (sym (ap (λ (q : Row). q.ts) here), pair.1, sym (ap (λ (q : Row). q.after) here), inl (ap (λ (q : Row). q.key) here, refl))
+    | inr there ↦ (let m = more.0 there in (m.0, m.1, m.2, inr m.3))
+  ],
+  λ i. elim i.3 [
+    | inl here ↦ inl (made r t pair i.0 here.0 (ap Some here.1 ∙ sym i.2))
+    | inr there ↦ inr (more.1 (i.0, i.1, i.2, there))
+  ],
+)
+  where
+    made : (r : Row) (t : ℕ) (pair : List ℕ × List ℕ) → r.ts ≡ t → pair.0 ≡ r.key → Some pair.1 ≡ r.after → pair_row t pair ≡ r
+    made r t pair e h k = rw (← e, h, k) refl
+
+-- which rows the map's are
+in_snapshot : (p : List Effect) (span : Span) (t : ℕ) (r : Row) → IsRowIn r (snapshot_rows p span t) ↔ IsScanned p span t r
+in_snapshot p span t r =
+    let rows = in_pairs t r (pairs_of (span_part span (map_at p t)) (written_keys p)) in (
+      λ i. let m = rows.0 i in
+          let has' = ((is_pair_of (span_part span (map_at p t)) (written_keys p) r.key m.1).0 m.3).1 in
+          by_test (in_span span r.key)
+          (λ inside. let has : map_at p t r.key ≡ Some m.1 = rw inside at has' in record {
+            at = m.0;
+            some = positive t m.1 has;
+            inside = inside;
+            has = has ∙ sym m.2;
+            value = ap is_some m.2;
+          })
+          (λ out. absurd (let no' : None ≡ Some m.1 = rw out at has' in cc)),
+      λ s. let v = some_of r.after s.value in
+          let has : span_part span (map_at p t) r.key ≡ Some v.0 = rw s.inside (s.has ∙ v.1) in
+          rows.1 (s.at, v.0, v.1, (is_pair_of (span_part span (map_at p t)) (written_keys p) r.key v.0).1 (part_in p span t r.key v.0 has, has)),
+    )
+  where
+    positive : (t : ℕ) (v : List ℕ) → map_at p t r.key ≡ Some v → 0 < t
+    positive zero v e = cc
+    positive (suc t) v e = omega arith
+
+    some_of : (a : After) → is_some a ≡ true → (v : List ℕ) × (a ≡ Some v)
+    some_of None is = cc
+    some_of (Some v) is = (v, refl)
+
+-- rows of pairs with rising keys rise
+pairs_rows_rise : (t : ℕ) (pairs : List (List ℕ × List ℕ)) → KeysRise pairs → RisingRows (map (pair_row t) pairs)
+pairs_rows_rise t [] h = tt
+pairs_rows_rise t (pair ∷ pairs) h = (
+  λ s i. let m = (in_pairs t s pairs).0 i in or_right _ _ (and_from _ _ (eq-eqb t s.ts (sym m.0)) (ap is_lt (h.0 s.key m.1 m.3))),
+  pairs_rows_rise t pairs h.1,
+)
+
+-- what a feed tells first stays
+first_stays : (kind : Kind) (p : List Effect) (d : Effect) → Allowed p d → (span : Span) (c : ℕ) → (kind ≡ Initial → c ≤ closed_of p) → first_rows kind (d ∷ p) span c ≡ first_rows kind p span c
+first_stays Plain p d allowed span c settled = refl
+first_stays Initial p d allowed span c settled = snapshot_stays p d allowed span c (settled refl)
+first_stays (Every gap) p d allowed span c settled = refl
+
+-- it rises
+first_rises : (kind : Kind) (p : List Effect) (span : Span) (c : ℕ) → RisingRows (first_rows kind p span c)
+first_rises Plain p span c = tt
+first_rises Initial p span c = pairs_rows_rise c (pairs_of (span_part span (map_at p c)) (written_keys p)) (pairs_rise (span_part span (map_at p c)) (written_keys p) (keys_rise p))
+first_rises (Every gap) p span c = tt
+
+-- which rows it is
+in_first : (kind : Kind) (p : List Effect) (span : Span) (c : ℕ) (r : Row) → IsRowIn r (first_rows kind p span c) ↔ ((kind ≡ Initial) × IsScanned p span c r)
+in_first Plain p span c r = (λ i. absurd i, λ i. absurd (let no' = i.0 in cc))
+in_first Initial p span c r = let s = in_snapshot p span c r in (λ i. (refl, s.0 i), λ i. s.1 i.1)
+in_first (Every gap) p span c r = (λ i. absurd i, λ i. absurd (let no' = i.0 in cc))
+
+-- nothing is there at 0
+pub first_none : (kind : Kind) (p : List Effect) (span : Span) (c : ℕ) → (kind ≡ Initial → c ≡ 0) → first_rows kind p span c ≡ []
+first_none Plain p span c zeroth = refl
+first_none Initial p span c zeroth = rw (zeroth refl) (ap (map (pair_row 0)) (no_pairs (written_keys p)))
+  where
+    no_value : (b : Bool) → let none : After = None in cond b none none ≡ none
+    no_value true = refl
+    no_value false = refl
+
+    no_pairs : (keys : List (List ℕ)) → pairs_of (span_part span (map_at p 0)) keys ≡ []
+    no_pairs [] = refl
+    no_pairs (x ∷ xs) = rw (no_value (in_span span x)) (no_pairs xs)
+first_none (Every gap) p span c zeroth = refl
+
+-- the pairs of a part of a map are those of its keys in the span
+part_pairs : (span : Span) (m n : Map) (keys : List (List ℕ)) → ((x : List ℕ) → m x ≡ n x) → pairs_of (span_part span m) keys ≡ pairs_of n (filter (in_span span) keys)
+part_pairs span m n [] same = refl
+part_pairs span m n (x ∷ xs) same = by_test (in_span span x)
+    (λ inside. rw inside (rw (same x, part_pairs span m n xs same) refl))
+    (λ out. rw out (part_pairs span m n xs same))
+
+-- the map's rows are those of a scan at its timestamp
+pub snapshot_is : (p : List Effect) (span : Span) (t : ℕ) → snapshot_rows p span t ≡ map (pair_row t) (pairs_of (λ x. committed_value p x t) (filter (in_span span) (written_keys p)))
+snapshot_is p span t = ap (map (pair_row t)) (part_pairs span (map_at p t) (λ x. committed_value p x t) (written_keys p) (λ x. map_at_is p t x))
+
+-- the start is at or below the cursor
+pub start_low : (kind : Kind) (c : ℕ) → start_at kind c ≤ c
+start_low Plain c = omega arith
+start_low Initial c = omega arith
+start_low (Every gap) c = omega arith
+
+-- what is above it is at or above the cursor
+pub start_next : (kind : Kind) (c n : ℕ) → start_at kind c < n → c ≤ n
+start_next Plain c n above = omega arith
+start_next Initial c n above = omega arith
+start_next (Every gap) c n above = omega arith
+
+-- an initial feed's start is below its cursor
+start_first : (kind : Kind) (c : ℕ) → kind ≡ Initial → 0 < c → start_at kind c < c
+start_first Plain c is some = cc
+start_first Initial c is some = omega arith
+start_first (Every gap) c is some = cc
+
+-- a row of the list: of the map at the cursor, or of the stream
+abbrev pub IsListed : List Effect → Feed → ℕ → Row → Type 0
+IsListed p feed n r = ((feed.kind ≡ Initial) × IsScanned p feed.span feed.cursor r) ⊎ IsStreamed p feed.span feed.cursor n r
+
+pub in_list : (p : List Effect) (feed : Feed) (n : ℕ) (r : Row) → IsRowIn r (list_of p feed n) ↔ IsListed p feed n r
+in_list p feed n r =
+    let join = in_append r (first_rows feed.kind p feed.span feed.cursor) (stream_of p feed.span feed.cursor n) in
+    let first = in_first feed.kind p feed.span feed.cursor r in
+    let later = in_stream p feed.span feed.cursor n r in (
+      λ i. elim (join.0 i) [ inl f ↦ inl (first.0 f) | inr s ↦ inr (later.0 s) ],
+      λ i. elim i [ inl f ↦ join.1 (inl (first.1 f)) | inr s ↦ join.1 (inr (later.1 s)) ],
+    )
+
+-- it lies in the span
+pub listed_inside : (p : List Effect) (feed : Feed) (n : ℕ) (r : Row) → IsListed p feed n r → in_span feed.span r.key ≡ true
+listed_inside p feed n r i = elim i [ inl f ↦ f.1.inside | inr s ↦ s.inside ]
+
+-- it is above the start
+pub listed_above : (p : List Effect) (feed : Feed) (n : ℕ) (r : Row) → IsListed p feed n r → start_of feed < r.ts
+listed_above p feed n r i = elim i [
+  | inl f ↦ (let above : start_of feed < feed.cursor = start_first feed.kind feed.cursor f.0 f.1.some in omega (arith, f.1.at))
+  | inr s ↦ (let low : start_of feed ≤ feed.cursor = start_low feed.kind feed.cursor in omega (arith, s.above))
+]
+
+-- and not above n, where that is above the start
+pub listed_low : (p : List Effect) (feed : Feed) (n : ℕ) (r : Row) → start_of feed < n → IsListed p feed n r → r.ts ≤ n
+listed_low p feed n r above i = elim i [
+  | inl f ↦ (let low : feed.cursor ≤ n = start_next feed.kind feed.cursor n above in omega (arith, f.1.at))
+  | inr s ↦ s.low
+]
+
+-- a list rises
+pub list_rises : (p : List Effect) (feed : Feed) (n : ℕ) → RisingRows (list_of p feed n)
+list_rises p feed n = rises_append (first_rows feed.kind p feed.span feed.cursor) (stream_of p feed.span feed.cursor n) (first_rises feed.kind p feed.span feed.cursor) (stream_rises p feed.span feed.cursor n)
+    (λ r s i j. let f = (in_first feed.kind p feed.span feed.cursor r).0 i in let l = (in_stream p feed.span feed.cursor n s).0 j in
+    or_left _ _ (lt-ltb r.ts s.ts (omega (arith, f.1.at, l.above))))
+
+-- the cursor of an initial feed is closed
+abbrev pub IsSettled : List Effect → Feed → Type 0
+IsSettled p feed = feed.kind ≡ Initial → feed.cursor ≤ closed_of p
+
+-- what is closed stays, in the list too
+pub list_stays : (p : List Effect) (d : Effect) → Allowed p d → (feed : Feed) → IsSettled p feed → (n : ℕ) → n ≤ closed_of p → list_of (d ∷ p) feed n ≡ list_of p feed n
+list_stays p d allowed feed settled n low =
+    ap (λ l. l ++ stream_of (d ∷ p) feed.span feed.cursor n) (first_stays feed.kind p d allowed feed.span feed.cursor settled)
+    ∙ ap (λ l. first_rows feed.kind p feed.span feed.cursor ++ l) (stream_stays p d allowed feed.span feed.cursor n low)
+
+-- a longer list goes on from a shorter
+pub list_goes_on : (p : List Effect) (feed : Feed) (m n : ℕ) → m ≤ n → (rest : List Row) × (list_of p feed n ≡ list_of p feed m ++ rest)
+list_goes_on p feed m n low = let more = stream_goes_on p feed.span feed.cursor m n low in
+    (more.0, ap (λ l. first_rows feed.kind p feed.span feed.cursor ++ l) more.1 ∙ sym (append_assoc (first_rows feed.kind p feed.span feed.cursor) (stream_of p feed.span feed.cursor m) more.0))
+
+-- the rows that a list goes on with are above where it stood
+pub list_above : (p : List Effect) (feed : Feed) (m n : ℕ) → m ≤ n → (rest : List Row) × (list_of p feed n ≡ list_of p feed m ++ rest) × RowsAbove m rest
+list_above p feed m n low = let more = stream_above p feed.span feed.cursor m n low in
+    (more.0, ap (λ l. first_rows feed.kind p feed.span feed.cursor ++ l) more.1 ∙ sym (append_assoc (first_rows feed.kind p feed.span feed.cursor) (stream_of p feed.span feed.cursor m) more.0), more.2)

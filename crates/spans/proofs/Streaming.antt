@@ -1,0 +1,70 @@
+-- What a stream goes on with, and what of it stays.
+use Rattle.std.proofs.Common.{◌≡◌, ℕ, zero, suc, ◌<◌, ◌≤◌, ◌==◌, false, cond, ◌&&◌, List, [], ◌∷◌, ◌++◌, map, refl, sym, ◌∙◌, ap, arith, append_assoc}
+use Rattle.std.specs.Prelude.{nat_lt, filter}
+use Rattle.std.proofs.lemmas.List.{append-nil}
+use Rattle.std.proofs.lemmas.Bool.{eqb-true, cond_both}
+use Rattle.std.proofs.lemmas.Bool.Decides.{nat_tests}
+use Rattle.spans.specs.declared.span.Span.{Span}
+use Rattle.timestamps.specs.declared.row.Row.{Row}
+use Rattle.spans.specs.Effects.{Effect, Writes, Commits}
+use Rattle.spans.specs.Transactions.{closed_of, is_committed}
+use Rattle.spans.specs.Versions.{write_of, write_set}
+use Rattle.spans.specs.Keys.{in_span}
+use Rattle.spans.specs.Streams.{rows_of, written_value, stream_of}
+use Rattle.spans.proofs.Steps.{by_test}
+use Rattle.spans.proofs.Copies.{Allowed}
+
+-- what is closed stays, in the stream too
+pub rows_stay : (p : List Effect) (d : Effect) → Allowed p d → (span : Span) (c i : ℕ) → i ≤ closed_of p
+    → cond (nat_lt c i && is_committed (d ∷ p) i) (rows_of (d ∷ p) span i) [] ≡ cond (nat_lt c i && is_committed p i) (rows_of p span i) []
+rows_stay p (Writes t y a) allowed span c i low =
+    let other : (t == i) ≡ false = grind (arith, nat_tests, allowed.0.above) in rw other refl
+rows_stay p (Commits t) allowed span c i low =
+    let other : (t == i) ≡ false = grind (arith, nat_tests, allowed.above) in rw other refl
+rows_stay p (_) allowed span c i low = refl
+
+pub stream_stays : (p : List Effect) (d : Effect) → Allowed p d → (span : Span) (c n : ℕ) → n ≤ closed_of p → stream_of (d ∷ p) span c n ≡ stream_of p span c n
+stream_stays p d allowed span c zero low = refl
+stream_stays p d allowed span c (suc t) low = rw (stream_stays p d allowed span c t (omega arith), rows_stay p d allowed span c (suc t) low) refl
+
+-- a longer stream goes on from a shorter
+pub stream_goes_on : (p : List Effect) (span : Span) (c m n : ℕ) → m ≤ n → (rest : List Row) × (stream_of p span c n ≡ stream_of p span c m ++ rest)
+stream_goes_on p span c m zero low = let e : m ≡ 0 = omega arith in ([], rw e refl)
+stream_goes_on p span c m (suc n) low =
+    let shorter : (m ≤ n → (rest : List Row) × (stream_of p span c n ≡ stream_of p span c m ++ rest)) = stream_goes_on p span c m n in
+    by_test (m == suc n)
+    (λ same. ([], rw (eqb-true m (suc n) same) (sym (append-nil _))))
+    (λ other. let before = shorter (grind (arith, nat_tests)) in (before.0 ++ cond (nat_lt c (suc n) && is_committed p (suc n)) (rows_of p span (suc n)) [], ap (λ l. l ++ cond (nat_lt c (suc n) && is_committed p (suc n)) (rows_of p span (suc n)) []) before.1 ∙ append_assoc (stream_of p span c m) before.0 (cond (nat_lt c (suc n) && is_committed p (suc n)) (rows_of p span (suc n)) [])))
+
+-- nothing streams at or below the cursor
+pub stream_none : (p : List Effect) (span : Span) (c n : ℕ) → n ≤ c → stream_of p span c n ≡ []
+stream_none p span c zero low = refl
+stream_none p span c (suc n) low = let not_yet : nat_lt c (suc n) ≡ false = grind (arith, nat_tests) in rw (stream_none p span c n (omega arith), not_yet) refl
+
+-- every row is above t
+abbrev pub RowsAbove : ℕ → List Row → Type 0
+RowsAbove t [] = Unit {0}
+RowsAbove t (r ∷ rs) = (t < r.ts) × RowsAbove t rs
+
+-- rows above t joined
+pub above_join : (t : ℕ) (rs ss : List Row) → RowsAbove t rs → RowsAbove t ss → RowsAbove t (rs ++ ss)
+above_join t [] ss h k = k
+above_join t (r ∷ rs) ss h k = (h.0, above_join t rs ss h.1 k)
+
+-- the rows that a stream goes on with are above where it stood
+pub stream_above : (p : List Effect) (span : Span) (c m n : ℕ) → m ≤ n → (rest : List Row) × (stream_of p span c n ≡ stream_of p span c m ++ rest) × RowsAbove m rest
+stream_above p span c m zero low = let e : m ≡ 0 = omega arith in ([], rw e refl, tt)
+stream_above p span c m (suc n) low =
+    let shorter : (m ≤ n → (rest : List Row) × (stream_of p span c n ≡ stream_of p span c m ++ rest) × RowsAbove m rest) = stream_above p span c m n in
+    by_test (m == suc n)
+    (λ same. ([], rw (eqb-true m (suc n) same) (sym (append-nil _)), tt))
+    (λ other. let before = shorter (grind (arith, nat_tests)) in (
+      before.0 ++ cond (nat_lt c (suc n) && is_committed p (suc n)) (rows_of p span (suc n)) [],
+      ap (λ l. l ++ cond (nat_lt c (suc n) && is_committed p (suc n)) (rows_of p span (suc n)) []) before.1 ∙ append_assoc (stream_of p span c m) before.0 (cond (nat_lt c (suc n) && is_committed p (suc n)) (rows_of p span (suc n)) []),
+      above_join m before.0 (cond (nat_lt c (suc n) && is_committed p (suc n)) (rows_of p span (suc n)) []) before.2
+          (cond_both (nat_lt c (suc n) && is_committed p (suc n)) (rows_of p span (suc n)) [] (RowsAbove m) (λ _. rows_above (filter (in_span span) (write_set p (suc n))) (grind (arith, nat_tests))) (λ _. tt)),
+    ))
+  where
+    rows_above : (keys : List (List ℕ)) → m < suc n → RowsAbove m (map (λ x. record { ts = suc n; key = x; after = written_value (write_of p (suc n) x) }) keys)
+    rows_above [] above = tt
+    rows_above (x ∷ xs) above = (above, rows_above xs above)
