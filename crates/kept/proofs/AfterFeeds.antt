@@ -2,12 +2,12 @@
 use Rattle.std.proofs.Common.{Bool, List, not, refl, None, Option, arith, false, subst, suc, ap, true, Some, sym, cond, ◌≡◌, ◌<◌, ◌==◌, ◌∷◌, ◌++◌, ◌∙◌, ℕ, []}
 use Rattle.std.proofs.lemmas.Bool.{eqb-true}
 use Rattle.std.specs.Prelude.{filter, option_map, is_some}
-use Rattle.timestamps.specs.declared.row.Row.{Row}
-use Rattle.spans.specs.Collection.{Protection}
-use Rattle.spans.specs.Consumer.{last_row}
+use Rattle.spans.specs.Collection.{Protection, VersionName}
+use Rattle.spans.specs.Consumer.{name_of}
+use Rattle.spans.specs.declared.kind.Kind.{Kind}
 use Rattle.spans.specs.Effects.{Releases, Opens, Polls, Cancels, Protects, Effect}
-use Rattle.spans.specs.Feeds.{told_to, Feed, is_cancelled, feeds_opened, last_resolved, feed_of}
-use Rattle.spans.specs.Kept.{Place, Kept, IsKeptOf}
+use Rattle.spans.specs.Feeds.{told_to, Feed, is_cancelled, feeds_opened, last_resolved, feed_of, start_at, start_of}
+use Rattle.spans.specs.Kept.{Place, Kept, IsKeptOf, last_name}
 use Rattle.spans.specs.declared.calls.messages.Message.{Message}
 use Rattle.spans.specs.declared.span.Span.{Span}
 use Rattle.spans.proofs.Copies.{Allowed, AllAllowed}
@@ -19,17 +19,17 @@ use Rattle.spans.specs.declared.calls.messages.Message.TheVariants as messages
 -- a feed that wasn't opened wasn't cancelled
 pub uncancelled : (p : List Effect) → AllAllowed p → (f : ℕ) → feeds_opened p < f → is_cancelled p f ≡ false
 uncancelled [] all f above = refl
-uncancelled (Opens g seat span cursor ∷ p) all f above = uncancelled p all.1 f (omega arith)
+uncancelled (Opens g seat kind span cursor ∷ p) all f above = uncancelled p all.1 f (omega arith)
 uncancelled (Cancels g ∷ p) all f above = by_test (g == f)
     (λ same. absurd (let none : feed_of p g ≡ None = subst (λ n. feed_of p n ≡ None) (sym (eqb-true g f same)) (unopened p all.1 f above).0 in let no : false ≡ true = ap is_some (sym none) ∙ all.0 in cc))
     (λ other. rw other (uncancelled p all.1 f above))
 uncancelled (_ ∷ p) all f above = uncancelled p all.1 f above
 
 -- after an opening
-pub after_opens : (k : Kept) (p : List Effect) → AllAllowed p → IsKeptOf k p → (f seat : ℕ) (span : Span) (cursor : ℕ) → Allowed p (Opens f seat span cursor) → (φ : ℕ → Option Place)
-    → ((g : ℕ) → φ g ≡ cond (f == g) (Some (record { seat = seat; span = span; after = cursor; row = None })) (k.feed g))
-    → IsKeptOf (record k { feed = φ; feeds_opened = suc k.feeds_opened }) (Opens f seat span cursor ∷ p)
-after_opens k p all fits f seat span cursor allowed φ fs = record {
+pub after_opens : (k : Kept) (p : List Effect) → AllAllowed p → IsKeptOf k p → (f seat : ℕ) (kind : Kind) (span : Span) (cursor : ℕ) → Allowed p (Opens f seat kind span cursor) → (φ : ℕ → Option Place)
+    → ((g : ℕ) → φ g ≡ cond (f == g) (Some (record { seat = seat; kind = kind; span = span; cursor = cursor; after = start_at kind cursor; row = None })) (k.feed g))
+    → IsKeptOf (record k { feed = φ; feeds_opened = suc k.feeds_opened }) (Opens f seat kind span cursor ∷ p)
+after_opens k p all fits f seat kind span cursor allowed φ fs = record {
   closed_at = fits.closed_at;
   horizon_at = fits.horizon_at;
   versions = fits.versions;
@@ -60,10 +60,10 @@ after_cancels k p fits f φ fs = record {
   opened = fits.opened;
 }
 
--- the row that is taken last of two lists of messages
-row_join : (o : Option Row) (ms ns : List Message) → last_row o (ms ++ ns) ≡ last_row (last_row o ms) ns
+-- the row that is told last of two lists of messages
+row_join : (o : Option VersionName) (ms ns : List Message) → last_name o (ms ++ ns) ≡ last_name (last_name o ms) ns
 row_join o [] ns = refl
-row_join o (messages.Row r ∷ ms) ns = row_join (Some r) ms ns
+row_join o (messages.Row r ∷ ms) ns = row_join (Some (name_of r)) ms ns
 row_join o (messages.Resolved t ∷ ms) ns = row_join o ms ns
 
 -- after a poll
@@ -87,12 +87,12 @@ after_polls k p fits f m ms φ fs = record {
 }
   where
     after_messages : List Message → Feed → Place
-    after_messages ns feed = record { seat = feed.seat; span = feed.span; after = last_resolved feed.cursor ns; row = last_row None ns }
+    after_messages ns feed = record { seat = feed.seat; kind = feed.kind; span = feed.span; cursor = feed.cursor; after = last_resolved (start_of feed) ns; row = last_name None ns }
 
     by_feed : (ns : List Message) (b : Bool) (o : Option Feed) → option_map (moved ms) (cond b None (option_map (after_messages ns) o)) ≡ cond b None (option_map (after_messages (ns ++ ms)) o)
     by_feed ns true o = refl
     by_feed ns false None = refl
-    by_feed ns false (Some feed) = rw (resolved_join feed.cursor ns ms, row_join None ns ms) refl
+    by_feed ns false (Some feed) = rw (resolved_join (start_of feed) ns ms, row_join None ns ms) refl
 
 -- after a protection
 pub after_protects : (k : Kept) (p : List Effect) → IsKeptOf k p → (id t : ℕ) → IsKeptOf (record k { protections = record { id = id; at = t } ∷ k.protections; protections_made = suc k.protections_made }) (Protects id t ∷ p)

@@ -87,7 +87,7 @@ numbers_filter q (w ∷ ws) d = let more = numbers_filter q ws d.1 in by_test (q
 -- no feed is listed twice
 pub numbers_distinct : (p : List Effect) → AllAllowed p → AreDistinct (map (λ (n : LiveFeed). n.number) (live_feeds p))
 numbers_distinct [] all = tt
-numbers_distinct (Opens f seat span cursor ∷ p) all = (
+numbers_distinct (Opens f seat kind span cursor ∷ p) all = (
   λ i. let m = has_number f (live_feeds p) i in let l = live_is p all.1 f m.0 m.1 in
       let no' : None ≡ Some l.0 = sym (unopened p all.1 f (omega (arith, all.0.0))).0 ∙ l.1 in cc,
   numbers_distinct p all.1,

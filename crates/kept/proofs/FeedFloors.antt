@@ -1,39 +1,28 @@
 -- The horizon is at or below the floor of each live feed.
 use Rattle.std.proofs.Common.{Bool, List, not, inr, refl, None, Option, arith, subst, suc, false, ap, true, zero, Some, inl, sym, take, map, ◌≡◌, ◌<◌, ◌≤◌, ◌==◌, ◌-◌, ◌∷◌, ◌++◌, ◌∙◌, ℕ, []}
-use Rattle.std.proofs.lemmas.Bool.{or_cases, and_parts, eqb-true, ltb-true}
+use Rattle.std.proofs.lemmas.Bool.{eqb-true, ltb-true}
 use Rattle.std.proofs.lemmas.Bool.Decides.{nat_tests}
 use Rattle.std.specs.Prelude.{max, nat_lt, filter, min}
 use Rattle.timestamps.specs.declared.row.Row.{Row}
 use Rattle.spans.specs.Collection.{horizon_of, live_feeds, Protection, LiveFeed, floor_after, protections_of, floor_of}
 use Rattle.spans.specs.Effects.{Collects, Opens, Polls, Cancels, Effect}
-use Rattle.spans.specs.Feeds.{told_to, rows_in, due_message, Feed, next_messages, feed_of, is_cancelled, untold_rows, last_resolved}
-use Rattle.spans.specs.Streams.{row_lt}
+use Rattle.spans.specs.Feeds.{told_to, rows_in, due_message, Feed, next_messages, feed_of, is_cancelled, untold_rows, last_resolved, start_of, resolved_of, is_due}
 use Rattle.spans.specs.Transactions.{closed_of, least_of}
 use Rattle.spans.specs.declared.calls.messages.Message.{Message}
 use Rattle.spans.proofs.Copies.{AllAllowed}
 use Rattle.spans.proofs.Feeding.{untold_is, unopened, feeding, IsFeeding, due_if}
+use Rattle.spans.proofs.RowOrder.{row_order}
 use Rattle.spans.proofs.Steps.{by_test}
-use Rattle.spans.proofs.StreamOrder.{RisingRows, IsRowIn, in_append, in_stream, rises_parts, stream_rises, IsStreamed}
+use Rattle.spans.proofs.Listing.{IsListed, in_list, list_rises, listed_above, start_low, start_next}
+use Rattle.spans.proofs.StreamOrder.{RisingRows, IsRowIn, in_append, rises_parts}
+use Rattle.spans.proofs.Taking.{resolved_grows}
 use Rattle.spans.proofs.Members.{Has}
 use Rattle.kept.specs.Places.{live_feed}
 use Rattle.kept.proofs.Dead.{horizon_low}
 use Rattle.kept.proofs.Untold.{rest_above}
 use Rattle.spans.specs.declared.calls.messages.Message.TheVariants as messages
 
--- the last resolved timestamp is at or above where it began
-pub resolved_grows : (n : ℕ) (ms : List Message) → n ≤ last_resolved n ms
-resolved_grows n [] = omega arith
-resolved_grows n (messages.Row r ∷ ms) = resolved_grows n ms
-resolved_grows n (messages.Resolved t ∷ ms) = omega (arith, resolved_grows (max n t) ms)
-
--- rows rise by timestamp
-row_order : (s r : Row) → row_lt s r ≡ true → s.ts ≤ r.ts
-row_order s r e = elim (or_cases _ _ e) [
-  | inl less ↦ (let l : s.ts < r.ts = ltb-true _ _ less in omega arith)
-  | inr same ↦ (let l : s.ts ≡ r.ts = eqb-true _ _ (and_parts _ _ same).0 in omega arith)
-]
-
--- a row is_beyond what was told is above the floor
+-- a row beyond what was told is above the floor
 floor_under : (n m : ℕ) (ms : List Message) (r : Row) → n < r.ts → 0 < r.ts → ((s : Row) → IsRowIn s (rows_in ms) → s.ts ≤ r.ts) → last_resolved m ms < r.ts → floor_after n ms < r.ts
 floor_under n m [] r low some h top = low
 floor_under n m (messages.Row s ∷ ms) r low some h top = let l : s.ts ≤ r.ts = h s (inl refl) in floor_under (s.ts - 1) m ms r (omega arith) some (λ q i. h q (inr i)) top
@@ -53,24 +42,36 @@ floor_under n m (messages.Resolved t ∷ ms) r low some h top = floor_under t (m
         resolved_like a b (messages.Row s ∷ ms) low top = resolved_like a b ms low top
         resolved_like a b (messages.Resolved t ∷ ms) low top = resolved_like (max a t) (max b t) ms (let g : max a t ≤ last_resolved (max a t) ms = resolved_grows (max a t) ms in omega (arith, top)) top
 
--- each row that wasn't told is above the floor
-pub rest_high : (p : List Effect) (f : ℕ) (feed : Feed) (h : IsFeeding p f feed) (r : Row) → IsRowIn r h.begins.0 → floor_after feed.cursor (told_to p f) < r.ts
-rest_high p f feed h r i =
-    let parts = rises_parts (rows_in (told_to p f)) h.begins.0 (subst RisingRows h.begins.1 (stream_rises p feed.span feed.cursor (closed_of p))) in
-    let s : IsStreamed p feed.span feed.cursor (closed_of p) r = (in_stream p feed.span feed.cursor (closed_of p) r).0 (subst (IsRowIn r) (sym h.begins.1) ((in_append r (rows_in (told_to p f)) h.begins.0).1 (inr i))) in
-    floor_under feed.cursor feed.cursor (told_to p f) r s.above (omega (arith, s.above)) (λ q j. row_order q r (parts.2 q r j i))
-    (rest_above p feed feed.cursor [] h.begins.0 (told_to p f) (sym h.begins.1) h.divides h.below r i s.above)
+-- from the cursor on, a floor that begins at or below it is the same
+pub floor_from : (c a : ℕ) (ms : List Message) → a ≤ c → max c (floor_after c ms) ≡ max c (floor_after a ms)
+floor_from c a [] low = omega arith
+floor_from c a (messages.Row r ∷ ms) low = refl
+floor_from c a (messages.Resolved t ∷ ms) low = refl
 
--- messages of rows above a number and of a resolved timestamp at or above it leave the floor there
-floor_high : (h n c m : ℕ) (b : Bool) (rows : List Row) → h ≤ n → h ≤ c → ((r : Row) → IsRowIn r rows → h < r.ts) → h ≤ floor_after n (take m (map messages.Row rows ++ due_if b c))
-floor_high h n c zero b rows low top high = low
-floor_high h n c (suc m) true [] low top high = last m
+-- each row that wasn't told is at or above the floor, and above it where it is above the cursor
+pub rest_high : (p : List Effect) (f : ℕ) (feed : Feed) (h : IsFeeding p f feed) (r : Row) → IsRowIn r h.begins.0
+    → (max feed.cursor (floor_after feed.cursor (told_to p f)) ≤ r.ts) × (feed.cursor < r.ts → max feed.cursor (floor_after feed.cursor (told_to p f)) < r.ts)
+rest_high p f feed h r i =
+    let parts = rises_parts (rows_in (told_to p f)) h.begins.0 (subst RisingRows h.begins.1 (list_rises p feed (closed_of p))) in
+    let s : IsListed p feed (closed_of p) r = (in_list p feed (closed_of p) r).0 (subst (IsRowIn r) (sym h.begins.1) ((in_append r (rows_in (told_to p f)) h.begins.0).1 (inr i))) in
+    let above : start_of feed < r.ts = listed_above p feed (closed_of p) r s in
+    let from : feed.cursor ≤ r.ts = start_next feed.kind feed.cursor r.ts above in
+    let same : max feed.cursor (floor_after feed.cursor (told_to p f)) ≡ max feed.cursor (floor_after (start_of feed) (told_to p f)) = floor_from feed.cursor (start_of feed) (told_to p f) (start_low feed.kind feed.cursor) in
+    let under : floor_after (start_of feed) (told_to p f) < r.ts = floor_under (start_of feed) (start_of feed) (told_to p f) r above (omega (arith, above)) (λ q j. row_order q r (parts.2 q r j i))
+    (rest_above p feed (start_of feed) [] h.begins.0 (told_to p f) (sym h.begins.1) h.divides h.below r i above) in
+    (omega (arith, same, under, from), λ more. omega (arith, same, under, more))
+
+-- messages of rows at or above a number and of a resolved timestamp at or above it leave the floor there, where rows of the
+-- cursor leave it at the cursor
+floor_high : (h s n c m : ℕ) (b : Bool) (rows : List Row) → h ≤ max s n → h ≤ c → ((r : Row) → IsRowIn r rows → h ≤ max s (r.ts - 1)) → h ≤ max s (floor_after n (take m (map messages.Row rows ++ due_if b c)))
+floor_high h s n c zero b rows low top high = low
+floor_high h s n c (suc m) true [] low top high = last m
   where
-    last : (m : ℕ) → h ≤ floor_after n (messages.Resolved c ∷ take m [])
-    last zero = top
-    last (suc m) = top
-floor_high h n c (suc m) false [] low top high = low
-floor_high h n c (suc m) b (r ∷ rows) low top high = floor_high h (r.ts - 1) c m b rows (let l : h < r.ts = high r (inl refl) in omega arith) top (λ q i. high q (inr i))
+    last : (m : ℕ) → h ≤ max s (floor_after n (messages.Resolved c ∷ take m []))
+    last zero = omega (arith, top)
+    last (suc m) = omega (arith, top)
+floor_high h s n c (suc m) false [] low top high = low
+floor_high h s n c (suc m) b (r ∷ rows) low top high = floor_high h s (r.ts - 1) c m b rows (high r (inl refl)) top (λ q i. high q (inr i))
 
 -- the floor after two lists of messages
 floor_join : (n : ℕ) (ms ns : List Message) → floor_after n (ms ++ ns) ≡ floor_after (floor_after n ms) ns
@@ -91,8 +92,8 @@ live_kept g f c (w ∷ ws) other i = elim i [
 -- a feed that lives is listed
 pub is_live : (p : List Effect) (f : ℕ) (feed : Feed) → feed_of p f ≡ Some feed → is_cancelled p f ≡ false → Has (live_feed f feed.cursor) (live_feeds p)
 is_live [] f feed is live = cc
-is_live (Opens g seat span cursor ∷ p) f feed is live = by_test (g == f)
-    (λ same. inl (let one : Some (record { seat = seat; span = span; cursor = cursor }) ≡ Some feed = rw same at is in let c : cursor ≡ feed.cursor = ap cursor_in one in joined g f cursor feed.cursor (eqb-true g f same) c))
+is_live (Opens g seat kind span cursor ∷ p) f feed is live = by_test (g == f)
+    (λ same. inl (let one : Some (record { seat = seat; kind = kind; span = span; cursor = cursor }) ≡ Some feed = rw same at is in let c : cursor ≡ feed.cursor = ap cursor_in one in joined g f cursor feed.cursor (eqb-true g f same) c))
     (λ other. inr (is_live p f feed (rw other at is) live))
   where
     cursor_in : Option Feed → ℕ
@@ -107,22 +108,22 @@ is_live (Cancels g ∷ p) f feed is live = by_test (g == f)
 is_live (_ ∷ p) f feed is live = is_live p f feed is live
 
 -- the least is at or below the floor of each listed feed
-least_floor : (p : List Effect) (n f c : ℕ) (ns : List ℕ) (ws : List LiveFeed) → Has (live_feed f c) ws → least_of n (ns ++ map (floor_of p) ws) ≤ floor_after c (told_to p f)
+least_floor : (p : List Effect) (n f c : ℕ) (ns : List ℕ) (ws : List LiveFeed) → Has (live_feed f c) ws → least_of n (ns ++ map (floor_of p) ws) ≤ max c (floor_after c (told_to p f))
 least_floor p n f c [] [] i = absurd i
 least_floor p n f c [] (w ∷ ws) i = elim i [
-  | inl here ↦ (let e : floor_of p w ≡ floor_after c (told_to p f) = ap (floor_of p) here in omega arith)
+  | inl here ↦ (let e : floor_of p w ≡ max c (floor_after c (told_to p f)) = ap (floor_of p) here in omega arith)
   | inr there ↦ (let more = least_floor p n f c [] ws there in omega arith)
 ]
 least_floor p n f c (a ∷ ns) ws i = let more = least_floor p n f c ns ws i in omega arith
 
 -- the horizon is at or below the floor of each live feed
-pub floors_high : (p : List Effect) → AllAllowed p → (f : ℕ) (feed : Feed) → feed_of p f ≡ Some feed → is_cancelled p f ≡ false → horizon_of p ≤ floor_after feed.cursor (told_to p f)
+pub floors_high : (p : List Effect) → AllAllowed p → (f : ℕ) (feed : Feed) → feed_of p f ≡ Some feed → is_cancelled p f ≡ false → horizon_of p ≤ max feed.cursor (floor_after feed.cursor (told_to p f))
 floors_high [] all f feed is live = cc
-floors_high (Opens g seat span cursor ∷ p) all f feed is live = by_test (g == f)
+floors_high (Opens g seat kind span cursor ∷ p) all f feed is live = by_test (g == f)
     (λ same. let none : told_to p f ≡ [] = (unopened p all.1 f (let e = eqb-true g f same in omega (arith, all.0.0))).1 in
-    let one : Some (record { seat = seat; span = span; cursor = cursor }) ≡ Some feed = rw same at is in
+    let one : Some (record { seat = seat; kind = kind; span = span; cursor = cursor }) ≡ Some feed = rw same at is in
     let c : cursor ≡ feed.cursor = ap cursor_in one in
-    rw none (omega (arith, all.0.1)))
+    rw none (omega (arith, all.0.1, c)))
     (λ other. floors_high p all.1 f feed (rw other at is) live)
   where
     cursor_in : Option Feed → ℕ
@@ -132,21 +133,23 @@ floors_high (Cancels g ∷ p) all f feed is live = by_test (g == f)
     (λ same. absurd (let no : true ≡ false = rw same at live in cc))
     (λ other. floors_high p all.1 f feed is (rw other at live))
 floors_high (Collects n ∷ p) all f feed is live =
-    let before : horizon_of p ≤ floor_after feed.cursor (told_to p f) = floors_high p all.1 f feed is live in
+    let before : horizon_of p ≤ max feed.cursor (floor_after feed.cursor (told_to p f)) = floors_high p all.1 f feed is live in
     let now = least_floor p (min all.0.0 (closed_of p)) f feed.cursor (map (λ (n : Protection). n.at) (protections_of p)) (live_feeds p) (is_live p f feed is live) in
     omega (arith, all.0.1)
 floors_high (Polls g m ms ∷ p) all f feed is live = by_test (g == f)
     (λ same. rw same (
-    let before : horizon_of p ≤ floor_after feed.cursor (told_to p f) = floors_high p all.1 f feed is live in
+    let before : horizon_of p ≤ max feed.cursor (floor_after feed.cursor (told_to p f)) = floors_high p all.1 f feed is live in
     let h = feeding p all.1 f feed is in
     let e : g ≡ f = eqb-true g f same in
     let one : all.0.0 ≡ feed = (let both : Some all.0.0 ≡ Some feed = sym all.0.1 ∙ ap (feed_of p) e ∙ is in cc) in
     let told' : ms ≡ next_messages p f feed m = all.0.3 ∙ ap (λ n. next_messages p n all.0.0 m) e ∙ ap (λ v. next_messages p f v m) one in
     let left : untold_rows p f feed ≡ h.begins.0 = untold_is p f feed h.begins.0 h.begins.1 in
     let e' : ms ≡ take m (map messages.Row h.begins.0 ++ due_message p f feed) = told' ∙ ap (λ l. take m (map messages.Row l ++ due_message p f feed)) left in
-    subst (λ n. horizon_of p ≤ n) (sym (floor_join feed.cursor (told_to p f) ms))
-    (subst (λ l. horizon_of p ≤ floor_after (floor_after feed.cursor (told_to p f)) l) (sym e')
-    (floor_high (horizon_of p) (floor_after feed.cursor (told_to p f)) (closed_of p) m (nat_lt (last_resolved feed.cursor (told_to p f)) (closed_of p)) h.begins.0 before (horizon_low p all.1)
-    (λ r i. let l = rest_high p f feed h r i in omega arith)))))
+    subst (λ n. horizon_of p ≤ max feed.cursor n) (sym (floor_join feed.cursor (told_to p f) ms))
+    (subst (λ l. horizon_of p ≤ max feed.cursor (floor_after (floor_after feed.cursor (told_to p f)) l)) (sym e')
+    (floor_high (horizon_of p) feed.cursor (floor_after feed.cursor (told_to p f)) (closed_of p) m (is_due feed.kind (resolved_of p f feed) (closed_of p)) h.begins.0 before (horizon_low p all.1)
+    (λ r i. let l = rest_high p f feed h r i in by_test (nat_lt feed.cursor r.ts)
+    (λ is. let l' = l.1 (ltb-true _ _ is) in omega (arith, before, l'))
+    (λ isnt. let low : r.ts ≤ feed.cursor = grind (arith, nat_tests) in omega (arith, before, l.0, low)))))))
     (λ other. rw other (floors_high p all.1 f feed is live))
 floors_high (_ ∷ p) all f feed is live = floors_high p all.1 f feed is live

@@ -4,63 +4,65 @@ use Rattle.std.proofs.lemmas.Bool.{eqb-true}
 use Rattle.std.proofs.lemmas.Bool.Decides.{nat_tests}
 use Rattle.std.specs.Prelude.{max, filter, min}
 use Rattle.timestamps.specs.declared.row.Row.{Row}
-use Rattle.spans.specs.Collection.{horizon_of, live_feeds, floor_of, Protection, LiveFeed, floor_after, collection_horizon, protections_of}
-use Rattle.spans.specs.Consumer.{last_row}
+use Rattle.spans.specs.Collection.{horizon_of, live_feeds, floor_of, Protection, LiveFeed, VersionName, floor_after, collection_horizon, protections_of}
+use Rattle.spans.specs.Consumer.{name_of}
 use Rattle.spans.specs.Effects.{Opens, Cancels, Effect}
-use Rattle.spans.specs.FeedRight.{DividesStream, ResolvedRise, RowsFollowResolved, RowsAreAbove}
-use Rattle.spans.specs.Feeds.{told_to, rows_in, Feed, is_cancelled, feeds_opened, last_resolved, feed_of}
-use Rattle.spans.specs.Kept.{Place, place_of, place_with, Kept, IsKeptOf}
+use Rattle.spans.specs.FeedRight.{DividesList, RowsFollowResolved, RowsAreAbove, least_gap}
+use Rattle.spans.specs.Feeds.{told_to, rows_in, Feed, is_cancelled, feeds_opened, last_resolved, feed_of, start_of}
+use Rattle.spans.specs.Kept.{Place, last_name, place_with, Kept, IsKeptOf}
 use Rattle.spans.specs.Transactions.{closed_of, least_of}
 use Rattle.spans.specs.declared.calls.messages.Message.{Message}
 use Rattle.spans.proofs.Copies.{AllAllowed}
-use Rattle.spans.proofs.Feeding.{unopened, fed}
+use Rattle.spans.proofs.Feeding.{unopened, fed, ResolvedRise, apart_rises, some_gap}
 use Rattle.spans.proofs.Steps.{by_test}
-use Rattle.spans.proofs.StreamOrder.{IsRowIn, in_append, in_stream}
+use Rattle.spans.proofs.Listing.{in_list, listed_above, listed_low, start_low}
+use Rattle.spans.proofs.StreamOrder.{IsRowIn, in_append}
 use Rattle.kept.proofs.Dead.{least_low}
 use Rattle.spans.proofs.Members.{Has}
 use Rattle.kept.specs.Places.{place_floor, IsLeastFloor, or_min, live_feed, row_floor}
 use Rattle.kept.proofs.AfterFeeds.{uncancelled}
-use Rattle.kept.proofs.FeedFloors.{is_live}
+use Rattle.kept.proofs.FeedFloors.{floor_from, is_live}
 use Rattle.spans.specs.declared.calls.messages.Message.TheVariants as messages
 
 -- the floor after messages is the place's, where the messages are right
-floor_is : (p : List Effect) (feed : Feed) (before : List Row) (ms : List Message) (a : ℕ) (o : Option Row) → DividesStream p feed before ms → ResolvedRise a ms → RowsAreAbove a ms → RowsFollowResolved ms
-    → ((n : ℕ) → ((r : Row) → IsRowIn r before → r.ts ≤ n) → row_floor o ≤ n) → floor_after (max a (row_floor o)) ms ≡ max (last_resolved a ms) (row_floor (last_row o ms))
-floor_is p feed before [] a o d r b parts last = refl
-floor_is p feed before (messages.Row s ∷ ms) a o d r b parts last =
+floor_is : (p : List Effect) (feed : Feed) (before : List Row) (ms : List Message) (a : ℕ) (o : Option VersionName) → start_of feed ≤ a → DividesList p feed before ms → ResolvedRise a ms → RowsAreAbove a ms → RowsFollowResolved ms
+    → ((n : ℕ) → ((r : Row) → IsRowIn r before → r.ts ≤ n) → row_floor o ≤ n) → floor_after (max a (row_floor o)) ms ≡ max (last_resolved a ms) (row_floor (last_name o ms))
+floor_is p feed before [] a o from d r b parts last = refl
+floor_is p feed before (messages.Row s ∷ ms) a o from d r b parts last =
     let e : max a (s.ts - 1) ≡ s.ts - 1 = omega (arith, b.0) in
-    ap (λ n. floor_after n ms) (sym e) ∙ floor_is p feed (before ++ s ∷ []) ms a (Some s) d r b.1 parts (λ n h. let l : s.ts ≤ n = h s ((in_append s before (s ∷ [])).1 (inr (inl refl))) in omega arith)
-floor_is p feed before (messages.Resolved t ∷ ms) a o d r b parts last =
-    let low : row_floor o ≤ t = last t (λ q i. ((in_stream p feed.span feed.cursor t q).0 (subst (IsRowIn q) d.0 i)).low) in
+    ap (λ n. floor_after n ms) (sym e) ∙ floor_is p feed (before ++ s ∷ []) ms a (Some (name_of s)) from d r b.1 parts (λ n h. let l : s.ts ≤ n = h s ((in_append s before (s ∷ [])).1 (inr (inl refl))) in omega arith)
+floor_is p feed before (messages.Resolved t ∷ ms) a o from d r b parts last =
+    let low : row_floor o ≤ t = last t (λ q i. listed_low p feed t q (omega (arith, from, r.0)) ((in_list p feed t q).0 (subst (IsRowIn q) d.0 i))) in
     let e : max (max a t) (row_floor o) ≡ t = omega (arith, r.0) in
     let e' : max a t ≡ t = omega (arith, r.0) in
-    ap (λ n. floor_after n ms) (sym e) ∙ floor_is p feed before ms (max a t) o d.1 (subst (λ n. ResolvedRise n ms) (sym e') r.1) (subst (λ n. RowsAreAbove n ms) (sym e') parts.0) parts.1 last
+    ap (λ n. floor_after n ms) (sym e) ∙ floor_is p feed before ms (max a t) o (omega (arith, from)) d.1 (subst (λ n. ResolvedRise n ms) (sym e') r.1) (subst (λ n. RowsAreAbove n ms) (sym e') parts.0) parts.1 last
 
--- the rows told are above the cursor
-above_cursor : (c : ℕ) (ms : List Message) → ((r : Row) → IsRowIn r (rows_in ms) → c < r.ts) → RowsAreAbove c ms
-above_cursor c [] h = tt
-above_cursor c (messages.Row s ∷ ms) h = (h s (inl refl), above_cursor c ms (λ r i. h r (inr i)))
-above_cursor c (messages.Resolved t ∷ ms) h = above_cursor c ms h
+-- the rows told are above the start
+above_start : (c : ℕ) (ms : List Message) → ((r : Row) → IsRowIn r (rows_in ms) → c < r.ts) → RowsAreAbove c ms
+above_start c [] h = tt
+above_start c (messages.Row s ∷ ms) h = (h s (inl refl), above_start c ms (λ r i. h r (inr i)))
+above_start c (messages.Resolved t ∷ ms) h = above_start c ms h
 
 -- the floor of a place is the floor of its feed
-pub place_floor_is : (p : List Effect) → AllAllowed p → (f : ℕ) (feed : Feed) → feed_of p f ≡ Some feed → place_floor (place_with p f feed) ≡ floor_after feed.cursor (told_to p f)
+pub place_floor_is : (p : List Effect) → AllAllowed p → (f : ℕ) (feed : Feed) → feed_of p f ≡ Some feed → place_floor (place_with p f feed) ≡ max feed.cursor (floor_after feed.cursor (told_to p f))
 place_floor_is p all f feed is =
     let h = fed p all f feed is in
     let b = h.begins (closed_of p) (omega arith) in
-    let e : max feed.cursor 0 ≡ feed.cursor = omega arith in
-    sym (ap (λ n. floor_after n (told_to p f)) (sym e) ∙ floor_is p feed [] (told_to p f) feed.cursor None h.divides h.rises
-    (above_cursor feed.cursor (told_to p f) (λ r i. ((in_stream p feed.span feed.cursor (closed_of p) r).0 (subst (IsRowIn r) (sym b.1) ((in_append r (rows_in (told_to p f)) b.0).1 (inl i)))).above))
-    h.follows (λ n h. omega arith))
+    let e : max (start_of feed) 0 ≡ start_of feed = omega arith in
+    sym (floor_from feed.cursor (start_of feed) (told_to p f) (start_low feed.kind feed.cursor)
+    ∙ ap (max feed.cursor) (ap (λ n. floor_after n (told_to p f)) (sym e) ∙ floor_is p feed [] (told_to p f) (start_of feed) None (omega arith) h.divides (apart_rises (least_gap feed.kind) (start_of feed) (told_to p f) (some_gap feed.kind) h.apart)
+    (above_start (start_of feed) (told_to p f) (λ r i. listed_above p feed (closed_of p) r ((in_list p feed (closed_of p) r).0 (subst (IsRowIn r) (sym b.1) ((in_append r (rows_in (told_to p f)) b.0).1 (inl i))))))
+    h.follows (λ n h. omega arith)))
 
 -- a feed that is listed lives
 pub live_is : (p : List Effect) → AllAllowed p → (f c : ℕ) → Has (live_feed f c) (live_feeds p) → (feed : Feed) × (feed_of p f ≡ Some feed) × (is_cancelled p f ≡ false) × (feed.cursor ≡ c)
 live_is [] all f c i = absurd i
-live_is (Opens g seat span cursor ∷ p) all f c i = by_test (g == f)
+live_is (Opens g seat kind span cursor ∷ p) all f c i = by_test (g == f)
     (λ same.
     let e : g ≡ f = eqb-true g f same in
     let above : feeds_opened p < f = omega (arith, all.0.0) in
     elim i [
-      | inl here ↦ (record { seat = seat; span = span; cursor = cursor }, rw same refl, uncancelled p all.1 f above, ap (λ (n : LiveFeed). n.cursor) here)
+      | inl here ↦ (record { seat = seat; kind = kind; span = span; cursor = cursor }, rw same refl, uncancelled p all.1 f above, ap (λ (n : LiveFeed). n.cursor) here)
       | inr there ↦ absurd (let was = live_is p all.1 f c there in let no : None ≡ Some was.0 = sym (unopened p all.1 f above).0 ∙ was.1 in cc)
     ])
     (λ other. elim i [
@@ -86,21 +88,30 @@ abbrev floors : List Effect → List LiveFeed → List ℕ
 floors p ws = map (floor_of p) ws
 
 -- what is at or below each floor is at or below the least
-floors_low : (p : List Effect) (n m : ℕ) (ws : List LiveFeed) → m ≤ n → ((f c : ℕ) → Has (live_feed f c) ws → m ≤ floor_after c (told_to p f)) → m ≤ least_of n (floors p ws)
+floors_low : (p : List Effect) (n m : ℕ) (ws : List LiveFeed) → m ≤ n → ((f c : ℕ) → Has (live_feed f c) ws → m ≤ max c (floor_after c (told_to p f))) → m ≤ least_of n (floors p ws)
 floors_low p n m [] low h = low
 floors_low p n m (w ∷ ws) low h = let here : m ≤ floor_of p w = h w.number w.cursor (inl refl) in let more : m ≤ least_of n (floors p ws) = floors_low p n m ws low (λ f c i. h f c (inr i)) in omega arith
 
 -- the least is at or below each floor
-floors_top : (p : List Effect) (n f c : ℕ) (ws : List LiveFeed) → Has (live_feed f c) ws → least_of n (floors p ws) ≤ floor_after c (told_to p f)
+floors_top : (p : List Effect) (n f c : ℕ) (ws : List LiveFeed) → Has (live_feed f c) ws → least_of n (floors p ws) ≤ max c (floor_after c (told_to p f))
 floors_top p n f c [] i = absurd i
 floors_top p n f c (w ∷ ws) i = elim i [
-  | inl here ↦ (let e : floor_of p w ≡ floor_after c (told_to p f) = ap (floor_of p) here in omega arith)
+  | inl here ↦ (let e : floor_of p w ≡ max c (floor_after c (told_to p f)) = ap (floor_of p) here in omega arith)
   | inr there ↦ (let more = floors_top p n f c ws there in omega arith)
 ]
 
 -- the place of a live feed is kept
 pub place_at : (k : Kept) (p : List Effect) → IsKeptOf k p → (f : ℕ) (feed : Feed) → feed_of p f ≡ Some feed → is_cancelled p f ≡ false → k.feed f ≡ Some (place_with p f feed)
 place_at k p fits f feed is live = fits.feeds f ∙ (rw (live, is) refl)
+
+-- and a place that is kept is that of a live feed
+pub placed_by : (k : Kept) (p : List Effect) → IsKeptOf k p → (f : ℕ) (place : Place) → k.feed f ≡ Some place → (feed : Feed) × (feed_of p f ≡ Some feed) × (is_cancelled p f ≡ false) × (place_with p f feed ≡ place)
+placed_by k p fits f place at = by_parts (is_cancelled p f) refl (feed_of p f) refl
+  where
+    by_parts : (b : Bool) → is_cancelled p f ≡ b → (o : Option Feed) → feed_of p f ≡ o → (feed : Feed) × (feed_of p f ≡ Some feed) × (is_cancelled p f ≡ false) × (place_with p f feed ≡ place)
+    by_parts true c o e = absurd (let no' : None ≡ Some place = sym (rw c refl) ∙ sym (fits.feeds f) ∙ at in cc)
+    by_parts false c None e = absurd (let no' : None ≡ Some place = sym (rw (c, e) refl) ∙ sym (fits.feeds f) ∙ at in cc)
+    by_parts false c (Some feed) e = (feed, e, c, (let both : Some (place_with p f feed) ≡ Some place = sym (place_at k p fits f feed e c) ∙ at in cc))
 
 -- the least floor of the places is that of the live feeds
 pub least_floor_is : (k : Kept) (p : List Effect) → AllAllowed p → IsKeptOf k p → (o : Option ℕ) → IsLeastFloor k.feed o → (n : ℕ) → or_min o n ≡ least_of n (floors p (live_feeds p))
@@ -113,24 +124,14 @@ least_floor_is k p all fits None h n = none_left (live_feeds p) (λ f c i. let l
 least_floor_is k p all fits (Some m) h n =
     let low : min m n ≤ least_of n (floors p (live_feeds p)) = floors_low p n (min m n) (live_feeds p) (omega arith) (λ f c i. let l = live_is p all f c i in
     let b : m ≤ place_floor (place_with p f l.0) = h.1 f (place_with p f l.0) (place_at k p fits f l.0 l.1 l.2) in
-    let e : place_floor (place_with p f l.0) ≡ floor_after l.0.cursor (told_to p f) = place_floor_is p all f l.0 l.1 in
-    let e' : floor_after l.0.cursor (told_to p f) ≡ floor_after c (told_to p f) = ap (λ a. floor_after a (told_to p f)) l.3 in omega arith) in
-    let top : least_of n (floors p (live_feeds p)) ≤ m = by_place h.0.0 h.0.1 (sym (fits.feeds h.0.0) ∙ h.0.2) h.0.3 in
+    let e : place_floor (place_with p f l.0) ≡ max l.0.cursor (floor_after l.0.cursor (told_to p f)) = place_floor_is p all f l.0 l.1 in
+    let e' : max l.0.cursor (floor_after l.0.cursor (told_to p f)) ≡ max c (floor_after c (told_to p f)) = ap (λ a. max a (floor_after a (told_to p f))) l.3 in omega arith) in
+    let l = placed_by k p fits h.0.0 h.0.1 h.0.2 in
+    let floor : place_floor (place_with p h.0.0 l.0) ≡ m = ap place_floor l.3 ∙ h.0.3 in
+    let t = floors_top p n h.0.0 l.0.cursor (live_feeds p) (is_live p h.0.0 l.0 l.1 l.2) in
+    let top : least_of n (floors p (live_feeds p)) ≤ m = omega (arith, place_floor_is p all h.0.0 l.0 l.1) in
     let first : least_of n (floors p (live_feeds p)) ≤ n = least_low n (floors p (live_feeds p)) in
     omega arith
-  where
-    by_place : (f : ℕ) (place : Place) → place_of p f ≡ Some place → place_floor place ≡ m → least_of n (floors p (live_feeds p)) ≤ m
-    by_place f place is at = by_parts (is_cancelled p f) refl (feed_of p f) refl
-      where
-        by_parts : (b : Bool) → is_cancelled p f ≡ b → (o : Option Feed) → feed_of p f ≡ o → least_of n (floors p (live_feeds p)) ≤ m
-        by_parts true c o e = absurd (let no : None ≡ Some place = rw c at is in cc)
-        by_parts false c None e = absurd (let no : None ≡ Some place = rw (c, e) at is in cc)
-        by_parts false c (Some feed) e =
-            let one : Some (place_with p f feed) ≡ Some place = rw (c, e) at is in
-            let same : place_with p f feed ≡ place = cc in
-            let floor : place_floor (place_with p f feed) ≡ m = ap place_floor same ∙ at in
-            let t = floors_top p n f feed.cursor (live_feeds p) (is_live p f feed e c) in
-            omega (arith, place_floor_is p all f feed e)
 
 -- the least over two lists
 least_join : (n : ℕ) (ms ns : List ℕ) → least_of n (ms ++ ns) ≡ least_of (least_of n ns) ms

@@ -23,4 +23,6 @@ pub mod HeldBack
 pub mod Refusals
 pub mod Replying
 pub mod Standing
+pub mod Answering
 pub mod RingSteps
+pub mod LeftRows

@@ -1,49 +1,87 @@
 -- What is left to tell, from what is kept.
-use Rattle.std.proofs.Common.{Bool, List, None, Option, Some, ap, arith, cond, false, map, subst, sym, take, true, ℕ, ◌++◌, ◌<◌, ◌∙◌, ◌≡◌}
+use Rattle.std.proofs.Common.{Bool, List, None, Option, Some, ap, arith, cond, false, inl, inr, map, subst, sym, take, true, ℕ, ◌++◌, ◌<◌, ◌∙◌, ◌≡◌, ◌≤◌}
 use Rattle.std.proofs.lemmas.Bool.{and_parts, ltb-true}
-use Rattle.std.specs.Prelude.{max, nat_lt}
+use Rattle.std.specs.Prelude.{max}
 use Rattle.timestamps.specs.declared.row.Row.{Row}
-use Rattle.spans.specs.Collection.{horizon_of}
+use Rattle.spans.specs.Collection.{VersionName, horizon_of}
+use Rattle.spans.specs.Consumer.{is_after_name}
 use Rattle.spans.specs.Effects.{After, Effect}
-use Rattle.spans.specs.Feeds.{Feed, due_message, feed_of, is_cancelled, last_resolved, next_messages, told_to, untold_rows}
-use Rattle.spans.specs.Kept.{IsKeptOf, Kept, kept_version, place_with}
+use Rattle.spans.specs.Feeds.{Feed, due_message, feed_of, is_cancelled, is_due, next_messages, resolved_of, untold_rows}
+use Rattle.spans.specs.Kept.{IsKeptOf, Kept, Place, kept_version, place_with}
+use Rattle.spans.specs.Newest.{newest}
+use Rattle.spans.specs.Serial.{map_at}
 use Rattle.spans.specs.Transactions.{closed_of, is_aborted, is_committed}
 use Rattle.spans.specs.Versions.{write_of}
 use Rattle.spans.proofs.Copies.{AllAllowed, not_both}
 use Rattle.spans.proofs.Feeding.{due_if, feeding, untold_is}
-use Rattle.spans.proofs.Steps.{version_wrote}
-use Rattle.kept.specs.Places.{AreLeft}
+use Rattle.spans.proofs.RowOrder.{name_order}
+use Rattle.spans.proofs.Steps.{map_at_is, version_wrote}
+use Rattle.kept.specs.Places.{AreLeft, is_beyond, place_floor, row_floor}
 use Rattle.kept.proofs.Dead.{kept_above, kept_is}
-use Rattle.kept.proofs.FeedFloors.{floors_high, resolved_grows, rest_high}
+use Rattle.kept.proofs.FeedFloors.{floors_high}
+use Rattle.kept.proofs.Floors.{place_floor_is}
+use Rattle.kept.proofs.Reading.{settled_is}
 use Rattle.kept.proofs.Untold.{beyond_is, only_rows}
 use Rattle.spans.specs.declared.calls.messages.Message.TheVariants as messages
+
+-- a row beyond a place, from the cursor on, is at or above the place's floor, and above it where it is above the cursor
+beyond_high : (place : Place) (r : Row) → place.cursor ≤ r.ts → is_beyond place r ≡ true → (place_floor place ≤ r.ts) × (place.cursor < r.ts → place_floor place < r.ts)
+beyond_high place r from later =
+    let b = and_parts _ _ later in
+    let after : place.after < r.ts = ltb-true _ _ b.0 in
+    let row : row_floor place.row < r.ts = by_row place.row b.1 in (omega (arith, after, row, from), λ above. omega (arith, after, row, above))
+  where
+    by_row : (o : Option VersionName) → is_after_name o r ≡ true → row_floor o < r.ts
+    by_row None is = let after : place.after < r.ts = ltb-true _ _ (and_parts _ _ later).0 in omega arith
+    by_row (Some n) is = let low : n.ts ≤ r.ts = name_order n r is in let after : place.after < r.ts = ltb-true _ _ (and_parts _ _ later).0 in omega arith
+
+-- the horizon is at or below the floor of a live feed's place
+horizon_under : (p : List Effect) → AllAllowed p → (f : ℕ) (feed : Feed) → feed_of p f ≡ Some feed → is_cancelled p f ≡ false → horizon_of p ≤ place_floor (place_with p f feed)
+horizon_under p all f feed is live = let g = floors_high p all f feed is live in omega (arith, place_floor_is p all f feed is)
+
+-- what is found at a cursor between horizon and closed is the map's
+found_is : (k : Kept) (p : List Effect) → AllAllowed p → IsKeptOf k p → (x : List ℕ) (c : ℕ) → horizon_of p ≤ c → c ≤ closed_of p → (newest (k.version x) c).after ≡ map_at p c x
+found_is k p all fits x c high low = settled_is k p fits all x c high low ∙ sym (map_at_is p c x)
 
 -- the rows that a live feed was not told are those that are left for it
 pub left_are : (k : Kept) (p : List Effect) → AllAllowed p → IsKeptOf k p → (f : ℕ) (feed : Feed) → feed_of p f ≡ Some feed → is_cancelled p f ≡ false → AreLeft k.version k.decided (place_with p f feed) (closed_of p) (untold_rows p f feed)
 left_are k p all fits f feed is live =
     let h = feeding p all f feed is in
     let u = beyond_is p all f feed is h in
+    let under : horizon_of p ≤ place_floor (place_with p f feed) = horizon_under p all f feed is live in
     subst (AreLeft k.version k.decided (place_with p f feed) (closed_of p)) (sym (untold_is p f feed h.begins.0 h.begins.1)) (record {
       rising = u.0;
       each = λ r. (
-        λ i. let s = (u.1 r).0 i in
-            let high : horizon_of p < r.ts = (let l = rest_high p f feed h r i in let g = floors_high p all f feed is live in omega arith) in
-            let there : k.version r.key r.ts ≡ Some r.after = fits.versions r.key r.ts ∙ kept_above p r.key r.ts high ∙ stands p (is_aborted p r.ts) (write_of p r.ts r.key) (not_both p all r.ts s.0.done) s.0.wrote in
-            record { there = there; done = fits.decided r.key r.ts r.after there ∙ s.0.done; inside = s.0.inside; later = s.1; low = s.0.low },
-        λ s.
-            let there : kept_version p r.key r.ts ≡ Some r.after = sym (fits.versions r.key r.ts) ∙ s.there in
-            let done : is_committed p r.ts ≡ true = sym (fits.decided r.key r.ts r.after s.there) ∙ s.done in
-            let past' : last_resolved feed.cursor (told_to p f) < r.ts = ltb-true _ _ (and_parts _ _ s.later).0 in
-            (u.1 r).1 (
-              record {
-                above = omega (arith, resolved_grows feed.cursor (told_to p f));
-                low = s.low;
-                done = done;
-                inside = s.inside;
-                wrote = (version_wrote p r.key r.ts r.after (kept_is p r.key r.ts r.after there)).1;
-              },
-              s.later,
-            ),
+        λ i. let s = (u.1 r).0 i in elim s.0 [
+          | inl first ↦ (let b = beyond_high (place_with p f feed) r (omega (arith, first.1.at)) s.1 in inl (record {
+            initial = first.0;
+            at = first.1.at;
+            found = found_is k p all fits r.key feed.cursor (omega (arith, under, b.0, first.1.at)) (h.settled first.0) ∙ first.1.has;
+            value = first.1.value;
+            inside = first.1.inside;
+            later = s.1;
+          }))
+          | inr streamed ↦ (
+              let b = beyond_high (place_with p f feed) r (omega (arith, streamed.above)) s.1 in
+              let over = b.1 streamed.above in
+              let high : horizon_of p < r.ts = omega (arith, under, over) in
+              let there : k.version r.key r.ts ≡ Some r.after = fits.versions r.key r.ts ∙ kept_above p r.key r.ts high ∙ stands p (is_aborted p r.ts) (write_of p r.ts r.key) (not_both p all r.ts streamed.done) streamed.wrote in
+              inr (record { there = there; done = fits.decided r.key r.ts r.after there ∙ streamed.done; inside = streamed.inside; above = streamed.above; later = s.1; low = streamed.low }))
+        ],
+        λ i. elim i [
+          | inl s ↦ (
+              let b = beyond_high (place_with p f feed) r (omega (arith, s.at)) s.later in
+              let after : resolved_of p f feed < r.ts = ltb-true _ _ (and_parts _ _ s.later).0 in
+              let has : map_at p feed.cursor r.key ≡ r.after = sym (found_is k p all fits r.key feed.cursor (omega (arith, under, b.0, s.at)) (h.settled s.initial)) ∙ s.found in
+              (u.1 r).1 (inl (s.initial, record { at = s.at; some = omega (arith, after, s.at); inside = s.inside; has = has; value = s.value }), s.later))
+          | inr s ↦ (
+              let there : kept_version p r.key r.ts ≡ Some r.after = sym (fits.versions r.key r.ts) ∙ s.there in
+              let done : is_committed p r.ts ≡ true = sym (fits.decided r.key r.ts r.after s.there) ∙ s.done in
+              (u.1 r).1 (
+                inr (record { above = s.above; low = s.low; done = done; inside = s.inside; wrote = (version_wrote p r.key r.ts r.after (kept_is p r.key r.ts r.after there)).1 }),
+                s.later,
+              ))
+        ],
       );
     })
   where
@@ -59,7 +97,7 @@ left_is k p all fits f feed is live rows left = let all_left = left_are k p all 
 -- so a poll's messages come of the store and the feed's place
 pub poll_is : (k : Kept) (p : List Effect) → AllAllowed p → IsKeptOf k p → (f max : ℕ) (feed : Feed) → feed_of p f ≡ Some feed → is_cancelled p f ≡ false → (rows : List Row)
     → AreLeft k.version k.decided (place_with p f feed) k.closed rows
-    → take max (map messages.Row rows ++ due_if (nat_lt (place_with p f feed).after k.closed) k.closed) ≡ next_messages p f feed max
+    → take max (map messages.Row rows ++ due_if (is_due feed.kind (place_with p f feed).after k.closed) k.closed) ≡ next_messages p f feed max
 poll_is k p all fits f max feed is live rows left = rw fits.closed_at
     (let left' : AreLeft k.version k.decided (place_with p f feed) (closed_of p) rows = subst (λ n. AreLeft k.version k.decided (place_with p f feed) n rows) fits.closed_at left in
     ap (λ l. take max (map messages.Row l ++ due_message p f feed)) (left_is k p all fits f feed is live rows left'))

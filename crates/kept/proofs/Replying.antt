@@ -7,14 +7,15 @@ use Rattle.timestamps.specs.declared.row.Row.{Row}
 use Rattle.timestamps.specs.declared.ts.TheConstants.{MAX}
 use Rattle.spans.specs.Answer.{answer_of, first_refusal_or, is_timestamp, snapshot_tests, transaction_tests, with_feed}
 use Rattle.spans.specs.Collection.{VersionName, collection_horizon, dead_of, horizon_of}
+use Rattle.spans.specs.declared.kind.Kind.TheVariants.{Plain, Initial, Every}
 use Rattle.spans.specs.Effects.{Collects, Effect, Opens}
-use Rattle.spans.specs.Feeds.{Feed, feed_of, feeds_opened, is_cancelled, next_messages}
+use Rattle.spans.specs.Feeds.{Feed, feed_of, feeds_opened, is_cancelled, is_due, next_messages}
 use Rattle.spans.specs.Kept.{IsKeptOf, Kept, Place, place_with}
 use Rattle.spans.specs.Keys.{in_span, pairs_of}
 use Rattle.spans.specs.Reads.{too_late}
 use Rattle.spans.specs.Transactions.{closed_of, decided_through, undecided_timestamps}
 use Rattle.spans.specs.Versions.{committed_value, is_blocked, visible, write_count, written_keys}
-use Rattle.spans.specs.declared.calls.commands.Cmd.TheVariants.{Abort, Begin, Cancel, Close, CloseHard, Collect, Commit, Del, Get, Open, Poll, Protect, Put, ReadAt, Release, Scan, ScanAt, Stats}
+use Rattle.spans.specs.declared.calls.commands.Cmd.TheVariants.{Abort, Begin, Cancel, Close, CloseHard, Collect, Commit, Del, Get, Open, OpenEvery, OpenInitial, Poll, Protect, Put, ReadAt, Release, Scan, ScanAt, Stats}
 use Rattle.spans.specs.declared.calls.messages.Message.{Message}
 use Rattle.spans.specs.declared.calls.replies.Refusal.TheVariants.{BelowClosed, BelowHorizon, Blocked, FeedCancelled, NoFeed, NotClosed, NotOwner, TooLate, TsRange, TsUsed}
 use Rattle.spans.specs.declared.calls.replies.Reply.{Reply}
@@ -141,19 +142,27 @@ collect_answer k p all fits seat to protection floor dropped is = ranged to (Col
     ap (Collected (reached k to protection floor)) n ∙ ap (λ h. Collected h (length (dead_of (Collects h ∷ p)) - length (dead_of p))) e)
 
 -- open
-pub open_answer : (k : Kept) (p : List Effect) → IsKeptOf k p → (seat : ℕ) (span : Span) (cursor : ℕ) → open_reply k cursor ≡ answer_of p seat (Open span cursor)
+pub open_answer : (k : Kept) (p : List Effect) → IsKeptOf k p → (seat : ℕ) (span : Span) (cursor : ℕ) → open_reply Plain k cursor ≡ answer_of p seat (Open span cursor)
 open_answer k p fits seat span cursor = rw (fits.horizon_at, fits.opened) refl
+
+-- open with an initial scan
+pub open_initial_answer : (k : Kept) (p : List Effect) → IsKeptOf k p → (seat : ℕ) (span : Span) (cursor : ℕ) → open_reply Initial k cursor ≡ answer_of p seat (OpenInitial span cursor)
+open_initial_answer k p fits seat span cursor = rw (fits.horizon_at, fits.closed_at, fits.opened) refl
+
+-- open with a least gap
+pub open_every_answer : (k : Kept) (p : List Effect) → IsKeptOf k p → (seat : ℕ) (span : Span) (cursor gap : ℕ) → open_reply (Every gap) k cursor ≡ answer_of p seat (OpenEvery span cursor gap)
+open_every_answer k p fits seat span cursor gap = rw (fits.horizon_at, fits.opened) refl
 
 -- feed 0 is never opened
 no_zeroth : (p : List Effect) → AllAllowed p → feed_of p 0 ≡ None
 no_zeroth [] all = refl
-no_zeroth (Opens g seat span cursor ∷ p) all = let other : (g == 0) ≡ false = grind (arith, nat_tests, all.0.0) in rw other (no_zeroth p all.1)
+no_zeroth (Opens g seat kind span cursor ∷ p) all = let other : (g == 0) ≡ false = grind (arith, nat_tests, all.0.0) in rw other (no_zeroth p all.1)
 no_zeroth (_ ∷ p) all = no_zeroth p all.1
 
 -- each feed up to the number of those that were opened was opened
 opened_is : (p : List Effect) → AllAllowed p → (f : ℕ) → 0 < f → f ≤ feeds_opened p → is_some (feed_of p f) ≡ true
 opened_is [] all f some low = absurd (omega arith)
-opened_is (Opens g seat span cursor ∷ p) all f some low = by_test (g == f)
+opened_is (Opens g seat kind span cursor ∷ p) all f some low = by_test (g == f)
     (λ same. rw same refl)
     (λ other. rw other (opened_is p all.1 f some (grind (arith, nat_tests, all.0.0))))
 opened_is (_ ∷ p) all f some low = opened_is p all.1 f some low
@@ -204,7 +213,7 @@ poll_answer k p all fits seat f max rows left = ap (poll_place k seat f max rows
     by_feed true c (Some feed) e = ap Refused (refused_is k p all fits f ∙ ap (λ o. cond (is_some o) FeedCancelled NoFeed) e) ∙ sym (rw c refl)
     by_feed false c (Some feed) e = ap (λ b. cond b (Refused FeedCancelled) (cond (not (feed.seat == seat)) (Refused NotOwner) (Messages (take max (messages_left k.closed (place_with p f feed) rows))))) (sym c) ∙ by_test (feed.seat == seat)
         (λ own. let next = left (place_with p f feed) (fits.feeds f ∙ (rw (c, e) refl)) (eqb-true _ _ own) in
-        rw (c, own) (ap Messages (take_alike max rows next.all (due_if (nat_lt (place_with p f feed).after k.closed) k.closed) next.first ∙ poll_is k p all fits f max feed e c next.all next.left)))
+        rw (c, own) (ap Messages (take_alike max rows next.all (due_if (is_due feed.kind (place_with p f feed).after k.closed) k.closed) next.first ∙ poll_is k p all fits f max feed e c next.all next.left)))
         (λ other. rw (c, other) refl)
 
 -- statistics

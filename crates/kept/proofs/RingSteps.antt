@@ -1,9 +1,10 @@
 -- Rings and held rows along a legal history.
-use Rattle.std.proofs.Common.{Bool, List, None, Option, Some, [], ap, arith, drop, false, refl, subst, sym, true, ℕ, ◌<◌, ◌∙◌, ◌∷◌, ◌≡◌, ◌≤◌}
+use Rattle.std.proofs.Common.{Bool, List, Some, [], ap, arith, drop, false, subst, sym, true, ℕ, ◌<◌, ◌∙◌, ◌∷◌, ◌≡◌, ◌≤◌}
 use Rattle.std.specs.Prelude.{filter, max, nat_le}
 use Rattle.timestamps.specs.declared.row.Row.{Row}
+use Rattle.spans.specs.declared.kind.Kind.{Kind}
+use Rattle.spans.specs.declared.kind.Kind.TheVariants.{Initial}
 use Rattle.spans.specs.Effects.{Closes, Commits, Effect, HardCloses, Opens, Polls, effect_of, effects_of}
-use Rattle.spans.specs.Feeds.{Feed, feed_of, is_cancelled}
 use Rattle.spans.specs.Kept.{Kept, Place, place_with}
 use Rattle.spans.specs.Legal.{IsLegal, IsRightEvent}
 use Rattle.spans.specs.Streams.{stream_of}
@@ -17,23 +18,18 @@ use Rattle.kept.specs.HeldBack.{AreHeldBack, AreLetGo, IsHeldFor, holds_still}
 use Rattle.kept.specs.Places.{AreLeft}
 use Rattle.kept.specs.Rings.{AreOffered, AreOthersSame, AreRings, is_quiet, whole}
 use Rattle.kept.specs.StandsFor.{StandsFor}
-use Rattle.kept.proofs.Floors.{place_at}
+use Rattle.kept.proofs.Floors.{place_at, placed_by}
 use Rattle.kept.proofs.HeldBack.{held_after_closes, held_after_commits, held_after_hard_closes, held_stay, released}
 use Rattle.kept.proofs.Polling.{left_are}
 use Rattle.kept.proofs.RingRows.{rings_after_closes, rings_after_opens, rings_after_polls, rings_stay, untold_closes, untold_hard_closes}
 
 -- the ring of a feed that isn't behind has what is left for it
 pub ring_serves : (k : Kept) (h : List Event) (ring : ℕ → List Row) (behind : ℕ → Bool) (f : ℕ) (place : Place) → StandsFor k h → AreRings ring behind (effects_of h) → k.feed f ≡ Some place → behind f ≡ false → AreLeft k.version k.decided place k.closed (ring f)
-ring_serves k h ring behind f place stands rings at up = by_parts (is_cancelled (effects_of h) f) refl (feed_of (effects_of h) f) refl
-  where
-    by_parts : (b : Bool) → is_cancelled (effects_of h) f ≡ b → (o : Option Feed) → feed_of (effects_of h) f ≡ o → AreLeft k.version k.decided place k.closed (ring f)
-    by_parts true c o e = absurd (let no' : None ≡ Some place = sym (rw c refl) ∙ sym (stands.fits.feeds f) ∙ at in cc)
-    by_parts false c None e = absurd (let no' : None ≡ Some place = sym (rw (c, e) refl) ∙ sym (stands.fits.feeds f) ∙ at in cc)
-    by_parts false c (Some feed) e =
-        let here : place_with (effects_of h) f feed ≡ place = (let both : Some (place_with (effects_of h) f feed) ≡ Some place = sym (place_at k (effects_of h) stands.fits f feed e c) ∙ at in cc) in
-        subst (λ w. AreLeft k.version k.decided w k.closed (ring f)) here
-        (subst (λ n. AreLeft k.version k.decided (place_with (effects_of h) f feed) n (ring f)) (sym stands.fits.closed_at)
-        (subst (AreLeft k.version k.decided (place_with (effects_of h) f feed) (closed_of (effects_of h))) (sym (rings f feed e c up)) (left_are k (effects_of h) (legal_allowed h stands.legal) stands.fits f feed e c)))
+ring_serves k h ring behind f place stands rings at up =
+    let l = placed_by k (effects_of h) stands.fits f place at in
+    subst (λ w. AreLeft k.version k.decided w k.closed (ring f)) l.3
+    (subst (λ n. AreLeft k.version k.decided (place_with (effects_of h) f l.0) n (ring f)) (sym stands.fits.closed_at)
+    (subst (AreLeft k.version k.decided (place_with (effects_of h) f l.0) (closed_of (effects_of h))) (sym (rings f l.0 l.1 l.2 up)) (left_are k (effects_of h) (legal_allowed h stands.legal) stands.fits f l.0 l.1 l.2)))
 
 -- a right event's effect is allowed
 allowed_after : (h : List Event) (e : Event) (d : Effect) → IsRightEvent (effects_of h) e → effect_of e ≡ d → Allowed (effects_of h) d
@@ -61,11 +57,18 @@ rings_poll k h e f max ms ring ring' behind behind' place rows stands right is r
     (rings_after_polls k (effects_of h) (legal_allowed h stands.legal) stands.fits f max ms (allowed_after h e (Polls f max ms) right is) ring ring' behind behind' place rows at left own others rings)
 
 -- rings after an opening
-pub rings_open : (k : Kept) (h : List Event) (e : Event) (f seat : ℕ) (span : Span) (cursor : ℕ) (ring ring' : ℕ → List Row) (behind behind' : ℕ → Bool) → StandsFor k h → IsRightEvent (effects_of h) e → effect_of e ≡ Opens f seat span cursor
-    → AreRings ring behind (effects_of h) → (behind' f ≡ false → (k.closed ≤ cursor) × (ring' f ≡ [])) → AreOthersSame f ring ring' behind behind' → AreRings ring' behind' (effects_of (e ∷ h))
-rings_open k h e f seat span cursor ring ring' behind behind' stands right is rings own others =
+pub rings_open : (k : Kept) (h : List Event) (e : Event) (f seat : ℕ) (kind : Kind) (span : Span) (cursor : ℕ) (ring ring' : ℕ → List Row) (behind behind' : ℕ → Bool) → StandsFor k h → IsRightEvent (effects_of h) e → effect_of e ≡ Opens f seat kind span cursor
+    → AreRings ring behind (effects_of h) → (behind' f ≡ false → (kind ≡ Initial → ⊥) × (k.closed ≤ cursor) × (ring' f ≡ [])) → AreOthersSame f ring ring' behind behind' → AreRings ring' behind' (effects_of (e ∷ h))
+rings_open k h e f seat kind span cursor ring ring' behind behind' stands right is rings own others =
     subst (λ d. AreRings ring' behind' (d ∷ effects_of h)) (sym is)
-    (rings_after_opens k (effects_of h) (legal_allowed h stands.legal) stands.fits f seat span cursor (allowed_after h e (Opens f seat span cursor) right is) ring ring' behind behind' own others rings)
+    (rings_after_opens k (effects_of h) (legal_allowed h stands.legal) stands.fits f seat kind span cursor (allowed_after h e (Opens f seat kind span cursor) right is) ring ring' behind behind' own others rings)
+
+-- the rings are asked only of feeds that live and aren't behind
+pub rings_live : (k : Kept) (h : List Event) (ring ring' : ℕ → List Row) (behind behind' : ℕ → Bool) → StandsFor k h → AreRings ring behind (effects_of h)
+    → ((f : ℕ) (place : Place) → k.feed f ≡ Some place → behind' f ≡ false → (behind f ≡ false) × (ring' f ≡ ring f)) → AreRings ring' behind' (effects_of h)
+rings_live k h ring ring' behind behind' stands rings fewer f feed is live up =
+    let still = fewer f (place_with (effects_of h) f feed) (place_at k (effects_of h) stands.fits f feed is live) up in
+    still.1 ∙ rings f feed is live still.0
 
 -- rings after everything else
 pub rings_others : (h : List Event) (e : Event) (ring : ℕ → List Row) (behind : ℕ → Bool) → IsLegal h → IsRightEvent (effects_of h) e → is_quiet (effect_of e) ≡ true → AreRings ring behind (effects_of h) → AreRings ring behind (effects_of (e ∷ h))

@@ -1,15 +1,11 @@
 -- A scan of the kept keys finds what a scan of all written keys finds.
-use Rattle.std.proofs.Common.{Bool, List, None, Option, Some, [], ap, arith, cond, inl, inr, map, not, refl, subst, suc, sym, true, zero, ℕ, ◌&&◌, ◌<◌, ◌==◌, ◌∙◌, ◌∷◌, ◌≡◌, ◌≤◌, ◌⊎◌}
-use Rattle.std.proofs.lemmas.Cmp.{nat_list_cmp_total}
-use Rattle.std.specs.Ordering.{ordering_reverse}
-use Rattle.std.specs.Prelude.{filter, is_some, ◌↔◌}
-use Rattle.std.specs.declared.cmp.Ordering.TheVariants.{Greater, Less}
-use Rattle.timestamps.specs.Bytes.{key_cmp}
+use Rattle.std.proofs.Common.{Bool, List, None, Option, Some, [], ap, arith, cond, inl, inr, map, not, refl, suc, sym, true, zero, ℕ, ◌&&◌, ◌<◌, ◌==◌, ◌∙◌, ◌∷◌, ◌≡◌, ◌≤◌, ◌⊎◌}
+use Rattle.std.specs.Prelude.{filter, is_some}
 use Rattle.spans.specs.Answer.{first_refusal_or}
 use Rattle.spans.specs.Collection.{horizon_of}
 use Rattle.spans.specs.Effects.{After, Effect}
 use Rattle.spans.specs.Kept.{IsKeptOf, Kept}
-use Rattle.spans.specs.Keys.{in_span, pairs_of, with_value}
+use Rattle.spans.specs.Keys.{in_span, pairs_of}
 use Rattle.spans.specs.Transactions.{closed_of}
 use Rattle.spans.specs.Versions.{committed_value, is_blocked, visible, written_keys}
 use Rattle.spans.specs.declared.calls.replies.Refusal.{Refusal}
@@ -18,46 +14,11 @@ use Rattle.spans.specs.declared.calls.replies.Reply.{Reply}
 use Rattle.spans.specs.declared.calls.replies.Reply.TheVariants.{Refused, Rows}
 use Rattle.spans.specs.declared.span.Span.{Span}
 use Rattle.spans.proofs.Copies.{AllAllowed}
-use Rattle.spans.proofs.Keyed.{IsIn, RisingKeys, filter_in, filter_rises}
+use Rattle.spans.proofs.Keyed.{IsIn, filter_in, filter_rises, filtered_same, pairs_alike, pairs_of_some}
 use Rattle.spans.proofs.Legal.{blocked_in, keys_rise, settled_in, visible_in}
 use Rattle.spans.proofs.Steps.{by_test, newest_is}
 use Rattle.kept.specs.Finding.{AreKeysOf, is_seen_blocked, seen}
 use Rattle.kept.proofs.Reading.{blocked_is, blocker_is, seen_value, settled_is}
-
--- no two keys are each before the other
-key_clash : (x y : List ℕ) → key_cmp x y ≡ Less → key_cmp y x ≡ Less → ⊥
-key_clash x y e h = let r : key_cmp y x ≡ ordering_reverse (key_cmp x y) = nat_list_cmp_total.antisymm y x in let no' : Less ≡ Greater = sym h ∙ r ∙ ap ordering_reverse e in cc
-
--- keys that rise are determined by which they are
-pub only_keys : (xs ys : List (List ℕ)) → RisingKeys xs → RisingKeys ys → ((z : List ℕ) → IsIn z xs ↔ IsIn z ys) → xs ≡ ys
-only_keys [] [] h k same = refl
-only_keys [] (y ∷ ys) h k same = absurd ((same y).1 (inl refl))
-only_keys (x ∷ xs) [] h k same = absurd ((same x).0 (inl refl))
-only_keys (x ∷ xs) (y ∷ ys) h k same =
-    let e : x ≡ y = first in
-    heads e (only_keys xs ys h.1 k.1 (λ z. (
-      λ i. elim ((same z).0 (inr i)) [ inl here ↦ absurd (let b : key_cmp x x ≡ Less = subst (λ n. key_cmp x n ≡ Less) (sym (e ∙ here)) (h.0 z i) in key_clash x x b b) | inr there ↦ there ],
-      λ i. elim ((same z).1 (inr i)) [ inl here ↦ absurd (let b : key_cmp y y ≡ Less = subst (λ n. key_cmp y n ≡ Less) (sym (sym e ∙ here)) (k.0 z i) in key_clash y y b b) | inr there ↦ there ],
-    )))
-  where
-    heads : {x y : List ℕ} {xs ys : List (List ℕ)} → x ≡ y → xs ≡ ys → (x ∷ xs) ≡ (y ∷ ys)
-    heads e h = rw (e, h) refl
-
-    first : x ≡ y
-    first = elim ((same x).0 (inl refl)) [
-      | inl e ↦ sym e
-      | inr later ↦ elim ((same y).1 (inl refl)) [
-        | inl e ↦ e
-        | inr later' ↦ absurd (key_clash x y (h.0 y later') (k.0 x later))
-      ]
-    ]
-
--- of rising keys those that pass a test are alike where what passes it is in both or in neither
-filtered_same : (q : List ℕ → Bool) (xs ys : List (List ℕ)) → RisingKeys xs → RisingKeys ys → ((z : List ℕ) → q z ≡ true → IsIn z xs ↔ IsIn z ys) → filter q xs ≡ filter q ys
-filtered_same q xs ys h k same = only_keys (filter q xs) (filter q ys) (filter_rises q xs h) (filter_rises q ys k) (λ z. let a = filter_in q z xs in let b = filter_in q z ys in (
-  λ i. let m = a.0 i in b.1 (m.0, (same z m.0).0 m.1),
-  λ i. let m = b.0 i in a.1 (m.0, (same z m.0).1 m.1),
-))
 
 -- tests that don't apply don't matter
 tests_that_apply : (q : List ℕ → Bool) (why : List ℕ → Refusal) (xs : List (List ℕ)) (reply : Reply) → first_refusal_or (map (λ x. (q x, why x)) xs) reply ≡ first_refusal_or (map (λ x. (q x, why x)) (filter q xs)) reply
@@ -73,20 +34,6 @@ tests_alike q r why as' [] reply same whys = refl
 tests_alike q r why as' (x ∷ xs) reply same whys = ap (λ b. cond b (Refused (why x)) (first_refusal_or (map (λ x. (q x, why x)) xs) reply)) (same x) ∙ by_test (r x)
     (λ is. rw is (ap Refused (whys x is)))
     (λ isnt. rw isnt (tests_alike q r why as' xs reply same whys))
-
--- keys without a value give no row
-pairs_of_some : (m : List ℕ → Option (List ℕ)) (xs : List (List ℕ)) → pairs_of m xs ≡ pairs_of m (filter (λ x. is_some (m x)) xs)
-pairs_of_some m [] = refl
-pairs_of_some m (x ∷ xs) = by_value (m x) refl (pairs_of_some m xs)
-  where
-    by_value : (o : Option (List ℕ)) → m x ≡ o → pairs_of m xs ≡ pairs_of m (filter (λ x. is_some (m x)) xs) → with_value x o (pairs_of m xs) ≡ pairs_of m (cond (is_some o) (x ∷ filter (λ x. is_some (m x)) xs) (filter (λ x. is_some (m x)) xs))
-    by_value None e more = more
-    by_value (Some v) e more = ap (λ l. (x, v) ∷ l) more ∙ sym (ap (λ o. with_value x o (pairs_of m (filter (λ x. is_some (m x)) xs))) e)
-
--- maps that are alike give the same rows
-pairs_alike : (m n : List ℕ → Option (List ℕ)) (xs : List (List ℕ)) → ((x : List ℕ) → m x ≡ n x) → pairs_of m xs ≡ pairs_of n xs
-pairs_alike m n [] same = refl
-pairs_alike m n (x ∷ xs) same = rw (same x, pairs_alike m n xs same) refl
 
 -- a kept key of the span, where what is found there is kept
 seen_key : (k : Kept) (span : Span) (keys : List (List ℕ)) → AreKeysOf k span keys → (x : List ℕ) (t : ℕ) → in_span span x ≡ true → (0 < (seen k x t).ts) ⊎ ((v : List ℕ) × ((seen k x t).after ≡ Some v)) → IsIn x keys

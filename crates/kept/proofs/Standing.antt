@@ -1,6 +1,7 @@
 -- What is kept after an event stands for the history with it.
 use Rattle.std.proofs.Common.{List, None, ap, cond, false, refl, subst, sym, ℕ, ◌&&◌, ◌==◌, ◌||◌, ◌∙◌, ◌∷◌, ◌≡◌}
 use Rattle.std.specs.Prelude.{bytes_eq, max}
+use Rattle.spans.specs.declared.kind.Kind.{Kind}
 use Rattle.spans.specs.Effects.{Aborts, After, Begins, Cancels, Closes, Collects, Commits, Effect, HardCloses, NoEffect, Opens, Polls, Protects, Reads, Releases, Scans, SnapshotReads, SnapshotScans, Writes, effect_of, effects_of}
 use Rattle.spans.specs.Kept.{IsKeptOf, Kept}
 use Rattle.spans.specs.Legal.{IsRightEvent}
@@ -129,9 +130,9 @@ release_stands k k' h e id stands right is c = stands_after k k' h e (Releases i
     subst (λ n. IsKeptOf n (Releases id ∷ effects_of h)) (sym c) (after_releases k (effects_of h) stands.fits id))
 
 -- an opening
-pub open_stands : (k k' : Kept) (h : List Event) (e : Event) (f seat : ℕ) (span : Span) (cursor : ℕ) → StandsFor k h → IsRightEvent (effects_of h) e → effect_of e ≡ Opens f seat span cursor → IsOpenedAt k k' f seat span cursor → StandsFor k' (e ∷ h)
-open_stands k k' h e f seat span cursor stands right is c = stands_after k k' h e (Opens f seat span cursor) stands right is (λ all allowed.
-    subst (λ n. IsKeptOf n (Opens f seat span cursor ∷ effects_of h)) (sym c.rest) (after_opens k (effects_of h) all stands.fits f seat span cursor allowed k'.feed c.feed))
+pub open_stands : (k k' : Kept) (h : List Event) (e : Event) (f seat : ℕ) (kind : Kind) (span : Span) (cursor : ℕ) → StandsFor k h → IsRightEvent (effects_of h) e → effect_of e ≡ Opens f seat kind span cursor → IsOpenedAt k k' f seat kind span cursor → StandsFor k' (e ∷ h)
+open_stands k k' h e f seat kind span cursor stands right is c = stands_after k k' h e (Opens f seat kind span cursor) stands right is (λ all allowed.
+    subst (λ n. IsKeptOf n (Opens f seat kind span cursor ∷ effects_of h)) (sym c.rest) (after_opens k (effects_of h) all stands.fits f seat kind span cursor allowed k'.feed c.feed))
 
 -- a poll
 pub poll_stands : (k k' : Kept) (h : List Event) (e : Event) (f max : ℕ) (ms : List Message) → StandsFor k h → IsRightEvent (effects_of h) e → effect_of e ≡ Polls f max ms → IsMovedBy k k' f ms → StandsFor k' (e ∷ h)

@@ -3,17 +3,20 @@ use Rattle.std.proofs.Common.{List, refl, inr, None, Option, arith, subst, false
 use Rattle.std.proofs.lemmas.Bool.{and_from, lt-ltb, false_from_ne_true, both_ways, and_parts}
 use Rattle.std.specs.Prelude.{max, ◌↔◌}
 use Rattle.timestamps.specs.declared.row.Row.{Row}
-use Rattle.spans.specs.Consumer.{last_row, is_after}
+use Rattle.spans.specs.Collection.{VersionName}
+use Rattle.spans.specs.Consumer.{is_after_name, name_of}
 use Rattle.spans.specs.Effects.{Effect}
-use Rattle.spans.specs.FeedRight.{DividesStream}
-use Rattle.spans.specs.Feeds.{told_to, rows_in, Feed, last_resolved, feed_of}
-use Rattle.spans.specs.Kept.{place_with}
-use Rattle.spans.specs.Streams.{stream_of, row_lt}
+use Rattle.spans.specs.FeedRight.{DividesList}
+use Rattle.spans.specs.Feeds.{told_to, rows_in, Feed, last_resolved, feed_of, list_of, start_of}
+use Rattle.spans.specs.Kept.{last_name, place_with}
+use Rattle.spans.specs.Streams.{row_lt}
 use Rattle.spans.specs.Transactions.{closed_of}
 use Rattle.spans.specs.declared.calls.messages.Message.{Message}
 use Rattle.spans.proofs.Copies.{AllAllowed}
-use Rattle.spans.proofs.Feeding.{stream_above, cancel_front, AllBelow, IsFeeding, RowsAbove}
-use Rattle.spans.proofs.StreamOrder.{rows_clash, RisingRows, IsRowIn, in_append, in_stream, rises_parts, stream_rises, IsStreamed}
+use Rattle.spans.proofs.Feeding.{cancel_front, AllBelow, IsFeeding}
+use Rattle.spans.proofs.Listing.{IsListed, in_list, list_above, list_rises, listed_above}
+use Rattle.spans.proofs.StreamOrder.{rows_clash, RisingRows, IsRowIn, in_append, rises_parts}
+use Rattle.spans.proofs.Streaming.{RowsAbove}
 use Rattle.kept.specs.Places.{is_beyond}
 use Rattle.spans.specs.declared.calls.messages.Message.TheVariants as messages
 
@@ -47,51 +50,51 @@ above_in t [] r h i = absurd i
 above_in t (s ∷ rows) r h i = elim i [ inl here ↦ subst (λ (q : Row). t < q.ts) here h.0 | inr there ↦ above_in t rows r h.1 there ]
 
 -- what wasn't told is above the resolved messages
-pub rest_above : (p : List Effect) (feed : Feed) (n : ℕ) (before rest : List Row) (ms : List Message) → before ++ (rows_in ms ++ rest) ≡ stream_of p feed.span feed.cursor (closed_of p) → DividesStream p feed before ms → AllBelow (closed_of p) ms
+pub rest_above : (p : List Effect) (feed : Feed) (n : ℕ) (before rest : List Row) (ms : List Message) → before ++ (rows_in ms ++ rest) ≡ list_of p feed (closed_of p) → DividesList p feed before ms → AllBelow (closed_of p) ms
     → (r : Row) → IsRowIn r rest → n < r.ts → last_resolved n ms < r.ts
 rest_above p feed n before rest [] is h below r i low = low
 rest_above p feed n before rest (messages.Row s ∷ ms) is h below r i low = rest_above p feed n (before ++ s ∷ []) rest ms (append_assoc before (s ∷ []) (rows_in ms ++ rest) ∙ is) h below r i low
 rest_above p feed n before rest (messages.Resolved t ∷ ms) is h below r i low =
-    let more = stream_above p feed.span feed.cursor t (closed_of p) below.0 in
-    let e : rows_in ms ++ rest ≡ more.0 = cancel_front (stream_of p feed.span feed.cursor t) (rows_in ms ++ rest) more.0 (ap (λ l. l ++ (rows_in ms ++ rest)) (sym h.0) ∙ is ∙ more.1) in
+    let more = list_above p feed t (closed_of p) below.0 in
+    let e : rows_in ms ++ rest ≡ more.0 = cancel_front (list_of p feed t) (rows_in ms ++ rest) more.0 (ap (λ l. l ++ (rows_in ms ++ rest)) (sym h.0) ∙ is ∙ more.1) in
     let above : t < r.ts = above_in t (rows_in ms ++ rest) r (subst (RowsAbove t) (sym e) more.2) ((in_append r (rows_in ms) rest).1 (inr i)) in
     rest_above p feed (max n t) before rest ms is h.1 below.1 r i (omega arith)
 
 -- a row after all that were told comes after the last
-after_all : (ms : List Message) (o : Option Row) (r : Row) → is_after o r ≡ true → ((s : Row) → IsRowIn s (rows_in ms) → row_lt s r ≡ true) → is_after (last_row o ms) r ≡ true
+after_all : (ms : List Message) (o : Option VersionName) (r : Row) → is_after_name o r ≡ true → ((s : Row) → IsRowIn s (rows_in ms) → row_lt s r ≡ true) → is_after_name (last_name o ms) r ≡ true
 after_all [] o r e h = e
-after_all (messages.Row s ∷ ms) o r e h = after_all ms (Some s) r (h s (inl refl)) (λ q i. h q (inr i))
+after_all (messages.Row s ∷ ms) o r e h = after_all ms (Some (name_of s)) r (h s (inl refl)) (λ q i. h q (inr i))
 after_all (messages.Resolved t ∷ ms) o r e h = after_all ms o r e h
 
 -- a row before all that follow doesn't come after the last
-not_after : (ms : List Message) (o : Option Row) (r : Row) → is_after o r ≡ false → ((s : Row) → IsRowIn s (rows_in ms) → row_lt r s ≡ true) → is_after (last_row o ms) r ≡ false
+not_after : (ms : List Message) (o : Option VersionName) (r : Row) → is_after_name o r ≡ false → ((s : Row) → IsRowIn s (rows_in ms) → row_lt r s ≡ true) → is_after_name (last_name o ms) r ≡ false
 not_after [] o r e h = e
-not_after (messages.Row s ∷ ms) o r e h = not_after ms (Some s) r (false_from_ne_true _ (λ l. rows_clash s r l (h s (inl refl)))) (λ q i. h q (inr i))
+not_after (messages.Row s ∷ ms) o r e h = not_after ms (Some (name_of s)) r (false_from_ne_true _ (λ l. rows_clash s r l (h s (inl refl)))) (λ q i. h q (inr i))
 not_after (messages.Resolved t ∷ ms) o r e h = not_after ms o r e h
 
 -- a row that was told doesn't come after the last
-told_before : (ms : List Message) (o : Option Row) (r : Row) → RisingRows (rows_in ms) → IsRowIn r (rows_in ms) → is_after (last_row o ms) r ≡ false
+told_before : (ms : List Message) (o : Option VersionName) (r : Row) → RisingRows (rows_in ms) → IsRowIn r (rows_in ms) → is_after_name (last_name o ms) r ≡ false
 told_before [] o r h i = absurd i
 told_before (messages.Row s ∷ ms) o r h i = elim i [
-  | inl here ↦ subst (λ (q : Row). is_after (last_row (Some s) ms) q ≡ false) here (not_after ms (Some s) s (false_from_ne_true _ (λ l. rows_clash s s l l)) h.0)
-  | inr there ↦ told_before ms (Some s) r h.1 there
+  | inl here ↦ subst (λ (q : Row). is_after_name (last_name (Some (name_of s)) ms) q ≡ false) here (not_after ms (Some (name_of s)) s (false_from_ne_true _ (λ l. rows_clash s s l l)) h.0)
+  | inr there ↦ told_before ms (Some (name_of s)) r h.1 there
 ]
 told_before (messages.Resolved t ∷ ms) o r h i = told_before ms o r h i
 
--- what wasn't told is what is is_beyond the place
+-- what wasn't told is what is beyond the place
 pub beyond_is : (p : List Effect) → AllAllowed p → (f : ℕ) (feed : Feed) → feed_of p f ≡ Some feed → (h : IsFeeding p f feed)
-    → RisingRows h.begins.0 × ((r : Row) → IsRowIn r h.begins.0 ↔ (IsStreamed p feed.span feed.cursor (closed_of p) r × (is_beyond (place_with p f feed) r ≡ true)))
+    → RisingRows h.begins.0 × ((r : Row) → IsRowIn r h.begins.0 ↔ (IsListed p feed (closed_of p) r × (is_beyond (place_with p f feed) r ≡ true)))
 beyond_is p all f feed is h =
-    let parts = rises_parts (rows_in (told_to p f)) h.begins.0 (subst RisingRows h.begins.1 (stream_rises p feed.span feed.cursor (closed_of p))) in (
+    let parts = rises_parts (rows_in (told_to p f)) h.begins.0 (subst RisingRows h.begins.1 (list_rises p feed (closed_of p))) in (
       parts.1,
       λ r. (
         λ i.
-            let s : IsStreamed p feed.span feed.cursor (closed_of p) r = (in_stream p feed.span feed.cursor (closed_of p) r).0 (subst (IsRowIn r) (sym h.begins.1) ((in_append r (rows_in (told_to p f)) h.begins.0).1 (inr i))) in (
+            let s : IsListed p feed (closed_of p) r = (in_list p feed (closed_of p) r).0 (subst (IsRowIn r) (sym h.begins.1) ((in_append r (rows_in (told_to p f)) h.begins.0).1 (inr i))) in (
               s,
-              and_from _ _ (lt-ltb _ r.ts (rest_above p feed feed.cursor [] h.begins.0 (told_to p f) (sym h.begins.1) h.divides h.below r i s.above))
+              and_from _ _ (lt-ltb _ r.ts (rest_above p feed (start_of feed) [] h.begins.0 (told_to p f) (sym h.begins.1) h.divides h.below r i (listed_above p feed (closed_of p) r s)))
                   (after_all (told_to p f) None r refl (λ q j. parts.2 q r j i)),
             ),
-        λ s. elim ((in_append r (rows_in (told_to p f)) h.begins.0).0 (subst (IsRowIn r) h.begins.1 ((in_stream p feed.span feed.cursor (closed_of p) r).1 s.0))) [
+        λ s. elim ((in_append r (rows_in (told_to p f)) h.begins.0).0 (subst (IsRowIn r) h.begins.1 ((in_list p feed (closed_of p) r).1 s.0))) [
           | inl told' ↦ absurd (both_ways _ (told_before (told_to p f) None r parts.0 told') (and_parts _ _ s.1).1)
           | inr rest ↦ rest
         ],

@@ -2,7 +2,9 @@
 -- each record says that all else is as it was. Whether a version is committed is asked only where there is one.
 use Rattle.std.specs.Prelude.{List, None, Some, bytes_eq, false, filter, if◌then◌else◌, nat_le, nat_lt, not, option_map, suc, true, ℕ, ◌&&◌, ◌==◌, ◌||◌, ◌∷◌, ◌≡◌}
 use Rattle.spans.specs.Collection.{Protection}
+use Rattle.spans.specs.declared.kind.Kind.{Kind}
 use Rattle.spans.specs.Effects.{After}
+use Rattle.spans.specs.Feeds.{start_at}
 use Rattle.spans.specs.Kept.{Kept, Transaction}
 use Rattle.spans.specs.Keys.{in_span, insert_key}
 use Rattle.spans.specs.declared.calls.messages.Message.{Message}
@@ -92,9 +94,9 @@ IsProtectedBy k k' id t = k' ≡ record k { protections = record { id = id; at =
 abbrev pub IsReleasedFrom : Kept → Kept → ℕ → Type 0
 IsReleasedFrom k k' id = k' ≡ record k { protections = filter (λ (n : Protection). not (n.id == id)) k.protections }
 
--- one feed more, at its cursor
-pub record IsOpenedAt (k k' : Kept) (f seat : ℕ) (span : Span) (cursor : ℕ) : Type 0 where
-  pub feed : (g : ℕ) → k'.feed g ≡ (if f == g then Some (record { seat = seat; span = span; after = cursor; row = None }) else k.feed g)
+-- one feed more, at its start
+pub record IsOpenedAt (k k' : Kept) (f seat : ℕ) (kind : Kind) (span : Span) (cursor : ℕ) : Type 0 where
+  pub feed : (g : ℕ) → k'.feed g ≡ (if f == g then Some (record { seat = seat; kind = kind; span = span; cursor = cursor; after = start_at kind cursor; row = None }) else k.feed g)
   pub rest : k' ≡ record k { feed = k'.feed; feeds_opened = suc k.feeds_opened }
 
 -- the place of f is after the messages

@@ -9,4 +9,5 @@ pub mod StandsFor
 pub mod Collecting
 pub mod Changes
 pub mod Replies
+pub mod Answered
 pub mod WorkedKept

@@ -1,23 +1,25 @@
 -- What the place of a live feed answers.
-use Rattle.std.specs.Prelude.{Bool, List, None, Option, Some, max, min, nat_lt, take, true, ℕ, ◌&&◌, ◌-◌, ◌↔◌, ◌≡◌, ◌≤◌}
+use Rattle.std.specs.Prelude.{Bool, List, None, Option, Some, is_some, max, min, nat_lt, take, true, ℕ, ◌&&◌, ◌-◌, ◌↔◌, ◌≡◌, ◌<◌, ◌≤◌, ◌⊎◌}
 use Rattle.timestamps.specs.declared.row.Row.{Row}
-use Rattle.spans.specs.Collection.{LiveFeed}
-use Rattle.spans.specs.Consumer.{is_after, last_row}
+use Rattle.spans.specs.Collection.{LiveFeed, VersionName}
+use Rattle.spans.specs.Consumer.{is_after_name}
+use Rattle.spans.specs.declared.kind.Kind.TheVariants.{Initial}
 use Rattle.spans.specs.Effects.{After}
 use Rattle.spans.specs.Feeds.{last_resolved}
-use Rattle.spans.specs.Kept.{Kept, Place}
+use Rattle.spans.specs.Kept.{Kept, Place, last_name}
 use Rattle.spans.specs.Keys.{in_span}
+use Rattle.spans.specs.Newest.{newest}
 use Rattle.spans.specs.declared.calls.messages.Message.{Message}
 use Rattle.spans.proofs.StreamOrder.{IsRowIn, RisingRows}
 
 -- more rows of the last row's timestamp may follow
-abbrev pub row_floor : Option Row → ℕ
+abbrev pub row_floor : Option VersionName → ℕ
 row_floor None = 0
-row_floor (Some r) = r.ts - 1
+row_floor (Some n) = n.ts - 1
 
--- up to where all is told
+-- up to where all is told, and never below the cursor, where an initial feed's first rows are read
 abbrev pub place_floor : Place → ℕ
-place_floor place = max place.after (row_floor place.row)
+place_floor place = max place.cursor (max place.after (row_floor place.row))
 
 -- the least of what there is, if anything
 abbrev pub or_min : Option ℕ → ℕ → ℕ
@@ -31,7 +33,7 @@ IsLeastFloor feed (Some m) = ((f : ℕ) × (place : Place) × (feed f ≡ Some p
 
 -- the place after messages
 abbrev pub moved : List Message → Place → Place
-moved ms place = record place { after = last_resolved place.after ms; row = last_row place.row ms }
+moved ms place = record place { after = last_resolved place.after ms; row = last_name place.row ms }
 
 -- the feed of this number and cursor, as it is listed
 abbrev pub live_feed : ℕ → ℕ → LiveFeed
@@ -39,18 +41,42 @@ live_feed f c = record { number = f; cursor = c }
 
 -- a row that comes after the place
 abbrev pub is_beyond : Place → Row → Bool
-is_beyond place r = nat_lt place.after r.ts && is_after place.row r
+is_beyond place r = nat_lt place.after r.ts && is_after_name place.row r
 
--- a committed version of the feed's span that is kept, beyond the place and not above a timestamp
+-- a value of the feed's span that is found at the cursor of an initial feed, as a row beyond the place
+pub record IsFirst (version : List ℕ → ℕ → Option After) (place : Place) (r : Row) : Type 0 where
+  pub initial : place.kind ≡ Initial
+  pub at : r.ts ≡ place.cursor
+  pub found : (newest (version r.key) place.cursor).after ≡ r.after
+  pub value : is_some r.after ≡ true
+  pub inside : in_span place.span r.key ≡ true
+  pub later : is_beyond place r ≡ true
+
+-- a committed version of the feed's span that is kept, above the cursor, beyond the place and not above a timestamp
 pub record IsStored (version : List ℕ → ℕ → Option After) (decided : List ℕ → ℕ → Bool) (place : Place) (through : ℕ) (r : Row) : Type 0 where
   pub there : version r.key r.ts ≡ Some r.after
   pub done : decided r.key r.ts ≡ true
   pub inside : in_span place.span r.key ≡ true
+  pub above : place.cursor < r.ts
   pub later : is_beyond place r ≡ true
   pub low : r.ts ≤ through
 
+-- a row that is left for a feed at the place
+abbrev pub IsLeft : (version : List ℕ → ℕ → Option After) → (decided : List ℕ → ℕ → Bool) → Place → ℕ → Row → Type 0
+IsLeft version decided place through r = IsFirst version place r ⊎ IsStored version decided place through r
+
 -- these are the rows that are left for a feed at the place, in their order
 pub record AreLeft (version : List ℕ → ℕ → Option After) (decided : List ℕ → ℕ → Bool) (place : Place) (through : ℕ) (rows : List Row) : Type 0 where
+  pub rising : RisingRows rows
+  pub each : (r : Row) → IsRowIn r rows ↔ IsLeft version decided place through r
+
+-- the first of them: what an initial feed has left of the values at its cursor, keys rising
+pub record AreFirsts (version : List ℕ → ℕ → Option After) (place : Place) (rows : List Row) : Type 0 where
+  pub rising : RisingRows rows
+  pub each : (r : Row) → IsRowIn r rows ↔ IsFirst version place r
+
+-- and the others: the stored rows
+pub record AreStored (version : List ℕ → ℕ → Option After) (decided : List ℕ → ℕ → Bool) (place : Place) (through : ℕ) (rows : List Row) : Type 0 where
   pub rising : RisingRows rows
   pub each : (r : Row) → IsRowIn r rows ↔ IsStored version decided place through r
 

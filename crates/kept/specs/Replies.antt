@@ -5,11 +5,14 @@ use Rattle.timestamps.specs.declared.row.Row.{Row}
 use Rattle.timestamps.specs.declared.ts.TheConstants.{MAX}
 use Rattle.spans.specs.Answer.{first_refusal_or, is_timestamp}
 use Rattle.spans.specs.Collection.{Protection, VersionName}
+use Rattle.spans.specs.declared.kind.Kind.{Kind}
+use Rattle.spans.specs.declared.kind.Kind.TheVariants.{Plain, Initial, Every}
+use Rattle.spans.specs.Feeds.{is_due}
 use Rattle.spans.specs.Kept.{Kept, Place}
 use Rattle.spans.specs.Keys.{pairs_of}
 use Rattle.spans.specs.declared.calls.messages.Message.{Message}
 use Rattle.spans.specs.declared.calls.replies.Refusal.{Refusal}
-use Rattle.spans.specs.declared.calls.replies.Refusal.TheVariants.{BelowClosed, BelowHorizon, Blocked, FeedCancelled, NoFeed, NoProtection, NotClosed, NotOwner, TooLate, TsRange, TsUsed}
+use Rattle.spans.specs.declared.calls.replies.Refusal.TheVariants.{BelowClosed, BelowHorizon, Blocked, FeedCancelled, GapRange, NoFeed, NoProtection, NotClosed, NotOwner, TooLate, TsRange, TsUsed}
 use Rattle.spans.specs.declared.calls.replies.Reply.{Reply}
 use Rattle.spans.specs.declared.calls.replies.Reply.TheVariants.{Aborted, Cancelled, Closed, Collected, Committed, Found, Messages, Opened, Protected, Refused, Released, Rows, Started, Written}
 use Rattle.kept.specs.Finding.{is_seen_blocked, seen}
@@ -79,9 +82,15 @@ release_reply k id = first_refusal_or ((not (list_any (λ (n : Protection). n.id
 abbrev pub collect_reply : ℕ → ℕ → List VersionName → Reply
 collect_reply to horizon dropped = in_range to (Collected horizon (length dropped))
 
--- feeds are numbered from 1 on
-abbrev pub open_reply : Kept → ℕ → Reply
-open_reply k cursor = first_refusal_or ((nat_lt MAX cursor, TsRange) ∷ (nat_lt cursor k.horizon, BelowHorizon k.horizon) ∷ []) (Opened (suc k.feeds_opened))
+-- the tests of an opening, by the feed's kind
+abbrev pub kept_opening_tests : Kind → Kept → ℕ → List (Bool × Refusal)
+kept_opening_tests Plain k cursor = (nat_lt MAX cursor, TsRange) ∷ (nat_lt cursor k.horizon, BelowHorizon k.horizon) ∷ []
+kept_opening_tests Initial k cursor = (nat_lt MAX cursor, TsRange) ∷ (nat_lt cursor k.horizon, BelowHorizon k.horizon) ∷ (nat_lt k.closed cursor, NotClosed k.closed) ∷ []
+kept_opening_tests (Every gap) k cursor = (nat_lt MAX cursor, TsRange) ∷ (not (is_timestamp gap), GapRange) ∷ (nat_lt cursor k.horizon, BelowHorizon k.horizon) ∷ []
+
+-- feeds of all kinds are numbered from 1 on
+abbrev pub open_reply : Kind → Kept → ℕ → Reply
+open_reply kind k cursor = first_refusal_or (kept_opening_tests kind k cursor) (Opened (suc k.feeds_opened))
 
 -- why there is no such feed: it was opened once, or never
 abbrev pub feed_refusal : Kept → ℕ → Refusal
@@ -89,7 +98,7 @@ feed_refusal k f = if nat_lt 0 f && nat_le f k.feeds_opened then FeedCancelled e
 
 -- the rows that are left, and the resolved message where it is due
 abbrev pub messages_left : ℕ → Place → List Row → List Message
-messages_left closed place rows = map messages.Row rows ++ (if nat_lt place.after closed then messages.Resolved closed ∷ [] else [])
+messages_left closed place rows = map messages.Row rows ++ (if is_due place.kind place.after closed then messages.Resolved closed ∷ [] else [])
 
 -- for the owner of the place, the next of what is left
 abbrev pub poll_place : Kept → ℕ → ℕ → ℕ → List Row → Option Place → Reply

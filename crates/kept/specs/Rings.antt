@@ -33,6 +33,6 @@ AreOthersSame f ring ring' behind behind' = (g : ℕ) → (f == g) ≡ false →
 abbrev pub is_quiet : Effect → Bool
 is_quiet (Closes at) = false
 is_quiet (HardCloses to at) = false
-is_quiet (Opens f seat span cursor) = false
+is_quiet (Opens f seat kind span cursor) = false
 is_quiet (Polls f max ms) = false
 is_quiet d = true

@@ -1,13 +1,15 @@
 //! The replies made of what is kept are the answers of the definitions.
-ghost use Rattle.std.specs.Prelude.{List, ℕ, Bool, Option, Some, None, ◌≡◌, ◌≤◌, ◌&&◌, nat_le, is_some};
+ghost use Rattle.std.specs.Prelude.{List, ℕ, Bool, Option, Some, None, true, ◌≡◌, ◌≤◌, ◌&&◌, nat_le, is_some};
 ghost use Rattle.timestamps.specs.declared.row.Row.{Row};
 ghost use Rattle.timestamps.specs.declared.ts.TheConstants.{MAX};
 ghost use Rattle.spans.specs.declared.span.Span.{Span};
-ghost use Rattle.spans.specs.declared.calls.commands.Cmd.TheVariants.{Begin, Get, Scan, Put, Del, Commit, Abort, Close, CloseHard, Protect, Release, Collect, Open, Poll, Cancel, Stats, ReadAt, ScanAt};
+ghost use Rattle.spans.specs.declared.calls.commands.Cmd.TheVariants.{Begin, Get, Scan, Put, Del, Commit, Abort, Close, CloseHard, Protect, Release, Collect, Open, OpenInitial, OpenEvery, Poll, Cancel, Stats, ReadAt, ScanAt};
 ghost use Rattle.spans.specs.declared.calls.events.Event.{Event};
+ghost use Rattle.spans.specs.declared.kind.Kind.TheVariants.{Plain, Initial, Every};
 ghost use Rattle.spans.specs.Effects.{effects_of};
 ghost use Rattle.spans.specs.Collection.{VersionName};
 ghost use Rattle.spans.specs.Answer.{answer_of};
+ghost use Rattle.spans.specs.Legal.{is_accepted};
 ghost use Rattle.spans.specs.Kept.{Kept, Place};
 ghost use Rattle.kept.specs.StandsFor.{StandsFor};
 ghost use Rattle.kept.specs.Lists.{AreThose};
@@ -38,7 +40,10 @@ pub fn kept_answers()
     ensures protect { (k : Kept) (h : List Event) (seat t : ℕ) → StandsFor k h → protect_reply k t ≡ answer_of (effects_of h) seat (Protect t) }
     ensures release { (k : Kept) (h : List Event) (seat id : ℕ) → StandsFor k h → release_reply k id ≡ answer_of (effects_of h) seat (Release id) }
     ensures collect { (k : Kept) (h : List Event) (seat to : ℕ) (protection floor : Option ℕ) (dropped : List VersionName) → StandsFor k h → (to ≤ MAX → IsCollected k (reached k to protection floor) protection floor dropped) → collect_reply to (reached k to protection floor) dropped ≡ answer_of (effects_of h) seat (Collect to) }
-    ensures open { (k : Kept) (h : List Event) (seat : ℕ) (span : Span) (cursor : ℕ) → StandsFor k h → open_reply k cursor ≡ answer_of (effects_of h) seat (Open span cursor) }
+    ensures collect_accepted { (h : List Event) (seat to : ℕ) → to ≤ MAX → is_accepted (answer_of (effects_of h) seat (Collect to)) ≡ true }
+    ensures open { (k : Kept) (h : List Event) (seat : ℕ) (span : Span) (cursor : ℕ) → StandsFor k h → open_reply Plain k cursor ≡ answer_of (effects_of h) seat (Open span cursor) }
+    ensures open_initial { (k : Kept) (h : List Event) (seat : ℕ) (span : Span) (cursor : ℕ) → StandsFor k h → open_reply Initial k cursor ≡ answer_of (effects_of h) seat (OpenInitial span cursor) }
+    ensures open_every { (k : Kept) (h : List Event) (seat : ℕ) (span : Span) (cursor gap : ℕ) → StandsFor k h → open_reply (Every gap) k cursor ≡ answer_of (effects_of h) seat (OpenEvery span cursor gap) }
     ensures poll { (k : Kept) (h : List Event) (seat f max : ℕ) (rows : List Row) → StandsFor k h → ((place : Place) → k.feed f ≡ Some place → place.seat ≡ seat → AreNext k place max rows) → poll_reply k seat f max rows ≡ answer_of (effects_of h) seat (Poll f max) }
     ensures cancel { (k : Kept) (h : List Event) (seat f : ℕ) → StandsFor k h → cancel_reply k f ≡ answer_of (effects_of h) seat (Cancel f) }
     ensures stats { (k : Kept) (h : List Event) (seat : ℕ) (versions : List VersionName) (undecided feeds : List ℕ) → StandsFor k h → AreThose (λ v. is_some (k.version v.key v.ts)) versions → AreThose (λ t. is_open (k.transaction t)) undecided → AreThose (λ f. is_some (k.feed f)) feeds → stats_reply k versions undecided feeds ≡ answer_of (effects_of h) seat Stats }

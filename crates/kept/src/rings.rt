@@ -4,6 +4,8 @@ ghost use Rattle.timestamps.specs.declared.row.Row.{Row};
 ghost use Rattle.spans.specs.declared.span.Span.{Span};
 ghost use Rattle.spans.specs.declared.calls.events.Event.{Event};
 ghost use Rattle.spans.specs.declared.calls.messages.Message.{Message};
+ghost use Rattle.spans.specs.declared.kind.Kind.{Kind};
+ghost use Rattle.spans.specs.declared.kind.Kind.TheVariants.{Initial};
 ghost use Rattle.spans.specs.Effects.{Commits, Closes, HardCloses, Opens, Polls, effect_of, effects_of};
 ghost use Rattle.spans.specs.Streams.{stream_of};
 ghost use Rattle.spans.specs.Legal.{IsLegal, IsRightEvent};
@@ -15,7 +17,8 @@ ghost use Rattle.kept.specs.HeldBack.{AreHeldBack, IsHeldFor, AreLetGo, holds_st
 
 /// A feed that isn't behind is served from its ring: the ring has the rows that are left for it. A
 /// closing offers each ring the rows that it releases, a poll takes the first of them, and a feed
-/// that opens at or above closed has none.
+/// that opens at or above closed has none, unless it is an initial one, which begins behind. Only
+/// rings of feeds that live and aren't behind are asked for.
 ///
 /// It does nothing. Its contract is the theorem.
 pub fn kept_rings()
@@ -23,7 +26,8 @@ pub fn kept_rings()
     ensures close { (k : Kept) (h : List Event) (e : Event) (n : ℕ) (ring ring' : ℕ → List Row) (behind behind' : ℕ → Bool) → StandsFor k h → IsRightEvent (effects_of h) e → effect_of e ≡ Closes n → AreRings ring behind (effects_of h) → AreOffered k ring ring' behind behind' (stream_of (effects_of h) whole k.closed n) → AreRings ring' behind' (effects_of (e ∷ h)) }
     ensures hard_close { (k : Kept) (h : List Event) (e : Event) (to n : ℕ) (ring ring' : ℕ → List Row) (behind behind' : ℕ → Bool) → StandsFor k h → IsRightEvent (effects_of h) e → effect_of e ≡ HardCloses to n → AreRings ring behind (effects_of h) → AreOffered k ring ring' behind behind' (stream_of (effects_of h) whole k.closed n) → AreRings ring' behind' (effects_of (e ∷ h)) }
     ensures poll { (k : Kept) (h : List Event) (e : Event) (f max : ℕ) (ms : List Message) (ring ring' : ℕ → List Row) (behind behind' : ℕ → Bool) (place : Place) (rows : List Row) → StandsFor k h → IsRightEvent (effects_of h) e → effect_of e ≡ Polls f max ms → AreRings ring behind (effects_of h) → k.feed f ≡ Some place → AreLeft k.version k.decided place k.closed rows → (behind' f ≡ false → ring' f ≡ drop max rows) → AreOthersSame f ring ring' behind behind' → AreRings ring' behind' (effects_of (e ∷ h)) }
-    ensures open { (k : Kept) (h : List Event) (e : Event) (f seat : ℕ) (span : Span) (cursor : ℕ) (ring ring' : ℕ → List Row) (behind behind' : ℕ → Bool) → StandsFor k h → IsRightEvent (effects_of h) e → effect_of e ≡ Opens f seat span cursor → AreRings ring behind (effects_of h) → (behind' f ≡ false → (k.closed ≤ cursor) × (ring' f ≡ [])) → AreOthersSame f ring ring' behind behind' → AreRings ring' behind' (effects_of (e ∷ h)) }
+    ensures open { (k : Kept) (h : List Event) (e : Event) (f seat : ℕ) (kind : Kind) (span : Span) (cursor : ℕ) (ring ring' : ℕ → List Row) (behind behind' : ℕ → Bool) → StandsFor k h → IsRightEvent (effects_of h) e → effect_of e ≡ Opens f seat kind span cursor → AreRings ring behind (effects_of h) → (behind' f ≡ false → (kind ≡ Initial → ⊥) × (k.closed ≤ cursor) × (ring' f ≡ [])) → AreOthersSame f ring ring' behind behind' → AreRings ring' behind' (effects_of (e ∷ h)) }
+    ensures live { (k : Kept) (h : List Event) (ring ring' : ℕ → List Row) (behind behind' : ℕ → Bool) → StandsFor k h → AreRings ring behind (effects_of h) → ((f : ℕ) (place : Place) → k.feed f ≡ Some place → behind' f ≡ false → (behind f ≡ false) × (ring' f ≡ ring f)) → AreRings ring' behind' (effects_of h) }
     ensures others { (h : List Event) (e : Event) (ring : ℕ → List Row) (behind : ℕ → Bool) → IsLegal h → IsRightEvent (effects_of h) e → is_quiet (effect_of e) ≡ true → AreRings ring behind (effects_of h) → AreRings ring behind (effects_of (e ∷ h)) }
 {}
 

@@ -1,17 +1,22 @@
 //! What each event changes of what is kept.
 ghost use Rattle.std.specs.Prelude.{List, [], ℕ, ◌∷◌, ◌≡◌};
 ghost use Rattle.spans.specs.declared.span.Span.{Span};
+ghost use Rattle.spans.specs.declared.calls.commands.Cmd.{Cmd};
 ghost use Rattle.spans.specs.declared.calls.events.Event.{Event};
+ghost use Rattle.spans.specs.declared.calls.replies.Reply.{Reply};
 ghost use Rattle.spans.specs.declared.calls.messages.Message.{Message};
-ghost use Rattle.spans.specs.Effects.{After, Begins, Reads, Scans, Writes, Commits, Aborts, Closes, HardCloses, Protects, Releases, Collects, Opens, Polls, Cancels, SnapshotReads, SnapshotScans, NoEffect, effect_of, effects_of};
+ghost use Rattle.spans.specs.declared.kind.Kind.{Kind};
+ghost use Rattle.spans.specs.Effects.{After, Begins, Reads, Scans, Writes, Commits, Aborts, Closes, HardCloses, Protects, Releases, Collects, Opens, Polls, Cancels, SnapshotReads, SnapshotScans, NoEffect, effect_of, effects_of, event};
 ghost use Rattle.spans.specs.Legal.{IsRightEvent};
 ghost use Rattle.spans.specs.Kept.{Kept};
+ghost use Rattle.kept.specs.Answered.{IsStep};
 ghost use Rattle.kept.specs.StandsFor.{StandsFor, nothing_kept};
 ghost use Rattle.kept.specs.Changes.{IsAlike, IsBegun, IsReadBy, IsScannedBy, IsWritten, IsCommittedBy, IsAbortedBy, IsClosedAt, IsHardClosedAt, IsCollectedTo, IsProtectedBy, IsReleasedFrom, IsOpenedAt, IsMovedBy, IsCancelledFrom};
 
 /// Where k stands for the history h, e is a right event after h, and k became k' as the event's effect
 /// wants it, k' stands for the history with e. At first nothing is kept, which stands for no event;
-/// and what is alike stands for the same history.
+/// and what is alike stands for the same history. All of them at once are `step`: a command that is
+/// answered by what is kept, and changes it as its effect wants it, or wants memory, leads on.
 ///
 /// It does nothing. Its contract is the theorem.
 pub fn kept_steps()
@@ -31,7 +36,8 @@ pub fn kept_steps()
     ensures collect { (k k' : Kept) (h : List Event) (e : Event) (n : ℕ) → StandsFor k h → IsRightEvent (effects_of h) e → effect_of e ≡ Collects n → IsCollectedTo k k' n → StandsFor k' (e ∷ h) }
     ensures protect { (k k' : Kept) (h : List Event) (e : Event) (id t : ℕ) → StandsFor k h → IsRightEvent (effects_of h) e → effect_of e ≡ Protects id t → IsProtectedBy k k' id t → StandsFor k' (e ∷ h) }
     ensures release { (k k' : Kept) (h : List Event) (e : Event) (id : ℕ) → StandsFor k h → IsRightEvent (effects_of h) e → effect_of e ≡ Releases id → IsReleasedFrom k k' id → StandsFor k' (e ∷ h) }
-    ensures open { (k k' : Kept) (h : List Event) (e : Event) (f seat : ℕ) (span : Span) (cursor : ℕ) → StandsFor k h → IsRightEvent (effects_of h) e → effect_of e ≡ Opens f seat span cursor → IsOpenedAt k k' f seat span cursor → StandsFor k' (e ∷ h) }
+    ensures open { (k k' : Kept) (h : List Event) (e : Event) (f seat : ℕ) (kind : Kind) (span : Span) (cursor : ℕ) → StandsFor k h → IsRightEvent (effects_of h) e → effect_of e ≡ Opens f seat kind span cursor → IsOpenedAt k k' f seat kind span cursor → StandsFor k' (e ∷ h) }
     ensures poll { (k k' : Kept) (h : List Event) (e : Event) (f max : ℕ) (ms : List Message) → StandsFor k h → IsRightEvent (effects_of h) e → effect_of e ≡ Polls f max ms → IsMovedBy k k' f ms → StandsFor k' (e ∷ h) }
     ensures cancel { (k k' : Kept) (h : List Event) (e : Event) (f : ℕ) → StandsFor k h → IsRightEvent (effects_of h) e → effect_of e ≡ Cancels f → IsCancelledFrom k k' f → StandsFor k' (e ∷ h) }
+    ensures step { (k k' : Kept) (h : List Event) (n seat : ℕ) (cmd : Cmd) (reply : Reply) → StandsFor k h → IsStep k k' seat cmd reply → StandsFor k' (event n seat cmd reply ∷ h) }
 {}

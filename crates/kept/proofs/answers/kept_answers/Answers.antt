@@ -1,6 +1,7 @@
 use Rattle.spans.specs.Effects.{effects_of}
 use Rattle.spans.proofs.Legal.{legal_allowed}
-use Rattle.kept.proofs.Replying.{begin_answer, get_answer, scan_answer, put_answer, del_answer, commit_answer, abort_answer, close_answer, close_hard_answer, read_at_answer, scan_at_answer, protect_answer, release_answer, collect_answer, open_answer, poll_answer, cancel_answer, stats_answer}
+use Rattle.kept.proofs.Replying.{begin_answer, get_answer, scan_answer, put_answer, del_answer, commit_answer, abort_answer, close_answer, close_hard_answer, read_at_answer, scan_at_answer, protect_answer, release_answer, collect_answer, open_answer, open_initial_answer, open_every_answer, poll_answer, cancel_answer, stats_answer}
+use Rattle.kept.proofs.Answering.{collect_accepted}
 use Rattle.kept.proofs.answers.kept_answers.Goals as goal
 
 pub returns-clause-begin : goal.returns-clause-begin
@@ -48,6 +49,12 @@ returns-clause-collect c = λ k h seat to protection floor dropped stands is. co
 pub returns-clause-open : goal.returns-clause-open
 returns-clause-open c = λ k h seat span cursor stands. open_answer k (effects_of h) stands.fits seat span cursor
 
+pub returns-clause-open_initial : goal.returns-clause-open_initial
+returns-clause-open_initial c = λ k h seat span cursor stands. open_initial_answer k (effects_of h) stands.fits seat span cursor
+
+pub returns-clause-open_every : goal.returns-clause-open_every
+returns-clause-open_every c = λ k h seat span cursor gap stands. open_every_answer k (effects_of h) stands.fits seat span cursor gap
+
 pub returns-clause-poll : goal.returns-clause-poll
 returns-clause-poll c = λ k h seat f max rows stands left. poll_answer k (effects_of h) (legal_allowed h stands.legal) stands.fits seat f max rows left
 
@@ -56,3 +63,6 @@ returns-clause-cancel c = λ k h seat f stands. cancel_answer k (effects_of h) (
 
 pub returns-clause-stats : goal.returns-clause-stats
 returns-clause-stats c = λ k h seat versions undecided feeds stands vs ts fs. stats_answer k (effects_of h) (legal_allowed h stands.legal) stands.fits seat versions undecided feeds vs ts fs
+
+pub returns-clause-collect_accepted : goal.returns-clause-collect_accepted
+returns-clause-collect_accepted c = λ h seat to low. collect_accepted (effects_of h) seat to low

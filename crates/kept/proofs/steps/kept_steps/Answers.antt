@@ -1,5 +1,6 @@
 use Rattle.kept.proofs.AfterBegins.{new_is_kept}
 use Rattle.kept.proofs.Standing.{alike_stands, no_effect_stands, snapshot_read_stands, snapshot_scan_stands, begin_stands, read_stands, scan_stands, write_stands, commit_stands, abort_stands, close_stands, hard_close_stands, collect_stands, protect_stands, release_stands, open_stands, poll_stands, cancel_stands}
+use Rattle.kept.proofs.Answering.{step_stands}
 use Rattle.kept.proofs.steps.kept_steps.Goals as goal
 
 pub returns-clause-new : goal.returns-clause-new
@@ -58,3 +59,6 @@ returns-clause-poll c = poll_stands
 
 pub returns-clause-cancel : goal.returns-clause-cancel
 returns-clause-cancel c = cancel_stands
+
+pub returns-clause-step : goal.returns-clause-step
+returns-clause-step c = step_stands

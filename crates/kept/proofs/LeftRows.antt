@@ -1,0 +1,66 @@
+-- The rows that are left for a feed, in two parts.
+use Rattle.std.proofs.Common.{List, Some, [], ap, arith, inl, inr, length, refl, subst, take, zero, suc, ℕ, ◌++◌, ◌-◌, ◌<◌, ◌∙◌, ◌∷◌, ◌≡◌, ◌≤◌}
+use Rattle.std.proofs.lemmas.Bool.{and_parts, lt-ltb, ltb-true, or_left}
+use Rattle.std.proofs.lemmas.List.{take-take}
+use Rattle.std.specs.Prelude.{true}
+use Rattle.timestamps.specs.declared.row.Row.{Row}
+use Rattle.spans.specs.Collection.{VersionName}
+use Rattle.spans.specs.Consumer.{is_after_name}
+use Rattle.spans.specs.Effects.{effects_of}
+use Rattle.spans.specs.Feeds.{start_at, start_of, told_to}
+use Rattle.spans.specs.Kept.{Kept, Place}
+use Rattle.spans.specs.declared.calls.events.Event.{Event}
+use Rattle.spans.specs.declared.kind.Kind.TheVariants.{Initial}
+use Rattle.spans.proofs.RowOrder.{name_order}
+use Rattle.spans.proofs.StreamOrder.{in_append, rises_append}
+use Rattle.spans.proofs.Taking.{resolved_grows}
+use Rattle.kept.specs.Places.{AreFirsts, AreLeft, AreNext, AreStored, IsFirst}
+use Rattle.kept.specs.StandsFor.{StandsFor}
+use Rattle.kept.proofs.Floors.{placed_by}
+
+-- the two parts are what is left
+pub parts_left : (k : Kept) (place : Place) (firsts stored : List Row) → AreFirsts k.version place firsts → AreStored k.version k.decided place k.closed stored → AreLeft k.version k.decided place k.closed (firsts ++ stored)
+parts_left k place firsts stored f s = record {
+  rising = rises_append firsts stored f.rising s.rising (λ r q i j. let first = (f.each r).0 i in let later = (s.each q).0 j in or_left _ _ (lt-ltb r.ts q.ts (omega (arith, first.at, later.above))));
+  each = λ r. let join = in_append r firsts stored in (
+    λ i. elim (join.0 i) [ inl j ↦ inl ((f.each r).0 j) | inr j ↦ inr ((s.each r).0 j) ],
+    λ i. elim i [ inl j ↦ join.1 (inl ((f.each r).1 j)) | inr j ↦ join.1 (inr ((s.each r).1 j)) ],
+  );
+}
+
+-- what is taken of two lists
+take_both : (m : ℕ) (xs ys : List Row) → take m xs ++ take (m - length xs) ys ≡ take m (xs ++ ys)
+take_both zero xs ys = let none : 0 - length xs ≡ 0 = omega arith in rw none refl
+take_both (suc m) [] ys = ap (λ n. take n ys) (let all : suc m - 0 ≡ suc m = omega arith in all)
+take_both (suc m) (x ∷ xs) ys =
+    let less : suc m - suc (length xs) ≡ m - length xs = omega arith in
+    ap (λ n. x ∷ (take m xs ++ take n ys)) less ∙ ap (λ l. x ∷ l) (take_both m xs ys)
+
+-- so the next are those of the first part, and of the second where there is room
+pub parts_next : (k : Kept) (place : Place) (max : ℕ) (firsts stored : List Row) → AreFirsts k.version place firsts → AreStored k.version k.decided place k.closed stored → AreNext k place max (take max firsts ++ take (max - length firsts) stored)
+parts_next k place max firsts stored f s = record {
+  all = firsts ++ stored;
+  left = parts_left k place firsts stored f s;
+  first = ap (take max) (take_both max firsts stored) ∙ take-take max max (firsts ++ stored) (omega arith);
+}
+
+-- where no row is a first one, none are
+none_are : (k : Kept) (place : Place) → ((r : Row) → IsFirst k.version place r → ⊥) → AreFirsts k.version place []
+none_are k place none = record { rising = tt; each = λ r. (λ i. absurd i, λ i. absurd (none r i)) }
+
+-- of a feed of another kind
+pub another_none : (k : Kept) (place : Place) → (place.kind ≡ Initial → ⊥) → AreFirsts k.version place []
+another_none k place other = none_are k place (λ r i. other i.initial)
+
+-- of a feed that resolved its cursor or more
+pub resolved_none : (k : Kept) (place : Place) → place.cursor ≤ place.after → AreFirsts k.version place []
+resolved_none k place low = none_are k place (λ r i. let above : place.after < r.ts = ltb-true _ _ (and_parts _ _ i.later).0 in omega (arith, i.at))
+
+-- of a feed that was told a row above its cursor
+pub past_none : (k : Kept) (place : Place) (n : VersionName) → place.row ≡ Some n → place.cursor < n.ts → AreFirsts k.version place []
+past_none k place n is above = none_are k place (λ r i. let after : is_after_name (Some n) r ≡ true = subst (λ o. is_after_name o r ≡ true) is (and_parts _ _ i.later).1 in let low : n.ts ≤ r.ts = name_order n r after in omega (arith, i.at))
+
+-- what was told lies at or above the feed's start
+pub placed_above : (k : Kept) (h : List Event) (f : ℕ) (place : Place) → StandsFor k h → k.feed f ≡ Some place → start_at place.kind place.cursor ≤ place.after
+placed_above k h f place stands at = let l = placed_by k (effects_of h) stands.fits f place at in
+    subst (λ (w : Place). start_at w.kind w.cursor ≤ w.after) l.3 (resolved_grows (start_of l.0) (told_to (effects_of h) f))

@@ -1,0 +1,26 @@
+//! The rows that are left for a feed, in the two parts in which a store finds them.
+ghost use Rattle.std.specs.Prelude.{List, [], length, ℕ, Some, take, ◌++◌, ◌-◌, ◌≡◌, ◌<◌, ◌≤◌};
+ghost use Rattle.timestamps.specs.declared.row.Row.{Row};
+ghost use Rattle.spans.specs.declared.calls.events.Event.{Event};
+ghost use Rattle.spans.specs.declared.kind.Kind.TheVariants.{Initial};
+ghost use Rattle.spans.specs.Collection.{VersionName};
+ghost use Rattle.spans.specs.Feeds.{start_at};
+ghost use Rattle.spans.specs.Kept.{Kept, Place};
+ghost use Rattle.kept.specs.StandsFor.{StandsFor};
+ghost use Rattle.kept.specs.Places.{AreFirsts, AreLeft, AreNext, AreStored};
+
+/// What is left for a feed is first what an initial feed has left of the values at its cursor, and
+/// then the stored rows beyond its place. The first part is empty for a feed of another kind, for one
+/// that resolved its cursor or more, and for one that was told a row above its cursor; a poll for at
+/// most `max` rows asks for the second part only as far as the first leaves room. What was told lies
+/// at or above a feed's start, which is its cursor, or just below that of an initial one.
+///
+/// It does nothing. Its contract is the theorem.
+pub fn rows_left()
+    ensures joined { (k : Kept) (place : Place) (firsts stored : List Row) → AreFirsts k.version place firsts → AreStored k.version k.decided place k.closed stored → AreLeft k.version k.decided place k.closed (firsts ++ stored) }
+    ensures next { (k : Kept) (place : Place) (max : ℕ) (firsts stored : List Row) → AreFirsts k.version place firsts → AreStored k.version k.decided place k.closed stored → AreNext k place max (take max firsts ++ take (max - length firsts) stored) }
+    ensures another_kind { (k : Kept) (place : Place) → (place.kind ≡ Initial → ⊥) → AreFirsts k.version place [] }
+    ensures resolved { (k : Kept) (place : Place) → place.cursor ≤ place.after → AreFirsts k.version place [] }
+    ensures past { (k : Kept) (place : Place) (n : VersionName) → place.row ≡ Some n → place.cursor < n.ts → AreFirsts k.version place [] }
+    ensures placed { (k : Kept) (h : List Event) (f : ℕ) (place : Place) → StandsFor k h → k.feed f ≡ Some place → start_at place.kind place.cursor ≤ place.after }
+{}
