@@ -19,7 +19,5 @@
 #![tactic(auto)]
 
 mod closing;
-#[cfg(test)]
-mod tests;
 
 pub use closing::Closing;

@@ -4,3 +4,5 @@ pub mod Noting
 pub mod Cutting
 pub mod Walking
 pub mod Scanning
+pub mod Closing
+pub mod Listing

@@ -4,3 +4,4 @@ pub mod Pieces
 pub mod Scans
 pub mod Readings
 pub mod Holding
+pub mod Closings

@@ -5,4 +5,4 @@ use Rattle.txn_table.specs.TransactionIn.{Table, transaction_in}
 
 -- only a number that is a timestamp has a transaction
 abbrev pub AreInRange : Table → Type 0
-AreInRange table = (t : ℕ) → is_some (transaction_in table t) ≡ true → t ≤ MAX
+AreInRange table = (t : ℕ) → is_some (transaction_in table t) ≡ true → (1 ≤ t) × (t ≤ MAX)

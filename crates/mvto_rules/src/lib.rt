@@ -28,13 +28,13 @@
 //! goes over its keys once more, to see whether it is blocked.
 #![tactic(auto)]
 
+mod closings;
 mod cut;
 mod reading;
 mod rules;
 mod sight;
+mod snapshots;
 mod spot;
-#[cfg(test)]
-mod tests;
 mod walk;
 
 pub use rules::Rules;

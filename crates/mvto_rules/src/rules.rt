@@ -9,13 +9,13 @@ ghost use Rattle.spans.specs.Keys.{insert_key};
 ghost use Rattle.spans.specs.declared.span.Span.{Span};
 ghost use Rattle.spans.specs.declared.calls.replies.Refusal.{Refusal};
 ghost use Rattle.spans.specs.declared.calls.replies.Refusal.TheVariants.{TooLate};
-ghost use Rattle.spans.specs.declared.calls.replies.Reply.TheVariants.{Aborted, Committed, Found, Refused, Written};
+ghost use Rattle.spans.specs.declared.calls.replies.Reply.TheVariants.{Aborted, Committed, Found, Refused, Started, Written};
 ghost use Rattle.spans.specs.declared.calls.replies.Reply.TheVariants as replies;
 ghost use Rattle.spans.proofs.WriteSets.{has};
-ghost use Rattle.kept.specs.Changes.{IsAbortedBy, IsAlike, IsCommittedBy, IsReadBy, IsScannedBy, IsWritten};
+ghost use Rattle.kept.specs.Changes.{IsAbortedBy, IsAlike, IsBegun, IsCommittedBy, IsReadBy, IsScannedBy, IsWritten};
 ghost use Rattle.kept.specs.Finding.{AreKeysOf, seen};
 ghost use Rattle.kept.specs.Marks.{IsLate, IsPiece, until};
-ghost use Rattle.kept.specs.Replies.{abort_reply, commit_reply, get_reply, scan_reply, write_reply};
+ghost use Rattle.kept.specs.Replies.{abort_reply, begin_reply, commit_reply, get_reply, scan_reply, write_reply};
 ghost use Rattle.kept.specs.Table.{keys_of, refusal};
 ghost use Rattle.read_marks.specs.Marks.{is_marked_in};
 ghost use Rattle.txn_table.specs.TransactionIn.{transaction_in};
@@ -43,7 +43,7 @@ use version_chain::Store;
 /// the command says it, which may be any number. A refused growth leaves all as it was.
 #[derive(Drop)]
 pub struct Rules {
-    alloc: Global,
+    pub(crate) alloc: Global,
     pub store: Store,
     pub marks: Marks,
     pub txns: Txns,
@@ -64,6 +64,27 @@ impl Rules {
             store: Store::new(alloc),
             marks: Marks::new(alloc),
             txns: Txns::new(alloc),
+        }
+    }
+
+    /// Begins a transaction of a seat above what is closed, unless one of its timestamp began before.
+    pub fn begin(&mut self, closed: u64, seat: u8, ts: u64) -> Result<Reply, AllocError>
+        ensures reply { IfOk result (λ reply. (k : Kept) → k.closed ≡ closed → reply ≡ begin_reply (holding k self.old) ts) }
+        ensures begun { IfOk result (λ reply. (k : Kept) → reply ≡ Started → IsBegun (holding k self.old) (holding k self.new) ts seat) }
+        ensures refused { IfOk result (λ reply. (k : Kept) (r : Refusal) → reply ≡ Refused r → IsAlike (holding k self.old) (holding k self.new)) }
+        ensures err { OnErr result ((k : Kept) → IsAlike (holding k self.old) (holding k self.new)) }
+        ensures accepted { OnErr result ((k : Kept) → k.closed ≡ closed → is_accepted (begin_reply (holding k self.old) ts) ≡ true) }
+    {
+        let Some(timestamp) = Ts::new(ts) else {
+            return Ok(Reply::Refused(Refusal::TsRange));
+        };
+        if closed >= ts {
+            return Ok(Reply::Refused(Refusal::BelowClosed { closed }));
+        }
+        if self.txns.begin(timestamp, seat)? {
+            Ok(Reply::Started)
+        } else {
+            Ok(Reply::Refused(Refusal::TsUsed))
         }
     }
 

@@ -72,7 +72,7 @@ impl Walk {
 }
 
 /// Adds the row of a key, where the version has a value.
-fn add_row(
+pub(crate) fn add_row(
     rows: &mut Vec<(Key, Value)>,
     key: &Key,
     newest: Option<&Version>,

@@ -19,8 +19,6 @@
 #![tactic(auto)]
 
 mod changes;
-#[cfg(test)]
-mod tests;
 mod transaction;
 mod txns;
 mod write_set;

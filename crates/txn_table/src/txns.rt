@@ -1,5 +1,5 @@
 //! The transactions that stand, by timestamp.
-ghost use Rattle.std.specs.Prelude.{◌≡◌, ◌==◌, ◌&&◌, ℕ, List, [], Some, None, IfSome, IfOk, OnOk, OnErr, IsSome, false, nat_le, nat_lt, option_map, is_none, unwrap_or, if◌then◌else◌, length};
+ghost use Rattle.std.specs.Prelude.{◌≡◌, ◌==◌, ◌&&◌, ℕ, List, [], Some, None, IfSome, IfOk, OnOk, OnErr, IsSome, false, nat_le, nat_lt, option_map, is_none, unwrap_or, if◌then◌else◌, length, ◌<◌, ◌^◌};
 ghost use Rattle.std.specs.List.Sorted.{IsStrictlyIncreasing};
 ghost use Rattle.spans.specs.Kept.{Transaction};
 ghost use Rattle.spans.specs.Keys.{insert_key};
@@ -154,6 +154,7 @@ impl Txns {
     pub fn undecided_through(&self, to: u64) -> Range<'_, Moment>
         ensures those { AreThose (λ t. nat_le t to && is_open (transaction_in self.now t)) result }
         ensures rising { IsStrictlyIncreasing result }
+        ensures fits { length result < 2 ^ 63 }
     {
         self.undecided.range(..=Moment(to))
     }

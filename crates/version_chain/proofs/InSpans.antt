@@ -22,7 +22,8 @@ use Rattle.spans.specs.declared.span.Span.{Span}
 use Rattle.spans.proofs.Keyed.{IsIn, RisingKeys}
 use Rattle.spans.proofs.Steps.{by_test, same_key, key_itself}
 use Rattle.version_chain.specs.Chains.{Entry, AreFilled, or_empty, chain_of}
-use Rattle.version_chain.specs.InSpans.{start_of, starting_at, AreBehind, AreAhead, AreFrom, AreFound}
+use Rattle.spans.specs.Starting.{start_of}
+use Rattle.version_chain.specs.InSpans.{starting_at, AreBehind, AreAhead, AreFrom, AreFound}
 
 -- ---- where the keys at or above a bound begin
 
@@ -144,18 +145,6 @@ from_start low es r = record {
   all = filtered_twice (from_low low) (is_ahead (start_of low)) es (λ x from. and_true _ ∙ starts_before low x from);
 }
 
-behind_low : (low : Option (List ℕ)) (es : List Entry) → AreBehind low (filter (λ (e : Entry). from_low low e.0) es)
-behind_low low [] = tt
-behind_low low (e ∷ es) = by_test (from_low low e.0)
-    (λ on. rw on (λ short. on, behind_low low es))
-    (λ off. rw off (behind_low low es))
-
-pub from_walk : (low : Option (List ℕ)) (es : List Entry) → RisingKeys (keys_of es) → AreFrom low es (filter (λ (e : Entry). from_low low e.0) es)
-from_walk low es r = record {
-  ahead = record { rising = rises_filtered (λ (e : Entry). from_low low e.0) es r; behind = behind_low low es };
-  all = filtered_twice (from_low low) (from_low low) es (λ x from. from);
-}
-
 pub are_found : (span : Span) (es rest found : List Entry) → AreFrom span.lo es rest → AreFilled rest → found ≡ filter (λ (e : Entry). in_span span e.0) rest → AreFound span es found
 are_found span es rest found are filled those =
     let inner = λ (ds : List Entry). filtered_twice (in_span span) (from_low span.lo) ds (λ x inside. (and_parts _ _ inside).0) in
@@ -165,7 +154,7 @@ are_found span es rest found are filled those =
       filled = subst AreFilled (sym those) (filled_filtered _ rest filled);
     }
 
--- ---- its start, walked to
+-- ---- one step
 
 stays_above : (high : Option (List ℕ)) (x y : List ℕ) → below_high high x ≡ false → key_cmp x y ≡ Less → below_high high y ≡ false
 stays_above None x y past less = (let no : true ≡ false = past in cc)
@@ -175,79 +164,6 @@ stays_above (Some high) x y past less = by_order (key_cmp y high) refl
     by_order Less e = (let no : true ≡ false = sym (ap is_lt (nat_list_cmp_total.trans x y high less e)) ∙ past in cc)
     by_order Equal e = ap is_lt e
     by_order Greater e = ap is_lt e
-
--- a key above one that is at or above the bound is so too
-stays_from : (low : Option (List ℕ)) (x y : List ℕ) → from_low low x ≡ true → key_cmp x y ≡ Less → from_low low y ≡ true
-stays_from None x y from less = refl
-stays_from (Some low) x y from less = ap not (stays_above (Some low) x y (not_true _ from) less)
-
--- and one that is lies above one that is not
-lies_above : (low : Option (List ℕ)) (x y : List ℕ) → from_low low x ≡ false → from_low low y ≡ true → key_cmp x y ≡ Less
-lies_above low x y before from = by_order (key_cmp x y) refl
-  where
-    by_order : (o : Ordering) → key_cmp x y ≡ o → key_cmp x y ≡ Less
-    by_order Less e = e
-    by_order Equal e = (let no : false ≡ true = sym before ∙ ap (from_low low) (exact_bytes x y e) ∙ from in cc)
-    by_order Greater e = (let no : true ≡ false = sym (stays_from low y x from (nat_list_cmp_total.antisymm y x ∙ ap ordering_reverse e)) ∙ before in cc)
-
-stays_ahead : (start : Bound (List ℕ)) (x y : List ℕ) → is_from_start key_cmp start x ≡ true → key_cmp x y ≡ Less → is_from_start key_cmp start y ≡ true
-stays_ahead Unbounded x y from less = refl
-stays_ahead (Included a) x y from less = by_order (key_cmp a x) refl from
-  where
-    by_order : (o : Ordering) → key_cmp a x ≡ o → is_le o ≡ true → is_le (key_cmp a y) ≡ true
-    by_order Less e le = ap is_le (nat_list_cmp_total.trans a x y e less)
-    by_order Equal e le = ap (λ z. is_le (key_cmp z y)) (exact_bytes a x e) ∙ ap is_le less
-    by_order Greater e le = (let no : false ≡ true = le in cc)
-stays_ahead (Excluded a) x y from less = by_order (key_cmp a x) refl from
-  where
-    by_order : (o : Ordering) → key_cmp a x ≡ o → is_lt o ≡ true → is_lt (key_cmp a y) ≡ true
-    by_order Less e lt = ap is_lt (nat_list_cmp_total.trans a x y e less)
-    by_order Equal e lt = (let no : false ≡ true = lt in cc)
-    by_order Greater e lt = (let no : false ≡ true = lt in cc)
-
--- the entries that are left begin at the start, and none before it is at or above the bound
-pub record IsWalkedTo (low : Option (List ℕ)) (es rest : List Entry) (start : Bound (List ℕ)) : Type 0 where
-  pub left : starting_at start es ≡ rest
-  pub before : (x : List ℕ) → from_low low x ≡ true → is_ahead start x ≡ true
-
-pub walk_begins : (low : Option (List ℕ)) (es : List Entry) → IsWalkedTo low es es Unbounded
-walk_begins low es = record { left = all_pass (is_ahead Unbounded) es (λ x i. refl); before = λ x from. refl }
-
-pub walk_goes_on : (low : Option (List ℕ)) (es rest : List Entry) (start : Bound (List ℕ)) (e : Entry) → RisingKeys (keys_of es) → IsWalkedTo low es (e ∷ rest) start → from_low low e.0 ≡ false → IsWalkedTo low es rest (Excluded e.0)
-walk_goes_on low es rest start e r walk below =
-    let here : is_from_start key_cmp start e.0 ≡ true = sym (and_true _) ∙ passes_among (is_ahead start) es [] rest e walk.left in
-    let rises : RisingKeys (keys_of (e ∷ rest)) = subst (λ ds. RisingKeys (keys_of ds)) walk.left (rises_filtered (λ (d : Entry). is_ahead start d.0) es r) in
-    let itself : is_ahead (Excluded e.0) e.0 ≡ false = ap (λ b. b && true) (not_above e.0) in
-    let more : starting_at (Excluded e.0) (e ∷ rest) ≡ rest = rw itself (all_pass (is_ahead (Excluded e.0)) rest (λ x i. ap (λ o. is_lt o && true) (rises.0 x i))) in
-    record {
-      left = sym (filtered_twice (is_ahead (Excluded e.0)) (is_ahead start) es (λ x above. and_true _ ∙ stays_ahead start e.0 x here (is_less (key_cmp e.0 x) (sym (and_true _) ∙ above)))) ∙ ap (starting_at (Excluded e.0)) walk.left ∙ more;
-      before = λ x from. ap (λ o. is_lt o && true) (lies_above low e.0 x below from);
-    }
-  where
-    is_less : (o : Ordering) → is_lt o ≡ true → o ≡ Less
-    is_less Less e = refl
-    is_less Equal e = cc
-    is_less Greater e = cc
-
-    not_above : (x : List ℕ) → is_lt (key_cmp x x) ≡ false
-    not_above x = by_order (key_cmp x x) refl
-      where
-        by_order : (o : Ordering) → key_cmp x x ≡ o → is_lt o ≡ false
-        by_order Less e = (let no : Less ≡ Greater = sym e ∙ nat_list_cmp_total.antisymm x x ∙ ap ordering_reverse e in cc)
-        by_order Equal e = refl
-        by_order Greater e = refl
-
--- where all that are left are at or above the bound, the walk is at its start
-pub walk_ends : (low : Option (List ℕ)) (es rest : List Entry) (start : Bound (List ℕ)) → IsWalkedTo low es rest start → ((x : List ℕ) → IsIn x (keys_of rest) → from_low low x ≡ true) → starting_at start es ≡ filter (λ (e : Entry). from_low low e.0) es
-walk_ends low es rest start walk from =
-    walk.left ∙ sym (all_pass (from_low low) rest from) ∙ ap (filter (λ (e : Entry). from_low low e.0)) (sym walk.left) ∙ filtered_twice (from_low low) (is_ahead start) es walk.before
-
-pub walk_meets : (low : Option (List ℕ)) (es rest : List Entry) (start : Bound (List ℕ)) (e : Entry) → RisingKeys (keys_of es) → IsWalkedTo low es (e ∷ rest) start → from_low low e.0 ≡ true → starting_at start es ≡ filter (λ (e : Entry). from_low low e.0) es
-walk_meets low es rest start e r walk here =
-    let rises : RisingKeys (keys_of (e ∷ rest)) = subst (λ ds. RisingKeys (keys_of ds)) walk.left (rises_filtered (λ (d : Entry). is_ahead start d.0) es r) in
-    walk_ends low es (e ∷ rest) start walk (λ x i. elim i [ inl same ↦ subst (λ y. from_low low y ≡ true) same here | inr more ↦ stays_from low e.0 x here (rises.0 x more) ])
-
--- ---- one step
 
 pub ahead_next : (span : Span) (e : Entry) (es : List Entry) → AreAhead span.lo (e ∷ es) → AreAhead span.lo es
 ahead_next span e es a = record { rising = a.rising.1; behind = a.behind.1 }

@@ -12,11 +12,6 @@ use Rattle.spans.specs.declared.span.Span.{Span}
 use Rattle.spans.proofs.Keyed.{RisingKeys}
 use Rattle.version_chain.specs.Chains.{Entry, AreFilled}
 
--- where keys at or above the bound begin: a key of at most 64 bytes is at or above one of more exactly where it is above the first 64
-abbrev pub start_of : Option (List ℕ) → Bound (List ℕ)
-start_of None = Unbounded
-start_of (Some low) = if nat_le (length low) 64 then Included low else Excluded (take 64 low)
-
 -- the entries from a start on
 abbrev pub starting_at : Bound (List ℕ) → List Entry → List Entry
 starting_at start es = entries_between key_cmp start Unbounded es

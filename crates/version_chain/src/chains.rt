@@ -14,7 +14,7 @@ ghost use Rattle.spans.proofs.Keyed.{RisingKeys};
 ghost use Rattle.spans.proofs.WriteSets.{has};
 
 use crate::chain::{Chain, Version};
-use crate::in_span::{InSpan, start_at, walk_to};
+use crate::in_span::{InSpan, start_at};
 use crate::steps::Steps;
 use spans::bound::Bound;
 use spans::span::Span;
@@ -122,13 +122,7 @@ impl Chains {
         ensures rest { AreFrom low.now self.now result }
         ensures filled { AreFilled result }
     {
-        match start_at(self.alloc, low) {
-            Ok(start) => self.map.range((start, ops::Bound::Unbounded)),
-            // a walk finds the start without the key that a search asks for
-            Err(_) => self
-                .map
-                .range((walk_to(&self.map, low), ops::Bound::Unbounded)),
-        }
+        self.map.range((start_at(low), ops::Bound::Unbounded))
     }
 
     /// Puts a version in, in whose place one may stand, and says whether none did.

@@ -1,25 +1,24 @@
 //! The keys of a span that have a version.
-ghost use Rattle.std.specs.Prelude.{◌≡◌, ◌≤◌, length, IfOk};
+ghost use Rattle.std.specs.Prelude.{◌≡◌, ◌≤◌, length};
 ghost use Rattle.std.specs.Map.Iter.{TakesFirst, deref_pair};
 ghost use Rattle.std.specs.Iterator.{at_most};
 ghost use Rattle.std.specs.List.{filter};
 ghost use Rattle.std.specs.Range.Bound.{bound_map};
 ghost use Rattle.spans.specs.Keys.{in_span};
-ghost use Rattle.spans.specs.KeyOrder.{below_high, from_low};
+ghost use Rattle.spans.specs.KeyOrder.{below_high};
 ghost use Rattle.version_chain.specs.Chains.{Entry};
-ghost use Rattle.version_chain.specs.InSpans.{start_of, AreAhead, starting_at};
+ghost use Rattle.spans.specs.Starting.{start_of};
+ghost use Rattle.version_chain.specs.InSpans.{AreAhead};
 
 use crate::chain::Chain;
 use spans::bound::Bound;
 use spans::span::Span;
-use std::alloc::{AllocError, Global};
 use std::cmp::Ordering;
-use std::collections::BTreeMap;
 use std::collections::btree_map::Range;
 use std::iter::Iterator;
 use std::marker::Model;
 use std::ops;
-use timestamps::key::{Key, MAX_KEY_BYTES};
+use timestamps::key::Key;
 
 /// The keys of a span that have a version, rising, each with its chain. A step goes to the next key,
 /// and ends at the first one above the span.
@@ -81,56 +80,12 @@ fn is_below(high: &Option<Bound>, key: &Key) -> bool
     }
 }
 
-/// Whether the key is at or above the bound, where there is one.
-fn is_from(low: &Option<Bound>, key: &Key) -> bool
-    ensures { result ≡ from_low low.now key.now }
+/// Where keys at or above the bound begin, where there is one.
+pub(crate) fn start_at(low: &Option<Bound>) -> ops::Bound<&Key>
+    ensures { bound_map (λ k. k.now) result ≡ start_of low.now }
 {
     match low {
-        None => true,
-        Some(low) => key.bytes().cmp(low.bytes()) != Ordering::Less,
-    }
-}
-
-/// Where keys at or above the bound begin. A bound may have one byte more than a key: then the keys
-/// above it are those above its first 64.
-pub(crate) fn start_at(alloc: Global, low: &Option<Bound>) -> Result<ops::Bound<Key>, AllocError>
-    ensures { IfOk result (λ start. start ≡ start_of low.now) }
-{
-    let Some(low) = low else {
-        return Ok(ops::Bound::Unbounded);
-    };
-    let bytes = low.bytes();
-    if bytes.len() <= MAX_KEY_BYTES {
-        let key = key_of(alloc, bytes)?;
-        return Ok(ops::Bound::Included(key));
-    }
-    let first = &bytes[..MAX_KEY_BYTES];
-    let key = key_of(alloc, first)?;
-    Ok(ops::Bound::Excluded(key))
-}
-
-/// The same place between the keys of a map. It is walked to from the first key, and takes no memory.
-pub(crate) fn walk_to<'a>(map: &'a BTreeMap<Key, Chain>, low: &Option<Bound>) -> ops::Bound<&'a Key>
-    ensures { starting_at (bound_map (λ x. x.now) result) map.now.entries ≡ filter (λ (e : Entry). from_low low.now e.0) map.now.entries }
-{
-    let mut start = ops::Bound::Unbounded;
-    for (key, _) in map {
-        if is_from(low, key) {
-            return start;
-        }
-        start = ops::Bound::Excluded(key);
-    }
-    start
-}
-
-/// The key of these bytes.
-fn key_of(alloc: Global, bytes: &[u8]) -> Result<Key, AllocError>
-    requires some { 1 ≤ length bytes.now }
-    requires few { length bytes.now ≤ 64 }
-    ensures { IfOk result (λ key. key ≡ bytes.now) }
-{
-    match Key::new(alloc, bytes) {
-        Ok(key) => Ok(key),
-        Err(_) => Err(AllocError),
+        None => ops::Bound::Unbounded,
+        Some(low) => low.start(),
     }
 }

@@ -24,8 +24,7 @@
 //! committed ends it. The count is one read.
 //!
 //! A write and the list of what is dead alone need memory. A write that finds no room for its place in
-//! the index takes its version out again, and a collection makes its list before anything goes. The
-//! start of a span takes some too; where there is none, the keys before the span are walked over.
+//! the index takes its version out again, and a collection makes its list before anything goes.
 #![tactic(auto)]
 
 pub mod chain;
@@ -34,8 +33,6 @@ pub mod in_span;
 mod index;
 mod steps;
 mod store;
-#[cfg(test)]
-mod tests;
 mod versions;
 
 pub use steps::Steps;

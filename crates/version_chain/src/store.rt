@@ -137,8 +137,7 @@ impl Store {
     }
 
     /// The keys of the span that have a version, rising, each with its chain, which has at least one
-    /// version. It goes straight to the first; only where there is no memory to ask for it is that
-    /// walked to.
+    /// version. It goes straight to the first, and takes no memory.
     pub fn in_span<'a>(&'a self, span: &'a Span) -> InSpan<'a>
         ensures found { result ≡ filter (λ (e : Entry). in_span span.now e.0) self.now }
         ensures rising { RisingKeys (keys_of result) }

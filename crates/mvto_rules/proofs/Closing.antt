@@ -1,0 +1,123 @@
+-- Closing hard takes back what undecided transactions wrote, one after another.
+use Rattle.std.proofs.Common.{Bool, List, None, Option, Some, ap, arith, cond, eqb-true, eq-eqb, false, inl, inr, refl, subst, sym, true, ℕ, ◌==◌, ◌&&◌, ◌||◌, ◌∷◌, ◌≡◌, ◌∙◌, []}
+use Rattle.std.specs.Prelude.{is_some, nat_le, not, ◌≤◌}
+use Rattle.std.specs.List.{list_any}
+use Rattle.std.proofs.lemmas.Bool.{or_cases, or_left, or_right}
+use Rattle.spans.specs.Effects.{After}
+use Rattle.spans.specs.Kept.{Kept, Transaction}
+use Rattle.spans.proofs.Members.{AreDistinct, Has}
+use Rattle.spans.proofs.Steps.{by_test}
+use Rattle.spans.proofs.WriteSets.{has}
+use Rattle.kept.specs.Changes.{IsClosedAt, IsHardClosedAt}
+use Rattle.kept.specs.Lists.{AreThose}
+use Rattle.kept.specs.Table.{is_open, keys_of}
+use Rattle.txn_table.specs.TransactionIn.{Table, transaction_in}
+use Rattle.version_chain.specs.Stores.{IsAbortedIn, Stored, is_decided_in, version_in}
+use Rattle.mvto_rules.specs.Closings.{AreCut, AreOpenNoted, is_cut}
+use Rattle.mvto_rules.specs.Tables.{AreInRange}
+use Rattle.timestamps.specs.declared.ts.TheConstants.{MAX}
+
+-- the number is one of the list
+abbrev pub is_among : ℕ → List ℕ → Bool
+is_among i xs = list_any (λ j. j == i) xs
+
+among_has : (i : ℕ) (xs : List ℕ) → is_among i xs ≡ true → Has i xs
+among_has i [] e = cc
+among_has i (x ∷ xs) e = elim (or_cases (x == i) (is_among i xs) e) [ inl here ↦ inl (eqb-true x i here) | inr there ↦ inr (among_has i xs there) ]
+
+has_among : (i : ℕ) (xs : List ℕ) → Has i xs → is_among i xs ≡ true
+has_among i [] h = absurd h
+has_among i (x ∷ xs) h = elim h [ inl here ↦ or_left (x == i) (is_among i xs) (eq-eqb x i here) | inr there ↦ or_right (x == i) (is_among i xs) (has_among i xs there) ]
+
+-- the transactions that are left are still to be taken back
+pub record IsCutting (s s' : Stored) (table : Table) (to : ℕ) (rest : List ℕ) : Type 0 where
+  pub cut : AreCut s s' (λ i. is_cut table to i && not (is_among i rest))
+  pub part : (t : ℕ) → Has t rest → is_cut table to t ≡ true
+  pub distinct : AreDistinct rest
+
+pub cut_begins : (s : Stored) (table : Table) (to : ℕ) (all : List ℕ) → AreThose (is_cut table to) all → IsCutting s s table to all
+cut_begins s table to all those = record {
+  cut = record { version = λ y i. sym (ap (λ b. cond b None (version_in s y i)) (none i)); decided = λ y i b e. refl };
+  part = λ t i. (those.each t).0 i;
+  distinct = those.distinct;
+}
+  where
+    past : (b c : Bool) → (b ≡ true → c ≡ true) → (b && not c) ≡ false
+    past true c h = ap not (h refl)
+    past false c h = refl
+
+    none : (i : ℕ) → (is_cut table to i && not (is_among i all)) ≡ false
+    none i = past (is_cut table to i) (is_among i all) (λ on. has_among i all ((those.each i).1 on))
+
+is_some_not : (a b : Option After) (c : Bool) → a ≡ cond c None b → (v : After) → a ≡ Some v → b ≡ Some v
+is_some_not a b true is v e = (let no : None ≡ Some v = sym is ∙ e in cc)
+is_some_not a b false is v e = sym is ∙ e
+
+open_of_cut : (b c : Bool) → (b && c) ≡ true → c ≡ true
+open_of_cut true c e = e
+open_of_cut false c e = cc
+
+some_open : (o : Option Transaction) → is_open o ≡ true → is_some o ≡ true
+some_open None e = cc
+some_open (Some n) e = refl
+
+-- it is the transaction of a timestamp
+pub cut_in_range : (table : Table) (to t : ℕ) → AreInRange table → is_cut table to t ≡ true → (1 ≤ t) × (t ≤ MAX)
+cut_in_range table to t range is = range t (some_open (transaction_in table t) (open_of_cut (nat_le t to) (is_open (transaction_in table t)) is))
+
+pub cut_goes_on : (s s1 s2 : Stored) (table : Table) (to x : ℕ) (rest : List ℕ) → AreOpenNoted s table → IsCutting s s1 table to (x ∷ rest) → IsAbortedIn s1 s2 x (keys_of (transaction_in table x)) → IsCutting s s2 table to rest
+cut_goes_on s s1 s2 table to x rest noted cutting aborted = record {
+  cut = record {
+    version = λ y i. by_test (x == i)
+        (λ same. subst (λ j. version_in s2 y j ≡ cond (is_cut table to j && not (is_among j rest)) None (version_in s y j)) (eqb-true x i same) (here y))
+        (λ other. aborted.version y i ∙ ap (λ b. cond (b && has y keys) None (version_in s1 y i)) other ∙ cutting.cut.version y i ∙ ap (λ b. cond (is_cut table to i && not (b || is_among i rest)) None (version_in s y i)) other);
+    decided = λ y i b e. aborted.decided y i b e ∙ cutting.cut.decided y i b (is_some_not (version_in s2 y i) (version_in s1 y i) ((x == i) && has y keys) (aborted.version y i) b e);
+  };
+  part = λ t i. cutting.part t (inr i);
+  distinct = cutting.distinct.1;
+}
+  where
+    keys : List (List ℕ)
+    keys = keys_of (transaction_in table x)
+
+    itself : (x == x) ≡ true
+    itself = eq-eqb x x refl
+
+    is : is_cut table to x ≡ true
+    is = cutting.part x (inl refl)
+
+    gone : (is_cut table to x && not (is_among x rest)) ≡ true
+    gone = by_test (is_among x rest)
+        (λ on. absurd (cutting.distinct.0 (among_has x rest on)))
+        (λ off. ap (λ b. b && not (is_among x rest)) is ∙ ap not off)
+
+    left : (is_cut table to x && not (is_among x (x ∷ rest))) ≡ false
+    left = ap (λ b. b && not (is_among x (x ∷ rest))) is ∙ ap not (or_left (x == x) (is_among x rest) itself)
+
+    here : (y : List ℕ) → version_in s2 y x ≡ cond (is_cut table to x && not (is_among x rest)) None (version_in s y x)
+    here y = aborted.version y x ∙ ap (λ b. cond (b && has y keys) None (version_in s1 y x)) itself ∙ by_test (has y keys)
+        (λ on. ap (λ b. cond b None (version_in s1 y x)) on)
+        (λ off. ap (λ b. cond b None (version_in s1 y x)) off ∙ cutting.cut.version y x ∙ ap (λ b. cond b None (version_in s y x)) left ∙ noted y x (open_of_cut (nat_le x to) (is_open (transaction_in table x)) is) off)
+        ∙ sym (ap (λ b. cond b None (version_in s y x)) gone)
+
+pub cut_ends : (s s' : Stored) (table : Table) (to : ℕ) → IsCutting s s' table to [] → AreCut s s' (is_cut table to)
+cut_ends s s' table to cutting = record { version = λ y i. cutting.cut.version y i ∙ ap (λ b. cond b None (version_in s y i)) (and_true (is_cut table to i)); decided = cutting.cut.decided }
+  where
+    and_true : (b : Bool) → (b && true) ≡ b
+    and_true true = refl
+    and_true false = refl
+
+-- what was cut and then closed was closed hard
+pub hard_closed : (k k' : Kept) (v : List ℕ → ℕ → Option After) (d : List ℕ → ℕ → Bool) (to n : ℕ)
+    → ((y : List ℕ) (i : ℕ) → v y i ≡ cond (nat_le i to && is_open (k.transaction i)) None (k.version y i)) → ((y : List ℕ) (i : ℕ) (b : After) → v y i ≡ Some b → d y i ≡ k.decided y i)
+    → IsClosedAt (record k { version = v; decided = d }) k' n → IsHardClosedAt k k' to n
+hard_closed k k' v d to n version decided closed =
+    let sv : k'.version ≡ v = ap (λ (j : Kept). j.version) closed.rest in
+    let sd : k'.decided ≡ d = ap (λ (j : Kept). j.decided) closed.rest in
+    record {
+      version = λ y i. ap (λ f. f y i) sv ∙ version y i;
+      decided = λ y i b e. ap (λ f. f y i) sd ∙ decided y i b (sym (ap (λ f. f y i) sv) ∙ e);
+      marked = closed.marked;
+      transaction = closed.transaction;
+      rest = closed.rest ∙ ap (λ f. record k { closed = n; version = f; decided = d; marked = k'.marked; transaction = k'.transaction }) (sym sv) ∙ ap (λ g. record k { closed = n; version = k'.version; decided = g; marked = k'.marked; transaction = k'.transaction }) (sym sd);
+    }

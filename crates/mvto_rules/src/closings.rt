@@ -1,0 +1,63 @@
+//! What closing and collecting do to the versions, the marks and the transactions.
+ghost use Rattle.std.specs.Prelude.{◌≡◌, ◌≤◌, ℕ, IfOk, OnErr};
+ghost use Rattle.spans.specs.Kept.{Kept};
+ghost use Rattle.kept.specs.Changes.{IsAlike, IsClosedAt, IsHardClosedAt};
+ghost use Rattle.mvto_rules.specs.Closings.{AreCut, AreOpenNoted, IsCollected, IsCutCount, is_cut};
+ghost use Rattle.mvto_rules.specs.Tables.{AreInRange};
+
+use crate::rules::Rules;
+use std::alloc::AllocError;
+use timestamps::ts::Ts;
+use txn_table::Txns;
+use version_chain::Store;
+
+impl Rules {
+    ghost use Rattle.mvto_rules.specs.Holding.{holding};
+
+    /// Forgets the transactions and the readers at or below what is now closed. It takes no memory.
+    pub fn close(&mut self, closed: u64)
+        ensures { (k : Kept) → IsClosedAt (holding k self.old) (record (holding k self.new) { closed = closed }) closed }
+    {
+        self.marks.forget_through(closed);
+        self.txns.forget_through(closed);
+    }
+
+    /// Takes back what the undecided transactions at or below `to` wrote, and says how many they are;
+    /// then it forgets as `close` does. It takes no memory.
+    pub fn close_hard(&mut self, to: u64, closed: u64) -> u64
+        requires noted { AreOpenNoted self.old.store self.old.txns }
+        requires reached { to ≤ closed }
+        ensures count { IsCutCount self.old.txns to result }
+        ensures closed { (k : Kept) → IsHardClosedAt (holding k self.old) (record (holding k self.new) { closed = closed }) to closed }
+    {
+        let count = take_back_through(&mut self.store, &self.txns, to);
+        self.close(closed);
+        count
+    }
+
+    /// Drops the versions that are dead by the horizon, and says how many. Where there is no memory to
+    /// list them, nothing goes.
+    pub fn collect(&mut self, horizon: u64) -> Result<u64, AllocError>
+        ensures ok { IfOk result (λ count. (k : Kept) → IsCollected k self.old self.new horizon count) }
+        ensures err { OnErr result ((k : Kept) → IsAlike (holding k self.old) (holding k self.new)) }
+    {
+        self.store.drop_dead(horizon)
+    }
+}
+
+/// Takes back what the undecided transactions at or below `to` wrote, and says how many they are.
+fn take_back_through(store: &mut Store, txns: &Txns, to: u64) -> u64
+    requires noted { AreOpenNoted store.old txns.now }
+    requires in_range { AreInRange txns.now }
+    ensures cut { AreCut store.old store.new (is_cut txns.now to) }
+    ensures count { IsCutCount txns.now to result }
+{
+    let mut count = 0u64;
+    for ts in txns.undecided_through(to) {
+        // each number in the table is one
+        let ts = Ts::new(ts.0).unwrap();
+        store.abort(ts, txns.write_set(ts.get()));
+        count += 1;
+    }
+    count
+}
