@@ -1,0 +1,4 @@
+pub mod Order
+pub mod Gathered
+pub mod Walk
+pub mod Firsts

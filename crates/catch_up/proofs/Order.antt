@@ -1,0 +1,110 @@
+-- The order of places, and rows that are put into it.
+use Rattle.std.proofs.Common.{List, Option, Some, None, [], ap, arith, false, inl, inr, refl, subst, sym, true, ℕ, ◌<◌, ◌&&◌, ◌==◌, ◌⊎◌, ◌≡◌, ◌∷◌, ◌∙◌}
+use Rattle.std.specs.Prelude.{if◌then◌else◌, nat_lt}
+use Rattle.std.specs.Ordering.{is_eq, is_lt, ordering_reverse}
+use Rattle.std.specs.declared.cmp.Ordering.{Ordering}
+use Rattle.std.specs.declared.cmp.Ordering.TheVariants.{Less, Equal, Greater}
+use Rattle.std.proofs.lemmas.Bool.{and_from, and_parts, both_ways, eq-eqb, eqb-true, lt-ltb, ltb-true, or_cases, or_left, or_right}
+use Rattle.std.proofs.lemmas.Bool.Decides.{nat_tests}
+use Rattle.std.proofs.lemmas.Cmp.{nat_list_cmp_total, tied_itself}
+use Rattle.std.proofs.lemmas.Map.Text.{is_eq-slice_cmp}
+use Rattle.timestamps.specs.Bytes.{key_cmp}
+use Rattle.timestamps.specs.declared.row.Row.{Row}
+use Rattle.spans.specs.KeyOrder.{key_lt}
+use Rattle.spans.specs.Streams.{row_lt}
+use Rattle.spans.proofs.Steps.{by_test, same_key}
+use Rattle.spans.proofs.StreamOrder.{IsRowIn, RisingRows}
+use Rattle.version_chain.specs.Following.{is_after_place, is_before}
+
+less_is : (o : Ordering) → is_lt o ≡ true → o ≡ Less
+less_is Less e = refl
+less_is Equal e = cc
+less_is Greater e = cc
+
+parts : (t i : ℕ) (x y : List ℕ) → is_before t x i y ≡ true → (t < i) ⊎ ((t ≡ i) × (key_cmp x y ≡ Less))
+parts t i x y e = elim (or_cases _ _ e) [
+  | inl l ↦ inl (ltb-true t i l)
+  | inr b ↦ (let both = and_parts _ _ b in inr (eqb-true t i both.0, less_is _ both.1))
+]
+
+from_less : (t i : ℕ) (x y : List ℕ) → t < i → is_before t x i y ≡ true
+from_less t i x y l = or_left (nat_lt t i) ((t == i) && key_lt x y) (lt-ltb t i l)
+
+from_same : (t i : ℕ) (x y : List ℕ) → t ≡ i → key_cmp x y ≡ Less → is_before t x i y ≡ true
+from_same t i x y e l = or_right (nat_lt t i) ((t == i) && key_lt x y) (and_from (t == i) (key_lt x y) (eq-eqb t i e) (ap is_lt l))
+
+pub before_trans : (t i j : ℕ) (x y z : List ℕ) → is_before t x i y ≡ true → is_before i y j z ≡ true → is_before t x j z ≡ true
+before_trans t i j x y z first second = elim (parts t i x y first) [
+  | inl l ↦ elim (parts i j y z second) [ inl m ↦ from_less t j x z (omega arith) | inr m ↦ (let e : i ≡ j = m.0 in from_less t j x z (omega arith)) ]
+  | inr l ↦ (let d : t ≡ i = l.0 in elim (parts i j y z second) [
+    | inl m ↦ from_less t j x z (omega arith)
+    | inr m ↦ from_same t j x z (d ∙ m.0) (nat_list_cmp_total.trans x y z l.1 m.1)
+  ])
+]
+
+pub before_itself : (t : ℕ) (x : List ℕ) → is_before t x t x ≡ true → ⊥
+before_itself t x e = elim (parts t t x x e) [
+  | inl l ↦ omega arith
+  | inr b ↦ (let tied : key_cmp x x ≡ Equal = tied_itself nat_list_cmp_total x in let no' : Less ≡ Equal = sym b.1 ∙ tied in cc)
+]
+
+-- two places of which neither is before the other are the same
+pub before_neither : (t i : ℕ) (x y : List ℕ) → is_before t x i y ≡ false → is_before i y t x ≡ false → (t ≡ i) × (x ≡ y)
+before_neither t i x y a b =
+    let same : t ≡ i = grind (arith, nat_tests) in
+    (same, by (key_cmp x y) refl same)
+  where
+    by : (o : Ordering) → key_cmp x y ≡ o → t ≡ i → x ≡ y
+    by Less is same = absurd (both_ways _ a (from_same t i x y same is))
+    by Equal is same = same_key x y (sym (is_eq-slice_cmp x y) ∙ ap is_eq is)
+    by Greater is same = absurd (both_ways _ b (from_same i t y x (sym same) (nat_list_cmp_total.antisymm y x ∙ ap ordering_reverse is)))
+
+-- what comes after a place that is after another comes after that
+pub after_trans : (ts : ℕ) (key : Option (List ℕ)) (t i : ℕ) (x y : List ℕ) → is_after_place ts key x t ≡ true → is_before t x i y ≡ true → is_after_place ts key y i ≡ true
+after_trans ts None t i x y later before = let l : ts < t = ltb-true ts t later in elim (parts t i x y before) [
+  | inl m ↦ lt-ltb ts i (omega arith)
+  | inr m ↦ (let e : t ≡ i = m.0 in lt-ltb ts i (omega arith))
+]
+after_trans ts (Some key) t i x y later before = before_trans ts t i key x y later before
+
+-- ---- rows in order
+
+abbrev pub put_row : Row → List Row → List Row
+put_row r [] = r ∷ []
+put_row r (s ∷ rows) = if row_lt r s then r ∷ s ∷ rows else (if row_lt s r then s ∷ put_row r rows else s ∷ rows)
+
+pub put_only : (r q : Row) (rows : List Row) → IsRowIn q (put_row r rows) → (r ≡ q) ⊎ IsRowIn q rows
+put_only r q [] i = elim i [ inl here ↦ inl here | inr there ↦ absurd there ]
+put_only r q (s ∷ rows) i = by_test (row_lt r s)
+    (λ low. let j : IsRowIn q (r ∷ s ∷ rows) = rw low at i in elim j [ inl here ↦ inl here | inr there ↦ inr there ])
+    (λ high. by_test (row_lt s r)
+    (λ over. let j : IsRowIn q (s ∷ put_row r rows) = rw (high, over) at i in elim j [
+      | inl here ↦ inr (inl here)
+      | inr there ↦ elim (put_only r q rows there) [ inl is ↦ inl is | inr k ↦ inr (inr k) ]
+    ])
+    (λ same. let j : IsRowIn q (s ∷ rows) = rw (high, same) at i in inr j))
+
+pub put_stays : (r q : Row) (rows : List Row) → IsRowIn q rows → IsRowIn q (put_row r rows)
+put_stays r q [] i = absurd i
+put_stays r q (s ∷ rows) i = by_test (row_lt r s)
+    (λ low. rw low (inr i))
+    (λ high. by_test (row_lt s r)
+    (λ over. rw (high, over) (elim i [ inl here ↦ inl here | inr there ↦ inr (put_stays r q rows there) ]))
+    (λ same. rw (high, same) i))
+
+-- where a row of the same version is the same row
+pub put_in : (r : Row) (rows : List Row) → ((s : Row) → IsRowIn s rows → r.ts ≡ s.ts → r.key ≡ s.key → s ≡ r) → IsRowIn r (put_row r rows)
+put_in r [] alike = inl refl
+put_in r (s ∷ rows) alike = by_test (row_lt r s)
+    (λ low. rw low (inl refl))
+    (λ high. by_test (row_lt s r)
+    (λ over. rw (high, over) (inr (put_in r rows (λ q i. alike q (inr i)))))
+    (λ same. let both = before_neither r.ts s.ts r.key s.key high same in rw (high, same) (inl (alike s (inl refl) both.0 both.1))))
+
+pub put_rises : (r : Row) (rows : List Row) → RisingRows rows → RisingRows (put_row r rows)
+put_rises r [] h = (λ s i. absurd i, tt)
+put_rises r (s ∷ rows) h = by_test (row_lt r s)
+    (λ low. rw low (λ q i. elim i [ inl here ↦ subst (λ v. row_lt r v ≡ true) here low | inr there ↦ before_trans r.ts s.ts q.ts r.key s.key q.key low (h.0 q there) ], h))
+    (λ high. by_test (row_lt s r)
+    (λ over. rw (high, over) (λ q i. elim (put_only r q rows i) [ inl is ↦ subst (λ v. row_lt s v ≡ true) is over | inr there ↦ h.0 q there ], put_rises r rows h.1))
+    (λ same. rw (high, same) h))

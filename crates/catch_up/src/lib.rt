@@ -1,0 +1,30 @@
+//! The committed rows that a feed is told next, looked up in the store.
+//!
+//! A feed whose ring could not keep up reads its rows from the versions: [`next_rows`] gives the first `n`
+//! committed rows of a span after a place and at or below a timestamp, by timestamp and then by key. What a feed
+//! tells before those, where it begins with a snapshot, is given by [`next_snapshot`]: the first `n` keys of a span
+//! after a key that have a value at a timestamp, as rows at that timestamp.
+//!
+//! ```text
+//!  versions  5 a*   8 a*   8 b*   9 c   12 a*        a star marks what is committed
+//!  span - -, after 8 a, through 10, n 2:  8 b
+//!  span a b, after 4,   through 12, n 2:  5 a, 8 a
+//!  span - -, at 8, after a, n 2:          8 b
+//! ```
+//!
+//! Costs, in searches of the store, each of which compares about as many keys as the store's number of keys and
+//! timestamps has binary digits:
+//!
+//! ```text
+//! next_rows        one a row that is told, and one a committed version of other spans that lies between
+//! next_snapshot    one for the first key, and a search of one chain a key from there to the last that is told
+//! ```
+//!
+//! So a feed of a narrow span that is far behind passes over what was written elsewhere since.
+#![tactic(auto)]
+
+mod rows;
+mod snapshot;
+
+pub use rows::next_rows;
+pub use snapshot::next_snapshot;

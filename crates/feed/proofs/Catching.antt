@@ -1,0 +1,234 @@
+-- A feed that is served from the store.
+use Rattle.std.proofs.Common.{Bool, List, None, Option, Some, [], ap, arith, drop, false, inl, inr, length, map, max, min, refl, subst, sym, take, true, zero, suc, ℕ, ◌+◌, ◌-◌, ◌<◌, ◌&&◌, ◌==◌, ◌≡◌, ◌≤◌, ◌++◌, ◌∷◌, ◌∙◌}
+use Rattle.std.specs.Prelude.{IfOk, Result, Ok, Err, nat_lt}
+use Rattle.std.proofs.lemmas.Bool.{and_from, and_parts, both_ways, eq-eqb, lt-ltb, ltb-true, or_cases, or_left}
+use Rattle.std.proofs.lemmas.Bool.Decides.{nat_tests}
+use Rattle.timestamps.specs.declared.row.Row.{Row}
+use Rattle.spans.specs.KeyOrder.{key_lt}
+use Rattle.spans.specs.Kept.{Kept, Place}
+use Rattle.spans.proofs.Steps.{by_test}
+use Rattle.spans.specs.declared.kind.Kind.TheVariants.{Initial}
+use Rattle.spans.proofs.RowOrder.{name_order}
+use Rattle.kept.proofs.LeftRows.{parts_left}
+use Rattle.version_chain.specs.Following.{is_after_place}
+use Rattle.version_chain.specs.Stores.{Stored, is_decided_in, version_in}
+use Rattle.catch_up.specs.Firsts.{AreNextFirsts, is_past}
+use Rattle.catch_up.specs.Left.{AreNextIn}
+use Rattle.feed.specs.Firsts.{AreNextFirstsAt, AreNextStoredAt, IsLeftAt, IsNoneLeft, is_row_above, key_at}
+use Rattle.spans.specs.Collection.{VersionName}
+use Rattle.spans.specs.Consumer.{is_after_name, name_lt}
+use Rattle.spans.specs.Kept.{last_name}
+use Rattle.spans.specs.Feeds.{last_resolved}
+use Rattle.spans.specs.declared.calls.messages.Message.{Message}
+use Rattle.spans.specs.declared.calls.messages.Message.TheVariants as messages
+use Rattle.kept.specs.Places.{moved}
+use Rattle.feed.specs.Live.{Live, arrived_at, due_at, due_in, row_or, settled}
+use Rattle.feed.specs.Standing.{AreNextAt, IsPolledFrom, IsPut, Standing, live_in}
+use Rattle.feed.proofs.Telling.{last_name_is, take_again}
+use Rattle.std.proofs.lemmas.List.{length-take, take-map}
+
+and_true : (b : Bool) → (b && true) ≡ b
+and_true true = refl
+and_true false = refl
+
+-- without a last row
+pub after_none : (n : ℕ) (r : Row) → (nat_lt n r.ts && is_after_name None r) ≡ nat_lt n r.ts
+after_none n r = and_true (nat_lt n r.ts)
+
+-- with one at or below what all is told through
+pub after_low : (n : ℕ) (last : VersionName) (r : Row) → last.ts ≤ n → (nat_lt n r.ts && is_after_name (Some last) r) ≡ nat_lt n r.ts
+after_low n last r low = by_test (nat_lt n r.ts)
+    (λ is. let l : n < r.ts = ltb-true n r.ts is in let before : name_lt last r ≡ true = or_left (nat_lt last.ts r.ts) ((last.ts == r.ts) && key_lt last.key r.key) (lt-ltb last.ts r.ts (omega arith)) in rw (is, before) refl)
+    (λ isnt. rw isnt refl)
+
+-- with one above it
+pub after_high : (n : ℕ) (last : VersionName) (r : Row) → n < last.ts → (nat_lt n r.ts && is_after_name (Some last) r) ≡ is_after_place last.ts (Some last.key) r.key r.ts
+after_high n last r high = by_test (name_lt last r)
+    (λ is. let l : last.ts ≤ r.ts = not_below is in let on : nat_lt n r.ts ≡ true = lt-ltb n r.ts (omega arith) in rw (on, is) refl)
+    (λ isnt. rw isnt (and_false (nat_lt n r.ts)))
+  where
+    and_false : (b : Bool) → (b && false) ≡ false
+    and_false true = refl
+    and_false false = refl
+
+    not_below : name_lt last r ≡ true → last.ts ≤ r.ts
+    not_below e = elim (or_cases _ _ e) [
+      | inl less ↦ (let l : last.ts < r.ts = ltb-true _ _ less in omega arith)
+      | inr same ↦ (let l : (last.ts == r.ts) ≡ true = (and_parts _ _ same).0 in grind (arith, nat_tests))
+    ]
+
+-- the stored rows after a place's last row, from the cursor on, are those that are left for the feed
+pub stored_next : (s : Stored) (place : Place) (through n ts : ℕ) (key : Option (List ℕ)) (rows : List Row) → ((r : Row) → (nat_lt (max place.after place.cursor) r.ts && is_after_name place.row r) ≡ is_after_place ts key r.key r.ts)
+    → AreNextIn s place.span ts key through n rows → AreNextStoredAt s place through n rows
+stored_next s place through n ts key rows same next = record {
+  all = next.all;
+  stored = record {
+    rising = next.left.rising;
+    each = λ r. (
+      λ i.
+          let h = (next.left.each r).0 i in
+          let both = and_parts _ _ (same r ∙ h.later) in
+          let high : max place.after place.cursor < r.ts = ltb-true _ _ both.0 in
+          record { there = h.there; done = h.done; inside = h.inside; above = omega arith; later = and_from _ _ (lt-ltb place.after r.ts (omega arith)) both.1; low = h.low },
+      λ h.
+          let both = and_parts _ _ h.later in
+          let high : place.after < r.ts = ltb-true _ _ both.0 in
+          let above : place.cursor < r.ts = h.above in
+          (next.left.each r).1 (record { there = h.there; done = h.done; inside = h.inside; later = sym (same r) ∙ and_from _ _ (lt-ltb (max place.after place.cursor) r.ts (omega arith)) both.1; low = h.low }),
+    );
+  };
+  first = next.first;
+}
+
+-- a row at the cursor comes after the last one where its key does
+past_is : (o : Option VersionName) (c : ℕ) (r : Row) → is_row_above o c ≡ false → r.ts ≡ c → is_after_name o r ≡ is_past (key_at c o) r.key
+past_is None c r low at = refl
+past_is (Some q) c r low at = by_test (q.ts == c)
+    (λ here.
+    let l : nat_lt q.ts r.ts ≡ false = grind (arith, nat_tests) in
+    let e : (q.ts == r.ts) ≡ true = grind (arith, nat_tests) in
+    let is : name_lt q r ≡ key_lt q.key r.key = rw (l, e) refl in
+    rw here is)
+    (λ there.
+    let less : nat_lt q.ts r.ts ≡ true = grind (arith, nat_tests) in
+    let is : name_lt q r ≡ true = or_left (nat_lt q.ts r.ts) ((q.ts == r.ts) && key_lt q.key r.key) less in
+    rw there is)
+
+firsts_at_cursor : (s : Stored) (place : Place) (n : ℕ) (rows : List Row) → place.kind ≡ Initial → place.after < place.cursor → is_row_above place.row place.cursor ≡ false → AreNextFirsts s place.span (key_at place.cursor place.row) place.cursor n rows → AreNextFirstsAt s place n rows
+firsts_at_cursor s place n rows initial untold low next = record {
+  all = next.all;
+  firsts = record {
+    rising = next.firsts.rising;
+    each = λ r. (
+      λ i. let h = (next.firsts.each r).0 i in let at : r.ts ≡ place.cursor = h.at in record {
+        initial = initial;
+        at = at;
+        found = h.found;
+        value = h.value;
+        inside = h.inside;
+        later = and_from _ _ (lt-ltb place.after r.ts (omega arith)) (past_is place.row place.cursor r low at ∙ h.later);
+      },
+      λ h. (next.firsts.each r).1 (record { at = h.at; found = h.found; value = h.value; inside = h.inside; later = sym (past_is place.row place.cursor r low h.at) ∙ (and_parts _ _ h.later).1 }),
+    );
+  };
+  first = next.first;
+}
+
+-- what is left of a snapshot is what is left of its keys
+pub firsts_next : (s : Stored) (place : Place) (t n : ℕ) (key : Option (List ℕ)) (rows : List Row) → IsLeftAt place t → key ≡ key_at t place.row → AreNextFirsts s place.span key t n rows → AreNextFirstsAt s place n rows
+firsts_next s place t n key rows left is next = firsts_at_cursor s place n rows left.initial left.untold left.last
+    (subst (λ u. AreNextFirsts s place.span (key_at u place.row) u n rows) left.at (subst (λ o. AreNextFirsts s place.span o t n rows) is next))
+
+no_rows : (n : ℕ) (rows : List Row) → rows ≡ [] → rows ≡ take n rows
+no_rows zero rows empty = empty
+no_rows (suc n) [] empty = refl
+no_rows (suc n) (r ∷ rows) empty = cc
+
+-- none is left
+pub firsts_none : (s : Stored) (place : Place) (n : ℕ) (rows : List Row) → IsNoneLeft place → rows ≡ [] → AreNextFirstsAt s place n rows
+firsts_none s place n rows none empty = record {
+  all = [];
+  firsts = record { rising = tt; each = λ r. (λ i. absurd i, λ i. absurd (none (version_in s) r i)) };
+  first = empty ∙ no_rows n [] refl;
+}
+
+-- of a feed of another kind
+pub another_left : (place : Place) → (place.kind ≡ Initial → ⊥) → IsNoneLeft place
+another_left place other version r i = other i.initial
+
+-- of one that resolved its cursor or more
+pub resolved_left : (place : Place) → place.cursor ≤ place.after → IsNoneLeft place
+resolved_left place low version r i = let above : place.after < r.ts = ltb-true _ _ (and_parts _ _ i.later).0 in omega (arith, i.at)
+
+clash : (q c r : ℕ) → c < q → q ≤ r → r ≡ c → ⊥
+clash q c r high low at = omega arith
+
+-- of one that was told a row above its cursor
+pub passed_left : (place : Place) → is_row_above place.row place.cursor ≡ true → IsNoneLeft place
+passed_left place above version r i = by place.row refl
+  where
+    by : (o : Option VersionName) → place.row ≡ o → ⊥
+    by None is = let no' : false ≡ true = sym (ap (λ o. is_row_above o place.cursor) is) ∙ above in cc
+    by (Some q) is =
+        let high : place.cursor < q.ts = ltb-true _ _ (sym (ap (λ o. is_row_above o place.cursor) is) ∙ above) in
+        let after : is_after_name (Some q) r ≡ true = subst (λ o. is_after_name o r ≡ true) is (and_parts _ _ i.later).1 in
+        let low : q.ts ≤ r.ts = name_order q r after in
+        clash q.ts place.cursor r.ts high low i.at
+
+-- what is taken of two lists
+take_both : (m : ℕ) (xs ys : List Row) → take m xs ++ take (m - length xs) ys ≡ take m (xs ++ ys)
+take_both zero xs ys = let none : 0 - length xs ≡ 0 = omega arith in rw none refl
+take_both (suc m) [] ys = ap (λ n. take n ys) (let all : suc m - 0 ≡ suc m = omega arith in all)
+take_both (suc m) (x ∷ xs) ys =
+    let less : suc m - suc (length xs) ≡ m - length xs = omega arith in
+    ap (λ n. x ∷ (take m xs ++ take n ys)) less ∙ ap (λ l. x ∷ l) (take_both m xs ys)
+
+-- what is kept of a store alone
+abbrev stored_as : Stored → ℕ → Kept
+stored_as s through = record { closed = through; horizon = 0; version = version_in s; decided = is_decided_in s; marked = λ x t. false; transaction = λ t. None; protections = []; protections_made = 0; feed = λ f. None; feeds_opened = 0 }
+
+-- the next of both parts are the next that are left
+pub both_next : (s : Stored) (place : Place) (through n room : ℕ) (firsts stored rows : List Row) → AreNextFirstsAt s place n firsts → room ≡ n - length firsts → AreNextStoredAt s place through room stored → rows ≡ firsts ++ stored → AreNextAt s place through n rows
+both_next s place through n room firsts stored rows f is st both = record {
+  all = f.all ++ st.all;
+  left = parts_left (stored_as s through) place f.all st.all f.firsts st.stored;
+  first =
+      let long : length firsts ≡ min n (length f.all) = ap length f.first ∙ length-take n f.all in
+      let rest : room ≡ n - length f.all = omega arith in
+      both ∙ ap (λ l. l ++ stored) f.first ∙ ap (λ l. take n f.all ++ l) (st.first ∙ ap (λ m. take m st.all) rest) ∙ take_both n f.all st.all;
+}
+
+-- what holds of a value that may be missing, in other words
+pub if_ok_more : {A E : Type 0} (r : Result A E) (P Q : A → Type 0) → ((x : A) → P x → Q x) → IfOk r P → IfOk r Q
+if_ok_more (Ok x) P Q more h = more x h
+if_ok_more (Err e) P Q more h = h
+
+take_less : {A : Type 0} (m n : ℕ) (xs : List A) → m ≤ n → take m (take n xs) ≡ take m xs
+take_less zero n xs low = refl
+take_less (suc m) zero xs low = absurd (omega arith)
+take_less (suc m) (suc n) [] low = refl
+take_less (suc m) (suc n) (x ∷ xs) low = ap (λ l. x ∷ l) (take_less m n xs (omega arith))
+
+-- one more than the most that are told shows whether more are left
+more_is : (n most : ℕ) (got all : List Row) → got ≡ take n all → n ≡ min (most + 1) 18446744073709551615 → length got < 9223372036854775808 → nat_lt most (length got) ≡ nat_lt most (length all)
+more_is n most got all is one small =
+    let long : length got ≡ min n (length all) = ap length is ∙ length-take n all in
+    by_test (nat_lt most (length all))
+    (λ on. let l : most < length all = ltb-true most (length all) on in let g : most < length got = omega arith in lt-ltb most (length got) g ∙ sym on)
+    (λ off. by_test (nat_lt most (length got))
+    (λ on. let g : most < length got = ltb-true most (length got) on in let l : most < length all = omega arith in absurd (both_ways _ off (lt-ltb most (length all) l)))
+    (λ off'. off' ∙ sym off))
+
+at_itself : (f : ℕ) → (f == f) ≡ true
+at_itself f = eq-eqb f f refl
+
+-- two changes of the same feed in turn
+put_twice : (s s' s'' : Standing) (f : ℕ) (o p : Option Live) → IsPut s s' f o → IsPut s' s'' f p → IsPut s s'' f p
+put_twice s s' s'' f o p first second g = second g ∙ by_test (f == g)
+    (λ here. rw here refl)
+    (λ there. rw there (first g ∙ rw there refl))
+
+-- the poll of a feed that is served from the store
+pub polled_from : (store : Stored) (s m s' : Standing) (f closed most n : ℕ) (l : Live) (got : List Row) (first all : List Message) (due : Option ℕ) (after : ℕ) (row : Option VersionName) (more : Bool) → AreNextAt store l.place closed n got
+    → n ≡ min (most + 1) 18446744073709551615 → most < 18446744073709551616 → length got < 9223372036854775808 → first ≡ map messages.Row (take most got) → due_in l closed ≡ due_at due → all ≡ take most (first ++ due_at due)
+    → after ≡ last_resolved l.place.after all → row ≡ last_name None all → more ≡ nat_lt most (length got)
+    → IsPut s m f (Some (arrived_at after row l.behind (drop 0 l.ring) l)) → ((v : Live) → live_in m f ≡ Some v → IsPut m s' f (Some (settled more v))) → IsPolledFrom store s s' f closed most l all
+polled_from store s m s' f closed most n l got first all due after row more next one fits small rows is all_is after_is row_is more_so put settle = record {
+  rows = next.all;
+  left = next.left;
+  told =
+      all_is
+      ∙ ap (λ ms. take most (ms ++ due_at due)) (rows ∙ ap (map messages.Row) (ap (take most) next.first ∙ take_less most n next.all (omega arith)) ∙ sym (take-map messages.Row most next.all))
+      ∙ take_again most (map messages.Row next.all) (due_at due)
+      ∙ ap (λ ms. take most (map messages.Row next.all ++ ms)) (sym is);
+  put = subst (λ (v : Live). IsPut s s' f (Some v)) there (put_twice s m s' f (Some arrived) (Some (settled more arrived)) put (settle arrived (put f ∙ rw (at_itself f) refl)));
+}
+  where
+    arrived : Live
+    arrived = arrived_at after row l.behind (drop 0 l.ring) l
+
+    there : settled more (arrived_at after row l.behind (drop 0 l.ring) l) ≡ record { place = moved all l.place; behind = nat_lt most (length next.all); ring = [] }
+    there =
+        ap (λ t. settled more (arrived_at t row l.behind (drop 0 l.ring) l)) after_is
+        ∙ ap (λ o. record { place = record { seat = l.place.seat; kind = l.place.kind; span = l.place.span; cursor = l.place.cursor; after = last_resolved l.place.after all; row = o }; behind = more; ring = [] }) (ap (λ o. row_or o l.place.row) row_is ∙ last_name_is l.place.row all)
+        ∙ ap (λ b. record { place = moved all l.place; behind = b; ring = [] }) (more_so ∙ more_is n most got next.all next.first one small)

@@ -1,0 +1,159 @@
+-- The order of the floors stays tied to the feeds.
+use Rattle.std.proofs.Common.{Bool, List, None, Option, Some, ap, arith, cond, false, refl, sym, true, ℕ, ◌&&◌, ◌+◌, ◌==◌, ◌≡◌, ◌≤◌, ◌∙◌}
+use Rattle.std.specs.Prelude.{nat_eq}
+use Rattle.std.specs.BTreeMap.{is_at}
+use Rattle.std.specs.BTreeSet.{BTreeSet, contains}
+use Rattle.std.specs.Map.{lookup}
+use Rattle.std.proofs.lemmas.Bool.{eqb-true}
+use Rattle.std.proofs.lemmas.Bool.Decides.{nat_tests}
+use Rattle.spans.specs.Feeds.{start_at}
+use Rattle.spans.specs.declared.kind.Kind.{Kind}
+use Rattle.spans.specs.declared.kind.Kind.TheVariants.{Every, Initial, Plain}
+use Rattle.spans.proofs.Steps.{by_test}
+use Rattle.kept.specs.Places.{place_floor}
+use Rattle.feed.specs.Live.{Live}
+use Rattle.feed.specs.Ties.{AreTied, is_floor, pair_cmp}
+
+-- the set has just the floors of the feeds, each with its number
+abbrev pub AreAlike : (ℕ × ℕ → Bool) → (ℕ → Option Live) → Type 0
+AreAlike c g = (t f : ℕ) → c (t, f) ≡ is_floor (g f) t
+
+-- no feed has a number above n
+abbrev pub AreNumbered : ℕ → (ℕ → Option Live) → Type 0
+AreNumbered n g = (f : ℕ) (l : Live) → g f ≡ Some l → f ≤ n
+
+same_pair : (t f s k : ℕ) → is_at (pair_cmp (t, f)) (s, k) ≡ ((t == s) && (f == k))
+same_pair t f s k = grind (arith, nat_tests)
+
+and_false : (b : Bool) → (b && false) ≡ false
+and_false true = refl
+and_false false = refl
+
+pub none_beyond : (n f : ℕ) (g : ℕ → Option Live) → AreNumbered n g → f ≡ n + 1 → g f ≡ None
+none_beyond n f g low beyond = by (g f) refl
+  where
+    by : (o : Option Live) → g f ≡ o → g f ≡ None
+    by None is = is
+    by (Some l) is = let h : f ≤ n = low f l is in absurd (omega arith)
+
+-- the floor of f was put in
+module _ (c c' : ℕ × ℕ → Bool) (t f : ℕ) (put : (q : ℕ × ℕ) → c' q ≡ cond (is_at (pair_cmp (t, f)) q) true (c q)) where
+  put_here : (s k : ℕ) → (t == s) ≡ true → (f == k) ≡ true → c' (s, k) ≡ true
+  put_here s k here same = put (s, k) ∙ rw (same_pair t f s k, here, same) refl
+
+  put_there : (s k : ℕ) → (t == s) ≡ false → c' (s, k) ≡ c (s, k)
+  put_there s k there = put (s, k) ∙ rw (same_pair t f s k, there) refl
+
+  put_other : (s k : ℕ) → (f == k) ≡ false → c' (s, k) ≡ c (s, k)
+  put_other s k other = put (s, k) ∙ rw (same_pair t f s k, other, and_false (t == s)) refl
+
+-- the floor of f was taken out
+module _ (c c' : ℕ × ℕ → Bool) (t f : ℕ) (taken : (q : ℕ × ℕ) → c' q ≡ cond (is_at (pair_cmp (t, f)) q) false (c q)) where
+  taken_here : (s k : ℕ) → (t == s) ≡ true → (f == k) ≡ true → c' (s, k) ≡ false
+  taken_here s k here same = taken (s, k) ∙ rw (same_pair t f s k, here, same) refl
+
+  taken_there : (s k : ℕ) → (t == s) ≡ false → c' (s, k) ≡ c (s, k)
+  taken_there s k there = taken (s, k) ∙ rw (same_pair t f s k, there) refl
+
+  taken_other : (s k : ℕ) → (f == k) ≡ false → c' (s, k) ≡ c (s, k)
+  taken_other s k other = taken (s, k) ∙ rw (same_pair t f s k, other, and_false (t == s)) refl
+
+-- f became o
+abbrev pub IsSet : (ℕ → Option Live) → (ℕ → Option Live) → ℕ → Option Live → Type 0
+IsSet g g' f o = (k : ℕ) → g' k ≡ cond (nat_eq f k) o (g k)
+
+set_here : (g g' : ℕ → Option Live) (f k : ℕ) (o : Option Live) → IsSet g g' f o → (f == k) ≡ true → g' k ≡ o
+set_here g g' f k o set same = set k ∙ ap (λ b. cond b o (g k)) same
+
+set_other : (g g' : ℕ → Option Live) (f k : ℕ) (o : Option Live) → IsSet g g' f o → (f == k) ≡ false → g' k ≡ g k
+set_other g g' f k o set other = set k ∙ ap (λ b. cond b o (g k)) other
+
+floor_is : (l : Live) (t s : ℕ) → place_floor l.place ≡ t → is_floor (Some l) s ≡ (t == s)
+floor_is l t s floor = ap (λ n. n == s) floor
+
+-- a new feed with its floor
+pub alike_put : (c c' : ℕ × ℕ → Bool) (g g' : ℕ → Option Live) (t f : ℕ) (l : Live) → place_floor l.place ≡ t → g f ≡ None → AreAlike c g
+    → ((q : ℕ × ℕ) → c' q ≡ cond (is_at (pair_cmp (t, f)) q) true (c q)) → IsSet g g' f (Some l) → AreAlike c' g'
+alike_put c c' g g' t f l floor free alike put set s k = by_test (f == k)
+    (λ same. let now : is_floor (g' k) s ≡ (t == s) = ap (λ o. is_floor o s) (set_here g g' f k (Some l) set same) ∙ floor_is l t s floor in by_test (t == s)
+    (λ here. put_here c c' t f put s k here same ∙ sym (now ∙ here))
+    (λ there. put_there c c' t f put s k there ∙ alike s k ∙ ap (λ o. is_floor o s) (ap g (sym (eqb-true f k same)) ∙ free) ∙ sym (now ∙ there)))
+    (λ other. put_other c c' t f put s k other ∙ alike s k ∙ ap (λ o. is_floor o s) (sym (set_other g g' f k (Some l) set other)))
+
+-- a feed goes with its floor
+pub alike_taken : (c c' : ℕ × ℕ → Bool) (g g' : ℕ → Option Live) (t f : ℕ) (l : Live) → place_floor l.place ≡ t → g f ≡ Some l → AreAlike c g
+    → ((q : ℕ × ℕ) → c' q ≡ cond (is_at (pair_cmp (t, f)) q) false (c q)) → IsSet g g' f None → AreAlike c' g'
+alike_taken c c' g g' t f l floor stood alike taken set s k = by_test (f == k)
+    (λ same. let now : is_floor (g' k) s ≡ false = ap (λ o. is_floor o s) (set_here g g' f k None set same) in by_test (t == s)
+    (λ here. taken_here c c' t f taken s k here same ∙ sym now)
+    (λ there. taken_there c c' t f taken s k there ∙ alike s k ∙ ap (λ o. is_floor o s) (ap g (sym (eqb-true f k same)) ∙ stood) ∙ floor_is l t s floor ∙ there ∙ sym now))
+    (λ other. taken_other c c' t f taken s k other ∙ alike s k ∙ ap (λ o. is_floor o s) (sym (set_other g g' f k None set other)))
+
+-- a new pair that is taken back
+pub alike_again : (c c' c'' : ℕ × ℕ → Bool) (g : ℕ → Option Live) (t f : ℕ) → g f ≡ None → AreAlike c g
+    → ((q : ℕ × ℕ) → c' q ≡ cond (is_at (pair_cmp (t, f)) q) true (c q)) → ((q : ℕ × ℕ) → c'' q ≡ cond (is_at (pair_cmp (t, f)) q) false (c' q)) → AreAlike c'' g
+alike_again c c' c'' g t f free alike put taken s k = by_test (f == k)
+    (λ same. let now : is_floor (g k) s ≡ false = ap (λ o. is_floor o s) (ap g (sym (eqb-true f k same)) ∙ free) in by_test (t == s)
+    (λ here. taken_here c' c'' t f taken s k here same ∙ sym now)
+    (λ there. taken_there c' c'' t f taken s k there ∙ put_there c c' t f put s k there ∙ alike s k))
+    (λ other. taken_other c' c'' t f taken s k other ∙ put_other c c' t f put s k other ∙ alike s k)
+
+-- a feed moves to another floor
+pub alike_moved : (c c' c'' : ℕ × ℕ → Bool) (g g' : ℕ → Option Live) (a b f : ℕ) (l l' : Live) → place_floor l.place ≡ b → place_floor l'.place ≡ a → g f ≡ Some l → (b == a) ≡ false → AreAlike c g
+    → ((q : ℕ × ℕ) → c' q ≡ cond (is_at (pair_cmp (a, f)) q) true (c q)) → ((q : ℕ × ℕ) → c'' q ≡ cond (is_at (pair_cmp (b, f)) q) false (c' q)) → IsSet g g' f (Some l') → AreAlike c'' g'
+alike_moved c c' c'' g g' a b f l l' floor floor' stood apart alike put taken set s k = by_test (f == k)
+    (λ same.
+    let now : is_floor (g' k) s ≡ (a == s) = ap (λ o. is_floor o s) (set_here g g' f k (Some l') set same) ∙ floor_is l' a s floor' in
+    by_test (b == s)
+    (λ here. let off : (a == s) ≡ false = grind (arith, nat_tests) in taken_here c' c'' b f taken s k here same ∙ sym (now ∙ off))
+    (λ there. by_test (a == s)
+    (λ here'. taken_there c' c'' b f taken s k there ∙ put_here c c' a f put s k here' same ∙ sym (now ∙ here'))
+    (λ there'. taken_there c' c'' b f taken s k there ∙ put_there c c' a f put s k there' ∙ alike s k ∙ ap (λ o. is_floor o s) (ap g (sym (eqb-true f k same)) ∙ stood) ∙ floor_is l b s floor ∙ there ∙ sym (now ∙ there'))))
+    (λ other. taken_other c' c'' b f taken s k other ∙ put_other c c' a f put s k other ∙ alike s k ∙ ap (λ o. is_floor o s) (sym (set_other g g' f k (Some l') set other)))
+
+-- a feed moves, and its floor stays
+pub alike_stayed : (c c' : ℕ × ℕ → Bool) (g g' : ℕ → Option Live) (a f : ℕ) (l l' : Live) → place_floor l.place ≡ a → place_floor l'.place ≡ a → g f ≡ Some l → AreAlike c g
+    → ((q : ℕ × ℕ) → c' q ≡ cond (is_at (pair_cmp (a, f)) q) true (c q)) → IsSet g g' f (Some l') → AreAlike c' g'
+alike_stayed c c' g g' a f l l' floor floor' stood alike put set s k = by_test (f == k)
+    (λ same.
+    let now : is_floor (g' k) s ≡ (a == s) = ap (λ o. is_floor o s) (set_here g g' f k (Some l') set same) ∙ floor_is l' a s floor' in
+    by_test (a == s)
+    (λ here. put_here c c' a f put s k here same ∙ sym (now ∙ here))
+    (λ there. put_there c c' a f put s k there ∙ alike s k ∙ ap (λ o. is_floor o s) (ap g (sym (eqb-true f k same)) ∙ stood) ∙ floor_is l a s floor ∙ there ∙ sym (now ∙ there)))
+    (λ other. put_other c c' a f put s k other ∙ alike s k ∙ ap (λ o. is_floor o s) (sym (set_other g g' f k (Some l') set other)))
+
+-- numbers after a change of one feed
+pub numbered_set : (n m f : ℕ) (g g' : ℕ → Option Live) (o : Option Live) → n ≤ m → f ≤ m → AreNumbered n g → IsSet g g' f o → AreNumbered m g'
+numbered_set n m f g g' o more low numbered set k l is = by_test (f == k)
+    (λ same. let e : f ≡ k = eqb-true f k same in omega arith)
+    (λ other. let h : k ≤ n = numbered k l (sym (set_other g g' f k o set other) ∙ is) in omega arith)
+
+pub numbered_less : (n f : ℕ) (g g' : ℕ → Option Live) → AreNumbered n g → IsSet g g' f None → AreNumbered n g'
+numbered_less n f g g' numbered set k l is = by_test (f == k)
+    (λ same. let e : None ≡ Some l = sym (set_here g g' f k None set same) ∙ is in cc)
+    (λ other. numbered k l (sym (set_other g g' f k None set other) ∙ is))
+
+unequal : (a b : ℕ) → (a ≡ b → ⊥) → (b == a) ≡ false
+unequal a b apart = grind (arith, nat_tests)
+
+-- a feed that moves, with its floors
+pub tied_moved : (opened a b f : ℕ) (es fs : List (ℕ × Live)) (floors floors' floors'' : BTreeSet (ℕ × ℕ)) (l l' : Live) → AreTied opened es floors → place_floor l.place ≡ b → place_floor l'.place ≡ a → lookup (nat_eq f) es ≡ Some l → (a ≡ b → ⊥)
+    → ((q : ℕ × ℕ) → contains pair_cmp floors' q ≡ cond (is_at (pair_cmp (a, f)) q) true (contains pair_cmp floors q)) → ((q : ℕ × ℕ) → contains pair_cmp floors'' q ≡ cond (is_at (pair_cmp (b, f)) q) false (contains pair_cmp floors' q))
+    → IsSet (λ k. lookup (nat_eq k) es) (λ k. lookup (nat_eq k) fs) f (Some l') → AreTied opened fs floors''
+tied_moved opened a b f es fs floors floors' floors'' l l' tied floor floor' stood apart put taken set = record {
+  numbered = numbered_set opened opened f (λ k. lookup (nat_eq k) es) (λ k. lookup (nat_eq k) fs) (Some l') (omega arith) (tied.numbered f l stood) tied.numbered set;
+  each = alike_moved (contains pair_cmp floors) (contains pair_cmp floors') (contains pair_cmp floors'') (λ k. lookup (nat_eq k) es) (λ k. lookup (nat_eq k) fs) a b f l l' floor floor' stood (unequal a b apart) tied.each put taken set;
+}
+
+pub tied_stayed : (opened a b f : ℕ) (es fs : List (ℕ × Live)) (floors floors' : BTreeSet (ℕ × ℕ)) (l l' : Live) → AreTied opened es floors → place_floor l.place ≡ b → place_floor l'.place ≡ a → lookup (nat_eq f) es ≡ Some l → a ≡ b
+    → ((q : ℕ × ℕ) → contains pair_cmp floors' q ≡ cond (is_at (pair_cmp (a, f)) q) true (contains pair_cmp floors q)) → IsSet (λ k. lookup (nat_eq k) es) (λ k. lookup (nat_eq k) fs) f (Some l') → AreTied opened fs floors'
+tied_stayed opened a b f es fs floors floors' l l' tied floor floor' stood same put set = record {
+  numbered = numbered_set opened opened f (λ k. lookup (nat_eq k) es) (λ k. lookup (nat_eq k) fs) (Some l') (omega arith) (tied.numbered f l stood) tied.numbered set;
+  each = alike_stayed (contains pair_cmp floors) (contains pair_cmp floors') (λ k. lookup (nat_eq k) es) (λ k. lookup (nat_eq k) fs) a f l l' (floor ∙ sym same) floor' stood tied.each put set;
+}
+
+-- a feed starts at its cursor or below it
+pub start_low : (kind : Kind) (cursor : ℕ) → start_at kind cursor ≤ cursor
+start_low Plain cursor = omega arith
+start_low Initial cursor = omega arith
+start_low (Every gap) cursor = omega arith

@@ -1,0 +1,9 @@
+pub mod Live
+pub mod Firsts
+pub mod Rows
+pub mod Standing
+pub mod Ties
+pub mod Changes
+pub mod OfferedAll
+pub mod Slots
+pub mod Hulls
