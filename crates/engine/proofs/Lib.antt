@@ -1,2 +1,8 @@
-pub mod Taken
+pub mod FeedReplies
+pub mod Taking
+pub mod Serving
+pub mod HoldingRows
+pub mod Histories
+pub mod OtherReplies
+pub mod Replies
 pub mod Runs

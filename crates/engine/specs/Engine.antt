@@ -1,9 +1,11 @@
 -- What an engine stands for.
-use Rattle.std.specs.Prelude.{ℕ, List, ◌≡◌, length}
+use Rattle.std.specs.Prelude.{Bool, List, Option, ℕ, ◌≡◌}
 use Rattle.spans.specs.declared.calls.events.Event.{Event}
 use Rattle.spans.specs.Effects.{effects_of}
 use Rattle.spans.specs.Transactions.{closed_of}
-use Rattle.reference.specs.Tied.{Represents}
+use Rattle.closing.specs.Standing.{closed_in}
+use Rattle.feed.specs.Standing.{behind_in}
+use Rattle.engine.specs.Layers.{IsHistory}
 use Rattle.engine.specs.declared.Engine.{Engine}
 
 -- how many commands were answered
@@ -11,13 +13,16 @@ abbrev pub steps_of : Engine → ℕ
 steps_of e = e.steps
 
 abbrev pub closed_timestamp : Engine → ℕ
-closed_timestamp e = e.database.closed
+closed_timestamp e = closed_in e.layers.closing
 
--- the engine is what a legal history led to, whose newest event stands first
-pub record StandsFor (e : Engine) (h : List Event) : Type 0 where
-  pub history : Represents e.database h
-  pub counted : e.steps ≡ length h
+-- whether a feed is served from the store, as the feeds themselves say it; none where it doesn't live
+abbrev pub behind_of : Engine → ℕ → Option Bool
+behind_of e f = behind_in e.layers.feeds f
+
+-- the engine holds what is kept of a legal history, whose newest event stands first
+abbrev pub StandsFor : Engine → List Event → Type 0
+StandsFor e h = IsHistory e.layers e.steps h
 
 -- the closed timestamp is that of the history
 pub closed_timestamp_is : (e : Engine) (h : List Event) → StandsFor e h → closed_timestamp e ≡ closed_of (effects_of h)
-closed_timestamp_is e h stands = stands.history.tied.closed_at
+closed_timestamp_is e h stands = stands.kept.fits.closed_at

@@ -1,2 +1,7 @@
+pub mod Layers
+pub mod Holding
+pub mod Releasing
+pub mod Served
 pub mod Engine
 pub mod Runs
+pub mod Snapshots

@@ -1,46 +1,80 @@
 //! The database on one thread: every command of every seat, one at a time.
 //!
-//! A step answers a command and takes the answer in. Its body is the plain
-//! [`Database`](reference::database::Database) for now, which is asked first and told afterwards, so
-//! that an answer that finds no memory changes nothing. The contract speaks of histories alone: an
-//! engine stands for a legal history, newest event first, and after a step for one event more.
+//! [`Engine::step`] answers a seat's command by the layers below: the rules over versions, marks of readers and
+//! transactions; what is closed and protected; the rows that are held back for feeds, and the feeds. The
+//! threads' layer calls it under its lock. Its contract speaks of histories alone: an engine stands for a legal
+//! history, newest event first, and after a step for one event more.
+//!
+//! 1. The layers hold what is kept of some legal history of as many events as there were steps. What a layer asks
+//!    of its caller follows from that history, and no other invariant ties the layers.
+//! 2. Rows that were committed above closed are held back, or the set that holds them knows where one was lost.
+//! 3. The ring of a feed that isn't behind has the rows at or below closed that it has still to tell.
 //!
 //! ```text
-//!                        undecided   versions of "a"   closed
-//! new                                                  0
-//! begin 10 by seat 0     10                            0
-//! put 10 a 1 by seat 0   10          10: 1             0
-//! get 20 a by seat 1     (notxn: 20 never began)
-//! commit 10 by seat 0                10: 1             0
-//! close 30 by seat 1                 10: 1             30
+//!                          undecided   versions of "a"   held back   closed   horizon   feed 1, with a ring of 1
+//! new                                                                0        0
+//! open - - 0 by seat 1                                               0        0         at 0    ring
+//! begin 10 by seat 0       10                                        0        0         at 0    ring
+//! put 10 a 1 by seat 0     10          10                            0        0         at 0    ring
+//! commit 10 by seat 0                  10*               10 a        0        0         at 0    ring
+//! close 30 by seat 1                   10*                           30       0         at 0    ring 10 a
+//! collect 30 by seat 1                 10*                           30       0         at 0    ring 10 a
+//! poll 1 9 by seat 1                   10*                           30       0         at 30   ring      tells 10 a, resolved 30
+//! collect 30 by seat 1                 10*                           30       30        at 30   ring
 //! ```
 //!
-//! Cost: a step asks the database and then tells it, each a walk of what it holds; `steps` and `closed`
-//! look at one number.
+//! Cost, where n is all that is held, v and m the versions and the marks of a key, and f the feeds that live:
+//!
+//! ```text
+//! begin, protect, release, open, cancel    O(log n)
+//! get, put, del, readat                    O(log n + log v + log m), and the readers or versions above theirs move
+//! scan, scanat                             O(log n), and as a get for each key and each marked span that it meets
+//! commit, abort                            O(log n + log v) for each key written
+//! close, closehard                         O(log n) for each transaction and each row that became closed; each such row asks f feeds
+//! collect                                  O(log n) for each version written since the last horizon, up to its own
+//! poll                                     O(log n), and what it tells; from the store a search for each row
+//! stats, steps, closed, behind             O(log n)
+//! ```
+//!
+//! Memory is taken by begin, get, scan, put, del, readat, scanat, protect, collect, open and poll, before
+//! anything changes: where it is wanting they answer so, and all is as it was. Commit, abort, close, closehard,
+//! release, cancel and stats can't be refused it: a row that finds no memory at a commit is lost to what is
+//! held back, and one that finds none at a closing sends feeds behind, which then read it in the store.
 #![tactic(auto)]
 
-ghost use Rattle.std.specs.Prelude.{◌≡◌, ℕ, List, ◌∷◌, [], ◌+◌, ◌<◌, ◌≤◌, length};
+ghost use Rattle.std.specs.Prelude.{◌≡◌, ℕ, List, ◌∷◌, [], ◌+◌, ◌<◌, ◌≤◌, is_some, length};
 ghost use Rattle.spans.specs.declared.calls.events.Event.{Event};
 ghost use Rattle.spans.specs.Effects.{event, effects_of};
+ghost use Rattle.spans.specs.Kept.{place_of};
 ghost use Rattle.spans.specs.Transactions.{closed_of};
+ghost use Rattle.engine.specs.Layers.{HasHistory};
 
+mod closings;
+mod collector;
+mod holding;
+mod layers;
+mod openings;
+mod polls;
+mod releasing;
 mod running;
-#[cfg(test)]
-mod tests;
+mod snapshots;
+mod statistics;
+mod transactions;
 
-use reference::database::Database;
-use spans::calls::{Cmd, Refusal, Reply};
+use crate::layers::Layers;
+use spans::calls::{Cmd, Reply};
 use std::alloc::Global;
 
-/// The database, with a count of the commands that it answered.
-#[derive(Debug, Drop)]
+/// The layers, with a count of the commands that were answered.
+#[derive(Drop)]
 pub struct Engine {
-    database: Database,
+    layers: Layers,
     steps: u64,
+    ghost stands: { ∥ HasHistory layers steps ∥₁ },
 }
 
 impl Engine {
-    ghost use Rattle.engine.specs.Engine.{StandsFor, steps_of, closed_timestamp};
+    ghost use Rattle.engine.specs.Engine.{StandsFor, behind_of, closed_timestamp, steps_of};
 
     /// The engine of the empty history, whose feeds hold up to `ring` rows each.
     pub fn new(alloc: Global, ring: u32) -> Engine
@@ -49,7 +83,7 @@ impl Engine {
         ensures none { steps_of result ≡ 0 }
     {
         Engine {
-            database: Database::new(alloc),
+            layers: Layers::new(alloc, ring),
             steps: 0,
         }
     }
@@ -60,14 +94,9 @@ impl Engine {
         ensures history { (h : List Event) (n : ℕ) → StandsFor self.old h → StandsFor self.new (event n seat cmd.now result ∷ h) }
         ensures steps { steps_of self.new ≡ steps_of self.old + 1 }
     {
+        let reply = self.layers.step(seat, cmd);
         self.steps += 1;
-        match self.database.answer(seat, cmd) {
-            Err(_) => Reply::Refused(Refusal::NoMemory),
-            Ok(reply) => match self.database.record(seat, cmd, &reply) {
-                Err(_) => Reply::Refused(Refusal::NoMemory),
-                Ok(()) => reply,
-            },
-        }
+        reply
     }
 
     /// How many commands it answered.
@@ -83,6 +112,14 @@ impl Engine {
         ensures count { result ≡ closed_timestamp self.now }
         ensures history { (h : List Event) → StandsFor self.now h → result ≡ closed_of (effects_of h) }
     {
-        self.database.closed()
+        self.layers.closed()
+    }
+
+    /// Whether a feed is served from the store and not from its ring, if it lives.
+    pub fn behind(&self, feed: u64) -> Option<bool>
+        ensures own { result ≡ behind_of self.now feed }
+        ensures history { (h : List Event) → StandsFor self.now h → is_some result ≡ is_some (place_of (effects_of h) feed) }
+    {
+        self.layers.behind(feed)
     }
 }

@@ -1,3 +1,4 @@
 pub mod Turning
 pub mod Answering
 pub mod Finishing
+pub mod Opening

@@ -10,7 +10,7 @@ use Rattle.engine.specs.Engine.{StandsFor, closed_timestamp, steps_of, closed_ti
 
 -- the history is legal
 pub legal_of : (engine : Engine) (h : List Event) → StandsFor engine h → IsLegal h
-legal_of engine h stands = stands.history.legal
+legal_of engine h stands = stands.kept.legal
 
 -- each event was a step
 pub steps_are : (engine : Engine) (h : List Event) → StandsFor engine h → steps_of engine ≡ length h

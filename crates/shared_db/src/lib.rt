@@ -29,8 +29,6 @@ mod config;
 mod db;
 mod served;
 mod sharing;
-#[cfg(test)]
-mod tests;
 
 pub use calls::{CallDenied, Spent};
 pub use config::{Config, OpenError};

@@ -1,18 +1,23 @@
-use Rattle.std.proofs.Common.{refl, sym, ◌∙◌, ap}
-use Rattle.spans.specs.Legal.{is_accepted}
-use Rattle.engine.proofs.Taken.{counted_below, stands_taken, stands_wanting}
+use Rattle.engine.proofs.Histories.{are_noted, closed_in_range, goes_on, has_number, has_room, history_step, open_noted}
 use Rattle.engine.proofs.Engine.step.Goals as goal
 
-pub returns-in-Err-record-clause-history : goal.returns-in-Err-record-clause-history
-returns-in-Err-record-clause-history c = λ h n stands.
-    stands_wanting c.args.self.now c.record.new.self h n c.args.seat c.args.cmd.now stands c.in-Err-record.ensures.err
-    (ap is_accepted (sym (c.in-Ok.ensures.answer h stands.history (counted_below c.args.self.now h stands c.requires.room))) ∙ c.in-Err-record.ensures.memory.0) c.in-Err-record.ensures.memory.1
+pub step-reply-requires-clause-noted : goal.step-reply-requires-clause-noted
+step-reply-requires-clause-noted c = are_noted c.args.self.now.layers c.args.self.now.steps c.args.self.now.stands
 
-pub returns-in-Ok-record-clause-history : goal.returns-in-Ok-record-clause-history
-returns-in-Ok-record-clause-history c = λ h n stands.
-    stands_taken c.args.self.now c.record.new.self h n c.args.seat c.args.cmd.now c.in-Ok.reply stands (c.in-Ok.ensures.answer h stands.history (counted_below c.args.self.now h stands c.requires.room)) (c.in-Ok-record.ensures.ok h n)
+pub step-reply-requires-clause-open : goal.step-reply-requires-clause-open
+step-reply-requires-clause-open c = open_noted c.args.self.now.layers c.args.self.now.steps c.args.self.now.stands
 
-pub returns-in-Err-clause-history : goal.returns-in-Err-clause-history
-returns-in-Err-clause-history c = λ h n stands.
-    let wanting = c.in-Err.ensures.memory h stands.history in
-    stands_wanting c.args.self.now c.args.self.now.database h n c.args.seat c.args.cmd.now stands refl wanting.0 wanting.1
+pub step-reply-requires-clause-number : goal.step-reply-requires-clause-number
+step-reply-requires-clause-number c = has_number c.args.self.now.layers c.args.self.now.steps c.args.self.now.stands c.requires.room
+
+pub step-reply-requires-clause-low : goal.step-reply-requires-clause-low
+step-reply-requires-clause-low c = closed_in_range c.args.self.now.layers c.args.self.now.steps c.args.self.now.stands
+
+pub step-reply-requires-clause-room : goal.step-reply-requires-clause-room
+step-reply-requires-clause-room c = has_room c.args.self.now.layers c.args.self.now.steps c.args.self.now.stands c.requires.room
+
+pub invariant_of-self : goal.invariant_of-self
+invariant_of-self c = record { stands = goes_on c.args.self.now.layers c.step-reply.new.self c.args.self.now.steps c.args.seat c.args.cmd.now c.step-reply.result c.step-reply.ensures.step c.step-reply.ensures.served c.args.self.now.stands }
+
+pub returns-clause-history : goal.returns-clause-history
+returns-clause-history c = λ h n stands. history_step c.args.self.now.layers c.step-reply.new.self c.args.self.now.steps h n c.args.seat c.args.cmd.now c.step-reply.result stands c.step-reply.ensures.step c.step-reply.ensures.served

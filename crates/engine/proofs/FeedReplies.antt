@@ -1,0 +1,77 @@
+-- The replies to the commands of feeds.
+use Rattle.std.proofs.Common.{Bool, List, None, Option, Some, [], ap, cond, drop, false, length, refl, subst, sym, take, true, ℕ, ◌≡◌, ◌∙◌}
+use Rattle.std.specs.Prelude.{is_some, nat_lt, not, option_map}
+use Rattle.std.proofs.lemmas.Bool.{eq-eqb}
+use Rattle.timestamps.specs.declared.row.Row.{Row}
+use Rattle.spans.specs.Kept.{Kept, Place}
+use Rattle.spans.specs.declared.calls.commands.Cmd.TheVariants.{Poll}
+use Rattle.spans.specs.declared.calls.messages.Message.{Message}
+use Rattle.spans.specs.declared.calls.replies.Refusal.TheVariants.{NotOwner}
+use Rattle.spans.specs.declared.calls.replies.Reply.TheVariants.{Messages, Refused}
+use Rattle.kept.specs.Answered.{IsAnswered, IsReplyOf, IsWanting}
+use Rattle.kept.specs.Changes.{IsAlike, IsMovedBy}
+use Rattle.kept.specs.Places.{AreLeft, AreNext}
+use Rattle.kept.specs.Replies.{messages_left, poll_place, poll_reply}
+use Rattle.feed.specs.Live.{Live}
+use Rattle.feed.specs.Standing.{IsPut, Standing, behind_in, behind_or, is_behind, live_in, place_in, ring_of, ring_or, seat_in}
+use Rattle.feed.proofs.Serving.{ring_here}
+use Rattle.std.proofs.lemmas.List.{drop_all}
+use Rattle.std.proofs.lemmas.Bool.{ltb-false}
+
+-- the feed lives and is the seat's
+owned : (k : Kept) (seat f max : ℕ) (place : Place) (rows : List Row) → k.feed f ≡ Some place → place.seat ≡ seat → poll_reply k seat f max rows ≡ Messages (take max (messages_left k.closed place rows))
+owned k seat f max place rows lives owner = ap (poll_place k seat f max rows) lives ∙ ap (λ b. cond (not b) (Refused NotOwner) (Messages (take max (messages_left k.closed place rows)))) (eq-eqb place.seat seat owner)
+
+next_of : (k : Kept) (f max : ℕ) (place : Place) (rows : List Row) → k.feed f ≡ Some place → AreLeft k.version k.decided place k.closed rows → (other : Place) → k.feed f ≡ Some other → AreNext k other max rows
+next_of k f max place rows lives left other is = let same : place ≡ other = (let e : Some place ≡ Some other = sym lives ∙ is in cc) in subst (λ p. AreNext k p max rows) same (record { all = rows; left = left; first = refl })
+
+poll_is : (k : Kept) (seat f max : ℕ) (place : Place) (rows : List Row) (ms : List Message) → k.feed f ≡ Some place → place.seat ≡ seat → AreLeft k.version k.decided place k.closed rows → ms ≡ take max (messages_left k.closed place rows) → IsReplyOf k seat (Poll f max) (Messages ms)
+poll_is k seat f max place rows ms lives owner left told = (rows, (λ other is mine. next_of k f max place rows lives left other is), ap Messages told ∙ sym (owned k seat f max place rows lives owner))
+
+pub poll_done : (k k' : Kept) (seat f max : ℕ) (place : Place) (rows : List Row) (ms : List Message) → k.feed f ≡ Some place → place.seat ≡ seat → AreLeft k.version k.decided place k.closed rows → ms ≡ take max (messages_left k.closed place rows) → IsMovedBy k k' f ms → IsAnswered k k' seat (Poll f max) (Messages ms)
+poll_done k k' seat f max place rows ms lives owner left told moved = record { right = poll_is k seat f max place rows ms lives owner left told; change = moved }
+
+pub poll_wanting : (k k' : Kept) (seat f max : ℕ) (place : Place) → k.feed f ≡ Some place → place.seat ≡ seat → IsAlike k k' → IsWanting k k' seat (Poll f max)
+poll_wanting k k' seat f max place lives owner alike = record { may = refl; accepting = (place, lives, owner); alike = alike }
+
+-- a feed of a seat lives
+pub lives_of : (s : Standing) (f seat : ℕ) → seat_in s f ≡ Some seat → (l : Live) × (live_in s f ≡ Some l) × (l.place.seat ≡ seat)
+lives_of s f seat is = by (live_in s f) refl
+  where
+    by : (o : Option Live) → live_in s f ≡ o → (l : Live) × (live_in s f ≡ Some l) × (l.place.seat ≡ seat)
+    by None e = (let no' : None ≡ Some seat = sym (ap (option_map (λ (l : Live). l.place.seat)) e) ∙ is in cc)
+    by (Some l) e = (l, e, (let same : Some l.place.seat ≡ Some seat = sym (ap (option_map (λ (l : Live). l.place.seat)) e) ∙ is in cc))
+
+pub place_of_live : (s : Standing) (f : ℕ) (l : Live) → live_in s f ≡ Some l → place_in s f ≡ Some l.place
+place_of_live s f l e = ap (option_map (λ (l : Live). l.place)) e
+
+pub behind_of_live : (s : Standing) (f : ℕ) (l : Live) (b : Bool) → live_in s f ≡ Some l → behind_in s f ≡ Some b → is_behind s f ≡ b
+behind_of_live s f l b e is = ap behind_or e ∙ (let same : Some l.behind ≡ Some b = sym (ap (option_map (λ (l : Live). l.behind)) e) ∙ is in cc)
+
+pub ring_of_live : (s : Standing) (f : ℕ) (l : Live) → live_in s f ≡ Some l → ring_of s f ≡ l.ring
+ring_of_live s f l e = ap ring_or e
+
+-- a feed that stays behind has no ring to speak of, and one that leaves has told all that was left
+pub ahead_told : (s s' : Standing) (f max : ℕ) (l : Live) (rows : List Row) (p : Place) → IsPut s s' f (Some (record { place = p; behind = nat_lt max (length rows); ring = [] })) → is_behind s' f ≡ false → ring_of s' f ≡ drop max rows
+ahead_told s s' f max l rows p put isnt =
+    let here = ring_here s s' f (record { place = p; behind = nat_lt max (length rows); ring = [] }) put in
+    let few : nat_lt max (length rows) ≡ false = sym here.0 ∙ isnt in
+    here.1 ∙ sym (drop_all max rows (ltb-false max (length rows) few))
+
+pub seat_lives : (s : Standing) (f seat : ℕ) → seat_in s f ≡ Some seat → is_some (place_in s f) ≡ true
+seat_lives s f seat is = let l = lives_of s f seat is in ap is_some (place_of_live s f l.0 l.1)
+
+pub seatless : (s : Standing) (f : ℕ) → seat_in s f ≡ None → is_some (place_in s f) ≡ false
+seatless s f is = by (live_in s f) refl
+  where
+    by : (o : Option Live) → live_in s f ≡ o → is_some (place_in s f) ≡ false
+    by None e = ap (λ (o : Option Live). is_some (option_map (λ (l : Live). l.place) o)) e
+    by (Some l) e = (let no' : Some l.place.seat ≡ None = sym (ap (option_map (λ (l : Live). l.place.seat)) e) ∙ is in cc)
+
+-- a feed that lives is behind or not
+pub behind_lives : (s : Standing) (f : ℕ) → is_some (behind_in s f) ≡ is_some (place_in s f)
+behind_lives s f = by (live_in s f)
+  where
+    by : (o : Option Live) → is_some (option_map (λ (l : Live). l.behind) o) ≡ is_some (option_map (λ (l : Live). l.place) o)
+    by None = refl
+    by (Some l) = refl

@@ -1,0 +1,48 @@
+-- What the layers of an engine hold, as what is kept of a history.
+use Rattle.std.specs.Prelude.{List, None, false, length, ℕ, ◌<◌, ◌≡◌}
+use Rattle.spans.specs.Effects.{effects_of}
+use Rattle.spans.specs.Kept.{Kept}
+use Rattle.spans.specs.declared.calls.events.Event.{Event}
+use Rattle.spans.proofs.WriteSets.{has}
+use Rattle.kept.specs.HeldBack.{AreHeldBack}
+use Rattle.kept.specs.Rings.{AreRings}
+use Rattle.kept.specs.StandsFor as keeping
+use Rattle.kept.specs.Table.{keys_of}
+use Rattle.closing.specs.Standing.{closed_in, made_in, protections_in}
+use Rattle.feed.specs.Standing.{is_behind, opened_in, place_in, ring_of}
+use Rattle.hold_back.specs.Held.{gap_in, is_lost, rows_in}
+use Rattle.read_marks.specs.Marks.{is_marked_in}
+use Rattle.txn_table.specs.TransactionIn.{transaction_in}
+use Rattle.version_chain.specs.Stores.{is_decided_in, version_in}
+use Rattle.engine.specs.declared.layers.Layers.{Layers}
+
+-- each layer's part
+abbrev pub kept_of : Layers → Kept
+kept_of e = record {
+  closed = closed_in e.closing;
+  horizon = e.horizon;
+  version = version_in e.rules.store;
+  decided = is_decided_in e.rules.store;
+  marked = is_marked_in e.rules.marks;
+  transaction = transaction_in e.rules.txns;
+  protections = protections_in e.closing;
+  protections_made = made_in e.closing;
+  feed = place_in e.feeds;
+  feeds_opened = opened_in e.feeds;
+}
+
+-- above closed, each version is one of a key that its transaction noted
+abbrev pub AreNoted : Kept → Type 0
+AreNoted k = (x : List ℕ) (t : ℕ) → k.closed < t → has x (keys_of (k.transaction t)) ≡ false → k.version x t ≡ None
+
+-- the layers hold what is kept of a legal history of so many events, and the rings and the rows that are held back are
+-- those of it
+pub record IsHistory (e : Layers) (steps : ℕ) (h : List Event) : Type 0 where
+  pub kept : keeping.StandsFor (kept_of e) h
+  pub counted : steps ≡ length h
+  pub rings : AreRings (ring_of e.feeds) (is_behind e.feeds) (effects_of h)
+  pub held : AreHeldBack (effects_of h) (is_lost (gap_in e.held_back)) (rows_in e.held_back)
+
+-- of some history
+abbrev pub HasHistory : Layers → ℕ → Type 0
+HasHistory e steps = (h : List Event) × IsHistory e steps h

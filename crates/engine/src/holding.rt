@@ -1,0 +1,32 @@
+//! What a commit holds back for feeds.
+ghost use Rattle.spans.proofs.StreamOrder.{RisingRows};
+ghost use Rattle.version_chain.specs.Stores.{version_in};
+ghost use Rattle.hold_back.specs.Held.{rows_in};
+ghost use Rattle.hold_back.specs.HeldAll.{IsHeldAll};
+ghost use Rattle.engine.specs.Holding.{IsKeyHeld, rows_at};
+
+use hold_back::HoldBack;
+use timestamps::key::Key;
+use version_chain::Store;
+
+/// Holds back what stands at `ts` at each of the keys.
+pub(crate) fn hold_rows(held: &mut HoldBack, store: &Store, ts: u64, keys: &[Key])
+    ensures held { IsHeldAll ts (rows_at store.now ts keys.now) held.old held.new }
+    ensures rising { RisingRows (rows_in held.old) → RisingRows (rows_in held.new) }
+{
+    for key in keys {
+        hold_row(held, store, ts, key);
+    }
+}
+
+/// Holds back what stands at `ts` at a key, if anything.
+fn hold_row(held: &mut HoldBack, store: &Store, ts: u64, key: &Key)
+    ensures held { IsKeyHeld held.old held.new ts key.now (version_in store.now key.now ts) }
+    ensures rising { RisingRows (rows_in held.old) → RisingRows (rows_in held.new) }
+{
+    if let Some(version) = store.newest_at(key, ts) {
+        if version.ts.get() == ts {
+            held.add(version.ts, key, version.after.as_ref());
+        }
+    }
+}

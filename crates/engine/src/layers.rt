@@ -1,0 +1,100 @@
+//! The layers that an engine stands on, and which of them answers a command.
+ghost use Rattle.std.specs.Prelude.{[], None, ◌≡◌, ◌<◌, ◌≤◌, ℕ};
+ghost use Rattle.timestamps.specs.declared.ts.TheConstants.{MAX};
+ghost use Rattle.kept.specs.StandsFor.{nothing_kept};
+ghost use Rattle.kept.specs.Changes.{IsAlike};
+ghost use Rattle.closing.specs.Standing.{closed_in};
+ghost use Rattle.mvto_rules.specs.Closings.{AreOpenNoted};
+ghost use Rattle.kept.specs.Answered.{IsStep};
+
+use closing::Closing;
+use feed::Feeds;
+use hold_back::HoldBack;
+use mvto_rules::Rules;
+use spans::calls::{Cmd, Reply};
+use std::alloc::Global;
+
+/// Each layer holds its part of what is kept of a history.
+#[derive(Drop)]
+pub(crate) struct Layers {
+    /// Versions, marks of readers, and transactions.
+    pub(crate) rules: Rules,
+    /// The closed timestamp and the protections.
+    pub(crate) closing: Closing,
+    /// Below it, versions may be gone.
+    pub(crate) horizon: u64,
+    pub(crate) feeds: Feeds,
+    /// Committed rows that aren't closed yet.
+    pub(crate) held_back: HoldBack,
+}
+
+impl Layers {
+    ghost use Rattle.engine.specs.Layers.{AreNoted, kept_of};
+    ghost use Rattle.engine.specs.Served.{AreServing, IsServed};
+    ghost use Rattle.feed.specs.Standing.{behind_in, live_in, opened_in};
+    ghost use Rattle.hold_back.specs.Held.{gap_in, rows_in};
+
+    /// Nothing has happened.
+    pub(crate) fn new(alloc: Global, ring: u32) -> Layers
+        ensures kept { IsAlike nothing_kept (kept_of result) }
+        ensures feeds { (f : ℕ) → live_in result.feeds f ≡ None }
+        ensures rows { rows_in result.held_back ≡ [] }
+        ensures gap { gap_in result.held_back ≡ None }
+    {
+        Layers {
+            rules: Rules::new(alloc),
+            closing: Closing::new(alloc),
+            horizon: 0,
+            feeds: Feeds::new(alloc, ring as usize),
+            held_back: HoldBack::new(alloc),
+        }
+    }
+
+    /// The closed timestamp.
+    pub(crate) fn closed(&self) -> u64
+        ensures { result ≡ closed_in self.now.closing }
+    {
+        self.closing.closed()
+    }
+
+    /// Whether a feed is served from the store, if it lives.
+    pub(crate) fn behind(&self, feed: u64) -> Option<bool>
+        ensures { result ≡ behind_in self.now.feeds feed }
+    {
+        self.feeds.behind(feed)
+    }
+
+    /// Answers a seat's command.
+    pub(crate) fn step(&mut self, seat: u8, cmd: &Cmd) -> Reply
+        requires noted { AreNoted (kept_of self.old) }
+        requires open { AreOpenNoted self.old.rules.store self.old.rules.txns }
+        requires number { opened_in self.old.feeds < 18446744073709551615 }
+        requires low { closed_in self.old.closing ≤ MAX }
+        requires room { (kept_of self.old).protections_made < 18446744073709551615 }
+        ensures step { AreServing self.old → IsStep (kept_of self.old) (kept_of self.new) seat cmd.now result }
+        ensures served { AreServing self.old → IsServed self.old self.new seat cmd.now result }
+    {
+        match cmd {
+            Cmd::Begin { ts } => self.begin(seat, *ts),
+            Cmd::Get { ts, key } => self.get(seat, *ts, key),
+            Cmd::Scan { ts, span } => self.scan(seat, *ts, span),
+            Cmd::Put { ts, key, value } => self.put(seat, *ts, key, value),
+            Cmd::Del { ts, key } => self.del(seat, *ts, key),
+            Cmd::Commit { ts } => self.commit(seat, *ts),
+            Cmd::Abort { ts } => self.abort(seat, *ts),
+            Cmd::Close { to } => self.close(seat, *to),
+            Cmd::CloseHard { to } => self.close_hard(seat, *to),
+            Cmd::ReadAt { t, key } => self.read_at(seat, *t, key),
+            Cmd::ScanAt { t, span } => self.scan_at(seat, *t, span),
+            Cmd::Protect { t } => self.protect(seat, *t),
+            Cmd::Release { id } => self.release(seat, *id),
+            Cmd::Collect { to } => self.collect(seat, *to),
+            Cmd::Open { span, cursor } => self.open(seat, span, *cursor),
+            Cmd::OpenInitial { span, cursor } => self.open_initial(seat, span, *cursor),
+            Cmd::OpenEvery { span, cursor, gap } => self.open_every(seat, span, *cursor, *gap),
+            Cmd::Poll { feed, max } => self.poll(seat, *feed, *max),
+            Cmd::Cancel { feed } => self.cancel(seat, *feed),
+            Cmd::Stats => self.stats(seat),
+        }
+    }
+}

@@ -1,0 +1,24 @@
+//! How much the layers hold.
+ghost use Rattle.spans.specs.declared.calls.commands.Cmd.TheVariants.{Stats};
+ghost use Rattle.kept.specs.Answered.{IsStep};
+
+use crate::layers::Layers;
+use spans::calls::Reply;
+
+impl Layers {
+    ghost use Rattle.engine.specs.Layers.{kept_of};
+    ghost use Rattle.engine.specs.Served.{IsUnserved};
+
+    pub(crate) fn stats(&mut self, seat: u8) -> Reply
+        ensures step { IsStep (kept_of self.old) (kept_of self.new) seat Stats result }
+        ensures same { IsUnserved self.old self.new }
+    {
+        Reply::Stats {
+            versions: self.rules.store.versions(),
+            undecided: self.rules.txns.undecided(),
+            feeds: self.feeds.count(),
+            closed: self.closing.closed(),
+            horizon: self.horizon,
+        }
+    }
+}
