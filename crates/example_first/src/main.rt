@@ -2,7 +2,7 @@
 //! write the text of `examples/first.transcript`. (`examples/check` compares the files.)
 #![tactic(auto)]
 
-use sessions::{Config, End, serve};
+use sessions::{Config, End, Reading, Writing, serve};
 use std::io;
 use std::process::ExitCode;
 
@@ -12,7 +12,9 @@ fn main(rt: HostRuntime) -> ExitCode {
         ring: 1024,
         first: 0,
     };
-    match serve(&rt, rt.alloc(), config, rt.reader(), io::writer(&rt)) {
+    let mut input = Reading::new(rt.reader());
+    let mut output = Writing::new(io::writer(&rt));
+    match serve(&rt, rt.alloc(), config, &mut input, &mut output) {
         End::Done => ExitCode::SUCCESS,
         _ => ExitCode::FAILURE,
     }

@@ -13,7 +13,7 @@ pub enum End {
     No,
     /// No position is left for another call. The output says at which line, as its last line.
     Spent,
-    /// The database was not opened. Nothing was read or written.
+    /// The database was not opened. Nothing was written.
     Open(OpenError),
     /// The input could not be read to its end.
     Input,
@@ -21,18 +21,19 @@ pub enum End {
     Output,
     /// A growth of memory was refused.
     Memory,
+    /// A thread could not be started.
+    Thread,
 }
 
-impl From<sessions::End> for End {
-    fn from(end: sessions::End) -> End {
-        match end {
-            sessions::End::Done => End::Done,
-            sessions::End::Faulty => End::Faulty,
-            sessions::End::Spent => End::Spent,
-            sessions::End::Open(refused) => End::Open(refused),
-            sessions::End::Input => End::Input,
-            sessions::End::Output => End::Output,
-            sessions::End::Memory => End::Memory,
-        }
+/// The end of a run, without the line that it came at.
+pub(crate) fn told(end: sessions::End) -> End {
+    match end {
+        sessions::End::Done => End::Done,
+        sessions::End::Fault { .. } => End::Faulty,
+        sessions::End::Spent { .. } => End::Spent,
+        sessions::End::Open(refused) => End::Open(refused),
+        sessions::End::Input => End::Input,
+        sessions::End::Output => End::Output,
+        sessions::End::Memory => End::Memory,
     }
 }

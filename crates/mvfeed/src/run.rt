@@ -1,9 +1,8 @@
 //! `mvfeed run`.
 
-use crate::ending::End;
-use sessions::{Config, serve};
+use crate::ending::{End, told};
+use sessions::{Config, Sink, Source, serve};
 use std::alloc::Global;
-use std::io::{Read, Write};
 use std::sync::Wait;
 
 /// What a database is opened with where the command line doesn't say.
@@ -15,12 +14,12 @@ pub const DEFAULTS: Config = Config {
 
 /// Reads a script, makes its calls in order on one database, and writes the transcript. A faulty line
 /// ends it with its fault; what was answered before stands.
-pub fn run_io<R: Read + Drop, W: Write + Drop, T: Wait>(
+pub fn run_io<S: Source, K: Sink, T: Wait>(
     rt: &T,
     alloc: Global,
     options: Config,
-    input: R,
-    output: W,
+    input: &mut S,
+    output: &mut K,
 ) -> End {
-    serve(rt, alloc, options, input, output).into()
+    told(serve(rt, alloc, options, input, output))
 }

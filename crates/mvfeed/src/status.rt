@@ -26,7 +26,7 @@ pub(crate) fn status_of(end: End) -> u8 {
         End::Done => 0,
         End::Faulty => 2,
         End::No => NO,
-        End::Open(_) | End::Input | End::Output | End::Memory | End::Spent => FAILED,
+        End::Open(_) | End::Input | End::Output | End::Memory | End::Thread | End::Spent => FAILED,
     }
 }
 
@@ -39,6 +39,7 @@ pub(crate) fn word_of(end: End) -> Option<&'static str> {
         End::Open(OpenError::NoMemory) | End::Memory => Some(MEMORY),
         End::Input => Some("input"),
         End::Output => Some(OUTPUT),
+        End::Thread => Some("thread"),
         End::Spent => Some("spent"),
     }
 }

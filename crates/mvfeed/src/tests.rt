@@ -4,6 +4,7 @@ mod checks;
 mod closings;
 mod devices;
 mod feeds;
+mod racing;
 mod random;
 mod rows;
 mod transactions;
@@ -13,7 +14,7 @@ use crate::ending::End;
 use crate::run::{DEFAULTS, run_io};
 use crate::status::{status_of, word_of};
 use devices::{Sink, Source};
-use sessions::{Config, OpenError};
+use sessions::{Config, OpenError, Reading, Writing};
 use std::alloc::{AllocError, Global};
 use std::sync::Wait;
 use std::test::Fail;
@@ -25,13 +26,26 @@ struct Ran {
     output: Vec<u8>,
 }
 
+/// How a run ends that reads from the one and writes to the other.
+fn run_on<R: Wait>(
+    rt: &R,
+    alloc: Global,
+    options: Config,
+    source: Source<'_>,
+    sink: &mut Sink,
+) -> End {
+    let mut input = Reading::new(source);
+    let mut output = Writing::new(sink);
+    run_io(rt, alloc, options, &mut input, &mut output)
+}
+
 fn run_of<R: Wait>(rt: &R, alloc: Global, input: &[u8]) -> Ran {
     run_with(rt, alloc, DEFAULTS, input)
 }
 
 fn run_with<R: Wait>(rt: &R, alloc: Global, options: Config, input: &[u8]) -> Ran {
     let mut sink = Sink::new(alloc);
-    let end = run_io(rt, alloc, options, Source::new(input), &mut sink);
+    let end = run_on(rt, alloc, options, Source::new(input), &mut sink);
     Ran {
         end,
         output: sink.taken,
@@ -162,7 +176,7 @@ fn a_read_fails(rt: HostRuntime) {
     let mut sink = Sink::new(rt.alloc());
     // Two lines and five bytes of the third.
     let source = Source::new(TWO_SESSIONS.as_bytes()).failing_after(29);
-    let end = run_io(&rt, rt.alloc(), DEFAULTS, source, &mut sink);
+    let end = run_on(&rt, rt.alloc(), DEFAULTS, source, &mut sink);
     assert_eq!(rt; end, End::Input);
     assert_eq!(rt;
         sink.taken.as_slice(),
@@ -174,7 +188,7 @@ fn a_read_fails(rt: HostRuntime) {
 fn a_write_fails(rt: HostRuntime) {
     for stuck in [false, true] {
         let mut sink = Sink::new(rt.alloc()).with_room(30, stuck);
-        let end = run_io(
+        let end = run_on(
             &rt,
             rt.alloc(),
             DEFAULTS,
@@ -185,77 +199,6 @@ fn a_write_fails(rt: HostRuntime) {
         assert_eq!(rt;
             sink.taken.as_slice(),
             b"0 0 begin 10 => started\n1 0 pu".as_slice()
-        );
-    }
-}
-
-/// The events of a transcript that come from the first so many bytes of its script, whole lines alone.
-fn events_of<'a>(transcript: &'a str, script: &[u8]) -> &'a [u8] {
-    let lines = script.iter().filter(|b| **b == b'\n').count();
-    let mut length = 0usize;
-    let mut seen = 0usize;
-    for line in transcript.lines() {
-        if !line.starts_with("row ") && !line.starts_with("{") {
-            seen = seen.saturating_add(1);
-        }
-        if seen > lines {
-            break;
-        }
-        length = length.saturating_add(line.len()).saturating_add(1);
-    }
-    transcript.as_bytes().get(..length).unwrap_or(b"")
-}
-
-#[test]
-fn a_read_fails_after_any_byte(rt: HostRuntime) -> Result<(), Fail> {
-    let transcript = feeds::LAGGING;
-    let script = script_of(rt.alloc(), transcript)?;
-    for length in 0..script.len() + 1 {
-        let mut sink = Sink::new(rt.alloc());
-        let source = Source::new(script.as_slice()).failing_after(length);
-        let end = run_io(&rt, rt.alloc(), DEFAULTS, source, &mut sink);
-        assert_eq!(rt; end, End::Input, "after {length} bytes");
-        assert_eq!(rt;
-            sink.taken.as_slice(),
-            events_of(transcript, &script[..length]),
-            "after {length} bytes"
-        );
-    }
-    Ok(())
-}
-
-#[test]
-fn a_write_fails_after_any_byte(rt: HostRuntime) -> Result<(), Fail> {
-    let transcript = feeds::LAGGING.as_bytes();
-    let script = script_of(rt.alloc(), feeds::LAGGING)?;
-    for room in 0..transcript.len() {
-        for stuck in [false, true] {
-            let mut sink = Sink::new(rt.alloc()).with_room(room, stuck);
-            let source = Source::new(script.as_slice());
-            let end = run_io(&rt, rt.alloc(), DEFAULTS, source, &mut sink);
-            assert_eq!(rt; end, End::Output, "after {room} bytes");
-            assert_eq!(rt;
-                sink.taken.as_slice(),
-                &transcript[..room],
-                "after {room} bytes"
-            );
-        }
-    }
-    Ok(())
-}
-
-#[test]
-fn any_cut_of_the_reads_gives_the_same_output(rt: HostRuntime) {
-    let whole = run_of(&rt, rt.alloc(), TWO_SESSIONS.as_bytes());
-    for piece in 1..TWO_SESSIONS.len() {
-        let mut sink = Sink::new(rt.alloc());
-        let source = Source::new(TWO_SESSIONS.as_bytes()).in_pieces_of(piece);
-        let end = run_io(&rt, rt.alloc(), DEFAULTS, source, &mut sink);
-        assert_eq!(rt; end, End::Done);
-        assert_eq!(rt;
-            sink.taken.as_slice(),
-            whole.output.as_slice(),
-            "in pieces of {piece}"
         );
     }
 }
@@ -290,6 +233,7 @@ fn statuses(rt: HostRuntime) {
         (End::Input, 1, Some("input")),
         (End::Output, 1, Some("output")),
         (End::Memory, 1, Some("memory")),
+        (End::Thread, 1, Some("thread")),
         (End::Spent, 1, Some("spent")),
     ] {
         assert_eq!(rt; status_of(end), status);
@@ -355,7 +299,7 @@ fn options_in(alloc: Global, words: &[&str]) -> Result<Option<Config>, AllocErro
     match command(alloc)?.try_get_matches_from(words) {
         Ok(matches) => match job_of(&matches) {
             Job::Run(options) => Ok(Some(options)),
-            Job::Check => Ok(None),
+            Job::Race(_) | Job::Check => Ok(None),
         },
         Err(_) => Ok(None),
     }

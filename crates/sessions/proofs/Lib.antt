@@ -1,1 +1,10 @@
+pub mod Finding
+pub mod Blocks
+pub mod Halves
 pub mod Seating
+pub mod Making
+pub mod Scripts
+pub mod Goings
+pub mod Steps
+pub mod Ends
+pub mod Transcripts

@@ -1,1 +1,6 @@
+pub mod Waiting
+pub mod Writing
 pub mod Seating
+pub mod Made
+pub mod Runs
+pub mod Going

@@ -1,15 +1,16 @@
 //! How a run ends.
 use shared_db::OpenError;
+use word_lines::fault::LineFault;
 
-/// Why a run came to its end.
+/// Why a run came to its end. Lines are counted from 1.
 #[derive(Clone, Copy, Debug, PartialEq, Eq)]
 pub enum End {
     /// All of the input was taken, and all of the output written.
     Done,
     /// A line of the input is faulty. The output says which, as its last line.
-    Faulty,
+    Fault { line: u64, fault: LineFault },
     /// No position is left for another call. The output says at which line, as its last line.
-    Spent,
+    Spent { line: u64 },
     /// The database was not opened. Nothing was read or written.
     Open(OpenError),
     /// The input could not be read to its end.

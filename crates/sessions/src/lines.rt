@@ -1,9 +1,23 @@
 //! The lines of an input, read in large blocks.
-ghost use Rattle.std.specs.Prelude.{◌≡◌, ◌≤◌, ◌<◌, ◌+◌, length, IfOk, vec_len};
+//!
+//! ```text
+//! let mut lines = Lines::new(alloc)?;             waits: nothing
+//! lines.next()                  More
+//! lines.read_more(source)?                        waits: 0 begin 10\n0 put 1
+//! lines.next()                  Line(11)
+//! lines.line(11)                "0 begin 10\n"
+//! lines.advance(11)                               waits: 0 put 1
+//! lines.next()                  More
+//! ```
+//!
+//! A front end asks for what is [`next`](Lines::next): of a line it takes what it needs and advances, and where
+//! more has to be read it first writes what it owes, since a read may wait.
+ghost use Rattle.std.specs.Prelude.{◌≡◌, ◌≤◌, ◌<◌, ◌+◌, [], false, position, take, drop, length, vec_len, IfOk, IfSome, OnOk, OnErr};
+ghost use Rattle.script.specs.Lines.{is_newline};
 
+use crate::source::{ReadFailed, Source};
 use memchr::memchr;
 use std::alloc::{AllocError, Global};
-use std::io::Read;
 use word_lines::words::MAX_LINE_BYTES;
 
 /// How many bytes are asked for at once.
@@ -11,38 +25,39 @@ pub(crate) const BLOCK: usize = 65536;
 
 /// What the bytes that were read so far hold next.
 #[derive(Clone, Copy, Debug, PartialEq, Eq)]
-pub(crate) enum Next {
-    /// A line of this many bytes, its newline among them. The last line of an input, and one that is
-    /// too long, has none.
+pub enum Next {
+    /// A line of this many bytes, its newline among them. The last line of an input may have none, and
+    /// more than 4096 bytes without one are handed out as a line, as soon as they are there.
     Line(usize),
-    /// Nothing whole: more has to be read.
+    /// No whole line, and at most 4096 bytes: more has to be read.
     More,
     /// Nothing, and the input is at its end.
     End,
 }
 
-/// A device failed to read. It is not tried again.
-#[derive(Clone, Copy, Debug, PartialEq, Eq)]
-pub(crate) struct ReadFailed;
-
-/// An input with the bytes of it that wait to be taken, line by line.
+/// The bytes of an input that were read and wait to be taken, line by line. It has no device: each read
+/// is handed one.
 #[derive(Drop)]
-pub(crate) struct Lines<R> {
-    source: R,
+pub struct Lines {
     block: Vec<u8>,
     start: usize,
     end: usize,
+    /// Whether the latest read found the end.
     ended: bool,
     ghost ordered: { start ≤ end },
     ghost within: { end ≤ vec_len block },
+    ghost size: { vec_len block ≡ 65536 },
 }
 
-impl<R: Read + Drop> Lines<R> {
-    /// The lines of a source, of which nothing is read yet.
-    pub(crate) fn new(alloc: Global, source: R) -> Result<Lines<R>, AllocError> {
+impl Lines {
+    ghost use Rattle.sessions.specs.Waiting.{waiting, has_ended, IsNext, IsRead, IsMoved};
+
+    /// No bytes yet.
+    pub fn new(alloc: Global) -> Result<Lines, AllocError>
+        ensures { IfOk result (λ lines. (waiting lines ≡ []) × (has_ended lines ≡ false)) }
+    {
         let block = vec![in alloc; 0u8; BLOCK]?;
         Ok(Lines {
-            source,
             block,
             start: 0,
             end: 0,
@@ -50,63 +65,90 @@ impl<R: Read + Drop> Lines<R> {
         })
     }
 
-    fn waiting(&self) -> &[u8] {
+    fn waiting(&self) -> &[u8]
+        ensures { result.now ≡ waiting self.now }
+    {
         &self.block[self.start..self.end]
     }
 
     /// What comes next.
-    pub(crate) fn next(&self) -> Next {
-        let waiting = self.waiting();
-        if let Some(at) = memchr(b'\n', waiting) {
+    pub fn next(&self) -> Next
+        ensures { IsNext self.now result }
+    {
+        let bytes = self.waiting();
+        if let Some(at) = newline_in(bytes) {
             return Next::Line(at + 1);
         }
         // a line that grows past its limit is handed out as it is
-        if waiting.len() > MAX_LINE_BYTES {
-            return Next::Line(waiting.len());
+        if bytes.len() > MAX_LINE_BYTES {
+            return Next::Line(bytes.len());
         }
         if !self.ended {
             return Next::More;
         }
-        if waiting.is_empty() {
+        if bytes.is_empty() {
             return Next::End;
         }
-        Next::Line(waiting.len())
+        Next::Line(bytes.len())
     }
 
-    /// The first `length` bytes that wait, or as many as there are.
-    pub(crate) fn line(&self, length: usize) -> &[u8] {
-        let waiting = self.waiting();
-        &waiting[..length.min(waiting.len())]
+    /// The first bytes that wait, lent where they lie.
+    pub fn line(&self, count: usize) -> &[u8]
+        requires { count ≤ length (waiting self.now) }
+        ensures { result.now ≡ take count (waiting self.now) }
+    {
+        &self.waiting()[..count]
     }
 
-    /// Takes them away.
-    pub(crate) fn advance(&mut self, length: usize) {
-        let waiting = self.end - self.start;
-        self.start += length.min(waiting);
+    /// Takes away the first bytes that wait.
+    pub fn advance(&mut self, count: usize)
+        requires { count ≤ length (waiting self.old) }
+        ensures bytes { waiting self.new ≡ drop count (waiting self.old) }
+        ensures ended { has_ended self.new ≡ has_ended self.old }
+    {
+        self.start += count;
     }
 
-    /// Reads once. It may wait for the source.
-    pub(crate) fn read_more(&mut self) -> Result<(), ReadFailed> {
+    /// Reads once, behind what waits. It may wait for the source. Where the read fails all stays as it was.
+    pub fn read_more<S: Source>(&mut self, source: &mut S) -> Result<(), ReadFailed>
+        requires room { length (waiting self.old) ≤ 4096 }
+        requires open { has_ended self.old ≡ false }
+        ensures read { OnOk result (IsRead self.old self.new (S.given source.old) (S.given source.new) (S.ended source.new)) }
+        ensures worked { OnOk result (S.failures source.new ≡ S.failures source.old) }
+        ensures waits { OnErr result ((waiting self.new ≡ waiting self.old) × (has_ended self.new ≡ has_ended self.old)) }
+        ensures nothing { OnErr result (S.given source.new ≡ S.given source.old) }
+        ensures still { OnErr result (S.ended source.new ≡ S.ended source.old) }
+        ensures failed { OnErr result (S.failures source.new ≡ S.failures source.old + 1) }
+    {
         self.move_to_front();
-        match self.source.read(&mut self.block[self.end..]) {
-            Err(_) => Err(ReadFailed),
-            Ok(0) => {
-                self.ended = true;
-                Ok(())
-            }
+        match source.read(&mut self.block[self.end..]) {
+            Err(failed) => Err(failed),
             Ok(count) => {
+                self.ended = count == 0;
                 self.end += count;
                 Ok(())
             }
         }
     }
 
-    fn move_to_front(&mut self) {
-        let length = self.end - self.start;
+    /// Makes room behind what waits.
+    fn move_to_front(&mut self)
+        requires room { length (waiting self.old) ≤ 4096 }
+        ensures { IsMoved self.old self.new }
+    {
         if self.start > 0 {
             self.block.copy_within(self.start..self.end, 0);
+            self.end -= self.start;
             self.start = 0;
-            self.end = length;
         }
     }
+}
+
+/// Where the first newline stands.
+#[tactic(auto, using(crate::proofs::Finding::first_newline))]
+fn newline_in(bytes: &[u8]) -> Option<usize>
+    ensures place { result ≡ position is_newline bytes.now }
+    ensures within { IfSome result (λ at. at < length bytes.now) }
+{
+    memchr(b'\n', bytes)
 }

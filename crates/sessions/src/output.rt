@@ -1,70 +1,110 @@
 //! The output, handed to its device in large blocks.
-ghost use Rattle.std.specs.Prelude.{◌≤◌, ◌<◌, length};
+//!
+//! ```text
+//! let mut output = Output::new(alloc)?;    waits: nothing
+//! output.keep_event(&event)?               waits: 0 0 begin 10 => started\n
+//! output.keep(b"resolved 5\n")?            waits: 0 0 begin 10 => started\nresolved 5\n
+//! output.write_full(sink)?                 as before: it is less than 65536 bytes
+//! output.write_out(sink)?                  waits: nothing
+//! ```
+ghost use Rattle.std.specs.Prelude.{◌≡◌, ◌≤◌, ◌<◌, ◌+◌, ◌++◌, [], length, IfOk, OnOk, OnErr};
+ghost use Rattle.word_lines.specs.Events.{event_text, fault_line, spent_line};
+ghost use Rattle.sessions.specs.Writing.{pending_of, HasTaken, HasBegun};
 
+use crate::sink::{Sink, WriteFailed};
 use spans::calls::Event;
 use std::alloc::{AllocError, Global};
-use std::io::Write;
 use word_lines::events::{write_event, write_fault, write_spent};
 use word_lines::fault::LineFault;
 
 /// How many bytes are kept before they are written.
 pub(crate) const BLOCK: usize = 65536;
 
-/// A device failed to write, or took nothing. It is not tried again.
-#[derive(Clone, Copy, Debug, PartialEq, Eq)]
-pub(crate) struct WriteFailed;
-
-/// A device with the bytes that wait to be written to it.
+/// The bytes that wait to be written.
 #[derive(Drop)]
-pub(crate) struct Output<W> {
-    sink: W,
+pub struct Output {
     pending: Vec<u8>,
 }
 
-impl<W: Write + Drop> Output<W> {
-    /// An output to which nothing was written.
-    pub(crate) fn new(alloc: Global, sink: W) -> Result<Output<W>, AllocError> {
+impl Output {
+    /// Nothing waits.
+    pub fn new(alloc: Global) -> Result<Output, AllocError>
+        ensures { IfOk result (λ output. pending_of output ≡ []) }
+    {
         let pending = Vec::with_capacity(alloc, BLOCK)?;
-        Ok(Output { sink, pending })
+        Ok(Output { pending })
+    }
+
+    /// Keeps these bytes. Where memory is wanted, none of them.
+    pub fn keep(&mut self, bytes: &[u8]) -> Result<(), AllocError>
+        ensures ok { OnOk result (pending_of self.new ≡ pending_of self.old ++ bytes.now) }
+        ensures err { OnErr result (pending_of self.new ≡ pending_of self.old) }
+    {
+        self.pending.extend_from_slice(bytes)
     }
 
     /// Keeps the text of an event. Where memory is wanted, none of it.
-    pub(crate) fn keep_event(&mut self, event: &Event) -> Result<(), AllocError> {
+    pub fn keep_event(&mut self, event: &Event) -> Result<(), AllocError>
+        ensures ok { OnOk result (pending_of self.new ≡ pending_of self.old ++ event_text event.now) }
+        ensures err { OnErr result (pending_of self.new ≡ pending_of self.old) }
+    {
         write_event(&mut self.pending, event)
     }
 
     /// Keeps the last line of an output whose input has a faulty line.
-    pub(crate) fn keep_fault(&mut self, line: u64, fault: LineFault) -> Result<(), AllocError> {
+    pub fn keep_fault(&mut self, line: u64, fault: LineFault) -> Result<(), AllocError>
+        ensures ok { OnOk result (pending_of self.new ≡ pending_of self.old ++ fault_line line fault) }
+        ensures err { OnErr result (pending_of self.new ≡ pending_of self.old) }
+    {
         write_fault(&mut self.pending, line, fault)
     }
 
     /// Keeps the last line of an output whose positions are used up.
-    pub(crate) fn keep_spent(&mut self, line: u64) -> Result<(), AllocError> {
+    pub fn keep_spent(&mut self, line: u64) -> Result<(), AllocError>
+        ensures ok { OnOk result (pending_of self.new ≡ pending_of self.old ++ spent_line line) }
+        ensures err { OnErr result (pending_of self.new ≡ pending_of self.old) }
+    {
         write_spent(&mut self.pending, line)
     }
 
-    /// Writes what waits where that is a block or more.
-    pub(crate) fn write_full(&mut self) -> Result<(), WriteFailed> {
+    /// Writes what waits where that is a block or more, as `write_out` does.
+    pub fn write_full<K: Sink>(&mut self, sink: &mut K) -> Result<(), WriteFailed>
+        ensures ok { OnOk result (HasTaken (K.taken sink.old) (K.taken sink.new) (pending_of self.old) (pending_of self.new)) }
+        ensures err { OnErr result (HasBegun (K.taken sink.old) (K.taken sink.new) (pending_of self.old)) }
+        ensures worked { OnOk result (K.failures sink.new ≡ K.failures sink.old) }
+        ensures failed { OnErr result (K.failures sink.new ≡ K.failures sink.old + 1) }
+    {
         if self.pending.len() < BLOCK {
             return Ok(());
         }
-        self.write_out()
+        self.write_out(sink)
     }
 
-    /// Writes all that waits.
-    pub(crate) fn write_out(&mut self) -> Result<(), WriteFailed> {
-        write_all(&mut self.sink, self.pending.as_slice())?;
+    /// Writes all that waits. Where it fails a part of it is written, and nothing more is to be.
+    pub fn write_out<K: Sink>(&mut self, sink: &mut K) -> Result<(), WriteFailed>
+        ensures ok { OnOk result (HasTaken (K.taken sink.old) (K.taken sink.new) (pending_of self.old) (pending_of self.new)) }
+        ensures none { OnOk result (pending_of self.new ≡ []) }
+        ensures err { OnErr result (HasBegun (K.taken sink.old) (K.taken sink.new) (pending_of self.old)) }
+        ensures worked { OnOk result (K.failures sink.new ≡ K.failures sink.old) }
+        ensures failed { OnErr result (K.failures sink.new ≡ K.failures sink.old + 1) }
+    {
+        write_all(sink, self.pending.as_slice())?;
         self.pending.clear();
         Ok(())
     }
 }
 
 /// Writes the bytes, in as many pieces as the device takes. Where it fails, those before are written.
-pub(crate) fn write_all<W: Write>(sink: &mut W, bytes: &[u8]) -> Result<(), WriteFailed> {
+pub(crate) fn write_all<K: Sink>(sink: &mut K, bytes: &[u8]) -> Result<(), WriteFailed>
+    ensures ok { OnOk result (HasTaken (K.taken sink.old) (K.taken sink.new) bytes.now []) }
+    ensures err { OnErr result (HasBegun (K.taken sink.old) (K.taken sink.new) bytes.now) }
+    ensures worked { OnOk result (K.failures sink.new ≡ K.failures sink.old) }
+    ensures failed { OnErr result (K.failures sink.new ≡ K.failures sink.old + 1) }
+{
     let mut rest = bytes;
     while !rest.is_empty() {
         match sink.write(rest) {
-            Err(_) | Ok(0) => return Err(WriteFailed),
+            Err(failed) => return Err(failed),
             Ok(count) => rest = &rest[count..],
         }
     }

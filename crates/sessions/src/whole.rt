@@ -1,28 +1,87 @@
 //! Whole inputs and whole outputs, for a program that answers once it has read everything.
+ghost use Rattle.std.specs.Prelude.{◌≡◌, ◌<◌, ◌++◌, [], true, vec_len, IfOk, IfErr, OnOk, OnErr};
+ghost use Rattle.script.specs.Transcripts.{transcript_text};
+ghost use Rattle.sessions.specs.declared.ending.End.TheVariants as end;
+ghost use Rattle.sessions.specs.Writing.{HasTaken, HasBegun, StopsReading, StopsWriting};
 
 use crate::ending::End;
 use crate::lines::BLOCK;
-use crate::output::write_all;
-use std::alloc::Global;
-use std::io::{Read, Write};
+use crate::output::{Output, write_all};
+use crate::sink::Sink;
+use crate::source::Source;
+use spans::calls::Event;
+use std::alloc::{AllocError, Global};
 
-/// Reads a source to its end. A read that fails in any way is not tried again.
-pub fn read_whole<R: Read>(alloc: Global, source: &mut R) -> Result<Vec<u8>, End> {
-    let mut block = vec![in alloc; 0u8; BLOCK]?;
+/// Reads a source to its end.
+pub fn read_whole<S: Source>(alloc: Global, source: &mut S) -> Result<Vec<u8>, End>
+    ensures whole { IfOk result (λ whole. S.given source.new ≡ S.given source.old ++ whole.items) }
+    ensures ended { OnOk result (S.ended source.new ≡ true) }
+    ensures worked { OnOk result (S.failures source.new ≡ S.failures source.old) }
+    ensures failed { IfErr result (λ end. StopsReading end (S.failures source.old) (S.failures source.new)) }
+{
+    let mut block = match room(alloc) {
+        Ok(block) => block,
+        Err(_) => return Err(End::Memory),
+    };
     let mut whole = Vec::new(alloc);
-    for _ in 0..u64::MAX {
+    for _turn in 0..u64::MAX {
         match source.read(&mut block) {
-            Err(_) => return Err(End::Input),
             Ok(0) => return Ok(whole),
-            Ok(count) => whole.extend_from_slice(&block[..count])?,
+            Ok(count) => match whole.extend_from_slice(&block[..count]) {
+                Ok(()) => {}
+                Err(_) => return Err(End::Memory),
+            },
+            Err(_) => return Err(End::Input),
         }
     }
-    Err(End::Input)
+    // each turn has read a byte, and no list is so long
+    unreachable!()
 }
 
-/// Writes the bytes, in as many pieces as the device takes. A write that fails is not tried again, nor
-/// is one that takes nothing.
-pub fn write_whole<W: Write>(sink: &mut W, bytes: &[u8]) -> Result<(), End> {
-    write_all(sink, bytes)?;
-    Ok(())
+/// Room for one read.
+fn room(alloc: Global) -> Result<Vec<u8>, AllocError>
+    ensures { IfOk result (λ block. 0 < vec_len block) }
+{
+    vec![in alloc; 0u8; BLOCK]
+}
+
+/// Writes the bytes, in as many pieces as the device takes.
+pub fn write_whole<K: Sink>(sink: &mut K, bytes: &[u8]) -> Result<(), End>
+    ensures ok { OnOk result (HasTaken (K.taken sink.old) (K.taken sink.new) bytes.now []) }
+    ensures worked { OnOk result (K.failures sink.new ≡ K.failures sink.old) }
+    ensures err { OnErr result (HasBegun (K.taken sink.old) (K.taken sink.new) bytes.now) }
+    ensures failed { IfErr result (λ end. StopsWriting end (K.failures sink.old) (K.failures sink.new)) }
+    ensures output { IfErr result (λ e. e ≡ end.Output) }
+{
+    match write_all(sink, bytes) {
+        Ok(()) => Ok(()),
+        Err(_) => Err(End::Output),
+    }
+}
+
+/// Writes the text of events, one after the other, in large blocks.
+pub fn write_transcript<K: Sink>(alloc: Global, sink: &mut K, events: &[Event]) -> Result<(), End>
+    ensures ok { OnOk result (HasTaken (K.taken sink.old) (K.taken sink.new) (transcript_text events.now) []) }
+    ensures worked { OnOk result (K.failures sink.new ≡ K.failures sink.old) }
+    ensures err { OnErr result (HasBegun (K.taken sink.old) (K.taken sink.new) (transcript_text events.now)) }
+    ensures failed { IfErr result (λ end. StopsWriting end (K.failures sink.old) (K.failures sink.new)) }
+{
+    let mut output = match Output::new(alloc) {
+        Ok(output) => output,
+        Err(_) => return Err(End::Memory),
+    };
+    for event in events {
+        match output.keep_event(event) {
+            Ok(()) => {}
+            Err(_) => return Err(End::Memory),
+        }
+        match output.write_full(sink) {
+            Ok(()) => {}
+            Err(_) => return Err(End::Output),
+        }
+    }
+    match output.write_out(sink) {
+        Ok(()) => Ok(()),
+        Err(_) => Err(End::Output),
+    }
 }

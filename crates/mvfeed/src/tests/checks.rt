@@ -5,6 +5,7 @@ use super::{Ran, TRANSCRIPTS, random, run_of};
 use crate::check::check_io;
 use crate::command_line::{Job, command, job_of};
 use crate::ending::End;
+use sessions::{Reading, Writing};
 use std::alloc::{AllocError, Global};
 use std::test::Fail;
 
@@ -69,9 +70,16 @@ const VERDICTS: [(&str, End, &str); 12] = [
     ),
 ];
 
+/// How a check ends that reads from the one and writes to the other.
+pub(super) fn check_on(alloc: Global, source: Source<'_>, sink: &mut Sink) -> End {
+    let mut input = Reading::new(source);
+    let mut output = Writing::new(sink);
+    check_io(alloc, &mut input, &mut output)
+}
+
 fn check_of(alloc: Global, transcript: &[u8]) -> Ran {
     let mut sink = Sink::new(alloc);
-    let end = check_io(alloc, Source::new(transcript), &mut sink);
+    let end = check_on(alloc, Source::new(transcript), &mut sink);
     Ran {
         end,
         output: sink.taken,
@@ -153,12 +161,12 @@ fn a_check_whose_devices_fail(rt: HostRuntime) {
     let transcript = b"7 0 stats => stats 0 0 0 0 0\n".as_slice();
     let mut sink = Sink::new(rt.alloc());
     let source = Source::new(transcript).failing_after(9);
-    assert_eq!(rt; check_io(rt.alloc(), source, &mut sink), End::Input);
+    assert_eq!(rt; check_on(rt.alloc(), source, &mut sink), End::Input);
     assert!(rt; sink.taken.is_empty());
     for stuck in [false, true] {
         let mut sink = Sink::new(rt.alloc()).with_room(2, stuck);
         assert_eq!(rt;
-            check_io(rt.alloc(), Source::new(transcript), &mut sink),
+            check_on(rt.alloc(), Source::new(transcript), &mut sink),
             End::Output
         );
         assert_eq!(rt; sink.taken.as_slice(), b"ye".as_slice());
@@ -183,7 +191,7 @@ fn a_check_reads_all_pieces(rt: HostRuntime) -> Result<(), Fail> {
     for piece in [1, 7, 4096, 65536, usize::MAX] {
         let mut sink = Sink::new(rt.alloc());
         let source = Source::new(transcript.as_slice()).in_pieces_of(piece);
-        let end = check_io(rt.alloc(), source, &mut sink);
+        let end = check_on(rt.alloc(), source, &mut sink);
         assert_eq!(rt; end, End::No, "in pieces of {piece}");
         assert_eq!(rt;
             sink.taken.as_slice(),
@@ -204,7 +212,7 @@ fn a_check_whose_reads_fail_in_mid_stream(rt: HostRuntime) -> Result<(), Fail> {
             let source = Source::new(transcript.as_slice())
                 .in_pieces_of(piece)
                 .failing_after(length);
-            let end = check_io(rt.alloc(), source, &mut sink);
+            let end = check_on(rt.alloc(), source, &mut sink);
             assert_eq!(rt; end, End::Input, "after {length} bytes");
             assert!(rt; sink.taken.is_empty(), "after {length} bytes");
         }

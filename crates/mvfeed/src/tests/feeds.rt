@@ -26,7 +26,7 @@ pub(crate) const LAGGING: &str = "0 0 begin 5 => started
 ";
 
 /// Transcripts of runs that end well.
-pub(crate) const TRANSCRIPTS: [&str; 7] = [
+pub(crate) const TRANSCRIPTS: [&str; 14] = [
     // the order of commits is not that of the stream
     "0 0 open - - 0 => opened 1
 1 1 begin 20 => started
@@ -123,5 +123,140 @@ pub(crate) const TRANSCRIPTS: [&str; 7] = [
 {\"after\":\"NA==\",\"key\":\"YQ==\",\"updated\":\"9\"}
 15 0 poll 1 2 => messages 1
 {\"resolved\":\"9\"}
+",
+    // a snapshot at a cursor, and then what came after
+    "0 0 begin 5 => started
+1 0 put 5 a 1 => written
+2 0 put 5 b 2 => written
+3 0 put 5 c 3 => written
+4 0 commit 5 => committed 3
+5 0 begin 8 => started
+6 0 del 8 b => written
+7 0 put 8 c 4 => written
+8 0 commit 8 => committed 2
+9 0 close 9 => closed 9 0
+10 1 openinitial - - 10 => notclosed 9
+11 1 openinitial - - 7 => opened 1
+12 1 poll 1 2 => messages 2
+{\"after\":\"MQ==\",\"key\":\"YQ==\",\"updated\":\"7\"}
+{\"after\":\"Mg==\",\"key\":\"Yg==\",\"updated\":\"7\"}
+13 0 collect 9 => collected 7 0
+14 1 poll 1 10 => messages 4
+{\"after\":\"Mw==\",\"key\":\"Yw==\",\"updated\":\"7\"}
+{\"after\":null,\"key\":\"Yg==\",\"updated\":\"8\"}
+{\"after\":\"NA==\",\"key\":\"Yw==\",\"updated\":\"8\"}
+{\"resolved\":\"9\"}
+15 0 collect 9 => collected 9 3
+16 1 openinitial - - 9 => opened 2
+17 1 poll 2 10 => messages 3
+{\"after\":\"MQ==\",\"key\":\"YQ==\",\"updated\":\"9\"}
+{\"after\":\"NA==\",\"key\":\"Yw==\",\"updated\":\"9\"}
+{\"resolved\":\"9\"}
+18 1 openinitial - - 8 => belowhorizon 9
+",
+    // a snapshot collected between its polls: the cursor holds the horizon until a row above it is told
+    "0 0 begin 2 => started
+1 0 put 2 a 1 => written
+2 0 put 2 b 1 => written
+3 0 put 2 c - => written
+4 0 commit 2 => committed 3
+5 0 begin 5 => started
+6 0 put 5 a 2 => written
+7 0 del 5 b => written
+8 0 commit 5 => committed 2
+9 0 begin 8 => started
+10 0 put 8 a 3 => written
+11 0 commit 8 => committed 1
+12 0 closehard 9 => closed 9 0
+13 1 openinitial - - 5 => opened 1
+14 0 collect 9 => collected 5 3
+15 1 poll 1 1 => messages 1
+{\"after\":\"Mg==\",\"key\":\"YQ==\",\"updated\":\"5\"}
+16 0 collect 9 => collected 5 0
+17 1 poll 1 2 => messages 2
+{\"after\":\"\",\"key\":\"Yw==\",\"updated\":\"5\"}
+{\"after\":\"Mw==\",\"key\":\"YQ==\",\"updated\":\"8\"}
+18 0 collect 9 => collected 7 0
+19 1 poll 1 1 => messages 1
+{\"resolved\":\"9\"}
+20 1 openinitial b c 9 => opened 2
+21 1 poll 2 5 => messages 1
+{\"resolved\":\"9\"}
+22 1 openinitial - c 9 => opened 3
+23 1 poll 3 1 => messages 1
+{\"after\":\"Mw==\",\"key\":\"YQ==\",\"updated\":\"9\"}
+24 0 cancel 3 => cancelled
+25 1 poll 3 1 => feedcancelled
+26 0 collect 9 => collected 9 1
+",
+    // an initial feed resolves its cursor, once; where its span holds no key, too
+    "0 0 close 9 => closed 9 0
+1 0 openinitial - - 9 => opened 1
+2 0 poll 1 5 => messages 1
+{\"resolved\":\"9\"}
+3 0 poll 1 5 => messages 0
+4 0 openinitial b b 9 => opened 2
+5 0 poll 2 5 => messages 1
+{\"resolved\":\"9\"}
+6 0 poll 2 5 => messages 0
+",
+    // a least gap between resolved messages
+    "0 0 openevery - - 0 10 => opened 1
+1 0 close 9 => closed 9 0
+2 0 poll 1 5 => messages 0
+3 0 close 10 => closed 10 0
+4 0 poll 1 5 => messages 1
+{\"resolved\":\"10\"}
+5 1 begin 15 => started
+6 1 put 15 a 1 => written
+7 1 commit 15 => committed 1
+8 0 close 19 => closed 19 0
+9 0 poll 1 5 => messages 1
+{\"after\":\"MQ==\",\"key\":\"YQ==\",\"updated\":\"15\"}
+10 0 collect 19 => collected 14 0
+11 0 close 20 => closed 20 0
+12 0 poll 1 5 => messages 1
+{\"resolved\":\"20\"}
+13 0 openevery - - 20 0 => gaprange
+",
+    // a gap lies above the cursor at first, and isn't counted in multiples
+    "0 0 openevery - - 3 10 => opened 1
+1 0 close 12 => closed 12 0
+2 0 poll 1 5 => messages 0
+3 0 close 15 => closed 15 0
+4 0 poll 1 0 => messages 0
+5 0 poll 1 1 => messages 1
+{\"resolved\":\"15\"}
+6 0 close 24 => closed 24 0
+7 0 poll 1 5 => messages 0
+8 0 close 25 => closed 25 0
+9 0 poll 1 5 => messages 1
+{\"resolved\":\"25\"}
+10 0 poll 1 5 => messages 0
+11 0 openevery - - 25 1 => opened 2
+12 0 poll 2 5 => messages 0
+13 0 close 26 => closed 26 0
+14 0 poll 2 5 => messages 1
+{\"resolved\":\"26\"}
+",
+    // the greatest cursor and the greatest gap, and what is above them
+    "0 0 openinitial - - 9223372036854775808 => tsrange
+1 0 openevery - - 9223372036854775808 0 => tsrange
+2 0 openevery - - 0 9223372036854775808 => gaprange
+3 0 openevery - - 9223372036854775807 9223372036854775807 => opened 1
+4 0 openinitial - - 0 => opened 2
+5 0 open - - 9 => opened 3
+6 1 poll 1 1 => notowner
+7 0 stats => stats 0 0 3 0 0
+",
+    // the tests of openings in their order
+    "0 0 close 30 => closed 30 0
+1 0 collect 20 => collected 20 0
+2 0 openevery - - 19 0 => gaprange
+3 0 openevery - - 19 1 => belowhorizon 20
+4 0 openinitial - - 19 => belowhorizon 20
+5 0 openinitial - - 31 => notclosed 30
+6 0 openevery - - 31 1 => opened 1
+7 0 openinitial - - 20 => opened 2
 ",
 ];

@@ -1,0 +1,60 @@
+//! Bytes that only proofs read.
+//!
+//! A contract that speaks of all that a reader gave, or a writer took, needs those bytes by name, and nothing
+//! at run time keeps them. A [`ByteLog`] is such a list: it grows by a piece, and takes no memory and no step.
+//! The adapters of `sessions` over any reader and writer are its callers.
+//!
+//! 1. The log of `new` is empty. `and` gives a log that is longer by exactly the bytes of the piece.
+//! 2. Nothing ties a log to a device. What ties it is the contract of who grows it: one that says of the
+//!    bytes of each read, or each write, that they are the piece.
+//!
+//! ```text
+//! let log = ByteLog::new();                          bytes: []
+//! let log = log.and(&Piece { bytes: b"ab" });        bytes: [97, 98]
+//! let log = log.and(&Piece { bytes: b"c" });         bytes: [97, 98, 99]
+//! ```
+//!
+//! ```text
+//! new  nothing
+//! and  nothing
+//! ```
+#![tactic(auto)]
+
+ghost use Rattle.std.specs.Prelude.{◌≡◌, ◌++◌, [], List, ℕ};
+ghost use base.Fml.{ftrue};
+ghost use Rattle.byte_log.specs.Coded.{bytes_code};
+
+use std::marker::Model;
+
+/// A list of bytes that only proofs read.
+#[derive(Drop)]
+pub struct ByteLog {
+    pub ghost bytes: { List ℕ } by { bytes_code },
+}
+
+impl Model for ByteLog {
+    ghost also_owns = { λ _. ftrue };
+}
+
+/// Bytes by which a log grows.
+#[derive(Clone, Copy)]
+pub struct Piece<'a> {
+    pub bytes: &'a [u8],
+}
+
+impl ByteLog {
+    /// No bytes.
+    pub fn new() -> ByteLog
+        ensures { result.bytes ≡ [] }
+    {
+        ByteLog {}
+    }
+
+    /// These bytes, and behind them those of the piece.
+    #[inline(always)]
+    pub fn and(&self, _piece: &Piece<'_>) -> ByteLog
+        ensures { result.bytes ≡ self.now.bytes ++ _piece.now.bytes.now }
+    {
+        ByteLog {}
+    }
+}

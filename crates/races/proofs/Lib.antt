@@ -1,0 +1,9 @@
+mod Breaking
+mod Refusing
+mod Promised
+mod Starting
+mod Weighing
+mod Ordered
+pub mod Shares
+mod Fresh
+mod Giving

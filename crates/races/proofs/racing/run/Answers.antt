@@ -1,0 +1,17 @@
+use Rattle.std.proofs.Common.{◌≡◌, length, subst, arith, rules}
+use Rattle.std.specs.Prelude.{IfOk}
+use Rattle.std.proofs.lemmas.Result.{IfOk-weaker}
+use Rattle.races.specs.Playing.{IsPlayed}
+use Rattle.races.specs.Racing.{AreOk, AllEnded}
+use Rattle.races.proofs.Promised.{read_at, there_at, got_at, all_ended}
+use Rattle.races.proofs.racing.run.Goals as goal
+
+pub returns-in-Ok-join_promised-clause-ended : goal.returns-in-Ok-join_promised-clause-ended
+returns-in-Ok-join_promised-clause-ended g c =
+    let handles = c.in-Ok.handles.items in let results = c.in-Ok-join_promised.results.items in let j = c.in-Ok-join_promised.ensures in let s = c.in-Ok.ensures in
+    let as_many : length results ≡ length handles = search rules in
+    IfOk-weaker c.gather.result (λ all. AreOk results all.items) (AllEnded c.args.db.now c.args.seats.items c.args.lists.items)
+    (λ all ok. all_ended (λ h. h.promise) c.args.db.now c.args.seats.items c.args.lists.items handles results all s.started
+    (λ k r e. let lt = there_at results k r e in let kept = (j.each k r (search rules)).1 in
+    (kept.handle, read_at handles k kept.handle (omega (arith, as_many, lt)) kept.handle_is, subst (λ x. IfOk x (λ e. IsPlayed kept.handle.promise.db.value kept.handle.promise.seat.value kept.handle.promise.commands.value.items e.events.items e.spent e.seat)) (got_at results k r r e) kept.kept))
+    as_many ok (search rules)) c.gather.ensures.ok

@@ -1,0 +1,5 @@
+pub mod Calls
+pub mod Merging
+pub mod Playing
+pub mod Racing
+pub mod Settling

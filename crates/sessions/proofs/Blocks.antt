@@ -1,0 +1,39 @@
+-- What waits in a block.
+use Rattle.std.proofs.Common.{◌≡◌, ℕ, ◌+◌, ◌-◌, ◌≤◌, zero, suc, List, [], ◌∷◌, ◌++◌, length, take, drop, arith, refl, ◌∙◌, sym, ap, subst, append_assoc}
+use Rattle.std.proofs.lemmas.List.{take-append-le, drop-take, drop-drop, length-take, length-take-le}
+use Rattle.std.proofs.Math.Seq.{take-append-add, take-append_seam}
+
+-- the front stays, whatever stands behind it
+pub kept : (s e : ℕ) (xs rest : List ℕ) → s ≡ 0 → e ≤ length xs → take (e - s) (drop s (take e xs ++ rest)) ≡ take (e - s) (drop s xs)
+kept s e xs rest front within =
+    let l : length (take e xs) ≡ e = length-take-le e xs within in
+    let seam : take e (take e xs ++ rest) ≡ take e xs = subst (λ (n : ℕ). take n (take e xs ++ rest) ≡ take e xs) l (take-append_seam (take e xs) rest) in
+    let z : e - s ≡ e = omega arith in
+    rw (z, front) seam
+
+take_take : (k m : ℕ) (ys : List ℕ) → k ≤ m → take k (take m ys) ≡ take k ys
+take_take zero m ys le = refl
+take_take (suc k) zero ys le = absurd (omega arith)
+take_take (suc k) (suc m) [] le = refl
+take_take (suc k) (suc m) (y ∷ ys) le = ap (λ (zs : List ℕ). y ∷ zs) (take_take k m ys (omega arith))
+
+-- what came behind it waits too
+pub grown : (s e n m : ℕ) (xs got rest tail : List ℕ) → s ≡ 0 → e ≤ length xs → n ≤ length got → e + n ≤ m → take (e + n - s) (drop s (take m ((take e xs ++ (got ++ rest)) ++ tail))) ≡ take (e - s) (drop s xs) ++ take n got
+grown s e n m xs got rest tail front within few fits =
+    let l : length (take e xs) ≡ e = length-take-le e xs within in
+    let whole : (take e xs ++ (got ++ rest)) ++ tail ≡ take e xs ++ (got ++ (rest ++ tail)) = append_assoc (take e xs) (got ++ rest) tail ∙ ap (λ (ys : List ℕ). take e xs ++ ys) (append_assoc got rest tail) in
+    let seam : take (e + n) (take e xs ++ (got ++ (rest ++ tail))) ≡ take e xs ++ take n (got ++ (rest ++ tail)) = subst (λ (m : ℕ). take (m + n) (take e xs ++ (got ++ (rest ++ tail))) ≡ take e xs ++ take n (got ++ (rest ++ tail))) l (take-append-add (take e xs) (got ++ (rest ++ tail)) n) in
+    let all : take (e + n) (take e xs ++ (got ++ (rest ++ tail))) ≡ take e xs ++ take n got = seam ∙ ap (λ (ys : List ℕ). take e xs ++ ys) (take-append-le n got (rest ++ tail) few) in
+    let cut : take (e + n) (take m ((take e xs ++ (got ++ rest)) ++ tail)) ≡ take (e + n) ((take e xs ++ (got ++ rest)) ++ tail) = take_take (e + n) m ((take e xs ++ (got ++ rest)) ++ tail) fits in
+    let z : e - s ≡ e = omega arith in
+    let y : e + n - s ≡ e + n = omega arith in
+    rw (y, z, front) (cut ∙ (ap (take (e + n)) whole ∙ all))
+
+-- what was taken off the front waits no longer
+pub advanced : (s e n : ℕ) (xs : List ℕ) → s ≤ e → n ≤ length (take (e - s) (drop s xs)) → take (e - (s + n)) (drop (s + n) xs) ≡ drop n (take (e - s) (drop s xs))
+advanced s e n xs ordered few =
+    let l = length-take (e - s) (drop s xs) in
+    let m : n + (e - (s + n)) ≡ e - s = omega arith in
+    let one : drop n (take (n + (e - (s + n))) (drop s xs)) ≡ take (e - (s + n)) (drop n (drop s xs)) = drop-take n (e - (s + n)) (drop s xs) in
+    let two : drop n (take (e - s) (drop s xs)) ≡ take (e - (s + n)) (drop n (drop s xs)) = subst (λ (k : ℕ). drop n (take k (drop s xs)) ≡ take (e - (s + n)) (drop n (drop s xs))) m one in
+    sym (two ∙ ap (take (e - (s + n))) (drop-drop n s xs))

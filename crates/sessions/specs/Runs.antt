@@ -1,0 +1,100 @@
+-- What a run of a script is: its events, what it read and wrote, and how it ended.
+use Rattle.std.specs.Prelude.{◌≡◌, ℕ, ◌+◌, ◌≤◌, ◌⊎◌, Bool, true, List, [], ◌∷◌, ◌++◌, length, map, position, Some, None}
+use Rattle.spans.specs.declared.calls.commands.Cmd.{Cmd}
+use Rattle.spans.specs.declared.calls.events.Event.{Event}
+use Rattle.word_lines.specs.declared.fault.LineFault.{LineFault}
+use Rattle.word_lines.specs.Events.{fault_line, spent_line}
+use Rattle.script.specs.Lines.{is_newline}
+use Rattle.script.specs.Scripts.{script_at}
+use Rattle.script.specs.Transcripts.{transcript_text}
+use Rattle.ticket_lock.specs.Lists.{most, StartsWith}
+use Rattle.shared_db.specs.declared.config.Config.{Config}
+use Rattle.shared_db.specs.Opening.{IsReason, SeatsInRange, RingInRange}
+use Rattle.sessions.specs.declared.ending.End.{End}
+use Rattle.sessions.specs.declared.ending.End.TheVariants as end
+use Rattle.sessions.specs.Made.{IsHistory}
+
+-- what a source may hold in all that has given so much: this, and more unless it has ended
+pub record MayHold (given : List ℕ) (ended : Bool) (whole : List ℕ) : Type 0 where
+  pub rest : List ℕ
+  pub goes_on : whole ≡ given ++ rest
+  pub stops : ended ≡ true → rest ≡ []
+
+-- the session and the command of an event, and those of events in their order
+abbrev pub call_of : Event → ℕ × Cmd
+call_of e = (e.seat, e.cmd)
+
+abbrev pub calls_of : List Event → List (ℕ × Cmd)
+calls_of events = map call_of events
+
+-- the whole lines of the input are these calls, and behind them is no newline
+pub record AreLines (seats : ℕ) (input : List ℕ) (calls : List (ℕ × Cmd)) : Type 0 where
+  pub lines : List ℕ
+  pub rest : List ℕ
+  pub parts : input ≡ lines ++ rest
+  pub read : script_at seats lines ≡ record { calls = calls; fault = None }
+  pub unended : None ≡ position is_newline rest
+
+-- whatever the source holds, its first calls are these
+abbrev pub BeginWith : ℕ → List ℕ → Bool → List (ℕ × Cmd) → Type 0
+BeginWith seats input ended calls = (whole : List ℕ) → MayHold input ended whole → StartsWith (script_at seats whole).calls calls
+
+-- whatever the source holds, its calls are these, up to this faulty line
+abbrev pub EndWithFault : ℕ → List ℕ → Bool → List (ℕ × Cmd) → ℕ → LineFault → Type 0
+EndWithFault seats input ended calls line fault = (whole : List ℕ) → MayHold input ended whole → script_at seats whole ≡ record { calls = calls; fault = Some (record { line = line; fault = fault }) }
+
+-- all positions are used, and at this line comes a further call
+pub record IsSpentAt (used : Type 0) (seats : ℕ) (input : List ℕ) (ended : Bool) (calls : List (ℕ × Cmd)) (line : ℕ) : Type 0 where
+  pub all : used
+  pub numbered : line ≡ length calls + 1
+  pub call : ℕ × Cmd
+  pub next : BeginWith seats input ended (calls ++ call ∷ [])
+
+-- the line that ends the output of a run, if any does
+abbrev pub IsLast : Type 0 → ℕ → List ℕ → Bool → List (ℕ × Cmd) → List ℕ → Type 0
+IsLast used seats input ended calls last =
+    (last ≡ [])
+    ⊎ ((line : ℕ) × (f : LineFault) × EndWithFault seats input ended calls line f × (last ≡ fault_line line f))
+    ⊎ ((line : ℕ) × IsSpentAt used seats input ended calls line × (last ≡ spent_line line))
+
+-- the output begins the text of the events with the line that ends it
+pub record IsPart (used : Type 0) (seats : ℕ) (input : List ℕ) (ended : Bool) (events : List Event) (output : List ℕ) : Type 0 where
+  pub last : List ℕ
+  pub is_last : IsLast used seats input ended (calls_of events) last
+  pub begins : StartsWith (transcript_text events ++ last) output
+
+-- how each end comes, after these events and with this output
+abbrev pub EndsBy : Type 0 → Config → List ℕ → Bool → List Event → List ℕ → End → Type 0
+EndsBy used config input ended events output end.Done = (ended ≡ true) × (script_at config.seats input ≡ record { calls = calls_of events; fault = None }) × (output ≡ transcript_text events)
+EndsBy used config input ended events output (end.Fault line fault) = EndWithFault config.seats input ended (calls_of events) line fault × (output ≡ transcript_text events ++ fault_line line fault)
+EndsBy used config input ended events output (end.Spent line) = IsSpentAt used config.seats input ended (calls_of events) line × (output ≡ transcript_text events ++ spent_line line)
+EndsBy used config input ended events output (end.Open reason) = IsReason config reason × (input ≡ []) × (events ≡ []) × (output ≡ [])
+EndsBy used config input ended events output end.Input = AreLines config.seats input (calls_of events) × (output ≡ transcript_text events)
+EndsBy used config input ended events output end.Output = IsPart used config.seats input ended events output
+EndsBy used config input ended events output end.Memory = IsPart used config.seats input ended events output
+
+-- a database is opened but at the ends that say otherwise
+abbrev pub IsOpenAt : Config → End → Type 0
+IsOpenAt config (end.Open reason) = Unit {0}
+IsOpenAt config end.Memory = Unit {0}
+IsOpenAt config _ = SeatsInRange config × RingInRange config
+
+-- what is known of a run, where a source had given and a sink had taken so much before it and so much after it
+pub record IsServed (config : Config) (given given' : List ℕ) (ended : Bool) (taken taken' : List ℕ) (e : End) : Type 0 where
+  -- the events are one history from the first position on, which has no gap
+  pub events : List Event
+  pub history : IsHistory config.first events
+  pub input : List ℕ
+  pub read : given' ≡ given ++ input
+  pub output : List ℕ
+  pub wrote : taken' ≡ taken ++ output
+  -- their sessions and commands begin those of the input
+  pub begins : BeginWith config.seats input ended (calls_of events)
+  pub ends : EndsBy (config.first + length events ≡ most) config input ended events output e
+  pub opened : IsOpenAt config e
+
+-- how often reads and writes failed before the run and after it
+abbrev pub FailsBy : End → ℕ → ℕ → ℕ → ℕ → Type 0
+FailsBy end.Input reads reads' writes writes' = (reads' ≡ reads + 1) × (writes' ≡ writes)
+FailsBy end.Output reads reads' writes writes' = (reads ≤ reads') × (writes' ≡ writes + 1)
+FailsBy _ reads reads' writes writes' = (reads' ≡ reads) × (writes' ≡ writes)

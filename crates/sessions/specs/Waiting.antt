@@ -1,0 +1,41 @@
+-- The bytes of an input that were read and not yet taken, and what comes next in them.
+use Rattle.std.specs.Prelude.{◌≡◌, ℕ, ◌+◌, ◌-◌, ◌<◌, ◌≤◌, ◌⊎◌, Bool, true, false, List, [], ◌++◌, length, take, drop, position, Some, None}
+use Rattle.sessions.specs.declared.lines.Next.{Next}
+use Rattle.sessions.specs.declared.lines.Next.TheVariants.{Line, More, End}
+use Rattle.sessions.specs.declared.lines.Lines.{Lines}
+use Rattle.script.specs.Lines.{is_newline}
+
+-- the bytes that wait
+abbrev pub waiting : Lines → List ℕ
+waiting l = take (l.end - l.start) (drop l.start l.block.items)
+
+-- whether the latest read found the end
+abbrev pub has_ended : Lines → Bool
+has_ended l = l.ended
+
+-- so many bytes at the front are the next line: those up to the first newline, or all, where there is
+-- none and the line is too long or the input has ended
+abbrev pub IsLine : Lines → ℕ → Type 0
+IsLine l n =
+    ((at : ℕ) × (Some at ≡ position is_newline (waiting l)) × (n ≡ at + 1))
+    ⊎ ((None ≡ position is_newline (waiting l)) × (n ≡ length (waiting l)) × (0 < n) × ((l.ended ≡ true) ⊎ (4096 < n)))
+
+-- what is said of what waits
+abbrev pub IsNext : Lines → Next → Type 0
+IsNext l (Line n) = (n ≤ length (waiting l)) × IsLine l n
+IsNext l More = (None ≡ position is_newline (waiting l)) × (length (waiting l) ≤ 4096) × (l.ended ≡ false)
+IsNext l End = (waiting l ≡ []) × (l.ended ≡ true)
+
+-- the bytes that wait stand at the front of the block
+pub record IsMoved (old new : Lines) : Type 0 where
+  pub waits : waiting new ≡ waiting old
+  pub ended : new.ended ≡ old.ended
+  pub front : new.start ≡ 0
+  pub room : new.end ≤ 4096
+
+-- one read: what it gave waits behind the rest, and the end is known where it was found
+pub record IsRead (old new : Lines) (given given' : List ℕ) (ended' : Bool) : Type 0 where
+  pub got : List ℕ
+  pub gave : given' ≡ given ++ got
+  pub waits : waiting new ≡ waiting old ++ got
+  pub found : new.ended ≡ ended'

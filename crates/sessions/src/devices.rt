@@ -1,0 +1,125 @@
+//! Any reader as a source, and any writer as a sink.
+ghost use Rattle.std.specs.Prelude.{◌≡◌, ◌≤◌, ◌<◌, ◌+◌, ◌==◌, ◌++◌, [], false, take, length, IfOk, OnOk, OnErr};
+ghost use Rattle.std.specs.Io.KnownBytes.{ReadConsumes, WriteAppends};
+
+use crate::sink::{Sink, WriteFailed};
+use crate::source::{ReadFailed, Source};
+use byte_log::{ByteLog, Piece};
+use std::io::{Read, Write};
+
+/// A reader, with what proofs know of its reads: what they gave, and one byte for each that failed.
+#[derive(Drop)]
+pub struct Reading<R> {
+    pub reader: R,
+    ended: bool,
+    given: ByteLog,
+    failed: ByteLog,
+}
+
+impl<R: Read> Reading<R> {
+    /// The reader, of which nothing was read here.
+    pub fn new(reader: R) -> Reading<R>
+        ensures reader { result.reader ≡ reader }
+        ensures ended { result.ended ≡ false }
+        ensures given { result.given.bytes ≡ [] }
+        ensures failed { result.failed.bytes ≡ [] }
+    {
+        Reading {
+            reader,
+            ended: false,
+            given: ByteLog::new(),
+            failed: ByteLog::new(),
+        }
+    }
+}
+
+impl<R: Read> Source for Reading<R> {
+    ghost given = { λ s. s.given.bytes };
+
+    ghost ended = { λ s. s.ended };
+
+    ghost failures = { λ s. length s.failed.bytes };
+
+    fn read(&mut self, block: &mut [u8]) -> Result<usize, ReadFailed>
+        ensures count { IfOk result (λ n. n ≤ length block.new) }
+        ensures given { IfOk result (λ n. self.new.given.bytes ≡ self.old.given.bytes ++ take n block.new) }
+        ensures ended { IfOk result (λ n. self.new.ended ≡ (n == 0)) }
+        ensures worked { OnOk result (length self.new.failed.bytes ≡ length self.old.failed.bytes) }
+        ensures nothing { OnErr result (self.new.given.bytes ≡ self.old.given.bytes) }
+        ensures still { OnErr result (self.new.ended ≡ self.old.ended) }
+        ensures failed { OnErr result (length self.new.failed.bytes ≡ length self.old.failed.bytes + 1) }
+        // where the reader tells its bytes, these are they
+        ensures known { ReadConsumes (R.remaining self.old.reader) (R.remaining self.new.reader) result block.new }
+    {
+        match self.reader.read(block) {
+            Ok(count) => {
+                self.given = self.given.and(&Piece {
+                    bytes: &block[..count],
+                });
+                self.ended = count == 0;
+                Ok(count)
+            }
+            Err(_) => {
+                self.failed = self.failed.and(&Piece { bytes: &[0] });
+                Err(ReadFailed)
+            }
+        }
+    }
+}
+
+/// A writer, with what proofs know of its writes: what they took, and one byte for each that failed.
+#[derive(Drop)]
+pub struct Writing<W> {
+    pub writer: W,
+    taken: ByteLog,
+    failed: ByteLog,
+}
+
+impl<W: Write> Writing<W> {
+    /// The writer, to which nothing was written here.
+    pub fn new(writer: W) -> Writing<W>
+        ensures writer { result.writer ≡ writer }
+        ensures taken { result.taken.bytes ≡ [] }
+        ensures failed { result.failed.bytes ≡ [] }
+    {
+        Writing {
+            writer,
+            taken: ByteLog::new(),
+            failed: ByteLog::new(),
+        }
+    }
+}
+
+impl<W: Write> Sink for Writing<W> {
+    ghost taken = { λ s. s.taken.bytes };
+
+    ghost failures = { λ s. length s.failed.bytes };
+
+    fn write(&mut self, bytes: &[u8]) -> Result<usize, WriteFailed>
+        ensures least { IfOk result (λ n. 0 < n) }
+        ensures most { IfOk result (λ n. n ≤ length bytes.now) }
+        ensures taken { IfOk result (λ n. self.new.taken.bytes ≡ self.old.taken.bytes ++ take n bytes.now) }
+        ensures worked { OnOk result (length self.new.failed.bytes ≡ length self.old.failed.bytes) }
+        ensures nothing { OnErr result (self.new.taken.bytes ≡ self.old.taken.bytes) }
+        ensures failed { OnErr result (length self.new.failed.bytes ≡ length self.old.failed.bytes + 1) }
+        // where the writer tells its bytes, these are they
+        ensures known { WriteAppends (W.contents self.old.writer) (W.contents self.new.writer) result bytes.now }
+    {
+        match self.writer.write(bytes) {
+            Ok(0) => {
+                self.failed = self.failed.and(&Piece { bytes: &[0] });
+                Err(WriteFailed)
+            }
+            Ok(count) => {
+                self.taken = self.taken.and(&Piece {
+                    bytes: &bytes[..count],
+                });
+                Ok(count)
+            }
+            Err(_) => {
+                self.failed = self.failed.and(&Piece { bytes: &[0] });
+                Err(WriteFailed)
+            }
+        }
+    }
+}
