@@ -1,0 +1,122 @@
+-- A replica after one message more.
+use Rattle.std.proofs.Common.{◌≡◌, ℕ, ◌<◌, Bool, true, false, cond, not, ◌&&◌, List, [], ◌∷◌, ◌++◌, Option, Some, None, refl, sym, ◌∙◌, ap, subst, arith}
+use Rattle.std.specs.Prelude.{nat_lt, max, option_map}
+use Rattle.std.proofs.lemmas.Bool.Decides.{nat_tests}
+use Rattle.timestamps.specs.declared.row.Row.{Row}
+use Rattle.spans.specs.declared.span.Span.{Span}
+use Rattle.spans.specs.declared.calls.messages.Message.{Message}
+use Rattle.spans.specs.declared.calls.messages.Message.TheVariants as messages
+use Rattle.spans.specs.Keys.{in_span}
+use Rattle.spans.specs.Serial.{Map, put}
+use Rattle.spans.specs.Feeds.{last_resolved}
+use Rattle.spans.specs.Consumer as consumer
+use Rattle.spans.specs.Consumer.{view_of, last_row, is_after, reaches, apply_fault, ApplyFault}
+use Rattle.spans.proofs.Feeding.{resolved_join}
+use Rattle.replica.specs.declared.replica.Replica.{Replica}
+use Rattle.replica.specs.declared.fault.Fault.{Fault}
+use Rattle.replica.specs.declared.fault.Fault.TheVariants as faults
+use Rattle.replica.specs.Places.{place_of, is_past, is_over}
+use Rattle.replica.specs.Starts.{resolved_at}
+use Rattle.replica.specs.Replicas.{view_in, Takes, IsFaultAt, test_of}
+use Rattle.replica.specs.Tests.{fault_in}
+
+pub view_join : (m : Map) (ms ns : List Message) → view_of m (ms ++ ns) ≡ view_of (view_of m ms) ns
+view_join m [] ns = refl
+view_join m (messages.Row r ∷ ms) ns = view_join (put m r.key r.after) ms ns
+view_join m (messages.Resolved t ∷ ms) ns = view_join m ms ns
+
+pub last_join : (o : Option Row) (ms ns : List Message) → last_row o (ms ++ ns) ≡ last_row (last_row o ms) ns
+last_join o [] ns = refl
+last_join o (messages.Row r ∷ ms) ns = last_join (Some r) ms ns
+last_join o (messages.Resolved t ∷ ms) ns = last_join o ms ns
+
+pub at_join : (o : Option ℕ) (ms ns : List Message) → resolved_at o (ms ++ ns) ≡ resolved_at (resolved_at o ms) ns
+at_join o [] ns = refl
+at_join o (messages.Row r ∷ ms) ns = at_join None ms ns
+at_join o (messages.Resolved t ∷ ms) ns = at_join (Some t) ms ns
+
+put_like : (m n : Map) (k : List ℕ) (a : Option (List ℕ)) (x : List ℕ) → m x ≡ n x → put m k a x ≡ put n k a x
+put_like m n k a x same = rw same refl
+
+-- a row was taken
+pub takes_row : (old new : Replica) (r : Row) → new.span ≡ old.span → new.resolved ≡ old.resolved → ((x : List ℕ) → view_in new x ≡ put (view_in old) r.key r.after x)
+    → new.last ≡ Some (place_of r) → new.complete ≡ None → Takes old new (messages.Row r)
+takes_row old new r span resolved rows last complete s ms before = record {
+  span = span ∙ before.span;
+  rows = λ x. rows x ∙ put_like (view_in old) (view_of s.rows ms) r.key r.after x (before.rows x) ∙ ap (λ (m : Map). m x) (sym (view_join s.rows ms (messages.Row r ∷ [])));
+  resolved = resolved ∙ before.resolved ∙ sym (resolved_join s.start ms (messages.Row r ∷ []));
+  last = last ∙ ap (option_map place_of) (sym (last_join None ms (messages.Row r ∷ [])));
+  complete = complete ∙ sym (at_join s.first ms (messages.Row r ∷ []));
+}
+
+-- a resolved message was taken
+pub takes_resolved : (old new : Replica) (t : ℕ) → new.span ≡ old.span → new.table ≡ old.table → old.resolved < t → new.resolved ≡ t
+    → new.last ≡ old.last → new.complete ≡ Some t → Takes old new (messages.Resolved t)
+takes_resolved old new t span rows above resolved last complete s ms before = record {
+  span = span ∙ before.span;
+  rows = λ x. ap (λ l. view_at l x) rows ∙ before.rows x ∙ ap (λ (m : Map). m x) (sym (view_join s.rows ms (messages.Resolved t ∷ [])));
+  resolved = resolved ∙ higher (last_resolved s.start ms) (subst (λ n. n < t) before.resolved above) ∙ sym (resolved_join s.start ms (messages.Resolved t ∷ []));
+  last = last ∙ before.last ∙ ap (option_map place_of) (sym (last_join None ms (messages.Resolved t ∷ [])));
+  complete = complete ∙ sym (at_join s.first ms (messages.Resolved t ∷ []));
+}
+  where
+    view_at : List (List ℕ × List ℕ) → Map
+    view_at l = view_in (record old { table = l })
+
+    higher : (n : ℕ) → n < t → t ≡ max n t
+    higher n low = omega arith
+
+past_after : (o : Option Row) (r : Row) → is_past (option_map place_of o) r ≡ is_after o r
+past_after None r = refl
+past_after (Some q) r = refl
+
+over_reaches : (o : Option Row) (t : ℕ) → is_over (option_map place_of o) t ≡ reaches o t
+over_reaches None t = refl
+over_reaches (Some q) t = refl
+
+abbrev tests_of : Option Fault → Option ApplyFault
+tests_of None = None
+tests_of (Some f) = test_of f
+
+by_row : (a b : Bool) → tests_of (cond (not a) (Some faults.NotAfter) (cond (not b) (Some faults.OutsideSpan) None)) ≡ cond (not a) (Some consumer.NotAfter) (cond (not b) (Some consumer.OutsideSpan) None)
+by_row true true = refl
+by_row true false = refl
+by_row false b = refl
+
+by_resolved : (a : Bool) → tests_of (cond (not a) (Some faults.ResolvedBack) None) ≡ cond (not a) (Some consumer.ResolvedBack) None
+by_resolved true = refl
+by_resolved false = refl
+
+-- the tests by what the replica holds are those of the messages that it has taken
+pub faults_agree : (r : Replica) (m : Message) → IsFaultAt r m (tests_of (fault_in r m))
+faults_agree r (messages.Row row) s ms before =
+    ap (λ n. test_row n (is_after (last_row None ms) row) s.span) (sym before.resolved)
+    ∙ ap (λ b. test_row r.resolved b s.span) (sym (past_after (last_row None ms) row) ∙ ap (λ o. is_past o row) (sym before.last))
+    ∙ ap (λ i. test_row r.resolved (is_past r.last row) i) (sym before.span)
+    ∙ sym (by_row (nat_lt r.resolved row.ts && is_past r.last row) (in_span r.span row.key))
+  where
+    test_row : ℕ → Bool → Span → Option ApplyFault
+    test_row n b i = cond (not (nat_lt n row.ts && b)) (Some consumer.NotAfter) (cond (not (in_span i row.key)) (Some consumer.OutsideSpan) None)
+faults_agree r (messages.Resolved t) s ms before =
+    ap (λ n. test_at n (reaches (last_row None ms) t)) (sym before.resolved)
+    ∙ ap (λ b. test_at r.resolved b) (sym (over_reaches (last_row None ms) t) ∙ ap (λ o. is_over o t) (sym before.last))
+    ∙ sym (by_resolved (nat_lt r.resolved t && is_over r.last t))
+  where
+    test_at : ℕ → Bool → Option ApplyFault
+    test_at n b = cond (not (nat_lt n t && b)) (Some consumer.ResolvedBack) None
+
+-- a fault that was found is one of the message
+pub fault_is : (r : Replica) (m : Message) (f : Fault) → fault_in r m ≡ Some f → IsFaultAt r m (test_of f)
+fault_is r m f e s ms before = faults_agree r m s ms before ∙ ap tests_of e
+
+-- a message without a fault has none
+pub fault_none : (r : Replica) (m : Message) → fault_in r m ≡ None → IsFaultAt r m None
+fault_none r m e s ms before = faults_agree r m s ms before ∙ ap tests_of e
+
+-- a resolved message without a fault is above what was resolved
+pub resolved_above : (r : Replica) (t : ℕ) → fault_in r (messages.Resolved t) ≡ None → r.resolved < t
+resolved_above r t none = above (nat_lt r.resolved t) (is_over r.last t) refl none
+  where
+    above : (a b : Bool) → nat_lt r.resolved t ≡ a → cond (not (a && b)) (Some faults.ResolvedBack) None ≡ None → r.resolved < t
+    above true b is e = grind (arith, nat_tests)
+    above false b is e = cc

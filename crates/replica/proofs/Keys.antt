@@ -1,0 +1,40 @@
+-- The keys of a value, as they are copied.
+use Rattle.std.proofs.Common.{◌≡◌, ℕ, true, List, [], ◌∷◌, ◌++◌, Option, Some, Result, Ok, Err, sym, ◌∙◌, ap, subst, append_assoc}
+use Rattle.std.specs.Prelude.{IfOk, ◌↔◌}
+use Rattle.std.specs.BTreeSet.{BTreeSet}
+use Rattle.std.proofs.lemmas.List.{append-nil}
+use Rattle.spans.proofs.Keyed.{IsIn, RisingKeys}
+use Rattle.replica.specs.declared.index.Index.{Index}
+use Rattle.replica.specs.Indexes.{is_among, is_listed, IsIndexOf}
+use Rattle.replica.specs.Rows.{value_at, AreKeysWith}
+use Rattle.replica.proofs.Rising.{is_in_set}
+use Rattle.replica.proofs.Tied.{has_some}
+
+-- one key more was copied
+pub copied_more : (done rest next all : List (List ℕ)) (key copy : List ℕ) → done ++ rest ≡ all → rest ≡ key ∷ next → copy ≡ key → (done ++ copy ∷ []) ++ next ≡ all
+copied_more done rest next all key copy so_far step same =
+    append_assoc done (copy ∷ []) next ∙ ap (λ k. done ++ (k ∷ next)) same ∙ ap (λ l. done ++ l) (sym step) ∙ so_far
+
+pub copied_all : (done rest all : List (List ℕ)) → done ++ rest ≡ all → rest ≡ [] → done ≡ all
+copied_all done rest all so_far none = sym (append-nil done) ∙ ap (λ l. done ++ l) (sym none) ∙ so_far
+
+-- the keys of a set are those that it is asked for
+pub in_set : (keys : List (List ℕ)) (s : BTreeSet (List ℕ)) (o : Option (BTreeSet (List ℕ))) (x : List ℕ) → keys ≡ s.keys → o ≡ Some s → IsIn x keys ↔ (is_among o x ≡ true)
+in_set keys s o x all some = subst (λ p. IsIn x keys ↔ (is_among p x ≡ true)) (sym some) (subst (λ ks. IsIn x ks ↔ (is_among (Some s) x ≡ true)) (sym all) (is_in_set s.keys x))
+
+-- of a result that is a list of keys
+pub keys_in_set : {T E : Type 0} (items : T → List (List ℕ)) (r : Result T E) (s : BTreeSet (List ℕ)) (o : Option (BTreeSet (List ℕ))) → o ≡ Some s → IfOk r (λ t. items t ≡ s.keys)
+    → IfOk r (λ t. (x : List ℕ) → IsIn x (items t) ↔ (is_among o x ≡ true))
+keys_in_set items (Ok t) s o some all = λ x. in_set (items t) s o x all some
+keys_in_set items (Err e) s o some all = tt
+
+pub keys_with : {T E : Type 0} (items : T → List (List ℕ)) (r : Result T E) (rows : List (List ℕ × List ℕ)) (index : Index) (v : List ℕ) → IsIndexOf rows index
+    → IfOk r (λ t. RisingKeys (items t)) → IfOk r (λ t. (x : List ℕ) → IsIn x (items t) ↔ (is_listed index x v ≡ true)) → IfOk r (λ t. AreKeysWith (value_at rows) v (items t))
+keys_with items (Ok t) rows index v tied rising exact = record {
+  rising = rising;
+  each = λ x. (
+    λ i. (has_some (value_at rows x) v).0 (sym (tied x v) ∙ (exact x).0 i),
+    λ e. (exact x).1 (tied x v ∙ (has_some (value_at rows x) v).1 e),
+  );
+}
+keys_with items (Err e) rows index v tied rising exact = tt

@@ -1,0 +1,10 @@
+pub mod Listed
+pub mod Tied
+pub mod Rising
+pub mod Seeding
+pub mod Following
+pub mod Completing
+pub mod Rests
+pub mod Putting
+pub mod Keys
+pub mod Testing

@@ -1,0 +1,86 @@
+-- What is listed after the keys of one value changed.
+use Rattle.std.proofs.Common.{◌≡◌, ℕ, Bool, true, false, cond, ◌&&◌, ◌||◌, List, [], ◌∷◌, length, Option, None, refl, sym, ◌∙◌, ap, subst, arith}
+use Rattle.std.specs.Prelude.{bytes_eq}
+use Rattle.std.specs.List.{list_any}
+use Rattle.std.specs.Map.{lookup}
+use Rattle.std.specs.BTreeMap.{BTreeMap, is_at}
+use Rattle.std.specs.BTreeSet.{BTreeSet}
+use Rattle.std.proofs.lemmas.Map.Text.{is_eq-slice_cmp}
+use Rattle.timestamps.specs.Bytes.{key_cmp}
+use Rattle.spans.proofs.Steps.{by_test, same_key}
+use Rattle.replica.specs.Indexes.{is_among, listed_in}
+
+-- the keys of each value
+abbrev pub Keyed : Type 0
+Keyed = List (List ℕ × BTreeSet (List ℕ))
+
+pub at_bytes : (v u : List ℕ) → is_at (key_cmp v) u ≡ bytes_eq v u
+at_bytes v u = is_eq-slice_cmp v u
+
+-- the look-ups after the keys of v became w
+abbrev pub ArePutAt : Keyed → Keyed → List ℕ → Option (BTreeSet (List ℕ)) → Type 0
+ArePutAt es fs v w = (q : List ℕ) → lookup (is_at (key_cmp q)) fs ≡ cond (is_at (key_cmp v) q) w (lookup (is_at (key_cmp q)) es)
+
+-- two changes of the same value in turn
+pub put_at_twice : (es fs gs : Keyed) (v : List ℕ) (a b : Option (BTreeSet (List ℕ))) → ArePutAt es fs v a → ArePutAt fs gs v b → ArePutAt es gs v b
+put_at_twice es fs gs v a b first second q = second q ∙ by_test (is_at (key_cmp v) q)
+    (λ here. rw here refl)
+    (λ there. rw there (first q ∙ rw there refl))
+
+pub listed_more : (es fs : Keyed) (x v : List ℕ) (w : Option (BTreeSet (List ℕ))) → ArePutAt es fs v w → ((y : List ℕ) → is_among w y ≡ (bytes_eq x y || listed_in es y v))
+    → (y u : List ℕ) → listed_in fs y u ≡ ((bytes_eq v u && bytes_eq x y) || listed_in es y u)
+listed_more es fs x v w put among y u = ap (λ o. is_among o y) (put u) ∙ by_test (bytes_eq v u)
+    (λ here. rw (at_bytes v u, here) (among y ∙ ap (λ n. bytes_eq x y || listed_in es y n) (same_key v u here)))
+    (λ there. rw (at_bytes v u, there) refl)
+
+-- the same of a map that is the one after a write
+pub listed_put : (m n k : BTreeMap (List ℕ) (BTreeSet (List ℕ))) (x z v c : List ℕ) (w : Option (BTreeSet (List ℕ))) → n ≡ k → z ≡ x → c ≡ v → ArePutAt m.entries k.entries c w
+    → ((y : List ℕ) → is_among w y ≡ (bytes_eq z y || listed_in m.entries y c))
+    → (y u : List ℕ) → listed_in n.entries y u ≡ ((bytes_eq v u && bytes_eq x y) || listed_in m.entries y u)
+listed_put m n k x z v c w is key value put among =
+    subst (λ b. (y u : List ℕ) → listed_in n.entries y u ≡ ((bytes_eq b u && bytes_eq x y) || listed_in m.entries y u)) value
+    (subst (λ l. (y u : List ℕ) → listed_in l.entries y u ≡ ((bytes_eq c u && bytes_eq x y) || listed_in m.entries y u)) (sym is)
+    (listed_more m.entries k.entries x c w put (subst (λ b. (y : List ℕ) → is_among w y ≡ (bytes_eq b y || listed_in m.entries y c)) key among)))
+
+pub listed_less : (es fs : Keyed) (x v : List ℕ) (w : Option (BTreeSet (List ℕ))) → ArePutAt es fs v w → ((y : List ℕ) → is_among w y ≡ cond (bytes_eq x y) false (listed_in es y v))
+    → (y u : List ℕ) → listed_in fs y u ≡ cond (bytes_eq v u && bytes_eq x y) false (listed_in es y u)
+listed_less es fs x v w put among y u = ap (λ o. is_among o y) (put u) ∙ by_test (bytes_eq v u)
+    (λ here. rw (at_bytes v u, here) (among y ∙ ap (λ n. cond (bytes_eq x y) false (listed_in es y n)) (same_key v u here)))
+    (λ there. rw (at_bytes v u, there) refl)
+
+-- a set that one key came to, or went from
+pub one_more : (x y : List ℕ) (b c : Bool) → c ≡ cond (is_at (key_cmp x) y) true b → c ≡ (bytes_eq x y || b)
+one_more x y b c e = e ∙ ap (λ h. cond h true b) (at_bytes x y) ∙ by_test (bytes_eq x y) (λ on. rw on refl) (λ off. rw off refl)
+
+pub one_less : (x y : List ℕ) (b c : Bool) → c ≡ cond (is_at (key_cmp x) y) false b → c ≡ cond (bytes_eq x y) false b
+one_less x y b c e = e ∙ ap (λ h. cond h false b) (at_bytes x y)
+
+-- nothing is in an empty set
+pub none_in : (keys : List (List ℕ)) (y : List ℕ) → length keys ≡ 0 → list_any (is_at (key_cmp y)) keys ≡ false
+none_in [] y none = refl
+none_in (x ∷ keys) y none = absurd (omega arith)
+
+-- nothing is listed where no value has keys
+pub none_listed : (es : Keyed) → es ≡ [] → (x v : List ℕ) → listed_in es x v ≡ false
+none_listed es none x v = ap (λ l. listed_in l x v) none
+
+-- where a value has no keys, taking one out changes nothing
+pub less_none : (es : Keyed) (x v : List ℕ) → lookup (is_at (key_cmp v)) es ≡ None → (y u : List ℕ) → listed_in es y u ≡ cond (bytes_eq v u && bytes_eq x y) false (listed_in es y u)
+less_none es x v none y u = by_test (bytes_eq v u)
+    (λ here. let out : listed_in es y u ≡ false = ap (λ n. listed_in es y n) (sym (same_key v u here)) ∙ ap (λ o. is_among o y) none in rw (here, out) (same (bytes_eq x y)))
+    (λ there. rw there refl)
+  where
+    same : (b : Bool) → false ≡ cond b false false
+    same true = refl
+    same false = refl
+
+-- nothing changed
+pub listed_still : (m n k : BTreeMap (List ℕ) (BTreeSet (List ℕ))) → n ≡ k → k.entries ≡ m.entries → (y u : List ℕ) → listed_in n.entries y u ≡ listed_in m.entries y u
+listed_still m n k is same y u = ap (λ l. listed_in l.entries y u) is ∙ ap (λ es. listed_in es y u) same
+
+-- the keys of v are the same ones
+pub listed_same : (m n k : BTreeMap (List ℕ) (BTreeSet (List ℕ))) (v : List ℕ) (w : Option (BTreeSet (List ℕ))) → n ≡ k → ArePutAt m.entries k.entries v w → ((y : List ℕ) → is_among w y ≡ listed_in m.entries y v)
+    → (y u : List ℕ) → listed_in n.entries y u ≡ listed_in m.entries y u
+listed_same m n k v w is put among y u = ap (λ l. listed_in l.entries y u) is ∙ ap (λ o. is_among o y) (put u) ∙ by_test (bytes_eq v u)
+    (λ here. rw (at_bytes v u, here) (among y ∙ ap (λ n. listed_in m.entries y n) (same_key v u here)))
+    (λ there. rw (at_bytes v u, there) refl)

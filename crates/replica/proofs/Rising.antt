@@ -1,0 +1,109 @@
+-- Rows and keys that rise, and what they say of a map.
+use Rattle.std.proofs.Common.{◌≡◌, ℕ, zero, suc, ◌+◌, ◌<◌, true, false, List, [], ◌∷◌, length, get_or, Some, refl, sym, ◌∙◌, ap, subst, inl, inr, arith}
+use Rattle.std.specs.Prelude.{bytes_eq, ◌↔◌}
+use Rattle.std.specs.List.{AllByRecursion, list_any}
+use Rattle.std.specs.List.Sorted.{IsStrictlySortedBy}
+use Rattle.std.specs.Map.{keys_of}
+use Rattle.std.specs.BTreeMap.{is_at}
+use Rattle.std.specs.declared.cmp.Ordering.TheVariants.{Less}
+use Rattle.std.proofs.lemmas.Bool.{false_from_ne_true, or_cases, or_left, or_right}
+use Rattle.timestamps.specs.Bytes.{key_cmp}
+use Rattle.spans.specs.declared.span.Span.{Span}
+use Rattle.spans.specs.Keys.{in_span, IsPairIn, KeysRise}
+use Rattle.spans.proofs.Keyed.{IsIn, RisingKeys, key_clash}
+use Rattle.spans.proofs.Steps.{by_test, same_key, key_itself}
+use Rattle.replica.specs.Rows.{value_at, AreRowsOf}
+use Rattle.replica.specs.Starts.{AreInside}
+use Rattle.replica.proofs.Listed.{at_bytes}
+
+abbrev Pairs : Type 0
+Pairs = List (List ℕ × List ℕ)
+
+above_all : (y : List ℕ) (es : Pairs) → AllByRecursion (λ z. key_cmp y z ≡ Less) (keys_of es) → (x v : List ℕ) → IsPairIn es x v → key_cmp y x ≡ Less
+above_all y [] all x v i = absurd i
+above_all y (e ∷ es) all x v i = elim i [
+  | inl here ↦ subst (λ z. key_cmp y z ≡ Less) here.0 all.0
+  | inr there ↦ above_all y es all.1 x v there
+]
+
+-- the entries of an ordered map rise
+pub rows_rise : (es : Pairs) → IsStrictlySortedBy key_cmp (keys_of es) → KeysRise es
+unfolding IsStrictlySortedBy
+rows_rise [] rising = tt
+rows_rise (e ∷ es) rising = (above_all e.0 es rising.0, rows_rise es rising.1)
+
+pub pair_at : (es : Pairs) (x v : List ℕ) → value_at es x ≡ Some v → IsPairIn es x v
+pair_at [] x v is = cc
+pair_at (e ∷ es) x v is = by_test (is_at (key_cmp x) e.0)
+    (λ here. inl (sym (same_key x e.0 (sym (at_bytes x e.0) ∙ here)), (let s : Some e.1 ≡ Some v = rw here at is in cc)))
+    (λ there. inr (pair_at es x v (rw there at is)))
+
+pub at_pair : (es : Pairs) (x v : List ℕ) → KeysRise es → IsPairIn es x v → value_at es x ≡ Some v
+at_pair [] x v rising i = absurd i
+at_pair (e ∷ es) x v rising i = elim i [
+  | inl here ↦ (let on : is_at (key_cmp x) e.0 ≡ true = at_bytes x e.0 ∙ ap (bytes_eq x) here.0 ∙ key_itself x in rw on (ap Some here.1))
+  | inr there ↦ (let off : is_at (key_cmp x) e.0 ≡ false = at_bytes x e.0 ∙ false_from_ne_true (bytes_eq x e.0) (λ same.
+      let before : key_cmp e.0 e.0 ≡ Less = subst (λ z. key_cmp e.0 z ≡ Less) (same_key x e.0 same) (rising.0 x v there) in
+      key_clash e.0 e.0 before before) in
+      rw off (at_pair es x v rising.1 there))
+]
+
+-- the entries of an ordered map are its rows
+pub are_rows_of : (es : Pairs) → IsStrictlySortedBy key_cmp (keys_of es) → AreRowsOf (value_at es) es
+are_rows_of es rising = record {
+  rising = rows_rise es rising;
+  each = λ x v. (λ i. at_pair es x v (rows_rise es rising) i, λ e. pair_at es x v e);
+}
+
+key_above : (y : List ℕ) (ks : List (List ℕ)) → AllByRecursion (λ z. key_cmp y z ≡ Less) ks → (x : List ℕ) → IsIn x ks → key_cmp y x ≡ Less
+key_above y [] all x i = absurd i
+key_above y (k ∷ ks) all x i = elim i [
+  | inl here ↦ subst (λ z. key_cmp y z ≡ Less) here all.0
+  | inr there ↦ key_above y ks all.1 x there
+]
+
+pub keys_rise : (ks : List (List ℕ)) → IsStrictlySortedBy key_cmp ks → RisingKeys ks
+unfolding IsStrictlySortedBy
+keys_rise [] rising = tt
+keys_rise (k ∷ ks) rising = (key_above k ks rising.0, keys_rise ks rising.1)
+
+pub is_in_set : (ks : List (List ℕ)) (x : List ℕ) → IsIn x ks ↔ (list_any (is_at (key_cmp x)) ks ≡ true)
+is_in_set [] x = (λ i. absurd i, λ e. cc)
+is_in_set (k ∷ ks) x = let more = is_in_set ks x in (
+  λ i. elim i [
+    | inl here ↦ or_left (is_at (key_cmp x) k) _ (at_bytes x k ∙ ap (bytes_eq x) here ∙ key_itself x)
+    | inr there ↦ or_right (is_at (key_cmp x) k) _ (more.0 there)
+  ],
+  λ e. elim (or_cases (is_at (key_cmp x) k) _ e) [
+    | inl here ↦ inl (sym (same_key x k (sym (at_bytes x k) ∙ here)))
+    | inr there ↦ inr (more.1 there)
+  ],
+)
+
+-- rising keys at neighbouring places
+pub rise_at : (es : Pairs) (i : ℕ) (d : List ℕ × List ℕ) → KeysRise es → i + 1 < length es → key_cmp (get_or es i d).0 (get_or es (i + 1) d).0 ≡ Less
+rise_at es i d rising low = subst (λ j. key_cmp (get_or es i d).0 (get_or es j d).0 ≡ Less) (omega arith) (at_suc es i rising (omega arith))
+  where
+    at_suc : (fs : Pairs) (j : ℕ) → KeysRise fs → suc j < length fs → key_cmp (get_or fs j d).0 (get_or fs (suc j) d).0 ≡ Less
+    at_suc [] j r l = absurd (omega arith)
+    at_suc (e ∷ []) j r l = absurd (omega arith)
+    at_suc (e ∷ f ∷ fs) zero r l = r.0 f.0 f.1 (inl (refl, refl))
+    at_suc (e ∷ f ∷ fs) (suc j) r l = at_suc (f ∷ fs) j r.1 (omega arith)
+
+pub keys_at : (es : Pairs) (i : ℕ) (d : List ℕ × List ℕ) → get_or (keys_of es) i d.0 ≡ (get_or es i d).0
+keys_at [] i d = refl
+keys_at (e ∷ es) zero d = refl
+keys_at (e ∷ es) (suc i) d = keys_at es i d
+
+-- what holds of each row by its place holds of each pair
+pub inside_all : (s : Span) (es : Pairs) → ((k : ℕ) (d : List ℕ × List ℕ) → k < length es → in_span s (get_or es k d).0 ≡ true) → AreInside s es
+inside_all s [] all x v i = absurd i
+inside_all s (e ∷ es) all x v i = elim i [
+  | inl here ↦ subst (λ z. in_span s z ≡ true) here.0 (all zero e (omega arith))
+  | inr there ↦ inside_all s es (λ k d l. all (suc k) d (omega arith)) x v there
+]
+
+pub all_inside : (s : Span) (es : Pairs) → AreInside s es → (k : ℕ) (d : List ℕ × List ℕ) → k < length es → in_span s (get_or es k d).0 ≡ true
+all_inside s [] inside k d l = absurd (omega arith)
+all_inside s (e ∷ es) inside zero d l = inside e.0 e.1 (inl (refl, refl))
+all_inside s (e ∷ es) inside (suc k) d l = all_inside s es (λ x v i. inside x v (inr i)) k d (omega arith)

@@ -1,0 +1,70 @@
+-- A map that is made of rising rows, one after another.
+use Rattle.std.proofs.Common.{◌≡◌, ℕ, false, cond, List, [], ◌∷◌, ◌++◌, map, Option, Some, None, refl, sym, ◌∙◌, ap, subst}
+use Rattle.std.specs.Prelude.{bytes_eq}
+use Rattle.std.specs.declared.cmp.Ordering.TheVariants.{Less}
+use Rattle.std.proofs.lemmas.Bool.{both_ways}
+use Rattle.timestamps.specs.Bytes.{key_cmp}
+use Rattle.spans.specs.declared.span.Span.{Span}
+use Rattle.spans.specs.Keys.{in_span, IsPairIn, KeysRise, AreRows, value_among}
+use Rattle.spans.specs.Serial.{Map, put, span_part}
+use Rattle.spans.proofs.Keyed.{pair_among, among_rows, key_clash}
+use Rattle.spans.proofs.Steps.{by_test, same_key}
+
+abbrev Pairs : Type 0
+Pairs = List (List ℕ × List ℕ)
+
+pub map_same : (es : Pairs) → map (λ (y : List ℕ × List ℕ). y) es ≡ es
+map_same [] = refl
+map_same (e ∷ es) = ap (λ l. e ∷ l) (map_same es)
+
+-- the map with the rows put in, in turn
+abbrev pub puts : Map → Pairs → Map
+puts m [] = m
+puts m (e ∷ es) = puts (put m e.0 (Some e.1)) es
+
+pub puts_one : (m : Map) (es : Pairs) (e : List ℕ × List ℕ) → puts m (es ++ e ∷ []) ≡ put (puts m es) e.0 (Some e.1)
+puts_one m [] e = refl
+puts_one m (d ∷ es) e = puts_one (put m d.0 (Some d.1)) es e
+
+abbrev value_or : Option (List ℕ) → Option (List ℕ) → Option (List ℕ)
+value_or None w = w
+value_or (Some v) w = Some v
+
+value_or_none : (o : Option (List ℕ)) → value_or o None ≡ o
+value_or_none None = refl
+value_or_none (Some v) = refl
+
+-- a key below all others isn't among them
+none_below : (y : List ℕ) (es : Pairs) → ((x v : List ℕ) → IsPairIn es x v → key_cmp y x ≡ Less) → value_among es y ≡ None
+none_below y es below = by_value (value_among es y) refl
+  where
+    by_value : (o : Option (List ℕ)) → value_among es y ≡ o → value_among es y ≡ None
+    by_value None e = e
+    by_value (Some v) e = absurd (let before : key_cmp y y ≡ Less = below y v (pair_among es y v e) in key_clash y y before before)
+
+puts_among : (m : Map) (es : Pairs) (x : List ℕ) → KeysRise es → puts m es x ≡ value_or (value_among es x) (m x)
+puts_among m [] x rising = refl
+puts_among m (e ∷ es) x rising = puts_among (put m e.0 (Some e.1)) es x rising.1 ∙ by_test (bytes_eq e.0 x)
+    (λ here.
+    let none : value_among es x ≡ None = subst (λ y. value_among es y ≡ None) (same_key e.0 x here) (none_below e.0 es rising.0) in
+    rw (here, none) refl)
+    (λ there. rw there refl)
+
+-- rows that rise, put into an empty map, are what the map has
+pub puts_all : (es : Pairs) (x : List ℕ) → KeysRise es → puts (λ y. None) es x ≡ value_among es x
+puts_all es x rising = puts_among (λ y. None) es x rising ∙ value_or_none (value_among es x)
+
+-- one row more
+pub put_more : (m n : Map) (es : Pairs) (k v : List ℕ) → ((x : List ℕ) → m x ≡ puts (λ y. None) es x) → ((x : List ℕ) → n x ≡ put m k (Some v) x)
+    → (x : List ℕ) → n x ≡ puts (λ y. None) (es ++ (k, v) ∷ []) x
+put_more m n es k v is put_at x = put_at x ∙ ap (λ o. cond (bytes_eq k x) (Some v) o) (is x) ∙ ap (λ (f : Map). f x) (sym (puts_one (λ y. None) es (k, v)))
+
+-- the rows of a scan are the span's part of its map
+pub among_part : (span : Span) (m : Map) (rows : Pairs) → AreRows span m rows → (x : List ℕ) → value_among rows x ≡ span_part span m x
+among_part span m rows are x = by_test (in_span span x)
+    (λ inside. rw inside (among_rows span m rows are x inside))
+    (λ outside. rw outside (by_value outside (value_among rows x) refl))
+  where
+    by_value : in_span span x ≡ false → (o : Option (List ℕ)) → value_among rows x ≡ o → value_among rows x ≡ None
+    by_value outside None e = e
+    by_value outside (Some v) e = absurd (both_ways _ outside ((are.each x v).0 (pair_among rows x v e)).0)

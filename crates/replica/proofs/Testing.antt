@@ -1,0 +1,71 @@
+-- The tests of the rows that a replica begins with.
+use Rattle.std.proofs.Common.{◌≡◌, ℕ, zero, suc, ◌+◌, ◌-◌, ◌<◌, ◌≤◌, ◌==◌, true, false, List, [], ◌∷◌, length, get_or, refl, sym, ◌∙◌, ap, subst, arith}
+use Rattle.std.specs.Map.{keys_of}
+use Rattle.std.specs.Ordering.{is_lt}
+use Rattle.std.specs.declared.cmp.Ordering.{Ordering}
+use Rattle.std.specs.declared.cmp.Ordering.TheVariants.{Less, Equal, Greater}
+use Rattle.std.proofs.lemmas.Cmp.{nat_list_cmp_total}
+use Rattle.std.proofs.lemmas.Bool.Decides.{nat_tests}
+use Rattle.std.proofs.lemmas.Map.Keys.{sorted_from_all_adjacent}
+use Rattle.timestamps.specs.Bytes.{key_cmp}
+use Rattle.spans.specs.declared.span.Span.{Span}
+use Rattle.spans.specs.Keys.{in_span, KeysRise}
+use Rattle.spans.proofs.Steps.{by_test}
+use Rattle.replica.proofs.Rising.{rows_rise, rise_at, keys_at}
+
+abbrev Pairs : Type 0
+Pairs = List (List ℕ × List ℕ)
+
+pub is_less : (o : Ordering) → is_lt o ≡ true → o ≡ Less
+is_less Less e = refl
+is_less Equal e = cc
+is_less Greater e = cc
+
+keys_length : (es : Pairs) → length (keys_of es) ≡ length es
+keys_length [] = refl
+keys_length (e ∷ es) = ap suc (keys_length es)
+
+at_any : (es : Pairs) (i : ℕ) (d e : List ℕ × List ℕ) → i < length es → get_or es i d ≡ get_or es i e
+at_any [] i d e low = absurd (omega arith)
+at_any (x ∷ es) zero d e low = refl
+at_any (x ∷ es) (suc i) d e low = at_any es i d e (omega arith)
+
+-- the first n rows lie in the span
+abbrev pub AreInsideTo : Span → Pairs → ℕ → Type 0
+AreInsideTo s es n = (k : ℕ) (d : List ℕ × List ℕ) → k < n → in_span s (get_or es k d).0 ≡ true
+
+pub inside_more : (s : Span) (es : Pairs) (i : ℕ) (x : List ℕ × List ℕ) → AreInsideTo s es i → i < length es → x ≡ get_or es i x → in_span s x.0 ≡ true → AreInsideTo s es (i + 1)
+inside_more s es i x so_far low is inside k d below = by_test (k == i)
+    (λ here. subst (λ j. in_span s (get_or es j d).0 ≡ true) (grind (arith, nat_tests)) (subst (λ (y : List ℕ × List ℕ). in_span s y.0 ≡ true) (is ∙ at_any es i x d low) inside))
+    (λ there. so_far k d (grind (arith, nat_tests)))
+
+-- one of them doesn't
+pub outside_at : (s : Span) (es : Pairs) (i : ℕ) (x : List ℕ × List ℕ) → i < length es → x ≡ get_or es i x → in_span s x.0 ≡ false → AreInsideTo s es (length es) → false ≡ true
+outside_at s es i x low is outside all = sym outside ∙ ap (λ (y : List ℕ × List ℕ). in_span s y.0) is ∙ all i x low
+
+-- the first n rows rise
+abbrev pub AreRisingTo : Pairs → ℕ → Type 0
+AreRisingTo es n = (k : ℕ) (d : List ℕ × List ℕ) → k + 1 < n → key_cmp (get_or es k d).0 (get_or es (k + 1) d).0 ≡ Less
+
+pub rising_more : (es : Pairs) (i : ℕ) (x y : List ℕ × List ℕ) → AreRisingTo es i → 1 ≤ i → i < length es → x ≡ get_or es (i - 1) x → y ≡ get_or es i y → key_cmp x.0 y.0 ≡ Less → AreRisingTo es (i + 1)
+rising_more es i x y so_far some low first second less k d below = by_test (k + 1 == i)
+    (λ here.
+    let at : i - 1 ≡ k = grind (arith, nat_tests) in
+    let next : i ≡ k + 1 = grind (arith, nat_tests) in
+    let x_is : x ≡ get_or es k d = first ∙ at_any es (i - 1) x d (omega arith) ∙ ap (λ j. get_or es j d) at in
+    let y_is : y ≡ get_or es (k + 1) d = second ∙ at_any es i y d low ∙ ap (λ j. get_or es j d) next in
+    ap (λ (p : List ℕ × List ℕ). key_cmp p.0 (get_or es (k + 1) d).0) (sym x_is) ∙ ap (λ (p : List ℕ × List ℕ). key_cmp x.0 p.0) (sym y_is) ∙ less)
+    (λ there. so_far k d (grind (arith, nat_tests)))
+
+pub rising_all : (es : Pairs) → AreRisingTo es (length es) → KeysRise es
+rising_all es all = rows_rise es (sorted_from_all_adjacent nat_list_cmp_total (keys_of es) [] (λ k low.
+    let below : k + 1 < length es = omega (arith, keys_length es) in
+    let d : List ℕ × List ℕ = ([], []) in
+    ap (λ x. key_cmp x (get_or (keys_of es) (k + 1) [])) (keys_at es k d) ∙ ap (λ x. key_cmp (get_or es k d).0 x) (keys_at es (k + 1) d) ∙ all k d below))
+
+-- two neighbours of rising rows rise
+pub rising_at : (es : Pairs) (i : ℕ) (x y : List ℕ × List ℕ) → KeysRise es → 1 ≤ i → i < length es → x ≡ get_or es (i - 1) x → y ≡ get_or es i y → key_cmp x.0 y.0 ≡ Less
+rising_at es i x y rising some low first second =
+    let next : (i - 1) + 1 ≡ i = omega arith in
+    let y_is : y ≡ get_or es ((i - 1) + 1) x = second ∙ at_any es i y x low ∙ ap (λ j. get_or es j x) (sym next) in
+    ap (λ (p : List ℕ × List ℕ). key_cmp p.0 y.0) first ∙ ap (λ (p : List ℕ × List ℕ). key_cmp (get_or es (i - 1) x).0 p.0) y_is ∙ rise_at es (i - 1) x rising (omega arith)

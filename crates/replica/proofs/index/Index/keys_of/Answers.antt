@@ -1,0 +1,10 @@
+use Rattle.std.proofs.Common.{sym, ◌∙◌, ap}
+use Rattle.std.specs.Map.{lookup}
+use Rattle.std.specs.BTreeMap.{is_at}
+use Rattle.timestamps.specs.Bytes.{key_cmp}
+use Rattle.replica.proofs.Keys.{keys_in_set}
+use Rattle.replica.proofs.index.Index.keys_of.Goals as goal
+
+pub returns-clause-exact : goal.returns-clause-exact
+returns-clause-exact c = keys_in_set (λ keys. keys.items) c.copies.result c.in-Some.keys.now (lookup (is_at (key_cmp c.args.value.now)) c.args.self.now.keys.entries)
+    (ap (λ v. lookup (is_at (key_cmp v)) c.args.self.now.keys.entries) (sym c.in_ok-copy.ensures) ∙ sym c.in-Some.ensures.value) c.copies.ensures.all

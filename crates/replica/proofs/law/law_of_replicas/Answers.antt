@@ -1,0 +1,28 @@
+use Rattle.spans.specs.Effects.{effects_of}
+use Rattle.spans.specs.Consumer.{ConsumerIsRight}
+use Rattle.spans.proofs.Legal.{legal_allowed}
+use Rattle.spans.proofs.Feeding.{fed, feed_rises, feeding}
+use Rattle.spans.proofs.Taking.{told_taken}
+use Rattle.spans.proofs.Viewing.{views}
+use Rattle.replica.proofs.Completing.{replica_is_right, starts_initial, starts_seeded}
+use Rattle.replica.proofs.law.law_of_replicas.Goals as goal
+
+pub returns-clause-right : goal.returns-clause-right
+returns-clause-right c = λ h legal f feed is s starts.
+    let all = legal_allowed h legal in
+    let right = fed (effects_of h) all f feed is in
+    let so_far = feeding (effects_of h) all f feed is in
+    let consumer : ConsumerIsRight (effects_of h) f feed = record {
+      takes = told_taken (effects_of h) f feed so_far.begins.0 so_far.begins.1 so_far.divides (feed_rises (effects_of h) f feed so_far) so_far.below;
+      views = views (effects_of h) f feed right.divides (feed_rises (effects_of h) f feed so_far);
+    } in
+    replica_is_right (effects_of h) f feed s starts consumer
+
+pub returns-clause-initial : goal.returns-clause-initial
+returns-clause-initial c = starts_initial
+
+pub returns-clause-seeded : goal.returns-clause-seeded
+returns-clause-seeded c = starts_seeded
+
+pub returns-clause-begins : goal.returns-clause-begins
+returns-clause-begins c = λ span m rows are. record { rising = are.rising; inside = λ x v i. ((are.each x v).0 i).0 }

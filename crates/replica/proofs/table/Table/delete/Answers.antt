@@ -1,0 +1,14 @@
+use Rattle.std.proofs.Common.{sym, None}
+use Rattle.replica.specs.Indexes.{is_listed}
+use Rattle.replica.specs.Rows.{value_at}
+use Rattle.replica.proofs.Tied.{put_at, tied_less}
+use Rattle.replica.proofs.table.Table.delete.Goals as goal
+
+pub invariant_of-self : goal.invariant_of-self
+invariant_of-self c = tied_less (value_at c.self.inside.rows.entries) (value_at c.remove.new.self.entries) (is_listed c.self.inside.index) (is_listed c.remove-in-Some.new.self) c.args.key.now c.in-Some.before
+    c.self.invariant (sym c.in-Some.ensures.value)
+    (put_at (value_at c.self.inside.rows.entries) (value_at c.remove.new.self.entries) c.args.key.now None c.in-Some.ensures.updates.0)
+    c.remove-in-Some.ensures
+
+pub returns-in-Some : goal.returns-in-Some
+returns-in-Some c = rw (← c.self.view_is) (put_at (value_at c.self.inside.rows.entries) (value_at c.remove.new.self.entries) c.args.key.now None c.in-Some.ensures.updates.0)

@@ -1,0 +1,19 @@
+-- What comes after a place among rows.
+use Rattle.std.specs.Prelude.{ℕ, Bool, true, ◌&&◌, ◌||◌, ◌==◌, nat_lt, nat_le, Option, Some, None}
+use Rattle.timestamps.specs.declared.row.Row.{Row}
+use Rattle.spans.specs.KeyOrder.{key_lt}
+use Rattle.replica.specs.declared.place.Place.{Place}
+
+-- where a row stands
+abbrev pub place_of : Row → Place
+place_of r = record { ts = r.ts; key = r.key }
+
+-- the row comes after the place
+abbrev pub is_past : Option Place → Row → Bool
+is_past None r = true
+is_past (Some p) r = nat_lt p.ts r.ts || ((p.ts == r.ts) && key_lt p.key r.key)
+
+-- the timestamp is not below the place
+abbrev pub is_over : Option Place → ℕ → Bool
+is_over None t = true
+is_over (Some p) t = nat_le p.ts t

@@ -1,0 +1,52 @@
+-- What a replica holds, and what it has taken.
+use Rattle.std.specs.Prelude.{ℕ, List, [], ◌∷◌, ◌++◌, ◌≡◌, Option, Some, None, option_map}
+use Rattle.spans.specs.declared.calls.messages.Message.{Message}
+use Rattle.spans.specs.declared.span.Span.{Span}
+use Rattle.spans.specs.Serial.{Map}
+use Rattle.spans.specs.Feeds.{last_resolved}
+use Rattle.spans.specs.Consumer as consumer
+use Rattle.spans.specs.Consumer.{view_of, last_row, apply_fault, ApplyFault}
+use Rattle.replica.specs.declared.fault.Fault.{Fault}
+use Rattle.replica.specs.declared.fault.Fault.TheVariants as faults
+use Rattle.replica.specs.declared.replica.Replica.{Replica}
+use Rattle.replica.specs.Places.{place_of}
+use Rattle.replica.specs.Rows.{value_at}
+use Rattle.replica.specs.Starts.{Start, resolved_at}
+
+-- the rows of a replica, as a map
+abbrev pub view_in : Replica → Map
+view_in r = value_at r.table
+
+abbrev pub span_in : Replica → Span
+span_in r = r.span
+
+-- what a replica resolved last, or its start
+abbrev pub resolved_in : Replica → ℕ
+resolved_in r = r.resolved
+
+-- at which timestamp a replica is complete
+abbrev pub complete_in : Replica → Option ℕ
+complete_in r = r.complete
+
+-- the replica that began so has taken these messages, the oldest first
+pub record Follows (r : Replica) (s : Start) (messages : List Message) : Type 0 where
+  pub span : r.span ≡ s.span
+  pub rows : (x : List ℕ) → view_in r x ≡ view_of s.rows messages x
+  pub resolved : r.resolved ≡ last_resolved s.start messages
+  pub last : r.last ≡ option_map place_of (last_row None messages)
+  pub complete : r.complete ≡ resolved_at s.first messages
+
+-- after whatever the old replica has taken, the new one has taken one message more
+abbrev pub Takes : Replica → Replica → Message → Type 0
+Takes old new m = (s : Start) (messages : List Message) → Follows old s messages → Follows new s (messages ++ m ∷ [])
+
+-- after whatever the replica has taken, this is why it is to refuse the message, if it is
+abbrev pub IsFaultAt : Replica → Message → Option ApplyFault → Type 0
+IsFaultAt r m fault = (s : Start) (messages : List Message) → Follows r s messages → apply_fault s.span s.start messages m ≡ fault
+
+-- the test that a fault names: want of memory is none
+abbrev pub test_of : Fault → Option ApplyFault
+test_of faults.NotAfter = Some consumer.NotAfter
+test_of faults.OutsideSpan = Some consumer.OutsideSpan
+test_of faults.ResolvedBack = Some consumer.ResolvedBack
+test_of faults.NoMemory = None

@@ -1,0 +1,58 @@
+-- Where a replica begins, and which rows it may begin with.
+use Rattle.std.specs.Prelude.{ℕ, List, [], ◌∷◌, true, ◌≡◌, Option, Some, None}
+use Rattle.spans.specs.declared.span.Span.{Span}
+use Rattle.spans.specs.declared.calls.messages.Message.{Message}
+use Rattle.spans.specs.declared.calls.messages.Message.TheVariants as messages
+use Rattle.spans.specs.declared.kind.Kind.TheVariants.{Initial}
+use Rattle.spans.specs.Keys.{in_span, IsPairIn, KeysRise, value_among}
+use Rattle.spans.specs.Effects.{Effect}
+use Rattle.spans.specs.Serial.{Map}
+use Rattle.spans.specs.Feeds.{Feed, start_at, start_of}
+use Rattle.spans.specs.Consumer.{seed_of}
+use Rattle.replica.specs.declared.fault.Fault.{Fault}
+use Rattle.replica.specs.declared.fault.Fault.TheVariants as faults
+
+-- of which span a replica is, above which timestamp all that it takes lies, at which timestamp it is complete at first, and
+-- which rows it has then
+pub record Start : Type 0 where
+  pub span : Span
+  pub start : ℕ
+  pub first : Option ℕ
+  pub rows : Map
+
+-- with the rows that the span holds at the cursor
+abbrev pub seeded_start : Span → ℕ → List (List ℕ × List ℕ) → Start
+seeded_start s cursor pairs = record { span = s; start = cursor; first = Some cursor; rows = value_among pairs }
+
+-- with no row, for an initial feed, which tells what the span holds at the cursor
+abbrev pub initial_start : Span → ℕ → Start
+initial_start s cursor = record { span = s; start = start_at Initial cursor; first = None; rows = λ x. None }
+
+-- at which timestamp a replica is complete after the messages: at that of a resolved message until a row comes
+abbrev pub resolved_at : Option ℕ → List Message → Option ℕ
+resolved_at first [] = first
+resolved_at first (messages.Row r ∷ ms) = resolved_at None ms
+resolved_at first (messages.Resolved t ∷ ms) = resolved_at (Some t) ms
+
+-- the keys lie in the span
+abbrev pub AreInside : Span → List (List ℕ × List ℕ) → Type 0
+AreInside s pairs = (x v : List ℕ) → IsPairIn pairs x v → in_span s x ≡ true
+
+-- a replica may begin with the rows
+pub record MayBegin (s : Span) (pairs : List (List ℕ × List ℕ)) : Type 0 where
+  pub rising : KeysRise pairs
+  pub inside : AreInside s pairs
+
+-- why a replica doesn't begin with the rows: their keys don't rise, or they do and one lies outside the span, or memory was
+-- wanting
+abbrev pub IsSeedFault : Span → List (List ℕ × List ℕ) → Fault → Type 0
+IsSeedFault s pairs faults.NotAfter = KeysRise pairs → ⊥
+IsSeedFault s pairs faults.OutsideSpan = KeysRise pairs × (AreInside s pairs → ⊥)
+IsSeedFault s pairs faults.ResolvedBack = ⊥
+IsSeedFault s pairs faults.NoMemory = MayBegin s pairs
+
+-- a replica of the feed may begin so: with the feed's span and start, and with the rows that its consumer is to begin with
+pub record IsStartOf (p : List Effect) (feed : Feed) (s : Start) : Type 0 where
+  pub span : s.span ≡ feed.span
+  pub start : s.start ≡ start_of feed
+  pub rows : (x : List ℕ) → s.rows x ≡ seed_of feed.kind p feed.span feed.cursor x

@@ -1,0 +1,95 @@
+//! Which keys have each value.
+ghost use Rattle.std.specs.Prelude.{◌≡◌, ◌&&◌, ◌||◌, ◌↔◌, ℕ, List, false, true, bytes_eq, if◌then◌else◌, OnOk, OnErr, IfOk};
+ghost use Rattle.spans.proofs.Keyed.{IsIn, RisingKeys};
+ghost use Rattle.replica.specs.Indexes.{is_listed};
+
+use crate::content::Content;
+use std::alloc::{AllocError, Global};
+use std::collections::{BTreeMap, BTreeSet};
+use timestamps::key::Key;
+use timestamps::value::Value;
+
+/// The keys of each value that some key has.
+#[derive(Debug, Drop)]
+pub(crate) struct Index {
+    alloc: Global,
+    keys: BTreeMap<Content, BTreeSet<Key>>,
+}
+
+impl Index {
+    /// No key.
+    pub(crate) fn new(alloc: Global) -> Index
+        ensures { (x v : List ℕ) → is_listed result x v ≡ false }
+    {
+        Index {
+            alloc,
+            keys: BTreeMap::new(alloc),
+        }
+    }
+
+    /// Adds a key under a value, where it may be.
+    pub(crate) fn add(&mut self, value: &Value, key: &Key) -> Result<(), AllocError>
+        ensures ok { OnOk result ((x v : List ℕ) → is_listed self.new x v
+            ≡ ((bytes_eq value.now v && bytes_eq key.now x) || is_listed self.old x v)) }
+        ensures err { OnErr result ((x v : List ℕ) → is_listed self.new x v ≡ is_listed self.old x v) }
+    {
+        let key = key.copy()?;
+        let content = Content {
+            value: value.copy()?,
+        };
+        match self.keys.get_mut(&content) {
+            Some(keys) => {
+                keys.insert(key)?;
+            }
+            None => {
+                let mut keys = BTreeSet::new(self.alloc);
+                keys.insert(key)?;
+                self.keys.insert(content, keys)?;
+            }
+        }
+        Ok(())
+    }
+
+    /// Takes a key, where it is there, out under a value. It takes no memory.
+    pub(crate) fn remove(&mut self, value: Value, key: &Key)
+        ensures { (x v : List ℕ) → is_listed self.new x v
+            ≡ (if bytes_eq value v && bytes_eq key.now x then false else is_listed self.old x v) }
+    {
+        let content = Content { value };
+        let Some(keys) = self.keys.get_mut(&content) else {
+            return;
+        };
+        keys.remove(key);
+        if keys.is_empty() {
+            self.keys.remove(&content);
+        }
+    }
+
+    /// Copies of the keys under a value, rising.
+    pub(crate) fn keys_of(&self, alloc: Global, value: &Value) -> Result<Vec<Key>, AllocError>
+        ensures rising { IfOk result (λ keys. RisingKeys keys.items) }
+        ensures exact { IfOk result (λ keys. (x : List ℕ) → IsIn x keys.items ↔ (is_listed self.now x value.now ≡ true)) }
+    {
+        let content = Content {
+            value: value.copy()?,
+        };
+        let Some(keys) = self.keys.get(&content) else {
+            return Ok(Vec::new(alloc));
+        };
+        copies(alloc, keys)
+    }
+}
+
+/// Copies of the keys of a set, rising.
+fn copies(alloc: Global, keys: &BTreeSet<Key>) -> Result<Vec<Key>, AllocError>
+    ensures all { IfOk result (λ copies. copies.items ≡ keys.now.keys) }
+    ensures rising { IfOk result (λ copies. RisingKeys copies.items) }
+{
+    let ahead = keys.iter();
+    let mut copies = Vec::new(alloc);
+    for key in ahead {
+        let copy = key.copy()?;
+        copies.push(copy)?;
+    }
+    Ok(copies)
+}

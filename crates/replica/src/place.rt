@@ -1,0 +1,38 @@
+//! Where rows stand among all rows.
+ghost use Rattle.std.specs.Prelude.{◌≡◌};
+ghost use Rattle.replica.specs.Places.{is_past, is_over};
+
+use std::cmp::Ordering;
+use timestamps::key::Key;
+use timestamps::row::Row;
+use timestamps::ts::Ts;
+
+/// Where a row stands: rows are ordered by timestamp, and then by key.
+#[derive(Debug, Drop)]
+pub(crate) struct Place {
+    pub(crate) ts: Ts,
+    pub(crate) key: Key,
+}
+
+/// Whether a row comes after a place, where there is one.
+pub(crate) fn comes_after(row: &Row, place: &Option<Place>) -> bool
+    ensures { result ≡ is_past place.now row.now }
+{
+    match place {
+        None => true,
+        Some(place) => {
+            place.ts.get() < row.ts.get()
+                || (place.ts.get() == row.ts.get() && place.key.cmp(&row.key) == Ordering::Less)
+        }
+    }
+}
+
+/// Whether a timestamp is not below a place, where there is one.
+pub(crate) fn reaches(t: u64, place: &Option<Place>) -> bool
+    ensures { result ≡ is_over place.now t }
+{
+    match place {
+        None => true,
+        Some(place) => place.ts.get() <= t,
+    }
+}

@@ -1,0 +1,191 @@
+//! Replicas of a span.
+ghost use Rattle.std.specs.Prelude.{◌≡◌, ◌==◌, ℕ, List, [], ◌∷◌, None, Some, OnOk, OnErr, IfOk, IfErr, IfSome, length};
+ghost use Rattle.std.specs.Option.{option_copied};
+ghost use Rattle.spans.specs.declared.calls.messages.Message.TheVariants as messages;
+
+use crate::fault::Fault;
+use crate::place::{Place, comes_after, reaches};
+use crate::seed::{are_inside, rise, table_of};
+use crate::table::Table;
+use spans::calls::Message;
+use spans::kind::Kind;
+use spans::span::Span;
+use std::alloc::{AllocError, Global};
+use std::collections::btree_map::Iter;
+use timestamps::key::Key;
+use timestamps::row::Row;
+use timestamps::value::Value;
+
+/// The rows of a replica, lent: pairs of a key and its value, keys rising.
+pub type Rows<'a> = Iter<'a, Key, Value>;
+
+/// The rows of a span, as a feed tells them.
+#[derive(Debug, Drop)]
+pub struct Replica {
+    span: Span,
+    /// What was resolved last, or where it started.
+    resolved: u64,
+    /// The row that was taken last.
+    last: Option<Place>,
+    /// The timestamp whose rows it has, all of them and none besides.
+    complete: Option<u64>,
+    table: Table,
+}
+
+impl Replica {
+    ghost use Rattle.spans.specs.declared.calls.messages.Message.{Message};
+    ghost use Rattle.spans.specs.Effects.{After};
+    ghost use Rattle.replica.specs.Rows.{AreRowsOf, AreKeysWith, IsCountOf};
+    ghost use Rattle.replica.specs.Starts.{Start, seeded_start, initial_start, resolved_at, MayBegin, IsSeedFault};
+    ghost use Rattle.replica.specs.Replicas.{view_in, span_in, resolved_in, complete_in, Follows, Takes, IsFaultAt, test_of};
+    ghost use Rattle.replica.specs.Tests.{fault_in};
+
+    /// A replica of what a span holds at a cursor: the pairs that a snapshot answered there, keys rising.
+    /// It is for a feed of the span that was opened at this cursor.
+    pub fn new(
+        alloc: Global,
+        span: Span,
+        cursor: u64,
+        rows: Vec<(Key, Value)>,
+    ) -> Result<Replica, Fault>
+        ensures ok { IfOk result (λ r. Follows r (seeded_start span cursor rows.items) []) }
+        ensures taken { OnOk result (MayBegin span rows.items) }
+        ensures refused { IfErr result (λ fault. IsSeedFault span rows.items fault) }
+    {
+        let pairs = rows.as_slice();
+        if !rise(pairs) {
+            return Err(Fault::NotAfter);
+        }
+        if !are_inside(&span, pairs) {
+            return Err(Fault::OutsideSpan);
+        }
+        let table = table_of(alloc, rows)?;
+        Ok(Replica {
+            span,
+            resolved: cursor,
+            last: None,
+            complete: Some(cursor),
+            table,
+        })
+    }
+
+    /// An empty replica, for an initial feed of the span that was opened at this cursor: it tells what the
+    /// span holds there.
+    pub fn new_initial(alloc: Global, span: Span, cursor: u64) -> Replica
+        ensures { Follows result (initial_start span cursor) [] }
+    {
+        Replica {
+            span,
+            resolved: Kind::Initial.start(cursor),
+            last: None,
+            complete: None,
+            table: Table::new(alloc),
+        }
+    }
+
+    /// Takes a message.
+    pub fn apply(&mut self, message: Message) -> Result<(), Fault>
+        ensures ok { OnOk result (Takes self.old self.new message) }
+        ensures accepted { OnOk result (IsFaultAt self.old message None) }
+        ensures err { OnErr result (self.new ≡ self.old) }
+        ensures refused { IfErr result (λ fault. IsFaultAt self.old message (test_of fault)) }
+    {
+        if let Some(fault) = self.fault(&message) {
+            return Err(fault);
+        }
+        match message {
+            Message::Row(row) => self.take_row(row)?,
+            Message::Resolved(ts) => {
+                self.resolved = ts.get();
+                self.complete = Some(ts.get());
+            }
+        }
+        Ok(())
+    }
+
+    /// Why a message is refused, where it is.
+    fn fault(&self, message: &Message) -> Option<Fault>
+        ensures { result ≡ fault_in self.now message.now }
+    {
+        match message {
+            Message::Row(row) => {
+                if row.ts.get() <= self.resolved || !comes_after(row, &self.last) {
+                    return Some(Fault::NotAfter);
+                }
+                if !self.span.contains(&row.key) {
+                    return Some(Fault::OutsideSpan);
+                }
+                None
+            }
+            Message::Resolved(ts) => {
+                if ts.get() <= self.resolved || !reaches(ts.get(), &self.last) {
+                    return Some(Fault::ResolvedBack);
+                }
+                None
+            }
+        }
+    }
+
+    /// Takes a row, which passed the tests.
+    fn take_row(&mut self, row: Row) -> Result<(), AllocError>
+        ensures ok { OnOk result (Takes self.old self.new (messages.Row row)) }
+        ensures err { OnErr result (self.new ≡ self.old) }
+    {
+        let Row { ts, key, after } = row;
+        self.table.change(&key, after)?;
+        self.last = Some(Place { ts, key });
+        self.complete = None;
+        Ok(())
+    }
+
+    /// The timestamp at which it has all rows of its span: the cursor at first, but of an initial feed none;
+    /// that of a resolved message after it; none after a row.
+    pub fn at_resolved(&self) -> Option<u64>
+        ensures complete { result ≡ complete_in self.now }
+        ensures messages { (s : Start) (messages : List Message) → Follows self.now s messages → result ≡ resolved_at s.first messages }
+    {
+        self.complete
+    }
+
+    /// The span.
+    pub fn span(&self) -> &Span
+        ensures { result.now ≡ span_in self.now }
+    {
+        &self.span
+    }
+
+    /// The value of a key.
+    pub fn get(&self, key: &Key) -> Option<&Value>
+        ensures { option_copied result ≡ view_in self.now key.now }
+    {
+        self.table.get(key)
+    }
+
+    /// How many rows it has.
+    pub fn len(&self) -> usize
+        ensures { IsCountOf (view_in self.now) result }
+    {
+        self.table.len()
+    }
+
+    /// Whether it has no row.
+    pub fn is_empty(&self) -> bool
+        ensures { (n : ℕ) × IsCountOf (view_in self.now) n × (result ≡ (n == 0)) }
+    {
+        self.len() == 0
+    }
+
+    /// The rows, keys rising.
+    pub fn rows(&self) -> Rows<'_>
+        ensures { AreRowsOf (view_in self.now) result }
+    {
+        self.table.iter()
+    }
+
+    /// Copies of the keys that have a value, rising.
+    pub fn keys_with(&self, alloc: Global, value: &Value) -> Result<Vec<Key>, AllocError>
+        ensures { IfOk result (λ keys. AreKeysWith (view_in self.now) value.now keys.items) }
+    {
+        self.table.keys_with(alloc, value)
+    }
+}
