@@ -1,0 +1,174 @@
+//! Feeds: the order of their rows, their places, their floors and their kinds.
+
+/// Each with its replies.
+pub(crate) const TRANSCRIPTS: [&str; 9] = [
+    // the order of commits is not that of the stream
+    "0 0 open - - 0 => opened 1
+1 1 begin 20 => started
+2 1 put 20 a 2 => written
+3 1 commit 20 => committed 1
+4 2 begin 10 => started
+5 2 put 10 b 1 => written
+6 2 commit 10 => committed 1
+7 0 poll 1 10 => messages 0
+8 0 close 30 => closed 30 0
+9 0 poll 1 10 => messages 3
+{\"after\":\"MQ==\",\"key\":\"Yg==\",\"updated\":\"10\"}
+{\"after\":\"Mg==\",\"key\":\"YQ==\",\"updated\":\"20\"}
+{\"resolved\":\"30\"}
+",
+    // a transaction split over polls, with a closing between
+    "0 0 open - - 0 => opened 1
+1 1 begin 10 => started
+2 1 put 10 a 1 => written
+3 1 put 10 b 2 => written
+4 1 commit 10 => committed 2
+5 0 close 10 => closed 10 0
+6 0 poll 1 1 => messages 1
+{\"after\":\"MQ==\",\"key\":\"YQ==\",\"updated\":\"10\"}
+7 0 close 15 => closed 15 0
+8 0 poll 1 1 => messages 1
+{\"after\":\"Mg==\",\"key\":\"Yg==\",\"updated\":\"10\"}
+9 0 poll 1 1 => messages 1
+{\"resolved\":\"15\"}
+10 0 poll 1 1 => messages 0
+",
+    // a transaction split over polls, with a commit and a closing between
+    "0 0 open - - 0 => opened 1
+1 1 begin 10 => started
+2 1 put 10 a 1 => written
+3 1 put 10 b 2 => written
+4 1 commit 10 => committed 2
+5 0 close 10 => closed 10 0
+6 0 poll 1 1 => messages 1
+{\"after\":\"MQ==\",\"key\":\"YQ==\",\"updated\":\"10\"}
+7 1 begin 12 => started
+8 1 put 12 c 3 => written
+9 1 commit 12 => committed 1
+10 0 close 15 => closed 15 0
+11 0 poll 1 10 => messages 3
+{\"after\":\"Mg==\",\"key\":\"Yg==\",\"updated\":\"10\"}
+{\"after\":\"Mw==\",\"key\":\"Yw==\",\"updated\":\"12\"}
+{\"resolved\":\"15\"}
+",
+    // the floor of a feed that lags
+    "0 0 begin 5 => started
+1 0 put 5 a 1 => written
+2 0 commit 5 => committed 1
+3 0 begin 10 => started
+4 0 put 10 a 2 => written
+5 0 commit 10 => committed 1
+6 0 begin 20 => started
+7 0 put 20 a 3 => written
+8 0 commit 20 => committed 1
+9 0 open - - 5 => opened 1
+10 0 close 30 => closed 30 0
+11 0 poll 1 1 => messages 1
+{\"after\":\"Mg==\",\"key\":\"YQ==\",\"updated\":\"10\"}
+12 0 collect 30 => collected 9 0
+13 0 poll 1 10 => messages 2
+{\"after\":\"Mw==\",\"key\":\"YQ==\",\"updated\":\"20\"}
+{\"resolved\":\"30\"}
+14 0 collect 30 => collected 30 2
+15 0 stats => stats 1 0 1 30 30
+16 0 readat 29 a => belowhorizon 30
+17 0 readat 30 a => value 3
+18 0 readat 31 a => notclosed 30
+",
+    // cancellation
+    "0 0 open - - 0 => opened 1
+1 1 poll 1 1 => notowner
+2 1 cancel 1 => cancelled
+3 0 poll 1 1 => feedcancelled
+4 1 cancel 1 => feedcancelled
+5 0 poll 2 1 => nofeed
+",
+    // last write of a transaction, empty value, delete, span
+    "0 0 open b c 0 => opened 1
+1 1 begin 10 => started
+2 1 put 10 a 1 => written
+3 1 put 10 b 2 => written
+4 1 put 10 b - => written
+5 1 commit 10 => committed 2
+6 1 begin 20 => started
+7 1 del 20 b => written
+8 1 commit 20 => committed 1
+9 0 close 20 => closed 20 0
+10 0 poll 1 10 => messages 3
+{\"after\":\"\",\"key\":\"Yg==\",\"updated\":\"10\"}
+{\"after\":null,\"key\":\"Yg==\",\"updated\":\"20\"}
+{\"resolved\":\"20\"}
+",
+    // a feed that begins below closed
+    "0 1 begin 5 => started
+1 1 put 5 a 1 => written
+2 1 commit 5 => committed 1
+3 1 begin 8 => started
+4 1 put 8 b 2 => written
+5 1 put 8 a 3 => written
+6 1 commit 8 => committed 2
+7 0 close 8 => closed 8 0
+8 0 open - - 4 => opened 1
+9 0 poll 1 2 => messages 2
+{\"after\":\"MQ==\",\"key\":\"YQ==\",\"updated\":\"5\"}
+{\"after\":\"Mw==\",\"key\":\"YQ==\",\"updated\":\"8\"}
+10 1 begin 9 => started
+11 1 put 9 a 4 => written
+12 1 commit 9 => committed 1
+13 0 close 9 => closed 9 0
+14 0 poll 1 2 => messages 2
+{\"after\":\"Mg==\",\"key\":\"Yg==\",\"updated\":\"8\"}
+{\"after\":\"NA==\",\"key\":\"YQ==\",\"updated\":\"9\"}
+15 0 poll 1 2 => messages 1
+{\"resolved\":\"9\"}
+",
+    // a feed with an initial scan
+    "0 0 begin 5 => started
+1 0 put 5 a 1 => written
+2 0 put 5 b 2 => written
+3 0 put 5 c 3 => written
+4 0 commit 5 => committed 3
+5 0 begin 8 => started
+6 0 del 8 b => written
+7 0 put 8 c 4 => written
+8 0 commit 8 => committed 2
+9 0 close 9 => closed 9 0
+10 1 openinitial - - 10 => notclosed 9
+11 1 openinitial - - 7 => opened 1
+12 1 poll 1 2 => messages 2
+{\"after\":\"MQ==\",\"key\":\"YQ==\",\"updated\":\"7\"}
+{\"after\":\"Mg==\",\"key\":\"Yg==\",\"updated\":\"7\"}
+13 0 collect 9 => collected 7 0
+14 1 poll 1 10 => messages 4
+{\"after\":\"Mw==\",\"key\":\"Yw==\",\"updated\":\"7\"}
+{\"after\":null,\"key\":\"Yg==\",\"updated\":\"8\"}
+{\"after\":\"NA==\",\"key\":\"Yw==\",\"updated\":\"8\"}
+{\"resolved\":\"9\"}
+15 0 collect 9 => collected 9 3
+16 1 openinitial - - 9 => opened 2
+17 1 poll 2 10 => messages 3
+{\"after\":\"MQ==\",\"key\":\"YQ==\",\"updated\":\"9\"}
+{\"after\":\"NA==\",\"key\":\"Yw==\",\"updated\":\"9\"}
+{\"resolved\":\"9\"}
+18 1 openinitial - - 8 => belowhorizon 9
+",
+    // a least gap between resolved messages
+    "0 0 openevery - - 0 10 => opened 1
+1 0 close 9 => closed 9 0
+2 0 poll 1 5 => messages 0
+3 0 close 10 => closed 10 0
+4 0 poll 1 5 => messages 1
+{\"resolved\":\"10\"}
+5 1 begin 15 => started
+6 1 put 15 a 1 => written
+7 1 commit 15 => committed 1
+8 0 close 19 => closed 19 0
+9 0 poll 1 5 => messages 1
+{\"after\":\"MQ==\",\"key\":\"YQ==\",\"updated\":\"15\"}
+10 0 collect 19 => collected 14 0
+11 0 close 20 => closed 20 0
+12 0 poll 1 5 => messages 1
+{\"resolved\":\"20\"}
+13 0 openevery - - 20 0 => gaprange
+",
+];

@@ -1,0 +1,23 @@
+//! Scripts in which any growth may be refused.
+//!
+//! Each test makes the calls of a transcript on an engine, twice. Wherever memory is wanting once, each reply is
+//! that of the transcript, or `nomemory` where the command may lack memory and would have been accepted. Such
+//! a command is made again at once, and then its reply and all later ones are those of the transcript: so a
+//! refused growth has changed nothing. In both turns together memory is wanting once at most, so an engine that
+//! answers `nomemory` by itself fails, also where no growth is refused.
+//!
+//! ```text
+//!                      the growth that is refused is this call's      and the reply again
+//! open - - 0           nomemory                                       opened 1
+//! begin 20             nomemory                                       started
+//! put 20 a 2           nomemory                                       written
+//! commit 20            committed 1      the row is lost to those held back, and the feed reads it in the store
+//! close 30             closed 30 0      no copy for the ring, so the feed falls behind
+//! poll 1 10            nomemory                                       messages 3
+//! ```
+//!
+//! The script `refused-growths` at the top refuses the first growth, the second, and so on to the last.
+#![tactic(auto)]
+
+#[cfg(test)]
+mod tests;

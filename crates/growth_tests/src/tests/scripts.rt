@@ -1,0 +1,104 @@
+//! The scripts, each with its replies where no growth is refused.
+
+/// An absent key is scanned, and a write to it comes too late.
+pub(crate) const ABSENT_KEY: &str = "0 0 begin 20 => started
+1 0 scan 20 - - => rows 0
+2 1 begin 10 => started
+3 1 put 10 z 1 => toolate
+";
+
+/// The order of commits is not that of the stream.
+pub(crate) const ORDER_OF_ROWS: &str = "0 0 open - - 0 => opened 1
+1 1 begin 20 => started
+2 1 put 20 a 2 => written
+3 1 commit 20 => committed 1
+4 2 begin 10 => started
+5 2 put 10 b 1 => written
+6 2 commit 10 => committed 1
+7 0 poll 1 10 => messages 0
+8 0 close 30 => closed 30 0
+9 0 poll 1 10 => messages 3
+{\"after\":\"MQ==\",\"key\":\"Yg==\",\"updated\":\"10\"}
+{\"after\":\"Mg==\",\"key\":\"YQ==\",\"updated\":\"20\"}
+{\"resolved\":\"30\"}
+";
+
+/// A transaction is split over polls, with a commit and a closing between.
+pub(crate) const SPLIT: &str = "0 0 open - - 0 => opened 1
+1 1 begin 10 => started
+2 1 put 10 a 1 => written
+3 1 put 10 b 2 => written
+4 1 commit 10 => committed 2
+5 0 close 10 => closed 10 0
+6 0 poll 1 1 => messages 1
+{\"after\":\"MQ==\",\"key\":\"YQ==\",\"updated\":\"10\"}
+7 1 begin 12 => started
+8 1 put 12 c 3 => written
+9 1 commit 12 => committed 1
+10 0 close 15 => closed 15 0
+11 0 poll 1 10 => messages 3
+{\"after\":\"Mg==\",\"key\":\"Yg==\",\"updated\":\"10\"}
+{\"after\":\"Mw==\",\"key\":\"Yw==\",\"updated\":\"12\"}
+{\"resolved\":\"15\"}
+";
+
+/// A feed that lags holds the horizon back.
+pub(crate) const LAGGING: &str = "0 0 begin 5 => started
+1 0 put 5 a 1 => written
+2 0 commit 5 => committed 1
+3 0 begin 10 => started
+4 0 put 10 a 2 => written
+5 0 commit 10 => committed 1
+6 0 begin 20 => started
+7 0 put 20 a 3 => written
+8 0 commit 20 => committed 1
+9 0 open - - 5 => opened 1
+10 0 close 30 => closed 30 0
+11 0 poll 1 1 => messages 1
+{\"after\":\"Mg==\",\"key\":\"YQ==\",\"updated\":\"10\"}
+12 0 collect 30 => collected 9 0
+13 0 poll 1 10 => messages 2
+{\"after\":\"Mw==\",\"key\":\"YQ==\",\"updated\":\"20\"}
+{\"resolved\":\"30\"}
+14 0 collect 30 => collected 30 2
+15 0 stats => stats 1 0 1 30 30
+16 0 readat 29 a => belowhorizon 30
+17 0 readat 30 a => value 3
+18 0 readat 31 a => notclosed 30
+";
+
+/// A delete that is dropped keeps its mark.
+pub(crate) const DROPPED_DELETE: &str = "0 0 begin 3 => started
+1 0 put 3 a 1 => written
+2 0 commit 3 => committed 1
+3 0 begin 5 => started
+4 0 del 5 a => written
+5 0 commit 5 => committed 1
+6 1 begin 20 => started
+7 2 begin 15 => started
+8 0 close 10 => closed 10 0
+9 1 get 20 a => none
+10 0 collect 10 => collected 10 2
+11 2 put 15 a 2 => toolate
+12 0 stats => stats 0 1 0 10 10
+";
+
+/// A hard closing, snapshots and a protection.
+pub(crate) const HARD_CLOSING: &str = "0 0 begin 10 => started
+1 0 put 10 a 1 => written
+2 1 begin 50 => started
+3 1 put 50 b 2 => written
+4 2 closehard 20 => closed 20 1
+5 0 commit 10 => ended
+6 1 commit 50 => committed 1
+7 2 close 50 => closed 50 0
+8 2 scanat 50 - - => rows 1
+row b 2
+9 2 scanat 50 c - => rows 0
+10 2 protect 20 => protected 1
+11 2 collect 50 => collected 20 0
+12 0 release 1 => released
+13 0 release 1 => noprotection
+14 2 collect 50 => collected 50 0
+15 2 protect 20 => belowhorizon 50
+";

@@ -1,0 +1,5 @@
+mod devices;
+mod leases;
+mod merging;
+mod racing;
+mod serving;
