@@ -103,7 +103,7 @@ firsts_rise s span t (x ∷ xs) rising = rises_append (one_in span t x (found_at
     or_right _ _ (and_from _ _ (eq-eqb r.ts q.ts (a.at ∙ sym b.1.at)) (ap is_lt less)))
 
 -- of entries that pass, each passes
-passed_in : (p : List ℕ → Bool) (x : List ℕ) (es : List Entry) → IsIn x (keys_of (filter (λ (e : Entry). p e.0) es)) → p x ≡ true
+pub passed_in : (p : List ℕ → Bool) (x : List ℕ) (es : List Entry) → IsIn x (keys_of (filter (λ (e : Entry). p e.0) es)) → p x ≡ true
 passed_in p x [] i = absurd i
 passed_in p x (e ∷ es) i = by_test (p e.0)
     (λ on. let j : IsIn x (e.0 ∷ keys_of (filter (λ (d : Entry). p d.0) es)) = rw on at i in elim j [
@@ -156,7 +156,7 @@ abbrev pub AreChained : Stored → List Entry → Type 0
 AreChained s [] = Unit {0}
 AreChained s (e ∷ es) = (chain_of s e.0 ≡ e.1) × AreChained s es
 
-chained : (s : Stored) (rest : Span) (found done es : List Entry) → found ≡ filter (λ (e : Entry). in_span rest e.0) s → RisingKeys (keys_of found) → found ≡ done ++ es → AreChained s es
+pub chained : (s : Stored) (rest : Span) (found done es : List Entry) → found ≡ filter (λ (e : Entry). in_span rest e.0) s → RisingKeys (keys_of found) → found ≡ done ++ es → AreChained s es
 chained s rest found done [] those rising is = tt
 chained s rest found done (e ∷ es) those rising is =
     let inside : in_span rest e.0 ≡ true = passes_among (in_span rest) s done es e (sym those ∙ is) in

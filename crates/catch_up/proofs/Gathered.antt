@@ -1,5 +1,5 @@
--- The rows that are left, gathered from all versions; and how many versions lie after a place.
-use Rattle.std.proofs.Common.{Bool, List, None, Option, Some, [], ap, arith, false, inl, inr, refl, subst, sym, true, ℕ, ◌+◌, ◌<◌, ◌≤◌, ◌&&◌, ◌==◌, ◌⊎◌, ◌≡◌, ◌++◌, ◌∷◌, ◌∙◌}
+-- The rows that are left, gathered from all versions.
+use Rattle.std.proofs.Common.{Bool, List, None, Option, Some, [], ap, false, inl, inr, refl, subst, sym, true, ℕ, ◌&&◌, ◌==◌, ◌⊎◌, ◌≡◌, ◌++◌, ◌∷◌, ◌∙◌}
 use Rattle.std.specs.Prelude.{if◌then◌else◌, nat_le}
 use Rattle.std.specs.BTreeMap.{is_at}
 use Rattle.std.proofs.lemmas.Bool.{and_from, and_parts, eqb-true, le-leb, leb-true}
@@ -132,24 +132,3 @@ module _ (s : Stored) (span : Span) (ts : ℕ) (key : Option (List ℕ)) (throug
       );
     },
   )
-
--- ---- how many versions pass a test
-
-abbrev pub many : (Name → Bool) → List Name → ℕ
-many q [] = 0
-many q (n ∷ ns) = (if q n then 1 else 0) + many q ns
-
-pub many_most : (p q : Name → Bool) (ns : List Name) → ((n : Name) → q n ≡ true → p n ≡ true) → many q ns ≤ many p ns
-many_most p q [] all = omega arith
-many_most p q (n ∷ ns) all = let rest : many q ns ≤ many p ns = many_most p q ns all in by_test (q n)
-    (λ is. rw (is, all n is) (omega arith))
-    (λ isnt. rw isnt (by_test (p n) (λ on. rw on (omega arith)) (λ off. rw off (omega arith))))
-
-pub many_less : (p q : Name → Bool) (ns : List Name) (m : Name) → ((n : Name) → q n ≡ true → p n ≡ true) → IsNamed m ns → p m ≡ true → q m ≡ false → many q ns < many p ns
-many_less p q [] m all i on off = absurd i
-many_less p q (n ∷ ns) m all i on off = elim i [
-  | inl here ↦ (let rest : many q ns ≤ many p ns = many_most p q ns all in rw (ap p here ∙ on, ap q here ∙ off) (omega arith))
-  | inr there ↦ (let rest : many q ns < many p ns = many_less p q ns m all there on off in by_test (q n)
-      (λ is. rw (is, all n is) (omega arith))
-      (λ isnt. rw isnt (by_test (p n) (λ on'. rw on' (omega arith)) (λ off'. rw off' (omega arith)))))
-]

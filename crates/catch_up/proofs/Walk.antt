@@ -1,19 +1,23 @@
 -- A walk from version to version, which gathers rows.
-use Rattle.std.proofs.Common.{append_assoc, Bool, List, Option, Some, [], ap, arith, false, inl, inr, length, refl, subst, sym, take, true, ℕ, ◌+◌, ◌<◌, ◌≤◌, ◌⊎◌, ◌≡◌, ◌++◌, ◌∷◌, ◌∙◌}
+use Rattle.std.proofs.Common.{append_assoc, Bor, List, None, Option, Some, [], ap, arith, false, inl, inr, length, refl, subst, sym, take, true, ℕ, ◌+◌, ◌<◌, ◌≤◌, ◌⊎◌, ◌≡◌, ◌++◌, ◌∷◌, ◌∙◌}
 use Rattle.std.proofs.lemmas.Bool.{both_ways}
+use Rattle.std.specs.Prelude.{is_some}
+use Rattle.std.specs.Map.Iter.{TakesFirst, deref_pair}
+use Rattle.std.proofs.Math.Seq.{take-append-add}
 use Rattle.std.proofs.lemmas.List.{append-nil, take_at, take_all as first_all}
 use Rattle.timestamps.specs.declared.row.Row.{Row}
 use Rattle.spans.specs.Keys.{in_span}
 use Rattle.spans.specs.Streams.{row_lt}
 use Rattle.spans.specs.declared.span.Span.{Span}
 use Rattle.spans.proofs.Steps.{by_test}
-use Rattle.spans.proofs.StreamOrder.{IsRowIn, RisingRows}
+use Rattle.spans.proofs.StreamOrder.{IsRowIn, RisingRows, in_append, rises_append, rises_parts}
 use Rattle.version_chain.specs.declared.chain.Version.{Version}
+use Rattle.version_chain.specs.Chains.{Entry}
 use Rattle.version_chain.specs.Following.{IsFirstAfter, IsLeft, IsNoneAfter, is_after_place, is_before}
 use Rattle.version_chain.specs.Stores.{Stored}
 use Rattle.catch_up.specs.Left.{AreLeftIn, AreNextIn, IsLeftIn}
 use Rattle.catch_up.proofs.Order.{after_trans, before_itself, before_neither}
-use Rattle.catch_up.proofs.Gathered.{Name, are_left, decided_named, many, many_less, names_of}
+use Rattle.catch_up.proofs.Gathered.{are_left}
 
 -- rows are those before a place, and some are missing
 pub record IsWalked (s : Stored) (span : Span) (ts : ℕ) (key : Option (List ℕ)) (through n : ℕ) (t : ℕ) (x : Option (List ℕ)) (missing : ℕ) (rows : List Row) : Type 0 where
@@ -25,34 +29,40 @@ pub record IsWalked (s : Stored) (span : Span) (ts : ℕ) (key : Option (List �
 pub walk_begins : (s : Stored) (span : Span) (ts : ℕ) (key : Option (List ℕ)) (through n : ℕ) → IsWalked s span ts key through n ts key n []
 walk_begins s span ts key through n = let all = are_left s span ts key through in record { rest = all.0; left = all.1; told = all.1; count = omega arith }
 
-row_of : List ℕ → Version → Row
+abbrev pub row_of : List ℕ → Version → Row
 row_of x v = record { ts = v.ts; key = x; after = v.after }
 
 left_is : (s : Stored) (span : Span) (t : ℕ) (x : Option (List ℕ)) (through : ℕ) (r : Row) → IsLeftIn s span t x through r → IsLeft s t x through r.key r.ts
 left_is s span t x through r h = record { decided = h.done; later = h.later; low = h.low }
 
--- what is left after the first is what was left before, but for that
-moved_back : (s : Stored) (span : Span) (t : ℕ) (x : Option (List ℕ)) (through : ℕ) (y : List ℕ) (v : Version) → IsFirstAfter s t x through y v → (r : Row) → IsLeftIn s span v.ts (Some y) through r → IsLeftIn s span t x through r
-moved_back s span t x through y v first r h = record { there = h.there; done = h.done; inside = h.inside; later = after_trans t x v.ts r.ts y r.key first.left.later h.later; low = h.low }
+-- what is left after a later place was left before
+moved_back : (s : Stored) (span : Span) (t i : ℕ) (x : Option (List ℕ)) (y : List ℕ) (through : ℕ) → is_after_place t x y i ≡ true → (r : Row) → IsLeftIn s span i (Some y) through r → IsLeftIn s span t x through r
+moved_back s span t i x y through later r h = record { there = h.there; done = h.done; inside = h.inside; later = after_trans t x i r.ts y r.key later h.later; low = h.low }
 
-moved_on : (s : Stored) (span : Span) (t : ℕ) (x : Option (List ℕ)) (through : ℕ) (y : List ℕ) (v : Version) → IsFirstAfter s t x through y v → (r : Row) → IsLeftIn s span t x through r → ((v.ts ≡ r.ts) × (y ≡ r.key)) ⊎ IsLeftIn s span v.ts (Some y) through r
-moved_on s span t x through y v first r h = by_test (is_before v.ts y r.ts r.key)
+-- and what is left but for the least is left after it
+moved_on : (s : Stored) (span : Span) (t i : ℕ) (x : Option (List ℕ)) (y : List ℕ) (through : ℕ) (r : Row) → IsLeftIn s span t x through r → is_before r.ts r.key i y ≡ false → ((i ≡ r.ts) × (y ≡ r.key)) ⊎ IsLeftIn s span i (Some y) through r
+moved_on s span t i x y through r h least = by_test (is_before i y r.ts r.key)
     (λ on. inr (record { there = h.there; done = h.done; inside = h.inside; later = on; low = h.low }))
-    (λ off. inl (before_neither v.ts r.ts y r.key off (first.first r.key r.ts (left_is s span t x through r h))))
+    (λ off. inl (before_neither i r.ts y r.key off least))
+
+-- a row that is left, and none before it
+pub record IsNext (s : Stored) (span : Span) (t : ℕ) (x : Option (List ℕ)) (through : ℕ) (r : Row) : Type 0 where
+  pub left : IsLeftIn s span t x through r
+  pub least : (q : Row) → IsLeftIn s span t x through q → row_lt q r ≡ false
 
 -- a version outside the span is passed over
-pub walk_passes : (s : Stored) (span : Span) (ts : ℕ) (key : Option (List ℕ)) (through n t : ℕ) (x : Option (List ℕ)) (missing : ℕ) (rows : List Row) (y : List ℕ) (v : Version) → IsWalked s span ts key through n t x missing rows
+walk_passes : (s : Stored) (span : Span) (ts : ℕ) (key : Option (List ℕ)) (through n t : ℕ) (x : Option (List ℕ)) (missing : ℕ) (rows : List Row) (y : List ℕ) (v : Version) → IsWalked s span ts key through n t x missing rows
     → IsFirstAfter s t x through y v → in_span span y ≡ false → IsWalked s span ts key through n v.ts (Some y) missing rows
 walk_passes s span ts key through n t x missing rows y v walked first outside = record {
   rest = walked.rest;
   left = record {
     rising = walked.left.rising;
     each = λ r. (
-      λ i. let h = (walked.left.each r).0 i in elim (moved_on s span t x through y v first r h) [
+      λ i. let h = (walked.left.each r).0 i in elim (moved_on s span t v.ts x y through r h (first.first r.key r.ts (left_is s span t x through r h))) [
         | inl same ↦ absurd (both_ways _ (ap (in_span span) (sym same.1) ∙ outside) h.inside)
         | inr on ↦ on
       ],
-      λ h. (walked.left.each r).1 (moved_back s span t x through y v first r h),
+      λ h. (walked.left.each r).1 (moved_back s span t v.ts x y through first.left.later r h),
     );
   };
   told = walked.told;
@@ -67,18 +77,22 @@ least_first r (s ∷ rows) rising i least = elim i [
   | inr there ↦ absurd (both_ways _ (least s (inl refl)) (rising.0 r there))
 ]
 
--- a version of the span is taken
-pub walk_takes : (s : Stored) (span : Span) (ts : ℕ) (key : Option (List ℕ)) (through n t : ℕ) (x : Option (List ℕ)) (missing missing' : ℕ) (rows rows' : List Row) (y : List ℕ) (v : Version) → IsWalked s span ts key through n t x missing rows
-    → IsFirstAfter s t x through y v → in_span span y ≡ true → missing ≡ missing' + 1 → rows' ≡ rows ++ record { ts = v.ts; key = y; after = v.after } ∷ [] → IsWalked s span ts key through n v.ts (Some y) missing' rows'
-walk_takes s span ts key through n t x missing missing' rows rows' y v walked first inside less more = record {
+length_more : (xs : List Row) (q : Row) → length (xs ++ q ∷ []) ≡ length xs + 1
+length_more [] q = omega arith
+length_more (p ∷ xs) q = let h : length (xs ++ q ∷ []) ≡ length xs + 1 = length_more xs q in omega arith
+
+-- the next row is taken
+pub walk_takes : (s : Stored) (span : Span) (ts : ℕ) (key : Option (List ℕ)) (through n t : ℕ) (x : Option (List ℕ)) (missing missing' : ℕ) (rows rows' : List Row) (r : Row) → IsWalked s span ts key through n t x missing rows
+    → IsNext s span t x through r → missing ≡ missing' + 1 → rows' ≡ rows ++ r ∷ [] → IsWalked s span ts key through n r.ts (Some r.key) missing' rows'
+walk_takes s span ts key through n t x missing missing' rows rows' r walked next less more = record {
   rest = parts.0;
   left = record {
     rising = (subst RisingRows parts.1 walked.left.rising).1;
     each = λ q. (
       λ i. let h = (walked.left.each q).0 (subst (IsRowIn q) (sym parts.1) (inr i)) in
           record { there = h.there; done = h.done; inside = h.inside; later = (subst RisingRows parts.1 walked.left.rising).0 q i; low = h.low },
-      λ h. elim (subst (IsRowIn q) parts.1 ((walked.left.each q).1 (moved_back s span t x through y v first q h))) [
-        | inl here ↦ absurd (before_itself v.ts y (subst (λ (w : Row). is_before v.ts y w.ts w.key ≡ true) (sym here) h.later))
+      λ h. elim (subst (IsRowIn q) parts.1 ((walked.left.each q).1 (moved_back s span t r.ts x r.key through next.left.later q h))) [
+        | inl here ↦ absurd (before_itself r.ts r.key (subst (λ (w : Row). is_before r.ts r.key w.ts w.key ≡ true) (sym here) h.later))
         | inr there ↦ there
       ],
     );
@@ -87,17 +101,34 @@ walk_takes s span ts key through n t x missing missing' rows rows' y v walked fi
   count = let c : length rows + missing ≡ n = walked.count in let l : length rows' ≡ length rows + 1 = ap length more ∙ length_more rows r in omega arith;
 }
   where
-    r : Row
-    r = record { ts = v.ts; key = y; after = v.after }
-
-    length_more : (xs : List Row) (q : Row) → length (xs ++ q ∷ []) ≡ length xs + 1
-    length_more [] q = omega arith
-    length_more (p ∷ xs) q = let h : length (xs ++ q ∷ []) ≡ length xs + 1 = length_more xs q in omega arith
-
     parts : (rest : List Row) × (walked.rest ≡ r ∷ rest)
-    parts = least_first r walked.rest walked.left.rising
-        ((walked.left.each r).1 (record { there = first.version; done = first.left.decided; inside = inside; later = first.left.later; low = first.left.low }))
-        (λ q i. first.first q.key q.ts (left_is s span t x through q ((walked.left.each q).0 i)))
+    parts = least_first r walked.rest walked.left.rising ((walked.left.each r).1 next.left) (λ q i. next.least q ((walked.left.each q).0 i))
+
+-- the first version that is left is the next row, where the span holds its key
+next_is : (s : Stored) (span : Span) (t : ℕ) (x : Option (List ℕ)) (through : ℕ) (y : List ℕ) (v : Version) → IsFirstAfter s t x through y v → in_span span y ≡ true → IsNext s span t x through (row_of y v)
+next_is s span t x through y v first inside = record {
+  left = record { there = first.version; done = first.left.decided; inside = inside; later = first.left.later; low = first.left.low };
+  least = λ q h. first.first q.key q.ts (left_is s span t x through q h);
+}
+
+-- of the first version that is left a row was made, or its key is outside the span
+pub record IsTold (span : Span) (y : List ℕ) (v : Version) (missing missing' : ℕ) (rows rows' : List Row) : Type 0 where
+  pub inside : in_span span y ≡ true
+  pub less : missing ≡ missing' + 1
+  pub more : rows' ≡ rows ++ row_of y v ∷ []
+
+pub record IsOutside (span : Span) (y : List ℕ) (missing missing' : ℕ) (rows rows' : List Row) : Type 0 where
+  pub outside : in_span span y ≡ false
+  pub same : missing' ≡ missing
+  pub rows_same : rows' ≡ rows
+
+pub walk_steps : (s : Stored) (span : Span) (ts : ℕ) (key : Option (List ℕ)) (through n t : ℕ) (x : Option (List ℕ)) (missing missing' : ℕ) (rows rows' : List Row) (y : List ℕ) (v : Version) → IsWalked s span ts key through n t x missing rows
+    → IsFirstAfter s t x through y v → IsTold span y v missing missing' rows rows' ⊎ IsOutside span y missing missing' rows rows' → IsWalked s span ts key through n v.ts (Some y) missing' rows'
+walk_steps s span ts key through n t x missing missing' rows rows' y v walked first step = elim step [
+  | inl told ↦ walk_takes s span ts key through n t x missing missing' rows rows' (row_of y v) walked (next_is s span t x through y v first told.inside) told.less told.more
+  | inr passed ↦ subst (λ m. IsWalked s span ts key through n v.ts (Some y) m rows') (sym passed.same)
+      (subst (IsWalked s span ts key through n v.ts (Some y) missing) (sym passed.rows_same) (walk_passes s span ts key through n t x missing rows y v walked first passed.outside))
+]
 
 take_whole : (n : ℕ) (xs ys : List Row) → length xs ≡ n → xs ≡ take n (xs ++ ys)
 take_whole n xs ys is = sym (take_at xs ys n is)
@@ -118,9 +149,9 @@ take_all : (n : ℕ) (xs : List Row) → length xs ≤ n → xs ≡ take n xs
 take_all n xs low = sym (first_all n xs low)
 
 -- no row is left
-pub walk_ends : (s : Stored) (span : Span) (ts : ℕ) (key : Option (List ℕ)) (through n t : ℕ) (x : Option (List ℕ)) (missing : ℕ) (rows : List Row) → IsWalked s span ts key through n t x missing rows → IsNoneAfter s t x through → AreNextIn s span ts key through n rows
+pub walk_ends : (s : Stored) (span : Span) (ts : ℕ) (key : Option (List ℕ)) (through n t : ℕ) (x : Option (List ℕ)) (missing : ℕ) (rows : List Row) → IsWalked s span ts key through n t x missing rows → ((r : Row) → IsLeftIn s span t x through r → ⊥) → AreNextIn s span ts key through n rows
 walk_ends s span ts key through n t x missing rows walked none =
-    let empty : walked.rest ≡ [] = no_rows walked.rest (λ r i. none r.key r.ts (left_is s span t x through r ((walked.left.each r).0 i))) in
+    let empty : walked.rest ≡ [] = no_rows walked.rest (λ r i. none r ((walked.left.each r).0 i)) in
     let all : rows ++ walked.rest ≡ rows = ap (λ l. rows ++ l) empty ∙ append-nil rows in
     record {
       all = rows;
@@ -128,12 +159,36 @@ walk_ends s span ts key through n t x missing rows walked none =
       first = let c : length rows + missing ≡ n = walked.count in take_all n rows (omega arith);
     }
 
--- each step leaves fewer versions
-pub walk_shortens : (s : Stored) (t : ℕ) (x : Option (List ℕ)) (through : ℕ) (y : List ℕ) (v : Version) → IsFirstAfter s t x through y v
-    → many (λ (n : Name). is_after_place v.ts (Some y) n.0 n.1) (names_of s) < many (λ (n : Name). is_after_place t x n.0 n.1) (names_of s)
-walk_shortens s t x through y v first = many_less (λ (n : Name). is_after_place t x n.0 n.1) (λ (n : Name). is_after_place v.ts (Some y) n.0 n.1) (names_of s) (y, v.ts)
-    (λ n later. after_trans t x v.ts n.1 y n.0 first.left.later later) (decided_named s y v.ts first.left.decided) first.left.later (isnt (is_before v.ts y v.ts y) refl)
+pub none_is : (s : Stored) (span : Span) (t : ℕ) (x : Option (List ℕ)) (through : ℕ) → IsNoneAfter s t x through → (r : Row) → IsLeftIn s span t x through r → ⊥
+none_is s span t x through none r h = none r.key r.ts (left_is s span t x through r h)
+
+-- what is missing is gathered in another way
+pub walk_joins : (s : Stored) (span : Span) (ts : ℕ) (key : Option (List ℕ)) (through n t : ℕ) (x : Option (List ℕ)) (missing : ℕ) (rows rows' more : List Row) → IsWalked s span ts key through n t x missing rows → AreNextIn s span t x through missing more → rows' ≡ rows ++ more → AreNextIn s span ts key through n rows'
+walk_joins s span ts key through n t x missing rows rows' more walked next joined = record {
+  all = rows ++ next.all;
+  left = record {
+    rising = rises_append rows next.all parts.0 next.left.rising (λ r q i j. parts.2 r q i (moved q j));
+    each = λ r. (
+      λ i. elim ((in_append r rows next.all).0 i) [
+        | inl told ↦ (walked.told.each r).0 ((in_append r rows walked.rest).1 (inl told))
+        | inr later ↦ (walked.told.each r).0 ((in_append r rows walked.rest).1 (inr (moved r later)))
+      ],
+      λ h. elim ((in_append r rows walked.rest).0 ((walked.told.each r).1 h)) [
+        | inl told ↦ (in_append r rows next.all).1 (inl told)
+        | inr later ↦ (in_append r rows next.all).1 (inr ((next.left.each r).1 ((walked.left.each r).0 later)))
+      ],
+    );
+  };
+  first = joined ∙ ap (λ l. rows ++ l) next.first ∙ sym (take-append-add rows next.all missing) ∙ ap (λ m. take m (rows ++ next.all)) walked.count;
+}
   where
-    isnt : (b : Bool) → is_before v.ts y v.ts y ≡ b → is_before v.ts y v.ts y ≡ false
-    isnt true is = absurd (before_itself v.ts y is)
-    isnt false is = is
+    parts : RisingRows rows × RisingRows walked.rest × ((r q : Row) → IsRowIn r rows → IsRowIn q walked.rest → row_lt r q ≡ true)
+    parts = rises_parts rows walked.rest walked.told.rising
+
+    moved : (r : Row) → IsRowIn r next.all → IsRowIn r walked.rest
+    moved r i = (walked.left.each r).1 ((next.left.each r).0 i)
+
+-- each step passes a key
+pub keys_shorten : (es rest : List Entry) (o : Option (Bor (List ℕ) × Bor (List Version))) → TakesFirst deref_pair es o rest → is_some o ≡ true → length rest < length es
+keys_shorten es rest None taken some = cc
+keys_shorten es rest (Some p) taken some = let l : length es ≡ length (deref_pair p ∷ rest) = ap length taken in omega arith

@@ -12,17 +12,25 @@
 //!  span - -, at 8, after a, n 2:          8 b
 //! ```
 //!
+//! There are two ways to the rows. The store's index leads from version to version by timestamp, of all keys: for a
+//! narrow span that is far behind it passes over what was written elsewhere since. The chains of the span's keys
+//! have the span's versions alone: of a wide span there are many to look at before the first row. [`next_rows`]
+//! walks the index, and turns to the chains once it has made more steps than the span has keys.
+//!
 //! Costs, in searches of the store, each of which compares about as many keys as the store's number of keys and
 //! timestamps has binary digits:
 //!
 //! ```text
-//! next_rows        one a row that is told, and one a committed version of other spans that lies between
+//! next_rows        one a row that is told, and the fewer of these: one a committed version of other spans that
+//!                  lies between, or two a key of the span
 //! next_snapshot    one for the first key, and a search of one chain a key from there to the last that is told
 //! ```
 //!
-//! So a feed of a narrow span that is far behind passes over what was written elsewhere since.
+//! A version that isn't committed costs one where it is passed. Of a span's chains no more is kept than one place
+//! of each, and nothing is copied but what is told.
 #![tactic(auto)]
 
+mod heads;
 mod rows;
 mod snapshot;
 

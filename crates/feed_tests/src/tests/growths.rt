@@ -63,49 +63,62 @@ fn assert_told(
     Ok(())
 }
 
-#[test]
-fn a_refused_growth_changes_no_message(rt: HostRuntime) -> Result<(), Fail> {
-    let alloc = rt.alloc();
-    let mut layers = Layers::new(alloc, 2);
+/// Feeds of two kinds, and the rows of two transactions, which are told to both.
+fn tell_two(
+    rt: &(impl Abort + AllocGlobal),
+    layers: &mut Layers,
+    alloc: Global,
+) -> Result<(), Fail> {
     assert_eq!(rt; again!(layers.open(0, Kind::Plain, &ALL, 0))?, 1);
-    assert_eq!(rt;
-        again!(layers.open(0, Kind::Every { gap: 10 }, &ALL, 3))?,
-        2
-    );
-    put(&mut layers, alloc, (20, b'a', 2))?;
-    put(&mut layers, alloc, (10, b'b', 1))?;
+    let every = Kind::Every { gap: 10 };
+    assert_eq!(rt; again!(layers.open(0, every, &ALL, 3))?, 2);
+    put(layers, alloc, (20, b'a', 2))?;
+    put(layers, alloc, (10, b'b', 1))?;
     layers.close(30);
     let rows = [(10, b'b', 1), (20, b'a', 2), (30, 0, 0)];
-    assert_told(&rt, &mut layers, (1, 10), &rows)?;
-    assert_told(&rt, &mut layers, (2, 1), &rows[..1])?;
+    assert_told(rt, layers, (1, 10), &rows)?;
+    assert_told(rt, layers, (2, 1), &rows[..1])
+}
+
+/// A feed with an initial scan beside them, collections between, and all that is left told to each.
+fn tell_three(
+    rt: &(impl Abort + AllocGlobal),
+    layers: &mut Layers,
+    alloc: Global,
+) -> Result<(), Fail> {
     assert_eq!(rt; again!(layers.open(1, Kind::Initial, &ALL, 20))?, 3);
-    put(&mut layers, alloc, (40, b'a', 0))?;
+    put(layers, alloc, (40, b'a', 0))?;
     layers.close(39);
-    assert_told(&rt, &mut layers, (3, 1), &[(20, b'a', 2)])?;
+    assert_told(rt, layers, (3, 1), &[(20, b'a', 2)])?;
     again!(layers.collect())?;
     layers.close(40);
-    assert_told(&rt, &mut layers, (1, 10), &[(40, b'a', 0), (40, 0, 0)])?;
+    let rows = [(20, b'a', 2), (40, b'a', 0), (40, 0, 0)];
+    assert_told(rt, layers, (1, 10), &rows[1..])?;
+    assert_told(rt, layers, (2, 10), &rows)?;
     assert_told(
-        &rt,
-        &mut layers,
-        (2, 10),
-        &[(20, b'a', 2), (40, b'a', 0), (40, 0, 0)],
-    )?;
-    assert_told(
-        &rt,
-        &mut layers,
+        rt,
+        layers,
         (3, 10),
         &[(20, b'b', 1), (40, b'a', 0), (40, 0, 0)],
     )?;
     again!(layers.collect())?;
+    Ok(())
+}
+
+#[test]
+fn a_refused_growth_changes_no_message(rt: HostRuntime) -> Result<(), Fail> {
+    let alloc = rt.alloc();
+    let mut layers = Layers::new(alloc, 2);
+    tell_two(&rt, &mut layers, alloc)?;
+    tell_three(&rt, &mut layers, alloc)?;
     // nothing is left, and so each is back at its ring, whatever was refused
     for feed in [1, 2, 3] {
         assert_eq!(rt; layers.feeds().behind(feed), Some(false));
     }
     put(&mut layers, alloc, (41, b'c', 3))?;
     layers.close(50);
-    assert_told(&rt, &mut layers, (1, 10), &[(41, b'c', 3), (50, 0, 0)])?;
-    assert_told(&rt, &mut layers, (2, 10), &[(41, b'c', 3), (50, 0, 0)])?;
-    assert_told(&rt, &mut layers, (3, 10), &[(41, b'c', 3), (50, 0, 0)])?;
+    for feed in [1, 2, 3] {
+        assert_told(&rt, &mut layers, (feed, 10), &[(41, b'c', 3), (50, 0, 0)])?;
+    }
     Ok(())
 }

@@ -173,13 +173,16 @@ pub(crate) fn row_of(alloc: Global, ts: u64, key: u8, value: u8) -> Result<Row, 
 pub(crate) fn in_short(message: &Message) -> Result<Short, Fail> {
     match message {
         Message::Resolved(ts) => Ok((ts.get(), 0, 0)),
-        Message::Row(row) => {
-            let key = *row.key.bytes().first().ok_or("no byte")?;
-            let value = match &row.after {
-                None => 0,
-                Some(value) => *value.bytes().first().ok_or("no byte")?,
-            };
-            Ok((row.ts.get(), key, value))
-        }
+        Message::Row(row) => row_in_short(row),
     }
+}
+
+/// A row of a key of one byte: its timestamp, that byte, and the first of its value, or 0 for a delete.
+pub(crate) fn row_in_short(row: &Row) -> Result<Short, Fail> {
+    let key = *row.key.bytes().first().ok_or("no byte")?;
+    let value = match &row.after {
+        None => 0,
+        Some(value) => *value.bytes().first().ok_or("no byte")?,
+    };
+    Ok((row.ts.get(), key, value))
 }

@@ -1,11 +1,11 @@
+use Rattle.std.proofs.Common.{length}
 use Rattle.std.specs.Option.{option_copied}
-use Rattle.version_chain.specs.Following.{is_after_place}
-use Rattle.catch_up.proofs.Gathered.{Name, many, names_of}
 use Rattle.catch_up.proofs.Walk.{IsWalked}
 use Rattle.catch_up.proofs.rows.next_rows.Given as goal
 
 abbrev pub invariant-loop-missing : goal.invariant-loop-missing
 invariant-loop-missing l = IsWalked l.store l.span l.ts (option_copied l.key) l.through l.n l.place.0 (option_copied l.place.1) l.missing l.rows.items
 
+-- each step passes a key
 abbrev pub decreases-loop-missing : goal.decreases-loop-missing
-decreases-loop-missing l = many (λ (n : Name). is_after_place l.place.0 (option_copied l.place.1) n.0 n.1) (names_of l.store)
+decreases-loop-missing l = length l.keys

@@ -1,0 +1,326 @@
+-- The heads of a span's keys: one is added, and the first is taken.
+use Rattle.std.proofs.Common.{Bool, List, Some, [], ap, arith, false, inl, inr, length, refl, subst, sym, true, ℕ, ◌+◌, ◌-◌, ◌<◌, ◌≤◌, ◌⊎◌, ◌≡◌, ◌++◌, ◌∷◌, ◌∙◌}
+use Rattle.std.specs.Prelude.{nat_lt, ◌&&◌, ◌==◌, ◌||◌}
+use Rattle.std.specs.BTreeMap.{BTreeMap, IsOrdered, insert_entry}
+use Rattle.std.specs.List.{AllByRecursion, filter}
+use Rattle.std.specs.List.Sorted.{IsStrictlySortedBy}
+use Rattle.std.specs.Map.{keys_of}
+use Rattle.std.specs.Ordering.{is_eq, nat_cmp, ordering_then}
+use Rattle.std.specs.declared.cmp.Ordering.{Ordering}
+use Rattle.std.specs.declared.cmp.Ordering.TheVariants.{Less, Equal, Greater}
+use Rattle.std.proofs.lemmas.Bool.{both_ways, false_from_ne_true, lt-ltb, ltb-true}
+use Rattle.std.proofs.lemmas.Bool.Decides.{nat_tests}
+use Rattle.std.proofs.lemmas.Map.Keys.{sorted_head}
+use Rattle.std.proofs.lemmas.Map.Text.{is_eq-slice_cmp}
+use Rattle.timestamps.specs.Bytes.{key_cmp}
+use Rattle.timestamps.specs.declared.row.Row.{Row}
+use Rattle.spans.specs.KeyOrder.{key_lt}
+use Rattle.spans.specs.Keys.{in_span}
+use Rattle.spans.specs.declared.span.Span.{Span}
+use Rattle.spans.proofs.Keyed.{IsIn, RisingKeys}
+use Rattle.spans.proofs.Steps.{by_test, same_key}
+use Rattle.spans.proofs.WriteSets.{has, has_in}
+use Rattle.version_chain.specs.declared.chain.Version.{Version}
+use Rattle.version_chain.specs.Chains.{Entry, chain_of}
+use Rattle.version_chain.specs.Following.{IsLeft, is_before}
+use Rattle.version_chain.specs.Stores.{Stored, after_of, is_committed}
+use Rattle.version_chain.specs.Versions.{version_of}
+use Rattle.version_chain.proofs.InSpans.{chain_nowhere}
+use Rattle.catch_up.specs.Heads.{AllHeads, AreHeads, Found, HasHead, IsDue, IsFirstDue, IsHead, IsNoneDue, Spot, spot_cmp}
+use Rattle.catch_up.specs.Left.{AreNextIn, IsLeftIn}
+use Rattle.catch_up.proofs.Firsts.{AreChained, chained, passed_in}
+use Rattle.catch_up.proofs.Order.{before_itself, before_trans}
+use Rattle.catch_up.proofs.Walk.{IsNext, IsWalked, row_of, walk_begins, walk_ends, walk_full, walk_takes}
+
+-- ---- which timestamps of a key come after a place
+
+below_above : (ts n i : ℕ) (lower : Bool) → lower ≡ true → 1 ≤ n → n ≡ ts → nat_lt (n - 1) i ≡ (nat_lt ts i || ((ts == i) && lower))
+below_above ts n i lower is some same = grind (arith, nat_tests)
+
+pub passed_beside : (ts n : ℕ) (place key : List ℕ) → key_lt place key ≡ true → 1 ≤ n → n ≡ ts → (i : ℕ) → nat_lt (n - 1) i ≡ is_before ts place i key
+passed_beside ts n place key lower some same i = below_above ts n i (key_lt place key) lower some same
+
+same_above : (ts n i : ℕ) (lower : Bool) → lower ≡ false → n ≡ ts → nat_lt n i ≡ (nat_lt ts i || ((ts == i) && lower))
+same_above ts n i lower is same = grind (arith, nat_tests)
+
+pub passed_at : (ts n : ℕ) (place key : List ℕ) → key_lt place key ≡ false → n ≡ ts → (i : ℕ) → nat_lt n i ≡ is_before ts place i key
+passed_at ts n place key lower same i = same_above ts n i (key_lt place key) lower same
+
+-- ---- a head is added
+
+equal_parts : (a b : ℕ) (o : Ordering) → ordering_then (nat_cmp a b) o ≡ Equal → (a ≡ b) × (o ≡ Equal)
+equal_parts a b o e = grind (arith, nat_tests)
+
+lower_first : (a b : ℕ) (x y : List ℕ) (o : Ordering) → key_cmp x y ≡ o → ordering_then (nat_cmp a b) o ≡ Less → is_before a x b y ≡ true
+lower_first a b x y o is e = grind (arith, nat_tests)
+
+spot_before : (p q : Spot) → spot_cmp p q ≡ Less → is_before p.0 p.1.now q.0 q.1.now ≡ true
+spot_before p q less = lower_first p.0 q.0 p.1.now q.1.now (key_cmp p.1.now q.1.now) refl less
+
+spot_key : (p q : Spot) → spot_cmp p q ≡ Equal → p.1.now ≡ q.1.now
+spot_key p q e = same_key p.1.now q.1.now (sym (is_eq-slice_cmp p.1.now q.1.now) ∙ ap is_eq (equal_parts p.0 q.0 (key_cmp p.1.now q.1.now) e).1)
+
+put_here : (k : Spot) (w : Found) (es : List (Spot × Found)) → HasHead k.1.now (insert_entry spot_cmp es k w)
+put_here k w [] = inl refl
+put_here k w (e ∷ es) = by (put_here k w es) (spot_cmp k e.0) refl
+  where
+    by : HasHead k.1.now (insert_entry spot_cmp es k w) → (o : Ordering) → spot_cmp k e.0 ≡ o → HasHead k.1.now (insert_entry spot_cmp (e ∷ es) k w)
+    by more Less is = rw is (inl refl)
+    by more Equal is = rw is (inl (sym (spot_key k e.0 is)))
+    by more Greater is = rw is (inr more)
+
+put_stays : (k : Spot) (w : Found) (es : List (Spot × Found)) (y : List ℕ) → HasHead y es → HasHead y (insert_entry spot_cmp es k w)
+put_stays k w [] y i = absurd i
+put_stays k w (e ∷ es) y i = by i (put_stays k w es y) (spot_cmp k e.0) refl
+  where
+    by : HasHead y (e ∷ es) → (HasHead y es → HasHead y (insert_entry spot_cmp es k w)) → (o : Ordering) → spot_cmp k e.0 ≡ o → HasHead y (insert_entry spot_cmp (e ∷ es) k w)
+    by i more Less is = rw is (inr i)
+    by i more Equal is = rw is i
+    by i more Greater is = rw is (elim i [ inl here ↦ inl here | inr there ↦ inr (more there) ])
+
+module _ (s : Stored) (span : Span) (t : ℕ) (x : List ℕ) (through : ℕ) where
+  abbrev IsHeadOf : Spot → Found → Type 0
+  IsHeadOf k w = IsHead s span t x through k.0 k.1.now w.0.now w.1.now
+
+  same_head : (k l : Spot) (w : Found) → spot_cmp k l ≡ Equal → IsHeadOf k w → IsHeadOf l w
+  same_head k l w e h = subst (λ n. IsHead s span t x through n l.1.now w.0.now w.1.now) (equal_parts k.0 l.0 (key_cmp k.1.now l.1.now) e).0
+      (subst (λ y. IsHead s span t x through k.0 y w.0.now w.1.now) (spot_key k l e) h)
+
+  put_each : (k : Spot) (w : Found) (es : List (Spot × Found)) → IsHeadOf k w → AllHeads s span t x through es → AllHeads s span t x through (insert_entry spot_cmp es k w)
+  put_each k w [] h all = (h, tt)
+  put_each k w (e ∷ es) h all = by (put_each k w es h all.1) (spot_cmp k e.0) refl
+    where
+      by : AllHeads s span t x through (insert_entry spot_cmp es k w) → (o : Ordering) → spot_cmp k e.0 ≡ o → AllHeads s span t x through (insert_entry spot_cmp (e ∷ es) k w)
+      by more Less is = rw is (h, all)
+      by more Equal is = rw is (same_head k e.0 w is h, all.1)
+      by more Greater is = rw is (all.0, more)
+
+  -- what of y comes after the place is above that
+  abbrev pub IsStart : List ℕ → ℕ → Type 0
+  IsStart y after = (i : ℕ) → nat_lt after i ≡ is_before t x i y
+
+  left_due : (y : List ℕ) (vs : List Version) (i after : ℕ) → chain_of s y ≡ vs → IsStart y after → IsLeft s t (Some x) through y i → IsDue vs after through i
+  left_due y vs i after chain from left = record {
+    done = ap (λ us. is_committed (version_of us i)) (sym chain) ∙ left.decided;
+    above = ltb-true after i (from i ∙ left.later);
+    low = left.low;
+  }
+
+  due_left : (y : List ℕ) (vs : List Version) (i after : ℕ) → chain_of s y ≡ vs → IsStart y after → IsDue vs after through i → IsLeft s t (Some x) through y i
+  due_left y vs i after chain from due = record {
+    decided = ap (λ us. is_committed (version_of us i)) chain ∙ due.done;
+    later = sym (from i) ∙ lt-ltb after i due.above;
+    low = due.low;
+  }
+
+  -- the first of a chain is put among the others
+  pub head_added : (ahead : List (List ℕ)) (heads heads' : BTreeMap Spot Found) (k : Spot) (w : Found) (after : ℕ) → IsStart k.1.now after → chain_of s k.1.now ≡ w.1.now → in_span span k.1.now ≡ true
+      → IsFirstDue w.1.now after through w.0.now → k.0 ≡ w.0.now.ts → heads'.entries ≡ insert_entry spot_cmp heads.entries k w → IsOrdered spot_cmp heads' → AreHeads s span t x through (k.1.now ∷ ahead) heads → AreHeads s span t x through ahead heads'
+  head_added ahead heads heads' k w after from chain inside first at put rising are =
+      let head : IsHead s span t x through w.0.now.ts k.1.now w.0.now w.1.now = record {
+        inside = inside;
+        chain = chain;
+        at = refl;
+        one = first.one;
+        left = due_left k.1.now w.1.now w.0.now.ts after chain from first.due;
+        first = λ i left. first.first i (left_due k.1.now w.1.now i after chain from left);
+      } in
+      record {
+        rising = rising;
+        each = subst (AllHeads s span t x through) (sym put) (put_each k w heads.entries (subst (λ n. IsHead s span t x through n k.1.now w.0.now w.1.now) (sym at) head) are.each);
+        all = λ y i inside left. elim (are.all y i inside left) [
+          | inl looked ↦ elim looked [
+            | inl here ↦ inr (subst (HasHead y) (sym put) (subst (λ z. HasHead z (insert_entry spot_cmp heads.entries k w)) here (put_here k w heads.entries)))
+            | inr there ↦ inl there
+          ]
+          | inr head ↦ inr (subst (HasHead y) (sym put) (put_stays k w heads.entries y head))
+        ];
+      }
+
+  -- a chain of which nothing is left
+  pub head_missing : (ahead : List (List ℕ)) (heads : BTreeMap Spot Found) (y : List ℕ) (vs : List Version) (after : ℕ) → IsStart y after → chain_of s y ≡ vs
+      → IsNoneDue vs after through → AreHeads s span t x through (y ∷ ahead) heads → AreHeads s span t x through ahead heads
+  head_missing ahead heads y vs after from chain none are = record {
+    rising = are.rising;
+    each = are.each;
+    all = λ z i inside left. elim (are.all z i inside left) [
+      | inl looked ↦ elim looked [
+        | inl here ↦ absurd (none i (left_due y vs i after chain from (subst (λ q. IsLeft s t (Some x) through q i) (sym here) left)))
+        | inr there ↦ inl there
+      ]
+      | inr head ↦ inr head
+    ];
+  }
+
+  -- ---- the keys of the span are looked at
+
+  -- heads of the keys before these entries, which are of the store
+  pub record IsHeading (entries : List Entry) (heads : BTreeMap Spot Found) : Type 0 where
+    pub chains : AreChained s entries
+    pub inside : (y : List ℕ) → IsIn y (keys_of entries) → in_span span y ≡ true
+    pub are : AreHeads s span t x through (keys_of entries) heads
+
+  pub heads_begin : (found : List Entry) (heads : BTreeMap Spot Found) → found ≡ filter (λ (e : Entry). in_span span e.0) s → RisingKeys (keys_of found) → heads.entries ≡ [] → IsOrdered spot_cmp heads → IsHeading found heads
+  heads_begin found heads those rising empty ordered = record {
+    chains = chained s span found [] found those rising refl;
+    inside = λ y i. passed_in (in_span span) y s (subst (λ es. IsIn y (keys_of es)) those i);
+    are = record {
+      rising = ordered;
+      each = subst (AllHeads s span t x through) (sym empty) tt;
+      all = λ y i inside left. inl (by_test (has y (keys_of found))
+          (λ on. (has_in y (keys_of found)).1 on)
+          (λ off.
+          let none : chain_of s y ≡ [] = chain_nowhere span s found y those inside (λ j. both_ways _ off ((has_in y (keys_of found)).0 j)) in
+          let no' : false ≡ true = sym (ap (λ vs. is_committed (version_of vs i)) none) ∙ left.decided in
+          cc));
+    };
+  }
+
+  -- the first key is looked at
+  pub heads_go_on : (e : Entry) (rest : List Entry) (heads heads' : BTreeMap Spot Found) → IsHeading (e ∷ rest) heads
+      → (chain_of s e.0 ≡ e.1 → in_span span e.0 ≡ true → AreHeads s span t x through (e.0 ∷ keys_of rest) heads → AreHeads s span t x through (keys_of rest) heads') → IsHeading rest heads'
+  heads_go_on e rest heads heads' so added = record {
+    chains = so.chains.1;
+    inside = λ y i. so.inside y (inr i);
+    are = added so.chains.0 (so.inside e.0 (inl refl)) so.are;
+  }
+
+-- ---- the first head is taken
+
+row_at : Spot → Found → Row
+row_at k w = row_of k.1.now w.0.now
+
+-- a head is left
+head_left : (s : Stored) (span : Span) (t : ℕ) (x : List ℕ) (through : ℕ) (n : ℕ) (y : List ℕ) (v : Version) (vs : List Version) → IsHead s span t x through n y v vs → IsLeftIn s span t (Some x) through (row_of y v)
+head_left s span t x through n y v vs head =
+    let at : n ≡ v.ts = sym head.at in
+    let left : IsLeft s t (Some x) through y v.ts = subst (IsLeft s t (Some x) through y) at head.left in record {
+      there = ap after_of (ap (λ us. version_of us v.ts) head.chain ∙ subst (λ m. version_of vs m ≡ Some v) at head.one);
+      done = left.decided;
+      inside = head.inside;
+      later = left.later;
+      low = left.low;
+    }
+
+-- what is left after a later place was left before
+left_back : (s : Stored) (t n i : ℕ) (x y z : List ℕ) (through : ℕ) → is_before t x n y ≡ true → IsLeft s n (Some y) through z i → IsLeft s t (Some x) through z i
+left_back s t n i x y z through later left = record { decided = left.decided; later = before_trans t n i x y z later left.later; low = left.low }
+
+before_later : (t i j : ℕ) (x y : List ℕ) → is_before t x i y ≡ true → i ≤ j → is_before t x j y ≡ true
+before_later t i j x y before low = later_at t i j (key_lt x y) before low
+  where
+    later_at : (t i j : ℕ) (lower : Bool) → (nat_lt t i || ((t == i) && lower)) ≡ true → i ≤ j → (nat_lt t j || ((t == j) && lower)) ≡ true
+    later_at t i j lower before low = grind (arith, nat_tests)
+
+-- of heads that are all behind a spot, none is of a row before it
+none_before : (s : Stored) (span : Span) (t : ℕ) (x : List ℕ) (through : ℕ) (k : Spot) (es : List (Spot × Found)) → AllByRecursion (λ q. spot_cmp k q ≡ Less) (keys_of es) → AllHeads s span t x through es → (q : Row) → HasHead q.key es → IsLeft s t (Some x) through q.key q.ts
+    → is_before k.0 k.1.now q.ts q.key ≡ true
+none_before s span t x through k [] above all q i left = absurd i
+none_before s span t x through k (e ∷ es) above all q i left = elim i [
+  | inl here ↦
+      let head : IsHead s span t x through e.0.0 q.key e.1.0.now e.1.1.now = subst (λ y. IsHead s span t x through e.0.0 y e.1.0.now e.1.1.now) here all.0 in
+      let low : e.0.0 ≤ q.ts = head.first q.ts left in
+      let before : is_before k.0 k.1.now e.0.0 q.key ≡ true = subst (λ y. is_before k.0 k.1.now e.0.0 y ≡ true) here (spot_before k e.0 above.0) in
+      before_later k.0 e.0.0 q.ts k.1.now q.key before low
+  | inr there ↦ none_before s span t x through k es above.1 all.1 q there left
+]
+
+moved_heads : (s : Stored) (span : Span) (t : ℕ) (x : List ℕ) (through : ℕ) (k : Spot) (es : List (Spot × Found)) → is_before t x k.0 k.1.now ≡ true → AllByRecursion (λ q. spot_cmp k q ≡ Less) (keys_of es) → AllHeads s span t x through es → AllHeads s span k.0 k.1.now through es
+moved_heads s span t x through k [] later above all = tt
+moved_heads s span t x through k (e ∷ es) later above all = (
+  record {
+    inside = all.0.inside;
+    chain = all.0.chain;
+    at = all.0.at;
+    one = all.0.one;
+    left = record { decided = all.0.left.decided; later = spot_before k e.0 above.0; low = all.0.left.low };
+    first = λ i left. all.0.first i (left_back s t k.0 i x k.1.now e.0.1.now through later left);
+  },
+  moved_heads s span t x through k es later above.1 all.1,
+)
+
+pub record IsTaken (s : Stored) (span : Span) (t : ℕ) (x : List ℕ) (through : ℕ) (k : Spot) (w : Found) (heads : BTreeMap Spot Found) : Type 0 where
+  pub next : IsNext s span t (Some x) through (row_of k.1.now w.0.now)
+  pub chain : chain_of s k.1.now ≡ w.1.now
+  pub inside : in_span span k.1.now ≡ true
+  pub are : AreHeads s span w.0.now.ts k.1.now through (k.1.now ∷ []) heads
+
+pub head_taken : (s : Stored) (span : Span) (t : ℕ) (x : List ℕ) (through : ℕ) (heads heads' : BTreeMap Spot Found) (k : Spot) (w : Found) → AreHeads s span t x through [] heads → heads.entries ≡ (k, w) ∷ heads'.entries → IsOrdered spot_cmp heads' → IsTaken s span t x through k w heads'
+head_taken s span t x through heads heads' k w are split rising = record {
+  next = record {
+    left = head_left s span t x through k.0 k.1.now w.0.now w.1.now all.0;
+    least = λ q h. false_from_ne_true _ (λ before.
+        let left : IsLeft s t (Some x) through q.key q.ts = record { decided = h.done; later = h.later; low = h.low } in
+        let before' : is_before q.ts q.key k.0 k.1.now ≡ true = subst (λ n. is_before q.ts q.key n k.1.now ≡ true) all.0.at before in
+        elim (subst (HasHead q.key) split (has_head q h)) [
+          | inl here ↦ before_itself q.ts q.key (before_later q.ts k.0 q.ts q.key q.key (subst (λ y. is_before q.ts q.key k.0 y ≡ true) here before')
+              (all.0.first q.ts (subst (λ y. IsLeft s t (Some x) through y q.ts) (sym here) left)))
+          | inr there ↦ before_itself q.ts q.key (before_trans q.ts k.0 q.ts q.key k.1.now q.key before' (none_before s span t x through k heads'.entries above all.1 q there left))
+        ]);
+  };
+  chain = all.0.chain;
+  inside = all.0.inside;
+  are = subst (λ n. AreHeads s span n k.1.now through (k.1.now ∷ []) heads') (sym all.0.at) (record {
+    rising = rising;
+    each = moved_heads s span t x through k heads'.entries all.0.left.later above all.1;
+    all = λ y i inside left. elim (subst (HasHead y) split (no_other y (are.all y i inside (left_back s t k.0 i x k.1.now y through all.0.left.later left)))) [
+      | inl here ↦ inl (inl here)
+      | inr there ↦ inr there
+    ];
+  });
+}
+  where
+    all : AllHeads s span t x through ((k, w) ∷ heads'.entries)
+    all = subst (AllHeads s span t x through) split are.each
+
+    above : AllByRecursion (λ q. spot_cmp k q ≡ Less) (keys_of heads'.entries)
+    above = sorted_head spot_cmp k (keys_of heads'.entries) (subst (λ es. IsStrictlySortedBy spot_cmp (keys_of es)) split are.rising)
+
+    no_other : (y : List ℕ) → IsIn y [] ⊎ HasHead y heads.entries → HasHead y heads.entries
+    no_other y i = elim i [ inl none ↦ absurd none | inr head ↦ head ]
+
+    has_head : (q : Row) → IsLeftIn s span t (Some x) through q → HasHead q.key heads.entries
+    has_head q h = no_other q.key (are.all q.key q.ts h.inside (record { decided = h.done; later = h.later; low = h.low }))
+
+-- ---- the walk over the heads
+
+-- rows are those before the heads, and some are missing
+pub record IsMerged (s : Stored) (span : Span) (ts : ℕ) (key : List ℕ) (through n missing : ℕ) (rows : List Row) (heads : BTreeMap Spot Found) : Type 0 where
+  pub t : ℕ
+  pub x : List ℕ
+  pub walked : IsWalked s span ts (Some key) through n t (Some x) missing rows
+  pub are : AreHeads s span t x through [] heads
+
+pub merge_begins : (s : Stored) (span : Span) (ts : ℕ) (key : List ℕ) (through n missing : ℕ) (rows : List Row) (heads : BTreeMap Spot Found) → AreHeads s span ts key through [] heads → rows ≡ [] → n ≡ missing → IsMerged s span ts key through n missing rows heads
+merge_begins s span ts key through n missing rows heads are none all = record {
+  t = ts;
+  x = key;
+  walked = subst (λ m. IsWalked s span ts (Some key) through n ts (Some key) m rows) all (subst (IsWalked s span ts (Some key) through n ts (Some key) n) (sym none) (walk_begins s span ts (Some key) through n));
+  are = are;
+}
+
+pub merge_goes_on : (s : Stored) (span : Span) (ts : ℕ) (key : List ℕ) (through n missing missing' : ℕ) (rows rows' : List Row) (heads taken heads' : BTreeMap Spot Found) (k : Spot) (w : Found) → IsMerged s span ts key through n missing rows heads
+    → heads.entries ≡ (k, w) ∷ taken.entries → IsOrdered spot_cmp taken → missing ≡ missing' + 1 → rows' ≡ rows ++ row_of k.1.now w.0.now ∷ []
+    → (chain_of s k.1.now ≡ w.1.now → in_span span k.1.now ≡ true → AreHeads s span w.0.now.ts k.1.now through (k.1.now ∷ []) taken → AreHeads s span w.0.now.ts k.1.now through [] heads')
+    → IsMerged s span ts key through n missing' rows' heads'
+merge_goes_on s span ts key through n missing missing' rows rows' heads taken heads' k w merged split rising less more added =
+    let first = head_taken s span merged.t merged.x through heads taken k w merged.are split rising in record {
+      t = w.0.now.ts;
+      x = k.1.now;
+      walked = walk_takes s span ts (Some key) through n merged.t (Some merged.x) missing missing' rows rows' (row_of k.1.now w.0.now) merged.walked first.next less more;
+      are = added first.chain first.inside first.are;
+    }
+
+pub merge_full : (s : Stored) (span : Span) (ts : ℕ) (key : List ℕ) (through n missing : ℕ) (rows : List Row) (heads : BTreeMap Spot Found) → IsMerged s span ts key through n missing rows heads → missing ≤ 0 → AreNextIn s span ts (Some key) through n rows
+merge_full s span ts key through n missing rows heads merged none = walk_full s span ts (Some key) through n merged.t (Some merged.x) missing rows merged.walked none
+
+no_entry : (es : List (Spot × Found)) → (0 < length es → ⊥) → es ≡ []
+no_entry [] none = refl
+no_entry (e ∷ es) none = absurd (none (omega arith))
+
+pub merge_ends : (s : Stored) (span : Span) (ts : ℕ) (key : List ℕ) (through n missing : ℕ) (rows : List Row) (heads : BTreeMap Spot Found) → IsMerged s span ts key through n missing rows heads → (0 < length heads.entries → ⊥) → AreNextIn s span ts (Some key) through n rows
+merge_ends s span ts key through n missing rows heads merged empty = walk_ends s span ts (Some key) through n merged.t (Some merged.x) missing rows merged.walked
+    (λ r h. elim (merged.are.all r.key r.ts h.inside (record { decided = h.done; later = h.later; low = h.low })) [
+      | inl none ↦ absurd none
+      | inr head ↦ absurd (subst (HasHead r.key) (no_entry heads.entries empty) head)
+    ])

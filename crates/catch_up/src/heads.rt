@@ -1,0 +1,113 @@
+//! The rows after a place, read off the chains of a span's keys.
+ghost use Rattle.std.specs.Prelude.{◌≡◌, ◌∷◌, ℕ, [], List, IfOk, MatchOption, OnOk, Some, nat_lt, true};
+ghost use Rattle.catch_up.specs.Left.{AreNextIn};
+ghost use Rattle.spans.specs.Keys.{in_span};
+ghost use Rattle.spans.specs.declared.span.Span.{Span};
+ghost use Rattle.version_chain.specs.Chains.{chain_of};
+ghost use Rattle.version_chain.specs.Following.{is_before};
+ghost use Rattle.version_chain.specs.Stores.{Stored};
+ghost use Rattle.catch_up.specs.Heads.{AreHeads, IsFirstDue, IsNoneDue};
+
+use crate::rows::row_of;
+use spans::span::Span;
+use std::alloc::{AllocError, Global};
+use std::collections::BTreeMap;
+use timestamps::key::Key;
+use timestamps::row::Row;
+use timestamps::ts::Ts;
+use version_chain::chain::{Chain, Version};
+use version_chain::{Steps, Store};
+
+/// Of each key the first committed version after a place, with the chain of the key: by timestamp and then
+/// by key.
+type Heads<'a> = BTreeMap<(u64, &'a Key), (&'a Version, &'a Chain)>;
+
+/// The first `n` committed rows of the span after `place` at `ts` and at or below `through`. The first
+/// head is told, and the next version of its key becomes one.
+pub(crate) fn rows_of_keys(
+    alloc: Global,
+    store: &Store,
+    span: &Span,
+    ts: Ts,
+    place: &Key,
+    through: u64,
+    n: u64,
+) -> Result<Vec<Row>, AllocError>
+    ensures { IfOk result (λ rows. AreNextIn store.now span.now ts (Some place.now) through n rows.items) }
+{
+    let mut heads = heads_after(alloc, store, span, ts, place, through)?;
+    let mut rows = Vec::new(alloc);
+    for _ in 0..n {
+        let Some(((_, key), (version, chain))) = heads.pop_first() else {
+            break;
+        };
+        let row = row_of(key, version)?;
+        rows.push(row)?;
+        add_head(&mut heads, key, chain, version.ts, key, through)?;
+    }
+    Ok(rows)
+}
+
+/// The heads of all keys of the span after `place` at `ts` and at or below `through`.
+fn heads_after<'a>(
+    alloc: Global,
+    store: &'a Store,
+    span: &'a Span,
+    ts: Ts,
+    place: &Key,
+    through: u64,
+) -> Result<Heads<'a>, AllocError>
+    ensures { IfOk result (λ heads. AreHeads store.now span.now ts place.now through [] heads) }
+{
+    let mut heads = BTreeMap::new(alloc);
+    for (key, chain) in store.in_span(span) {
+        add_head(&mut heads, key, chain, ts, place, through)?;
+    }
+    Ok(heads)
+}
+
+/// Adds the head of a key, where it has one: the key is no longer among those ahead.
+fn add_head<'a>(
+    heads: &mut Heads<'a>,
+    key: &'a Key,
+    chain: &'a Chain,
+    ts: Ts,
+    place: &Key,
+    through: u64,
+) -> Result<(), AllocError>
+    ensures { OnOk result ((s : Stored) (span : Span) (ahead : List (List ℕ)) → chain_of s key.now ≡ chain.now → in_span span key.now ≡ true
+        → AreHeads s span ts place.now through (key.now ∷ ahead) heads.old → AreHeads s span ts place.now through ahead heads.new) }
+{
+    let after = last_passed(key, ts, place);
+    if let Some(version) = committed_above(chain, after, through) {
+        heads.insert((version.ts.get(), key), (version, chain))?;
+    }
+    Ok(())
+}
+
+/// Up to which timestamp no version of the key comes after `place` at `ts`.
+fn last_passed(key: &Key, ts: Ts, place: &Key) -> u64
+    ensures { (i : ℕ) → nat_lt result i ≡ is_before ts place.now i key.now }
+{
+    if place < key {
+        return ts.get() - 1;
+    }
+    ts.get()
+}
+
+/// The first committed version above `after` and at or below `through`.
+fn committed_above(chain: &Chain, after: u64, through: u64) -> Option<&Version>
+    ensures { MatchOption result (IsNoneDue chain.now after through) (λ v. IsFirstDue chain.now after through v.now) }
+{
+    let mut passed = after;
+    while let Some(version) = chain.next_above(passed, &mut Steps::new()) {
+        if version.ts.get() > through {
+            return None;
+        }
+        if version.decided {
+            return Some(version);
+        }
+        passed = version.ts.get();
+    }
+    None
+}
