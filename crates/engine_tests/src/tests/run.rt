@@ -24,15 +24,28 @@ pub(crate) fn run(
     let mut database = Database::new(rt.alloc());
     for _ in 0..COMMANDS {
         let (seat, cmd) = commands.draw()?;
-        let before = Before::new(&engine, &cmd);
-        let wanted = right(&mut database, seat, &cmd)?;
-        step(rt, &mut engine, seat, &cmd, &wanted)?;
-        commands.heard(seat, &wanted)?;
-        tally.add(word_of(&cmd), kind_of(before, &cmd, &wanted))?;
+        let (reply, kind) = answer(rt, &mut engine, &mut database, seat, &cmd)?;
+        commands.heard(seat, &reply)?;
+        tally.add(word_of(&cmd), kind)?;
     }
     assert_eq!(rt; engine.steps(), COMMANDS);
     assert_eq!(rt; engine.closed(), database.closed());
     Ok(())
+}
+
+/// Both answer a command alike: the reply, and its kind.
+fn answer(
+    rt: &(impl Abort + AllocGlobal),
+    engine: &mut Engine,
+    database: &mut Database,
+    seat: u8,
+    cmd: &Cmd,
+) -> Result<(Reply, &'static str), Fail> {
+    let before = Before::new(engine, cmd);
+    let wanted = right(database, seat, cmd)?;
+    step(rt, engine, seat, cmd, &wanted)?;
+    let kind = kind_of(before, cmd, &wanted);
+    Ok((wanted, kind))
 }
 
 /// The engine of a run, whose rings hold from 1 to 8 rows.
