@@ -1,8 +1,7 @@
 //! The command line: which words the program takes, and what they ask for.
 
-use crate::race::RaceOptions;
-use crate::run::DEFAULTS;
 use clap::{Arg, ArgMatches, Command, value_parser};
+use jobs::{DEFAULTS, RaceOptions};
 use sessions::Config;
 use std::alloc::{AllocError, Global};
 

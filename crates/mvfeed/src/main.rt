@@ -12,33 +12,19 @@
 //! no 0
 //! ```
 //!
-//! Each command is a function over its options, a source and a sink that answers an `End`: `run_io`,
-//! `race_io` and `check_io`. Their contracts go from the bytes read to the bytes written; `main` reads the
-//! command line, and makes of the end the exit status and the word on standard error.
-//!
-//! ```text
-//! run     each line costs its bytes, and what the database's call does; memory as the database takes it
-//! race    the whole script is kept, a thread for each session, and all events until the end
-//! check   the whole transcript is kept, and its events; each costs what the call did
-//! ```
+//! What each command does is a function of the crate `jobs`, over its options, a source and a sink, that
+//! answers an `End`. Here the command line is read, and the end becomes the exit status and the word on
+//! standard error.
 #![tactic(auto)]
 
-mod check;
 mod command_line;
-mod ending;
-mod race;
-mod run;
 mod status;
 #[cfg(test)]
 mod tests;
-mod verdict;
 
-use check::check_io;
 use command_line::{Job, command, job_of};
-use ending::End;
-use race::race_io;
+use jobs::{End, check_io, race_io, run_io};
 use races::Open;
-use run::run_io;
 use sessions::{Reading, Sink, Source, Writing};
 use std::alloc::Global;
 use std::env::Env;

@@ -1,7 +1,7 @@
 //! What the program leaves its caller: an exit status, and a word where it failed.
 
-use crate::ending::End;
 use clap::Error;
+use jobs::End;
 use sessions::OpenError;
 use std::process::ExitCode;
 

@@ -1,0 +1,16 @@
+//! Tests of the program's jobs, byte for byte: scripts run, sessions that race, and transcripts checked, over
+//! readers and writers in memory that may fail.
+//!
+//! ```text
+//! transactions, closings, feeds    worked transcripts
+//! rows                             faulty lines, and lines at their limits
+//! verdicts                         transcripts with what a check says of them
+//! checks                           checks of many blocks, and of devices that fail
+//! racing                           what a race writes
+//! random                           a script of commands of all kinds
+//! devices                          readers and writers in memory that may fail
+//! ```
+#![tactic(auto)]
+
+#[cfg(test)]
+mod tests;

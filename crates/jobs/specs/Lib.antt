@@ -1,0 +1,4 @@
+pub mod Verdicts
+pub mod Ends
+pub mod Answers
+pub mod Races

@@ -1,0 +1,63 @@
+-- What a race of a script's sessions answers.
+use Rattle.std.specs.Prelude.{◌≡◌, ℕ, List, [], Some, None}
+use Rattle.spans.specs.declared.calls.commands.Cmd.{Cmd}
+use Rattle.spans.specs.declared.calls.events.Event.{Event}
+use Rattle.word_lines.specs.Events.{fault_line}
+use Rattle.script.specs.Scripts.{script_at}
+use Rattle.script.specs.Transcripts.{Fault, transcript_text}
+use Rattle.shared_db.specs.declared.config.Config.{Config}
+use Rattle.shared_db.specs.Opening.{IsReason}
+use Rattle.races.specs.Calls.{IsRaceOf}
+use Rattle.races.specs.declared.racing.RaceError.TheVariants as race_errors
+use Rattle.races.specs.declared.settling.FreshError.{FreshError}
+use Rattle.races.specs.declared.settling.FreshError.TheVariants as errors
+use Rattle.jobs.specs.declared.answer.Answer.{Answer}
+use Rattle.jobs.specs.declared.answer.Answer.TheVariants as answer
+use Rattle.jobs.specs.declared.ending.End.{End}
+use Rattle.jobs.specs.declared.ending.End.TheVariants as ends
+use Rattle.jobs.specs.declared.race.RaceOptions.{RaceOptions}
+
+-- the database that a race is made on
+abbrev pub config_of : RaceOptions → Config
+config_of options = record { seats = options.sessions; ring = options.ring; first = 0 }
+
+-- the script has no fault, and the output is the text of one right history of its calls
+pub record IsRaced (sessions : ℕ) (text out : List ℕ) : Type 0 where
+  pub calls : List (ℕ × Cmd)
+  pub script : script_at sessions text ≡ record { calls = calls; fault = None }
+  pub events : List Event
+  pub raced : IsRaceOf sessions calls events
+  pub told : out ≡ transcript_text events
+
+-- how a race ends by itself, and what it writes: the history of all calls, or the script's first fault. Nothing is written where
+-- the database was not opened, or a thread was not started
+abbrev pub IsRace : RaceOptions → List ℕ → End → List ℕ → Type 0
+IsRace options text ends.Done out = IsRaced options.sessions text out
+IsRace options text ends.Faulty out = (f : Fault) × ((script_at options.sessions text).fault ≡ Some f) × (out ≡ fault_line f.line f.fault)
+IsRace options text (ends.Open reason) out = IsReason (config_of options) reason × (out ≡ [])
+IsRace options text ends.Thread out = out ≡ []
+IsRace options text _ out = ⊥
+
+-- how a race ends that left nothing
+abbrev pub IsUnraced : RaceOptions → End → Type 0
+IsUnraced options (ends.Open reason) = IsReason (config_of options) reason
+IsUnraced options ends.Thread = Unit {0}
+IsUnraced options ends.Memory = Unit {0}
+IsUnraced options _ = ⊥
+
+-- the end that a refusal leads to
+abbrev pub end_of_refusal : FreshError → End
+end_of_refusal (errors.Open reason) = ends.Open reason
+end_of_refusal errors.NoMemory = ends.Memory
+end_of_refusal (errors.Race race_errors.Thread) = ends.Thread
+end_of_refusal (errors.Race _) = ends.Memory
+
+-- how a race ends whose answer is written whole
+abbrev pub end_of_answer : Answer → End
+end_of_answer (answer.Fault text) = ends.Faulty
+end_of_answer (answer.Events events) = ends.Done
+
+-- the text of an answer
+abbrev pub text_of_answer : Answer → List ℕ
+text_of_answer (answer.Fault text) = text.items
+text_of_answer (answer.Events events) = transcript_text events.items

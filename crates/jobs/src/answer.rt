@@ -1,0 +1,43 @@
+//! What a race answers, before it is written.
+ghost use Rattle.std.specs.Prelude.{◌≡◌, [], OnOk, OnErr, IfErr};
+ghost use Rattle.sessions.specs.Writing.{HasTaken, HasBegun, StopsWriting};
+ghost use Rattle.jobs.specs.Races.{end_of_answer, text_of_answer};
+
+use crate::ending::End;
+use sessions::{Sink, write_transcript, write_whole};
+use spans::calls::Event;
+use std::alloc::Global;
+
+/// What a race answers.
+#[derive(Drop)]
+pub(crate) enum Answer {
+    /// The line that tells the script's first fault.
+    Fault(Vec<u8>),
+    /// The history of all calls.
+    Events(Vec<Event>),
+}
+
+impl Answer {
+    /// How the race ends once the answer is written.
+    pub(crate) fn end(&self) -> End
+        ensures { result ≡ end_of_answer self.now }
+    {
+        match self {
+            Answer::Fault(_) => End::Faulty,
+            Answer::Events(_) => End::Done,
+        }
+    }
+
+    /// Writes the answer's text.
+    pub(crate) fn write<K: Sink>(&self, alloc: Global, output: &mut K) -> Result<(), sessions::End>
+        ensures ok { OnOk result (HasTaken (K.taken output.old) (K.taken output.new) (text_of_answer self.now) []) }
+        ensures worked { OnOk result (K.failures output.new ≡ K.failures output.old) }
+        ensures err { OnErr result (HasBegun (K.taken output.old) (K.taken output.new) (text_of_answer self.now)) }
+        ensures failed { IfErr result (λ end. StopsWriting end (K.failures output.old) (K.failures output.new)) }
+    {
+        match self {
+            Answer::Fault(text) => write_whole(output, text.as_slice()),
+            Answer::Events(events) => write_transcript(alloc, output, events.as_slice()),
+        }
+    }
+}

@@ -1,0 +1,98 @@
+//! The sessions of a script race.
+ghost use Rattle.std.specs.Prelude.{◌≡◌, ◌≢◌, IfOk, IfErr};
+ghost use Rattle.races.specs.declared.racing.RaceError.TheVariants.{Counts};
+ghost use Rattle.races.specs.declared.settling.FreshError.TheVariants.{Race};
+ghost use Rattle.jobs.specs.Answers.{IsAnswered};
+ghost use Rattle.jobs.specs.Ends.{FailsAt};
+ghost use Rattle.jobs.specs.Races.{IsRace, IsUnraced, end_of_answer, text_of_answer, end_of_refusal};
+
+use crate::answer::Answer;
+use crate::ending::{End, told};
+use races::{FreshError, Gate, RaceError, race_calls};
+use script::fault::TranscriptError;
+use script::scripts::read_script;
+use sessions::{Sink, Source, read_whole};
+use std::alloc::Global;
+use std::sync::Wait;
+use std::thread::Threads;
+use word_lines::events::write_fault;
+
+/// Who races, and how.
+#[derive(Clone, Copy, Debug, PartialEq, Eq)]
+pub struct RaceOptions {
+    /// How many sessions there are, 1 to 64. The script names them from 0 on.
+    pub sessions: u8,
+    /// How many rows a feed holds before it is behind, 1 to 65536.
+    pub ring: u32,
+}
+
+/// Reads a script whole, has its sessions race on one database, a thread for each, and writes the one
+/// transcript of all their calls. Where a line is faulty nothing is called, and its fault alone is written.
+///
+/// Whether it returns is not promised.
+pub fn race_io<S: Source, K: Sink, R: Threads + Wait + Sync, G: Gate + Sync>(
+    rt: &R,
+    alloc: Global,
+    options: RaceOptions,
+    gate: &G,
+    input: &mut S,
+    output: &mut K,
+) -> End
+    ensures answered { IsAnswered (IsRace options) (S.given input.old) (S.given input.new) (S.ended input.new) (K.taken output.old) (K.taken output.new) result }
+    ensures failed { FailsAt result (S.failures input.old) (S.failures input.new) (K.failures output.old) (K.failures output.new) }
+{
+    let text = match read_whole(alloc, input) {
+        Ok(text) => text,
+        Err(end) => return told(end),
+    };
+    let answer = match answer_to(rt, alloc, options, gate, text.as_slice()) {
+        Ok(answer) => answer,
+        Err(end) => return end,
+    };
+    match answer.write(alloc, output) {
+        Ok(()) => answer.end(),
+        Err(end) => told(end),
+    }
+}
+
+/// What a race answers to a script: its first fault, or the history of its calls.
+fn answer_to<R: Threads + Wait + Sync, G: Gate + Sync>(
+    rt: &R,
+    alloc: Global,
+    options: RaceOptions,
+    gate: &G,
+    text: &[u8],
+) -> Result<Answer, End>
+    ensures ok { IfOk result (λ answer. IsRace options text.now (end_of_answer answer) (text_of_answer answer)) }
+    ensures err { IfErr result (IsUnraced options) }
+{
+    match read_script(alloc, text, options.sessions) {
+        Ok(calls) => match race_calls(rt, alloc, options.sessions, options.ring, calls, gate) {
+            Ok(events) => Ok(Answer::Events(events)),
+            Err(refused) => Err(end_of(refused)),
+        },
+        Err(TranscriptError::NoMemory) => Err(End::Memory),
+        Err(TranscriptError::Fault { line, fault }) => {
+            let mut told = Vec::new(alloc);
+            match write_fault(&mut told, line, fault) {
+                Ok(()) => Ok(Answer::Fault(told)),
+                Err(_) => Err(End::Memory),
+            }
+        }
+    }
+}
+
+/// How a race ends that left nothing.
+fn end_of(refused: FreshError) -> End
+    requires as_many { refused ≢ Race Counts }
+    ensures { result ≡ end_of_refusal refused }
+{
+    match refused {
+        FreshError::Open(reason) => End::Open(reason),
+        FreshError::NoMemory => End::Memory,
+        FreshError::Race(RaceError::NoMemory) => End::Memory,
+        FreshError::Race(RaceError::Thread) => End::Thread,
+        // there are as many lists as seats
+        FreshError::Race(RaceError::Counts) => unreachable!(),
+    }
+}

@@ -1,0 +1,29 @@
+//! A script is run.
+ghost use Rattle.jobs.specs.Ends.{IsRun, FailsAt};
+
+use crate::ending::{End, told};
+use sessions::{Config, Sink, Source, serve};
+use std::alloc::Global;
+use std::sync::Wait;
+
+/// What a database is opened with where the command line doesn't say.
+pub const DEFAULTS: Config = Config {
+    seats: 64,
+    ring: 1024,
+    first: 0,
+};
+
+/// Reads a script, makes its calls in order on one database, and writes the transcript. A faulty line
+/// ends it with its fault; what was answered before stands.
+pub fn run_io<S: Source, K: Sink, T: Wait>(
+    rt: &T,
+    alloc: Global,
+    options: Config,
+    input: &mut S,
+    output: &mut K,
+) -> End
+    ensures ran { IsRun options (S.given input.old) (S.given input.new) (S.ended input.new) (K.taken output.old) (K.taken output.new) result }
+    ensures failed { FailsAt result (S.failures input.old) (S.failures input.new) (K.failures output.old) (K.failures output.new) }
+{
+    told(serve(rt, alloc, options, input, output))
+}
