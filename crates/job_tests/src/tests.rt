@@ -4,6 +4,7 @@ mod checks;
 mod closings;
 mod devices;
 mod feeds;
+mod follow;
 mod racing;
 mod random;
 mod rows;

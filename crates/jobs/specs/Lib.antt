@@ -2,3 +2,5 @@ pub mod Verdicts
 pub mod Ends
 pub mod Answers
 pub mod Races
+pub mod Followed
+pub mod Chosen

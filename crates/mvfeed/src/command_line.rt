@@ -1,9 +1,11 @@
 //! The command line: which words the program takes, and what they ask for.
 
-use clap::{Arg, ArgMatches, Command, value_parser};
-use jobs::{DEFAULTS, RaceOptions};
+use clap::error::ErrorKind;
+use clap::{Arg, ArgAction, ArgGroup, ArgMatches, Command, Error, value_parser};
+use jobs::{DEFAULTS, FollowOptions, RaceOptions, Start, span_of};
 use sessions::Config;
 use std::alloc::{AllocError, Global};
+use word_lines::fault::ReadError;
 
 /// What the program's command line may be.
 pub(crate) fn command<'a>(alloc: Global) -> Result<Command<'a>, AllocError> {
@@ -12,7 +14,8 @@ pub(crate) fn command<'a>(alloc: Global) -> Result<Command<'a>, AllocError> {
         .subcommand_required(true)
         .subcommand(run_command(alloc)?)?
         .subcommand(race_command(alloc)?)?
-        .subcommand(check_command(alloc))
+        .subcommand(check_command(alloc))?
+        .subcommand(follow_command(alloc)?)
 }
 
 fn run_command<'a>(alloc: Global) -> Result<Command<'a>, AllocError> {
@@ -45,6 +48,42 @@ fn check_command<'a>(alloc: Global) -> Command<'a> {
     Command::new(alloc, "check").about("Say whether a transcript is right, or where it is not")
 }
 
+fn follow_command<'a>(alloc: Global) -> Result<Command<'a>, AllocError> {
+    let feed = option(alloc, "feed")
+        .help("Take only what polls of this feed told [default: every message]")
+        .value_parser(value_parser!(u64));
+    let view = Arg::new(alloc, "view")
+        .long("view")
+        .action(ArgAction::SetTrue)
+        .help("Write the rows at each resolved message, and not their number alone");
+    let start = ArgGroup::new(alloc, "start")
+        .args(&["cursor", "initial"])?
+        .required(true);
+    Command::new(alloc, "follow")
+        .about(
+            "Apply a feed's messages to a replica of its span, and write it at each resolved message",
+        )
+        .arg(bound(alloc, "lo").help("The least key of the span [default: -, no bound]"))?
+        .arg(bound(alloc, "hi").help("The key that the span ends below [default: -, no bound]"))?
+        .arg(cursor(alloc, "cursor").help("Begin with no rows at this timestamp"))?
+        .arg(cursor(alloc, "initial").help("Begin as an initial feed of this timestamp does"))?
+        .arg(feed)?
+        .arg(view)?
+        .group(start)
+}
+
+fn bound<'a>(alloc: Global, name: &'a str) -> Arg<'a> {
+    Arg::new(alloc, name).long(name).value_name("KEY")
+}
+
+/// A timestamp, or 0.
+fn cursor<'a>(alloc: Global, name: &'a str) -> Arg<'a> {
+    Arg::new(alloc, name)
+        .long(name)
+        .value_name("T")
+        .value_parser(value_parser!(u64).range(0..=9223372036854775807))
+}
+
 fn ring<'a>(alloc: Global) -> Arg<'a> {
     option(alloc, "ring")
         .help("How many rows a feed holds before it is behind, 1 to 65536 [default: 1024]")
@@ -64,16 +103,48 @@ pub(crate) enum Job {
     Race(RaceOptions),
     /// To check a transcript.
     Check,
+    /// To follow a feed.
+    Follow(FollowOptions),
 }
 
-/// What a command line asks for.
-pub(crate) fn job_of(matches: &ArgMatches) -> Job {
+/// What a command line asks for, unless a bound in it is none.
+pub(crate) fn job_of(alloc: Global, matches: &ArgMatches) -> Result<Job, Error> {
     if let Some(run) = matches.subcommand_matches("run") {
-        return Job::Run(options_of(run));
+        return Ok(Job::Run(options_of(run)));
     }
-    match matches.subcommand_matches("race") {
-        Some(race) => Job::Race(race_options_of(race)),
-        None => Job::Check,
+    if let Some(race) = matches.subcommand_matches("race") {
+        return Ok(Job::Race(race_options_of(race)));
+    }
+    match matches.subcommand_matches("follow") {
+        Some(follow) => follow_of(alloc, follow),
+        None => Ok(Job::Check),
+    }
+}
+
+/// The job of `mvfeed follow`.
+fn follow_of(alloc: Global, follow: &ArgMatches) -> Result<Job, Error> {
+    let lo = follow.get_str("lo").unwrap_or("-");
+    let hi = follow.get_str("hi").unwrap_or("-");
+    match span_of(alloc, lo.as_bytes(), hi.as_bytes()) {
+        Ok(span) => Ok(Job::Follow(FollowOptions {
+            span,
+            start: start_of(follow),
+            feed: follow.get_one("feed"),
+            view: follow.get_flag("view"),
+        })),
+        Err(ReadError::NoMemory) => Err(Error::from(AllocError)),
+        Err(ReadError::Fault(_)) => {
+            let told = "a bound is `-` or a key as in scripts, of 65 bytes at most";
+            Err(command(alloc)?.error(ErrorKind::ValueValidation, told)?)
+        }
+    }
+}
+
+/// What the rows are at first.
+fn start_of(follow: &ArgMatches) -> Start {
+    match follow.get_one("initial") {
+        Some(cursor) => Start::Initial(cursor),
+        None => Start::Cursor(follow.get_one("cursor").unwrap_or(0)),
     }
 }
 

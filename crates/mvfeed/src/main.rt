@@ -10,6 +10,8 @@
 //! 1 0 begin 10 => started
 //! $ printf '0 0 begin 10 => tsused\n' | mvfeed check
 //! no 0
+//! $ printf '{"resolved":"5"}\n' | mvfeed follow --cursor 0
+//! resolved 5 0
 //! ```
 //!
 //! What each command does is a function of the crate `jobs`, over its options, a source and a sink, that
@@ -23,7 +25,7 @@ mod status;
 mod tests;
 
 use command_line::{Job, command, job_of};
-use jobs::{End, check_io, race_io, run_io};
+use jobs::{End, check_io, follow_io, race_io, run_io};
 use races::Open;
 use sessions::{Reading, Sink, Source, Writing};
 use std::alloc::Global;
@@ -42,12 +44,15 @@ fn main(rt: HostRuntime) -> ExitCode {
         return status::failed(&rt, status::MEMORY);
     };
     match command.try_get_matches_from(words.as_slice()) {
-        Ok(matches) => {
-            let mut input = Reading::new(rt.reader());
-            let mut output = Writing::new(io::writer(&rt));
-            let end = done(&rt, rt.alloc(), job_of(&matches), &mut input, &mut output);
-            status::told(&rt, end)
-        }
+        Ok(matches) => match job_of(rt.alloc(), &matches) {
+            Ok(job) => {
+                let mut input = Reading::new(rt.reader());
+                let mut output = Writing::new(io::writer(&rt));
+                let end = done(&rt, rt.alloc(), job, &mut input, &mut output);
+                status::told(&rt, end)
+            }
+            Err(refused) => status::refused(&rt, &refused),
+        },
         Err(refused) => status::refused(&rt, &refused),
     }
 }
@@ -64,6 +69,7 @@ fn done<S: Source, K: Sink, R: Threads + Wait + Sync>(
         Job::Run(options) => run_io(rt, alloc, options, input, output),
         Job::Race(options) => race_io(rt, alloc, options, &Open, input, output),
         Job::Check => check_io(alloc, input, output),
+        Job::Follow(options) => follow_io(alloc, options, input, output),
     }
 }
 

@@ -2,7 +2,7 @@
 
 use crate::command_line::{Job, command, job_of};
 use crate::status::{status_of, word_of};
-use jobs::{End, RaceOptions};
+use jobs::{End, FollowOptions, RaceOptions, Start, span_of};
 use sessions::{Config, OpenError};
 use std::alloc::{AllocError, Global};
 use std::test::Fail;
@@ -65,9 +65,9 @@ fn statuses(rt: HostRuntime) {
 /// The options that a command line asks for, if it is taken.
 fn run_options_in(alloc: Global, words: &[&str]) -> Result<Option<Config>, AllocError> {
     match command(alloc)?.try_get_matches_from(words) {
-        Ok(matches) => match job_of(&matches) {
-            Job::Run(options) => Ok(Some(options)),
-            Job::Race(_) | Job::Check => Ok(None),
+        Ok(matches) => match job_of(alloc, &matches) {
+            Ok(Job::Run(options)) => Ok(Some(options)),
+            _ => Ok(None),
         },
         Err(_) => Ok(None),
     }
@@ -77,7 +77,11 @@ fn run_options_in(alloc: Global, words: &[&str]) -> Result<Option<Config>, Alloc
 fn options_are_read(rt: HostRuntime) -> Result<(), Fail> {
     for (words, seats, ring, first) in OPTIONS {
         let wanted = Config { seats, ring, first };
-        assert_eq!(rt; run_options_in(rt.alloc(), words)?, Some(wanted), "{words:?}");
+        assert_eq!(rt;
+            run_options_in(rt.alloc(), words)?,
+            Some(wanted),
+            "{words:?}"
+        );
     }
     for words in REFUSED {
         assert_eq!(rt; run_options_in(rt.alloc(), words)?, None, "{words:?}");
@@ -88,9 +92,9 @@ fn options_are_read(rt: HostRuntime) -> Result<(), Fail> {
 /// The options of a race that a command line asks for, if it is taken.
 fn race_options_in(alloc: Global, words: &[&str]) -> Result<Option<RaceOptions>, AllocError> {
     match command(alloc)?.try_get_matches_from(words) {
-        Ok(matches) => match job_of(&matches) {
-            Job::Race(options) => Ok(Some(options)),
-            Job::Run(_) | Job::Check => Ok(None),
+        Ok(matches) => match job_of(alloc, &matches) {
+            Ok(Job::Race(options)) => Ok(Some(options)),
+            _ => Ok(None),
         },
         Err(_) => Ok(None),
     }
@@ -103,7 +107,10 @@ fn options_of_a_race(rt: HostRuntime) -> Result<(), Fail> {
         sessions: 2,
         ring: 1024,
     };
-    assert_eq!(rt; race_options_in(alloc, &["mvfeed", "race", "2"])?, Some(two));
+    assert_eq!(rt;
+        race_options_in(alloc, &["mvfeed", "race", "2"])?,
+        Some(two)
+    );
     let most = RaceOptions {
         sessions: 64,
         ring: 1,
@@ -133,11 +140,93 @@ fn options_of_a_race(rt: HostRuntime) -> Result<(), Fail> {
 fn check_takes_no_options(rt: HostRuntime) -> Result<(), Fail> {
     let words = ["mvfeed", "check"];
     let is_check = match command(rt.alloc())?.try_get_matches_from(&words) {
-        Ok(matches) => matches!(job_of(&matches), Job::Check),
+        Ok(matches) => matches!(job_of(rt.alloc(), &matches), Ok(Job::Check)),
         Err(_) => false,
     };
     assert!(rt; is_check);
     let words = ["mvfeed", "check", "--ring", "1"];
     assert!(rt; command(rt.alloc())?.try_get_matches_from(&words).is_err());
+    Ok(())
+}
+
+/// The options of a feed to follow that a command line asks for, if it is taken.
+fn follow_options_in(alloc: Global, words: &[&str]) -> Result<Option<FollowOptions>, AllocError> {
+    match command(alloc)?.try_get_matches_from(words) {
+        Ok(matches) => match job_of(alloc, &matches) {
+            Ok(Job::Follow(options)) => Ok(Some(options)),
+            _ => Ok(None),
+        },
+        Err(_) => Ok(None),
+    }
+}
+
+#[test]
+fn options_of_a_feed(rt: HostRuntime) -> Result<(), Fail> {
+    let alloc = rt.alloc();
+    let least = FollowOptions {
+        span: span_of(alloc, b"-", b"-")?,
+        start: Start::Cursor(0),
+        feed: None,
+        view: false,
+    };
+    let words = ["mvfeed", "follow", "--cursor", "0"];
+    assert_eq!(rt; follow_options_in(alloc, &words)?, Some(least));
+    let most = FollowOptions {
+        span: span_of(alloc, b"-a", b"%25")?,
+        start: Start::Initial(9223372036854775807),
+        feed: Some(18446744073709551615),
+        view: true,
+    };
+    let words = [
+        "mvfeed",
+        "follow",
+        "--lo=-a",
+        "--hi",
+        "%25",
+        "--initial",
+        "9223372036854775807",
+        "--feed",
+        "18446744073709551615",
+        "--view",
+    ];
+    assert_eq!(rt; follow_options_in(alloc, &words)?, Some(most));
+    let words = ["mvfeed", "follow", "--lo", "-", "--cursor", "7"];
+    let some = follow_options_in(alloc, &words)?;
+    assert!(rt;
+        matches!(
+            some,
+            Some(FollowOptions {
+                start: Start::Cursor(7),
+                ..
+            })
+        )
+    );
+    Ok(())
+}
+
+/// Words behind `follow` that are refused.
+const NOT_FOLLOWED: [&[&str]; 12] = [
+    &[],
+    &["--view"],
+    &["--cursor", "1", "--initial", "1"],
+    &["--cursor"],
+    &["--cursor", "9223372036854775808"],
+    &["--initial", "-1"],
+    &["--initial", "1", "--initial", "1"],
+    &["--cursor", "1", "--feed", "one"],
+    &["--cursor", "1", "--lo", ""],
+    &["--cursor", "1", "--hi", "%41"],
+    &["--cursor", "1", "--hi", "a b"],
+    &["--cursor", "1", "it"],
+];
+
+#[test]
+fn feeds_that_are_not_followed(rt: HostRuntime) -> Result<(), Fail> {
+    for behind in NOT_FOLLOWED {
+        let mut words = vec![in rt.alloc(); "mvfeed", "follow"]?;
+        words.extend_from_slice(behind)?;
+        let taken = follow_options_in(rt.alloc(), words.as_slice())?.is_some();
+        assert!(rt; !taken, "{behind:?}");
+    }
     Ok(())
 }

@@ -76,6 +76,28 @@ fn a_feed_falls_behind_where_its_ring_is_full(rt: HostRuntime) -> Result<(), Fai
     Ok(())
 }
 
+/// Five rows of one transaction, and a closing that has passed them.
+const FIVE_ROWS: &str = "0 0 open - - 0 => opened 1
+1 1 begin 10 => started
+2 1 put 10 a 1 => written
+3 1 put 10 b 2 => written
+4 1 put 10 c 3 => written
+5 1 put 10 d 4 => written
+6 1 del 10 e => written
+7 1 commit 10 => committed 5
+8 0 close 10 => closed 10 0
+";
+
+#[test]
+fn a_ring_holds_as_many_rows_as_it_is_long(rt: HostRuntime) -> Result<(), Fail> {
+    for (ring, behind) in [(3, true), (4, true), (5, false), (65536, false)] {
+        let mut engine = Engine::new(rt.alloc(), ring);
+        play(&rt, &mut engine, FIVE_ROWS)?;
+        assert_eq!(rt; engine.behind(1), Some(behind), "a ring of {ring}");
+    }
+    Ok(())
+}
+
 #[test]
 fn a_run_makes_all_calls_in_their_order(rt: HostRuntime) -> Result<(), Fail> {
     let Ok(worked) = read_transcript(rt.alloc(), TWO_ROWS.as_bytes()) else {

@@ -1,0 +1,27 @@
+//! The words of a span.
+
+use spans::bound::{Bound, BoundError};
+use spans::span::Span;
+use std::alloc::Global;
+use word_lines::fault::{LineFault, ReadError};
+use word_lines::spelling::bytes_of;
+
+/// The span between two bounds, each spelled as in scripts: `-` is no bound.
+pub fn span_of(alloc: Global, lo: &[u8], hi: &[u8]) -> Result<Span, ReadError> {
+    let lo = bound_of(alloc, lo)?;
+    let hi = bound_of(alloc, hi)?;
+    Ok(Span { lo, hi })
+}
+
+/// The bound that a word spells, or `-` for none.
+fn bound_of(alloc: Global, word: &[u8]) -> Result<Option<Bound>, ReadError> {
+    if word == b"-".as_slice() {
+        return Ok(None);
+    }
+    let spelled = bytes_of(alloc, word)?;
+    match Bound::new(alloc, spelled.bytes()) {
+        Ok(bound) => Ok(Some(bound)),
+        Err(BoundError::BoundLength) => Err(ReadError::Fault(LineFault::KeyLength)),
+        Err(BoundError::NoMemory) => Err(ReadError::NoMemory),
+    }
+}

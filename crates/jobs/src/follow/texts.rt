@@ -1,0 +1,49 @@
+//! The lines that are told of a feed.
+ghost use Rattle.std.specs.Prelude.{◌≡◌, ◌++◌, OnOk};
+ghost use Rattle.word_lines.specs.Replies.{row_line};
+ghost use Rattle.jobs.specs.Followed.{resolved_line, fault_line};
+
+use crate::follow::fault::FollowFault;
+use json_lines::numbers::put_number;
+use std::alloc::AllocError;
+use timestamps::key::Key;
+use timestamps::value::Value;
+use word_lines::spelling::put_spelling;
+
+/// Writes that all is told up to a timestamp, and how many rows there are.
+pub(crate) fn put_resolved(out: &mut Vec<u8>, at: u64, rows: u64) -> Result<(), AllocError>
+    ensures { OnOk result (out.new.items ≡ out.old.items ++ resolved_line at rows) }
+{
+    out.extend_from_slice(b"resolved ")?;
+    put_number(out, at)?;
+    out.push(b' ')?;
+    put_number(out, rows)?;
+    out.push(b'\n')?;
+    Ok(())
+}
+
+/// Writes the line of a row, as it stands in transcripts.
+pub(crate) fn put_row(out: &mut Vec<u8>, key: &Key, value: &Value) -> Result<(), AllocError>
+    ensures { OnOk result (out.new.items ≡ out.old.items ++ row_line (key.now, value.now)) }
+{
+    out.extend_from_slice(b"row ")?;
+    put_spelling(out, key.bytes())?;
+    out.push(b' ')?;
+    put_spelling(out, value.bytes())?;
+    out.push(b'\n')?;
+    Ok(())
+}
+
+/// Writes the line that names a fault and the line where it stands, counted from 1.
+pub(crate) fn put_fault(out: &mut Vec<u8>, line: u64, fault: FollowFault) -> Result<(), AllocError>
+    ensures { OnOk result (out.new.items ≡ out.old.items ++ fault_line line fault) }
+{
+    out.extend_from_slice(b"fault ")?;
+    put_number(out, line)?;
+    out.push(b' ')?;
+    put_number(out, u64::from(fault.code()))?;
+    out.push(b' ')?;
+    out.extend_from_slice(fault.name().as_bytes())?;
+    out.push(b'\n')?;
+    Ok(())
+}
