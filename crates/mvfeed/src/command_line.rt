@@ -57,7 +57,8 @@ fn follow_command<'a>(alloc: Global) -> Result<Command<'a>, AllocError> {
         .action(ArgAction::SetTrue)
         .help("Write the rows at each resolved message, and not their number alone");
     let start = ArgGroup::new(alloc, "start")
-        .args(&["cursor", "initial"])?
+        .arg("cursor")?
+        .arg("initial")?
         .required(true);
     Command::new(alloc, "follow")
         .about(
