@@ -1,10 +1,13 @@
 //! What a check says, byte for byte.
 
 use super::devices::{Sink, Source};
-use super::{Ran, TRANSCRIPTS, random, run_of, verdicts};
-use jobs::{End, check_io};
-use sessions::{Reading, Writing};
+use super::random::Shape;
+use super::{Ran, TRANSCRIPTS, random, run_with, verdicts};
+use jobs::{DEFAULTS, End, check_io};
+use sessions::{Config, Reading, Writing};
 use std::alloc::{AllocError, Global};
+use std::process::Abort;
+use std::sync::Wait;
 use std::test::Fail;
 
 /// How a check ends that reads from the one and writes to the other.
@@ -62,48 +65,95 @@ fn worked_transcripts_are_right(rt: HostRuntime) {
     }
 }
 
-/// What stands in the transcript of a few thousand commands of all kinds.
-const ANSWERS: [&[u8]; 22] = [
-    b" => started",
-    b" => value",
-    b" => none",
-    b" => rows",
-    b" => written",
-    b" => committed",
-    b" => aborted",
-    b" => closed",
-    b" => protected",
-    b" => released",
-    b" => collected",
-    b" => opened",
-    b" => messages",
-    b" => cancelled",
-    b" => stats",
-    b" => toolate",
-    b" => blocked",
-    b" => belowclosed",
-    b" => belowhorizon",
-    b" => notowner",
-    b"{\"resolved\"",
-    b"{\"after\":null",
+/// What stands in the transcripts of a few thousand commands of all kinds.
+const ANSWERS: [&str; 23] = [
+    " => started",
+    " => value",
+    " => none",
+    " => rows",
+    " => written",
+    " => committed",
+    " => aborted",
+    " => closed",
+    " => protected",
+    " => released",
+    " => collected",
+    " => opened",
+    " => messages",
+    " => cancelled",
+    " => stats",
+    " => toolate",
+    " => blocked",
+    " => belowclosed",
+    " => belowhorizon",
+    " => gaprange",
+    " => notowner",
+    "{\"resolved\"",
+    "{\"after\":null",
 ];
 
-#[test]
-fn thousands_of_commands_are_answered_right(rt: HostRuntime) -> Result<(), Fail> {
-    let script = random::script(rt.alloc(), 3000)?;
-    let ran = run_of(&rt, rt.alloc(), script.as_slice());
-    assert_eq!(rt; ran.end, End::Done);
-    for answer in ANSWERS {
-        let found = ran
-            .output
-            .windows(answer.len())
-            .any(|bytes| bytes == answer);
-        assert!(rt; found, "{answer:?}");
+/// How many scripts of a shape are run, and how many lines each has.
+const SCRIPTS: u64 = 25;
+
+const LINES: u64 = 500;
+
+/// Scripts of a shape, run with rings of 1 to 8 rows and checked. Every reply is right, and none wants memory.
+fn run_shape<R: Abort + AllocGlobal + Wait>(rt: &R, first: u64, stride: u64) -> Result<(), Fail> {
+    for turn in 0..SCRIPTS {
+        let shape = Shape {
+            seed: turn.saturating_add(88172645463325252),
+            first,
+            stride,
+        };
+        let script = random::script(rt.alloc(), shape, LINES)?;
+        let options = Config {
+            ring: (turn % 8) as u32 + 1,
+            ..DEFAULTS
+        };
+        let ran = run_with(rt, rt.alloc(), options, script.as_slice());
+        assert_eq!(rt; ran.end, End::Done);
+        let checked = check_of(rt.alloc(), ran.output.as_slice());
+        assert_eq!(rt; checked.output.as_slice(), b"yes\n".as_slice());
+        let text = std::str::from_utf8(ran.output.as_slice())?;
+        assert!(rt; !text.contains(" => nomemory"));
     }
-    let checked = check_of(rt.alloc(), ran.output.as_slice());
-    assert_eq!(rt; checked.output.as_slice(), b"yes\n".as_slice());
-    assert_eq!(rt; checked.end, End::Done);
     Ok(())
+}
+
+#[test]
+fn thousands_of_commands_get_all_kinds_of_answers(rt: HostRuntime) -> Result<(), Fail> {
+    let shape = Shape {
+        seed: 88172645463325252,
+        first: 0,
+        stride: 1,
+    };
+    let script = random::script(rt.alloc(), shape, 4000)?;
+    let ran = run_with(&rt, rt.alloc(), DEFAULTS, script.as_slice());
+    let text = std::str::from_utf8(ran.output.as_slice())?;
+    for answer in ANSWERS {
+        assert!(rt; text.contains(answer), "{answer}");
+    }
+    Ok(())
+}
+
+#[test]
+fn close_timestamps_are_answered_right(rt: HostRuntime) -> Result<(), Fail> {
+    run_shape(&rt, 0, 1)
+}
+
+#[test]
+fn timestamps_that_leave_gaps_are_answered_right(rt: HostRuntime) -> Result<(), Fail> {
+    run_shape(&rt, 1000, 7)
+}
+
+#[test]
+fn timestamps_far_apart_are_answered_right(rt: HostRuntime) -> Result<(), Fail> {
+    run_shape(&rt, 0, 1099511627776)
+}
+
+#[test]
+fn the_last_timestamps_are_answered_right(rt: HostRuntime) -> Result<(), Fail> {
+    run_shape(&rt, 9223372036854775807 - 66, 1)
 }
 
 #[test]

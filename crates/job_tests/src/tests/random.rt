@@ -22,14 +22,30 @@ impl Dice {
     }
 }
 
+/// What the timestamps of a script look like.
+#[derive(Clone, Copy)]
+pub(crate) struct Shape {
+    /// What is drawn from; not 0.
+    pub(crate) seed: u64,
+    /// What all timestamps lie above.
+    pub(crate) first: u64,
+    /// How far two timestamps that follow one another lie apart.
+    pub(crate) stride: u64,
+}
+
+impl Shape {
+    /// A timestamp by its place from the first.
+    fn at(self, place: u64) -> u64 {
+        self.first.saturating_add(place.saturating_mul(self.stride))
+    }
+}
+
 /// A script of so many lines.
-pub(crate) fn script(alloc: Global, lines: u64) -> Result<Vec<u8>, AllocError> {
-    let mut dice = Dice {
-        state: 88172645463325252,
-    };
+pub(crate) fn script(alloc: Global, shape: Shape, lines: u64) -> Result<Vec<u8>, AllocError> {
+    let mut dice = Dice { state: shape.seed };
     let mut script = Vec::new(alloc);
     for turn in 0..lines {
-        let line = line(alloc, &mut dice, turn)?;
+        let line = line(alloc, &mut dice, shape, turn)?;
         script.extend_from_slice(line.as_bytes())?;
         script.push(b'\n')?;
     }
@@ -37,15 +53,17 @@ pub(crate) fn script(alloc: Global, lines: u64) -> Result<Vec<u8>, AllocError> {
 }
 
 /// A line. Timestamps rise slowly with the turn, so that transactions cross one another and closings meet them.
-fn line(alloc: Global, dice: &mut Dice, turn: u64) -> Result<String, AllocError> {
-    let ts = (turn / 8).saturating_add(dice.below(14)).saturating_sub(3);
+fn line(alloc: Global, dice: &mut Dice, shape: Shape, turn: u64) -> Result<String, AllocError> {
+    let place = (turn / 8).saturating_add(dice.below(14)).saturating_sub(3);
+    let ts = shape.at(place);
     // The session of a timestamp, or now and then another.
     let seat = if dice.below(20) == 0 {
         dice.below(4)
     } else {
-        ts % 4
+        place % 4
     };
-    let closed = (turn / 8).saturating_sub(dice.below(6));
+    let closed_place = (turn / 8).saturating_sub(dice.below(6));
+    let closed = shape.at(closed_place);
     let key = dice.one_of(&["a", "b", "c", "%25", "ab"]);
     let low = dice.one_of(&["-", "a", "b", "%25"]);
     let high = dice.one_of(&["-", "c", "ac", "b"]);
@@ -64,24 +82,40 @@ fn line(alloc: Global, dice: &mut Dice, turn: u64) -> Result<String, AllocError>
         15 => format!(in alloc; "1 closehard {closed}"),
         16 => format!(in alloc; "2 readat {closed} {key}"),
         17 => {
-            let earlier = closed.saturating_sub(dice.below(40));
+            let earlier = shape.at(closed_place.saturating_sub(dice.below(40)));
             format!(in alloc; "3 scanat {earlier} {low} {high}")
         }
         18 => format!(in alloc; "0 poll {} 50", dice.below(opened)),
         19..=20 => format!(in alloc; "0 poll {} {number}", dice.below(opened)),
         21 => format!(in alloc; "3 collect {closed}"),
         22 => format!(in alloc; "2 release {}", dice.below(opened)),
-        _ => rarer(alloc, dice, closed, opened),
+        _ => {
+            let cursor = shape.at(closed_place.saturating_sub(dice.below(6)));
+            rarer(alloc, dice, shape, closed, cursor, opened)
+        }
     }
 }
 
 /// A line of what is rarer.
-fn rarer(alloc: Global, dice: &mut Dice, closed: u64, opened: u64) -> Result<String, AllocError> {
-    match dice.below(6) {
-        0 => format!(in alloc; "0 open - - {}", closed.saturating_sub(dice.below(6))),
+fn rarer(
+    alloc: Global,
+    dice: &mut Dice,
+    shape: Shape,
+    closed: u64,
+    cursor: u64,
+    opened: u64,
+) -> Result<String, AllocError> {
+    match dice.below(9) {
+        0 => format!(in alloc; "0 open - - {cursor}"),
         1 => format!(in alloc; "0 open a b {closed}"),
-        2 => format!(in alloc; "1 cancel {}", dice.below(opened)),
-        3..=4 => format!(in alloc; "1 protect {closed}"),
+        2 => format!(in alloc; "0 openinitial - c {cursor}"),
+        3 => format!(in alloc; "0 openinitial a - {closed}"),
+        4 => {
+            let gap = dice.below(9).saturating_mul(shape.stride);
+            format!(in alloc; "0 openevery - - {cursor} {gap}")
+        }
+        5 => format!(in alloc; "1 cancel {}", dice.below(opened)),
+        6..=7 => format!(in alloc; "1 protect {closed}"),
         _ => format!(in alloc; "3 stats"),
     }
 }
