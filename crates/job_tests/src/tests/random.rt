@@ -4,19 +4,24 @@ use std::alloc::{AllocError, Global};
 
 /// Numbers that look drawn at random, always the same ones (Marsaglia's xorshift).
 #[derive(Drop)]
-struct Dice {
+pub(crate) struct Dice {
     state: u64,
 }
 
 impl Dice {
-    fn below(&mut self, limit: u64) -> u64 {
+    /// Draws from a seed, which is not 0.
+    pub(crate) fn new(seed: u64) -> Dice {
+        Dice { state: seed }
+    }
+
+    pub(crate) fn below(&mut self, limit: u64) -> u64 {
         self.state ^= self.state.wrapping_shl(13);
         self.state ^= self.state.wrapping_shr(7);
         self.state ^= self.state.wrapping_shl(17);
         self.state.checked_rem(limit).unwrap_or(0)
     }
 
-    fn one_of(&mut self, words: &[&'static str]) -> &'static str {
+    pub(crate) fn one_of(&mut self, words: &[&'static str]) -> &'static str {
         let index = self.below(words.len() as u64) as usize;
         words.get(index).copied().unwrap_or("-")
     }
@@ -42,7 +47,7 @@ impl Shape {
 
 /// A script of so many lines.
 pub(crate) fn script(alloc: Global, shape: Shape, lines: u64) -> Result<Vec<u8>, AllocError> {
-    let mut dice = Dice { state: shape.seed };
+    let mut dice = Dice::new(shape.seed);
     let mut script = Vec::new(alloc);
     for turn in 0..lines {
         let line = line(alloc, &mut dice, shape, turn)?;
