@@ -138,8 +138,8 @@ impl Feeds {
         ensures offered { AreChanged (IsOffered row.now) self.old self.new }
         ensures opened { opened_in self.new ≡ opened_in self.old }
     {
-        let shared = share(self.alloc, row);
         self.order.tidy();
+        let shared = share(self.alloc, &self.order, row);
         offer_each(&mut self.live, &mut self.order, row, &shared);
     }
 
@@ -297,10 +297,11 @@ fn source_of(behind: bool) -> Source
     Source::Ring
 }
 
-/// A copy of the row for all rings, or none where there is no memory for it.
-fn share(alloc: Global, row: &Row) -> Option<Arc<Row>>
+/// A copy of the row for all rings. There is none where no ring is to have it, or where memory is wanting.
+fn share(alloc: Global, order: &SpanOrder, row: &Row) -> Option<Arc<Row>>
     ensures { IfSome result (λ a. a.value ≡ row.now) }
 {
+    order.next_holding(&row.key, 0)?;
     let Ok(row) = row.copy() else {
         return None;
     };

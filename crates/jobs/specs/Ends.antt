@@ -26,5 +26,5 @@ pub record IsRun (config : Config) (given given' : List ℕ) (ended : Bool) (tak
 -- how often reads and writes had failed before a job, and after it
 abbrev pub FailsAt : End → ℕ → ℕ → ℕ → ℕ → Type 0
 FailsAt ends.Input reads reads' writes writes' = (reads' ≡ reads + 1) × (writes' ≡ writes)
-FailsAt ends.Output reads reads' writes writes' = (reads ≤ reads') × (writes' ≡ writes + 1)
+FailsAt ends.Output reads reads' writes writes' = (reads ≤ reads') × (reads' ≤ reads + 1) × (writes' ≡ writes + 1)
 FailsAt _ reads reads' writes writes' = (reads' ≡ reads) × (writes' ≡ writes)

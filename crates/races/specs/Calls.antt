@@ -1,5 +1,5 @@
 -- The calls of a script, given to sessions that race, and what comes of them.
-use Rattle.std.specs.Prelude.{◌≡◌, ◌≢◌, ℕ, ◌<◌, ◌==◌, List, filter, map, Vec}
+use Rattle.std.specs.Prelude.{◌≡◌, ◌≢◌, ℕ, ◌<◌, ◌==◌, ◌↔◌, List, filter, map, Vec}
 use mathlib.Core.Option.{some}
 use lib.ListN.{get_elem?}
 use Rattle.spans.specs.declared.calls.commands.Cmd.{Cmd}
@@ -32,5 +32,5 @@ pub record IsRaceOf (sessions : ℕ) (calls : List (ℕ × Cmd)) (events : List 
 -- why a race on a database of its own left nothing, with so many lists
 abbrev pub IsFreshReason : Config → ℕ → FreshError → Type 0
 IsFreshReason config lists (errors.Open reason) = IsReason config reason
-IsFreshReason config lists (errors.Race error) = error ≡ Counts → lists ≢ config.seats
+IsFreshReason config lists (errors.Race error) = (error ≡ Counts) ↔ (lists ≢ config.seats)
 IsFreshReason config lists errors.NoMemory = Unit {0}

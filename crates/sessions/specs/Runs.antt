@@ -93,8 +93,8 @@ pub record IsServed (config : Config) (given given' : List ℕ) (ended : Bool) (
   pub ends : EndsBy (config.first + length events ≡ most) config input ended events output e
   pub opened : IsOpenAt config e
 
--- how often reads and writes failed before the run and after it
+-- how often reads and writes failed before the run and after it: what waits is written also where a read has failed
 abbrev pub FailsBy : End → ℕ → ℕ → ℕ → ℕ → Type 0
 FailsBy end.Input reads reads' writes writes' = (reads' ≡ reads + 1) × (writes' ≡ writes)
-FailsBy end.Output reads reads' writes writes' = (reads ≤ reads') × (writes' ≡ writes + 1)
+FailsBy end.Output reads reads' writes writes' = (reads ≤ reads') × (reads' ≤ reads + 1) × (writes' ≡ writes + 1)
 FailsBy _ reads reads' writes writes' = (reads' ≡ reads) × (writes' ≡ writes)
