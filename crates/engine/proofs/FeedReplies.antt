@@ -1,6 +1,6 @@
 -- The replies to the commands of feeds.
 use Rattle.std.proofs.Common.{Bool, List, None, Option, Some, [], ap, cond, drop, false, length, refl, subst, sym, take, true, ℕ, ◌≡◌, ◌∙◌}
-use Rattle.std.specs.Prelude.{is_some, nat_lt, not, option_map}
+use Rattle.std.specs.Prelude.{is_some, nat_lt, not, option_map, ◌&&◌, ◌==◌}
 use Rattle.std.proofs.lemmas.Bool.{eq-eqb}
 use Rattle.timestamps.specs.declared.row.Row.{Row}
 use Rattle.spans.specs.Kept.{Kept, Place}
@@ -57,6 +57,14 @@ ahead_told s s' f max l rows p put isnt =
     let here = ring_here s s' f (record { place = p; behind = nat_lt max (length rows); ring = [] }) put in
     let few : nat_lt max (length rows) ≡ false = sym here.0 ∙ isnt in
     here.1 ∙ sym (drop_all max rows (ltb-false max (length rows) few))
+
+-- a feed that is put is behind as it is put: where it was, and the test holds
+pub behind_put : (s s' : Standing) (f : ℕ) (l : Live) (was b : Bool) → is_behind s f ≡ was → IsPut s s' f (Some l) → l.behind ≡ (was && b) → is_behind s' f ≡ (is_behind s f && b)
+behind_put s s' f l was b stood put is = (ring_here s s' f l put).0 ∙ is ∙ ap (λ w. w && b) (sym stood)
+
+-- a feed that isn't put is behind where it was
+pub others_stay : (s s' : Standing) (f : ℕ) (o : Option Live) → IsPut s s' f o → (g : ℕ) → (f == g) ≡ false → is_behind s' g ≡ is_behind s g
+others_stay s s' f o put g other = let same : live_in s' g ≡ live_in s g = put g ∙ rw other refl in ap behind_or same
 
 pub seat_lives : (s : Standing) (f seat : ℕ) → seat_in s f ≡ Some seat → is_some (place_in s f) ≡ true
 seat_lives s f seat is = let l = lives_of s f seat is in ap is_some (place_of_live s f l.0 l.1)

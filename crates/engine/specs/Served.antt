@@ -1,5 +1,5 @@
 -- What a command changes of what serves the feeds: their rings, and the rows that are held back for them.
-use Rattle.std.specs.Prelude.{List, None, Some, [], drop, false, filter, nat_le, ℕ, ◌<◌, ◌==◌, ◌≡◌, ◌≤◌}
+use Rattle.std.specs.Prelude.{List, None, Some, [], drop, false, filter, length, nat_le, nat_lt, ℕ, ◌&&◌, ◌<◌, ◌==◌, ◌≡◌, ◌≤◌}
 use Rattle.timestamps.specs.declared.row.Row.{Row}
 use Rattle.spans.specs.Effects.{Cancels, Closes, Commits, Effect, HardCloses, Opens, Polls, effect}
 use Rattle.spans.specs.Kept.{Place}
@@ -10,6 +10,7 @@ use Rattle.spans.specs.declared.kind.Kind.{Kind}
 use Rattle.spans.specs.declared.kind.Kind.TheVariants.{Initial}
 use Rattle.spans.proofs.StreamOrder.{IsRowIn, RisingRows}
 use Rattle.closing.specs.Standing.{closed_in}
+use Rattle.feed.specs.Live.{begins_behind}
 use Rattle.feed.specs.Standing.{IsPut, is_behind, place_in, ring_of}
 use Rattle.hold_back.specs.Held.{gap_in, is_lost, rows_in}
 use Rattle.kept.specs.HeldBack.{IsHeldFor}
@@ -38,20 +39,25 @@ pub record IsReleased (e e' : Layers) (n : ℕ) : Type 0 where
   pub offered : (rows : List Row) → AreThrough e n rows → AreOffered (kept_of e) (ring_of e.feeds) (ring_of e'.feeds) (is_behind e.feeds) (is_behind e'.feeds) rows
   pub let_go : IsLetGo e.held_back e'.held_back n
 
--- the ring of a feed that opens is empty where it serves, and the others are as they were
+-- a feed that opens begins behind or at its ring, which is empty where it serves, and the others are as they were
 pub record IsOpenedIn (e e' : Layers) (f : ℕ) (kind : Kind) (cursor : ℕ) : Type 0 where
+  pub begins : is_behind e'.feeds f ≡ begins_behind kind cursor (closed_in e.closing)
   pub opened : is_behind e'.feeds f ≡ false → (kind ≡ Initial → ⊥) × (closed_in e.closing ≤ cursor) × (ring_of e'.feeds f ≡ [])
   pub others : AreOthersSame f (ring_of e.feeds) (ring_of e'.feeds) (is_behind e.feeds) (is_behind e'.feeds)
+  pub others_stay : (g : ℕ) → (f == g) ≡ false → is_behind e'.feeds g ≡ is_behind e.feeds g
   pub held : e'.held_back ≡ e.held_back
 
--- the first of the rows that were left for a feed are gone from its ring, and the others are as they were
+-- the first of the rows that were left for a feed are gone from its ring, and it stays behind exactly where it was and more
+-- are left; the others are as they were
 pub record IsPolledIn (e e' : Layers) (f max : ℕ) : Type 0 where
   pub place : Place
   pub lives : place_in e.feeds f ≡ Some place
   pub rows : List Row
   pub left : AreLeft (version_in e.rules.store) (is_decided_in e.rules.store) place (closed_in e.closing) rows
+  pub behind : is_behind e'.feeds f ≡ (is_behind e.feeds f && nat_lt max (length rows))
   pub told : is_behind e'.feeds f ≡ false → ring_of e'.feeds f ≡ drop max rows
   pub others : AreOthersSame f (ring_of e.feeds) (ring_of e'.feeds) (is_behind e.feeds) (is_behind e'.feeds)
+  pub others_stay : (g : ℕ) → (f == g) ≡ false → is_behind e'.feeds g ≡ is_behind e.feeds g
   pub held : e'.held_back ≡ e.held_back
 
 -- by what the command did

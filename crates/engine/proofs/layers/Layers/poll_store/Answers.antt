@@ -1,11 +1,12 @@
-use Rattle.std.proofs.Common.{ap, inl, inr, length, refl, subst, sym, [], Some}
+use Rattle.std.proofs.Common.{ap, inl, inr, length, refl, subst, sym, true, [], Some}
 use Rattle.std.specs.Prelude.{nat_lt}
 use Rattle.kept.specs.Changes.{IsAlike}
 use Rattle.kept.specs.Places.{moved}
+use Rattle.feed.specs.Live.{Live}
 use Rattle.feed.specs.Standing.{IsPolledFrom, place_in}
 use Rattle.feed.proofs.Serving.{is_moved, others_same}
 use Rattle.engine.specs.Layers.{kept_of}
-use Rattle.engine.proofs.FeedReplies.{ahead_told, lives_of, place_of_live, poll_done, poll_wanting}
+use Rattle.engine.proofs.FeedReplies.{ahead_told, behind_of_live, behind_put, lives_of, others_stay, place_of_live, poll_done, poll_wanting}
 use Rattle.engine.proofs.Replies.{alike_self}
 use Rattle.engine.proofs.layers.Layers.poll_store.Goals as goal
 
@@ -20,13 +21,16 @@ returns-in-Ok-clause-step c =
 pub returns-in-Ok-clause-served : goal.returns-in-Ok-clause-served
 returns-in-Ok-clause-served c =
     let e = c.args.self.now in let s' = c.poll_behind.new.self in let l = lives_of e.feeds c.args.feed c.args.seat c.requires.owner in
-    let told = subst (λ n. IsPolledFrom e.rules.store e.feeds s' c.args.feed n c.args.max l.0 c.in-Ok.messages) c.closed-closed.ensures (c.in-Ok.ensures.told l.0 l.1) in record {
+    let told = subst (λ n. IsPolledFrom e.rules.store e.feeds s' c.args.feed n c.args.max l.0 c.in-Ok.messages) c.closed-closed.ensures (c.in-Ok.ensures.told l.0 l.1) in
+    let after : Live = record { place = moved c.in-Ok.messages l.0.place; behind = nat_lt c.args.max (length told.rows); ring = [] } in record {
       place = l.0.place;
       lives = place_of_live e.feeds c.args.feed l.0 l.1;
       rows = told.rows;
       left = told.left;
+      behind = behind_put e.feeds s' c.args.feed after true (nat_lt c.args.max (length told.rows)) (behind_of_live e.feeds c.args.feed l.0 true l.1 c.requires.behind) told.put refl;
       told = ahead_told e.feeds s' c.args.feed c.args.max l.0 told.rows (moved c.in-Ok.messages l.0.place) told.put;
-      others = others_same e.feeds s' c.args.feed (Some (record { place = moved c.in-Ok.messages l.0.place; behind = nat_lt c.args.max (length told.rows); ring = [] })) told.put;
+      others = others_same e.feeds s' c.args.feed (Some after) told.put;
+      others_stay = others_stay e.feeds s' c.args.feed (Some after) told.put;
       held = refl;
     }
 
