@@ -1,4 +1,5 @@
-// Writes the scripts of `bench/commands`: `command_scripts WORKLOAD SIZE` writes one to standard output, the same each time.
+// Writes the scripts of `bench/commands`: `command_scripts WORKLOAD SIZE [SEED]` writes one to standard output, the same each
+// time. Another seed draws another script of the same workload. `feeds_all_N` is `feeds_all` with N feeds in place of 64.
 // A size is about the number of lines, or of what the lines answer where that is more: rows of `scans`, messages of
 // `feeds_all` and `initial`. `long` is that of the run which looks at memory.
 use std::fmt::Arguments;
@@ -260,16 +261,16 @@ impl Script {
         }
     }
 
-    fn feeds_all(&mut self, size: u64) {
-        for _ in 0..64 {
+    fn feeds_all(&mut self, size: u64, feeds: u64) {
+        for _ in 0..feeds {
             self.line(format_args!("0 open - - 0"));
         }
-        for _ in 0..size / 704 + 1 {
+        for _ in 0..size / (11 * feeds) + 1 {
             for _ in 0..10 {
                 self.put_one(size / 16 + 1);
             }
             self.close();
-            for feed in 1..=64 {
+            for feed in 1..=feeds {
                 self.poll(feed, 100);
             }
         }
@@ -458,9 +459,11 @@ impl Script {
 
 fn main() {
     let words: Vec<String> = std::env::args().collect();
-    let [_, workload, size] = words.as_slice() else { panic!("command_scripts WORKLOAD SIZE") };
+    let [_, workload, size, seed @ ..] = words.as_slice() else { panic!("command_scripts WORKLOAD SIZE [SEED]") };
     let size: u64 = size.parse().expect("a size");
-    let mut script = Script { out: BufWriter::with_capacity(1 << 20, std::io::stdout()), lines: 0, dice: 88172645463325252, ts: 0 };
+    let seed: u64 = seed.first().map_or(0, |word| word.parse().expect("a seed"));
+    let dice = 88172645463325252 ^ seed.wrapping_mul(0x9e37_79b9_7f4a_7c15);
+    let mut script = Script { out: BufWriter::with_capacity(1 << 20, std::io::stdout()), lines: 0, dice: dice.max(1), ts: 0 };
     match workload.as_str() {
         "single" => script.single(size),
         "reads" => script.reads(size),
@@ -471,7 +474,7 @@ fn main() {
         "feed_near" => script.feed_near(size),
         "feed_lags" => script.feed_lags(size),
         "feeds_many" => script.feeds_many(size),
-        "feeds_all" => script.feeds_all(size),
+        "feeds_all" => script.feeds_all(size, 64),
         "idle" => script.idle(size),
         "initial" => script.initial(size),
         "undecided" => script.undecided(size),
@@ -480,7 +483,10 @@ fn main() {
         "values" => script.values(size),
         "mix" => script.mix(size),
         "long" => script.long(size),
-        _ => panic!("no such workload"),
+        other => {
+            let feeds = other.strip_prefix("feeds_all_").and_then(|word| word.parse().ok());
+            script.feeds_all(size, feeds.filter(|count| *count > 0).expect("a workload"));
+        }
     }
     script.out.flush().expect("written");
 }
