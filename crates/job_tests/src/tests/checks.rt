@@ -129,6 +129,8 @@ fn thousands_of_commands_get_all_kinds_of_answers(rt: HostRuntime) -> Result<(),
     };
     let script = random::script(rt.alloc(), shape, 4000)?;
     let ran = run_with(&rt, rt.alloc(), DEFAULTS, script.as_slice());
+    let checked = check_of(rt.alloc(), ran.output.as_slice());
+    assert_eq!(rt; checked.output.as_slice(), b"yes\n".as_slice());
     let text = std::str::from_utf8(ran.output.as_slice())?;
     for answer in ANSWERS {
         assert!(rt; text.contains(answer), "{answer}");
