@@ -1,5 +1,6 @@
 // Writes the scripts of `bench/commands`: `command_scripts WORKLOAD SIZE [SEED]` writes one to standard output, the same each
-// time. Another seed draws another script of the same workload. `feeds_all_N` is `feeds_all` with N feeds in place of 64.
+// time. Another seed draws another script of the same workload. `feeds_all_N` is `feeds_all` with N feeds in place of 64,
+// `mix_few` is `mix` over 2,000 keys whatever the size, and `sessions` is a script of 64 sessions for a race.
 // A size is about the number of lines, or of what the lines answer where that is more: rows of `scans`, messages of
 // `feeds_all` and `initial`. `long` is that of the run which looks at memory.
 use std::fmt::Arguments;
@@ -371,8 +372,7 @@ impl Script {
     }
 
     /// All commands, by transactions that cross one another.
-    fn mix(&mut self, size: u64) {
-        let keys = size / 20 + 200;
+    fn mix(&mut self, size: u64, keys: u64) {
         self.load(keys / 2);
         let start = self.ts;
         let (mut opened, mut protections) = (0u64, 0u64);
@@ -423,6 +423,53 @@ impl Script {
                     protections += 1;
                     self.line(format_args!("1 release {}", protections.saturating_sub(2).max(1)));
                 }
+            }
+        }
+    }
+
+    fn put_by(&mut self, seat: u64, ts: u64, key: u64) {
+        let value = self.below(1000);
+        self.line(format_args!("{seat} put {ts} k{key:07} {value}"));
+    }
+
+    /// All commands by 64 sessions, for a race: each has a transaction of its own at a time, over few keys.
+    fn sessions(&mut self, size: u64) {
+        let mut own = vec![0; 64];
+        while self.lines < size {
+            let seat = self.below(64);
+            let (ts, key) = (own[seat as usize], self.below(40));
+            let to = self.ts.saturating_sub(64 * self.below(8));
+            match self.below(40) {
+                _ if ts == 0 => {
+                    self.ts += 1;
+                    let ts = self.ts;
+                    own[seat as usize] = ts;
+                    self.line(format_args!("{seat} begin {ts}"));
+                }
+                0..=9 => self.put_by(seat, ts, key),
+                10 => self.line(format_args!("{seat} del {ts} k{key:07}")),
+                11..=17 => self.line(format_args!("{seat} get {ts} k{key:07}")),
+                18 => self.line(format_args!("{seat} scan {ts} k{key:07} k{:07}", key + 5)),
+                19..=26 => {
+                    let word = if key == 0 { "abort" } else { "commit" };
+                    self.line(format_args!("{seat} {word} {ts}"));
+                    own[seat as usize] = 0;
+                }
+                27 => self.line(format_args!("{seat} close {to}")),
+                28 if key < 10 => self.line(format_args!("{seat} closehard {to}")),
+                28..=29 => self.line(format_args!("{seat} readat {to} k{key:07}")),
+                30 => self.line(format_args!("{seat} scanat {to} - k{key:07}")),
+                31 => self.line(format_args!("{seat} protect {to}")),
+                32 => self.line(format_args!("{seat} release {}", key + 1)),
+                33 => self.line(format_args!("{seat} collect {to}")),
+                34 => self.line(format_args!("{seat} stats")),
+                35 => match self.below(4) {
+                    0 => self.line(format_args!("{seat} openinitial - - {to}")),
+                    1 => self.line(format_args!("{seat} openevery - k{key:07} {to} 5")),
+                    _ => self.line(format_args!("{seat} open k{key:07} - {to}")),
+                },
+                36 if key < 4 => self.line(format_args!("{seat} cancel {}", key + 1)),
+                _ => self.line(format_args!("{seat} poll {} {}", key / 4 + 1, 1 + key)),
             }
         }
     }
@@ -481,7 +528,9 @@ fn main() {
         "collections" => script.collections(size),
         "huge" => script.huge(size),
         "values" => script.values(size),
-        "mix" => script.mix(size),
+        "mix" => script.mix(size, size / 20 + 200),
+        "mix_few" => script.mix(size, 2000),
+        "sessions" => script.sessions(size),
         "long" => script.long(size),
         other => {
             let feeds = other.strip_prefix("feeds_all_").and_then(|word| word.parse().ok());
