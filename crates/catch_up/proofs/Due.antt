@@ -21,7 +21,7 @@ not_before : (vs : List Version) (t through passed i : ℕ) (v : Version) → Is
 not_before vs t through passed i v so next due = let never : i < v.ts → ⊥ = λ less. not_between vs passed i v next due.done (so.none i due) less in omega arith
 
 -- an undecided one is passed over
-pub passes_one : (vs : List Version) (t through passed : ℕ) (v : Version) → IsPassed vs t through passed → IsLeastAbove vs passed v → v.decided ≡ false → IsPassed vs t through v.ts
+pub passes_one : (vs : List Version) (t through passed : ℕ) (v : Version) → IsPassed vs t through passed → IsLeastAbove vs passed v → v.committed ≡ false → IsPassed vs t through v.ts
 passes_one vs t through passed v so next undecided = record {
   from = let f : t ≤ passed = so.from in let a : passed < v.ts = next.above in omega arith;
   none = λ i due.
@@ -31,7 +31,7 @@ passes_one vs t through passed v so next undecided = record {
 }
 
 -- a committed one is the first
-pub first_is : (vs : List Version) (t through passed : ℕ) (v : Version) → IsPassed vs t through passed → IsLeastAbove vs passed v → v.ts ≤ through → v.decided ≡ true → IsFirstDue vs t through v
+pub first_is : (vs : List Version) (t through passed : ℕ) (v : Version) → IsPassed vs t through passed → IsLeastAbove vs passed v → v.ts ≤ through → v.committed ≡ true → IsFirstDue vs t through v
 first_is vs t through passed v so next low done = record {
   due = record {
     done = ap is_committed next.one ∙ done;

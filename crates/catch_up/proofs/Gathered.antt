@@ -13,7 +13,7 @@ use Rattle.spans.proofs.StreamOrder.{IsRowIn, RisingRows}
 use Rattle.version_chain.specs.declared.chain.Version.{Version}
 use Rattle.version_chain.specs.Chains.{found_in}
 use Rattle.version_chain.specs.Following.{is_after_place}
-use Rattle.version_chain.specs.Stores.{Stored, after_of, is_committed, is_decided_in, version_in}
+use Rattle.version_chain.specs.Stores.{Stored, after_of, is_committed, is_committed_in, version_in}
 use Rattle.version_chain.specs.Versions.{version_of}
 use Rattle.version_chain.proofs.Listing.{same_at}
 use Rattle.catch_up.specs.Left.{AreLeftIn}
@@ -57,8 +57,8 @@ found_named (e ∷ es) x t v is = by_test (is_at (key_cmp x) e.0)
     named_left (x, t) (names_in e.0 e.1) (names_of es) (subst (λ k. IsNamed (k, t) (names_in e.0 e.1)) (sym key) (in_chain e.0 t v e.1 at)))
     (λ off. let more : found_in es x t ≡ Some v = rw off at is in named_right (x, t) (names_in e.0 e.1) (names_of es) (found_named es x t v more))
 
-pub decided_named : (s : Stored) (x : List ℕ) (t : ℕ) → is_decided_in s x t ≡ true → IsNamed (x, t) (names_of s)
-decided_named s x t done = by (found_in s x t) refl
+pub committed_named : (s : Stored) (x : List ℕ) (t : ℕ) → is_committed_in s x t ≡ true → IsNamed (x, t) (names_of s)
+committed_named s x t done = by (found_in s x t) refl
   where
     by : (o : Option Version) → found_in s x t ≡ o → IsNamed (x, t) (names_of s)
     by None is = let no' : false ≡ true = sym (ap is_committed is) ∙ done in cc
@@ -72,7 +72,7 @@ value_or (Some a) = a
 
 module _ (s : Stored) (span : Span) (ts : ℕ) (key : Option (List ℕ)) (through : ℕ) where
   abbrev passes : Name → Bool
-  passes n = is_decided_in s n.0 n.1 && (in_span span n.0 && (is_after_place ts key n.0 n.1 && nat_le n.1 through))
+  passes n = is_committed_in s n.0 n.1 && (in_span span n.0 && (is_after_place ts key n.0 n.1 && nat_le n.1 through))
 
   abbrev row_at : Name → Row
   row_at n = record { ts = n.1; key = n.0; after = value_or (version_in s n.0 n.1) }
@@ -128,7 +128,7 @@ module _ (s : Stored) (span : Span) (ts : ℕ) (key : Option (List ℕ)) (throug
         λ h. let n : Name = (r.key, r.ts) in
             let is : passes n ≡ true = and_from _ _ h.done (and_from _ _ h.inside (and_from _ _ h.later (le-leb r.ts through h.low))) in
             let same : row_at n ≡ r = ap (λ a. record { ts = r.ts; key = r.key; after = value_or a }) h.there in
-            subst (λ q. IsRowIn q (gather (names_of s))) same (gather_has (names_of s) n (decided_named s r.key r.ts h.done) is),
+            subst (λ q. IsRowIn q (gather (names_of s))) same (gather_has (names_of s) n (committed_named s r.key r.ts h.done) is),
       );
     },
   )

@@ -101,14 +101,14 @@ module _ (s : Stored) (span : Span) (t : ℕ) (x : List ℕ) (through : ℕ) whe
 
   left_due : (y : List ℕ) (vs : List Version) (i after : ℕ) → chain_of s y ≡ vs → IsStart y after → IsLeft s t (Some x) through y i → IsDue vs after through i
   left_due y vs i after chain from left = record {
-    done = ap (λ us. is_committed (version_of us i)) (sym chain) ∙ left.decided;
+    done = ap (λ us. is_committed (version_of us i)) (sym chain) ∙ left.committed;
     above = ltb-true after i (from i ∙ left.later);
     low = left.low;
   }
 
   due_left : (y : List ℕ) (vs : List Version) (i after : ℕ) → chain_of s y ≡ vs → IsStart y after → IsDue vs after through i → IsLeft s t (Some x) through y i
   due_left y vs i after chain from due = record {
-    decided = ap (λ us. is_committed (version_of us i)) chain ∙ due.done;
+    committed = ap (λ us. is_committed (version_of us i)) chain ∙ due.done;
     later = sym (from i) ∙ lt-ltb after i due.above;
     low = due.low;
   }
@@ -171,7 +171,7 @@ module _ (s : Stored) (span : Span) (t : ℕ) (x : List ℕ) (through : ℕ) whe
           (λ on. (has_in y (keys_of found)).1 on)
           (λ off.
           let none : chain_of s y ≡ [] = chain_nowhere span s found y those inside (λ j. both_ways _ off ((has_in y (keys_of found)).0 j)) in
-          let no' : false ≡ true = sym (ap (λ vs. is_committed (version_of vs i)) none) ∙ left.decided in
+          let no' : false ≡ true = sym (ap (λ vs. is_committed (version_of vs i)) none) ∙ left.committed in
           cc));
     };
   }
@@ -196,7 +196,7 @@ head_left s span t x through n y v vs head =
     let at : n ≡ v.ts = sym head.at in
     let left : IsLeft s t (Some x) through y v.ts = subst (IsLeft s t (Some x) through y) at head.left in record {
       there = ap after_of (ap (λ us. version_of us v.ts) head.chain ∙ subst (λ m. version_of vs m ≡ Some v) at head.one);
-      done = left.decided;
+      done = left.committed;
       inside = head.inside;
       later = left.later;
       low = left.low;
@@ -204,7 +204,7 @@ head_left s span t x through n y v vs head =
 
 -- what is left after a later place was left before
 left_back : (s : Stored) (t n i : ℕ) (x y z : List ℕ) (through : ℕ) → is_before t x n y ≡ true → IsLeft s n (Some y) through z i → IsLeft s t (Some x) through z i
-left_back s t n i x y z through later left = record { decided = left.decided; later = before_trans t n i x y z later left.later; low = left.low }
+left_back s t n i x y z through later left = record { committed = left.committed; later = before_trans t n i x y z later left.later; low = left.low }
 
 before_later : (t i j : ℕ) (x y : List ℕ) → is_before t x i y ≡ true → i ≤ j → is_before t x j y ≡ true
 before_later t i j x y before low = later_at t i j (key_lt x y) before low
@@ -233,7 +233,7 @@ moved_heads s span t x through k (e ∷ es) later above all = (
     chain = all.0.chain;
     at = all.0.at;
     one = all.0.one;
-    left = record { decided = all.0.left.decided; later = spot_before k e.0 above.0; low = all.0.left.low };
+    left = record { committed = all.0.left.committed; later = spot_before k e.0 above.0; low = all.0.left.low };
     first = λ i left. all.0.first i (left_back s t k.0 i x k.1.now e.0.1.now through later left);
   },
   moved_heads s span t x through k es later above.1 all.1,
@@ -250,7 +250,7 @@ head_taken s span t x through heads heads' k w are split rising = record {
   next = record {
     left = head_left s span t x through k.0 k.1.now w.0.now w.1.now all.0;
     least = λ q h. false_from_ne_true _ (λ before.
-        let left : IsLeft s t (Some x) through q.key q.ts = record { decided = h.done; later = h.later; low = h.low } in
+        let left : IsLeft s t (Some x) through q.key q.ts = record { committed = h.done; later = h.later; low = h.low } in
         let before' : is_before q.ts q.key k.0 k.1.now ≡ true = subst (λ n. is_before q.ts q.key n k.1.now ≡ true) all.0.at before in
         elim (subst (HasHead q.key) split (has_head q h)) [
           | inl here ↦ before_itself q.ts q.key (before_later q.ts k.0 q.ts q.key q.key (subst (λ y. is_before q.ts q.key k.0 y ≡ true) here before')
@@ -280,7 +280,7 @@ head_taken s span t x through heads heads' k w are split rising = record {
     no_other y i = elim i [ inl none ↦ absurd none | inr head ↦ head ]
 
     has_head : (q : Row) → IsLeftIn s span t (Some x) through q → HasHead q.key heads.entries
-    has_head q h = no_other q.key (are.all q.key q.ts h.inside (record { decided = h.done; later = h.later; low = h.low }))
+    has_head q h = no_other q.key (are.all q.key q.ts h.inside (record { committed = h.done; later = h.later; low = h.low }))
 
 -- ---- the walk over the heads
 
@@ -320,7 +320,7 @@ no_entry (e ∷ es) none = absurd (none (omega arith))
 
 pub merge_ends : (s : Stored) (span : Span) (ts : ℕ) (key : List ℕ) (through n missing : ℕ) (rows : List Row) (heads : BTreeMap Spot Found) → IsMerged s span ts key through n missing rows heads → (0 < length heads.entries → ⊥) → AreNextIn s span ts (Some key) through n rows
 merge_ends s span ts key through n missing rows heads merged empty = walk_ends s span ts (Some key) through n merged.t (Some merged.x) missing rows merged.walked
-    (λ r h. elim (merged.are.all r.key r.ts h.inside (record { decided = h.done; later = h.later; low = h.low })) [
+    (λ r h. elim (merged.are.all r.key r.ts h.inside (record { committed = h.done; later = h.later; low = h.low })) [
       | inl none ↦ absurd none
       | inr head ↦ absurd (subst (HasHead r.key) (no_entry heads.entries empty) head)
     ])

@@ -33,7 +33,7 @@ abbrev pub row_of : List ℕ → Version → Row
 row_of x v = record { ts = v.ts; key = x; after = v.after }
 
 left_is : (s : Stored) (span : Span) (t : ℕ) (x : Option (List ℕ)) (through : ℕ) (r : Row) → IsLeftIn s span t x through r → IsLeft s t x through r.key r.ts
-left_is s span t x through r h = record { decided = h.done; later = h.later; low = h.low }
+left_is s span t x through r h = record { committed = h.done; later = h.later; low = h.low }
 
 -- what is left after a later place was left before
 moved_back : (s : Stored) (span : Span) (t i : ℕ) (x : Option (List ℕ)) (y : List ℕ) (through : ℕ) → is_after_place t x y i ≡ true → (r : Row) → IsLeftIn s span i (Some y) through r → IsLeftIn s span t x through r
@@ -107,7 +107,7 @@ walk_takes s span ts key through n t x missing missing' rows rows' r walked next
 -- the first version that is left is the next row, where the span holds its key
 next_is : (s : Stored) (span : Span) (t : ℕ) (x : Option (List ℕ)) (through : ℕ) (y : List ℕ) (v : Version) → IsFirstAfter s t x through y v → in_span span y ≡ true → IsNext s span t x through (row_of y v)
 next_is s span t x through y v first inside = record {
-  left = record { there = first.version; done = first.left.decided; inside = inside; later = first.left.later; low = first.left.low };
+  left = record { there = first.version; done = first.left.committed; inside = inside; later = first.left.later; low = first.left.low };
   least = λ q h. first.first q.key q.ts (left_is s span t x through q h);
 }
 

@@ -69,3 +69,8 @@ pub record AreHeads (s : Stored) (span : Span) (t : ℕ) (x : List ℕ) (through
   pub rising : IsOrdered spot_cmp heads
   pub each : AllHeads s span t x through heads.entries
   pub all : (y : List ℕ) (i : ℕ) → in_span span y ≡ true → IsLeft s t (Some x) through y i → IsIn y ahead ⊎ HasHead y heads.entries
+
+-- y, whose chain is vs, is no longer among the keys ahead: its head is added, where it has one
+abbrev pub IsHeadAdded : List ℕ → List Version → ℕ → List ℕ → ℕ → BTreeMap Spot Found → BTreeMap Spot Found → Type 0
+IsHeadAdded y vs t x through heads heads' = (s : Stored) (span : Span) (ahead : List (List ℕ)) → chain_of s y ≡ vs → in_span span y ≡ true
+    → AreHeads s span t x through (y ∷ ahead) heads → AreHeads s span t x through ahead heads'

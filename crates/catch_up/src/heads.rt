@@ -1,12 +1,8 @@
 //! The rows after a place, read off the chains of a span's keys.
-ghost use Rattle.std.specs.Prelude.{◌≡◌, ◌∷◌, ℕ, [], List, IfOk, MatchOption, OnOk, Some, nat_lt, true};
+ghost use Rattle.std.specs.Prelude.{◌≡◌, ℕ, [], IfOk, MatchOption, OnOk, Some, nat_lt};
 ghost use Rattle.catch_up.specs.Left.{AreNextIn};
-ghost use Rattle.spans.specs.Keys.{in_span};
-ghost use Rattle.spans.specs.declared.span.Span.{Span};
-ghost use Rattle.version_chain.specs.Chains.{chain_of};
 ghost use Rattle.version_chain.specs.Following.{is_before};
-ghost use Rattle.version_chain.specs.Stores.{Stored};
-ghost use Rattle.catch_up.specs.Heads.{AreHeads, IsFirstDue, IsNoneDue};
+ghost use Rattle.catch_up.specs.Heads.{AreHeads, IsFirstDue, IsHeadAdded, IsNoneDue};
 
 use crate::rows::row_of;
 use spans::span::Span;
@@ -75,8 +71,7 @@ fn add_head<'a>(
     place: &Key,
     through: u64,
 ) -> Result<(), AllocError>
-    ensures { OnOk result ((s : Stored) (span : Span) (ahead : List (List ℕ)) → chain_of s key.now ≡ chain.now → in_span span key.now ≡ true
-        → AreHeads s span ts place.now through (key.now ∷ ahead) heads.old → AreHeads s span ts place.now through ahead heads.new) }
+    ensures { OnOk result (IsHeadAdded key.now chain.now ts place.now through heads.old heads.new) }
 {
     let after = last_passed(key, ts, place);
     if let Some(version) = committed_above(chain, after, through) {
@@ -104,7 +99,7 @@ fn committed_above(chain: &Chain, after: u64, through: u64) -> Option<&Version>
         if version.ts.get() > through {
             return None;
         }
-        if version.decided {
+        if version.committed {
             return Some(version);
         }
         passed = version.ts.get();

@@ -20,7 +20,7 @@ use Rattle.spans.proofs.Steps.{by_test, version_wrote}
 use Rattle.spans.proofs.WriteSets.{has, has_written}
 use Rattle.kept.specs.StandsFor as keeping
 use Rattle.kept.specs.Table.{is_open, keys_of}
-use Rattle.mvto_rules.specs.Closings.{AreOpenNoted}
+use Rattle.mvto_rules.specs.Closings.{AreAllNoted}
 use Rattle.engine.specs.Layers.{AreNoted, HasHistory, IsHistory, kept_of}
 use Rattle.kept.specs.Answered.{IsStep}
 use Rattle.kept.proofs.Answering.{step_stands}
@@ -97,7 +97,7 @@ noted_in k h s x t above out = none_of (k.version x t) (noted_here k h s x t abo
 pub are_noted : (e : Layers) (steps : ℕ) → ∥ HasHistory e steps ∥₁ → AreNoted (kept_of e)
 are_noted e steps some x t above out = none_of ((kept_of e).version x t) (∥∥₁_elim some (hlevel props) (λ h. noted_here (kept_of e) h.0 h.1.kept x t above out))
 
-pub open_noted : (e : Layers) (steps : ℕ) → ∥ HasHistory e steps ∥₁ → AreOpenNoted e.rules.store e.rules.txns
+pub open_noted : (e : Layers) (steps : ℕ) → ∥ HasHistory e steps ∥₁ → AreAllNoted e.rules
 open_noted e steps some x t open' out = none_of ((kept_of e).version x t) (∥∥₁_elim some (hlevel props) (λ h. noted_here (kept_of e) h.0 h.1.kept x t (open_above (kept_of e) h.0 h.1.kept t open') out))
 
 pub has_room : (e : Layers) (steps : ℕ) → ∥ HasHistory e steps ∥₁ → steps < 18446744073709551615 → (kept_of e).protections_made < 18446744073709551615

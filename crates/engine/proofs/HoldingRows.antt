@@ -7,6 +7,7 @@ use Rattle.timestamps.specs.declared.row.Row.{Row}
 use Rattle.spans.specs.Effects.{After}
 use Rattle.spans.specs.Feeds.{same_version}
 use Rattle.spans.specs.Kept.{Kept, Transaction}
+use Rattle.spans.specs.declared.state.State.TheVariants as states
 use Rattle.spans.proofs.Steps.{by_test, same_key}
 use Rattle.spans.proofs.StreamOrder.{IsRowIn, RisingRows, in_append}
 use Rattle.spans.proofs.WriteSets.{has}
@@ -82,10 +83,10 @@ newest_held s h h' t x v a at there is added =
     let e : version_in s x t ≡ Some a = ap (version_in s x) (sym at) ∙ there ∙ ap Some is in
     subst (IsKeyHeld h h' t x) (sym e) (subst (λ n. IsAdded h h' (row_at n x a)) at added)
 
-committed_keys : (o : Option Transaction) → keys_of (option_map (λ (n : Transaction). record n { committed = true }) o) ≡ keys_of o
+committed_keys : (o : Option Transaction) → keys_of (option_map (λ (n : Transaction). record n { state = states.Committed }) o) ≡ keys_of o
 committed_keys None = refl
 committed_keys (Some n) = refl
 
 -- a commit leaves the keys that were noted
 pub keys_stay : (k k' : Kept) (t : ℕ) → IsCommittedBy k k' t → keys_of (k'.transaction t) ≡ keys_of (k.transaction t)
-keys_stay k k' t c = ap keys_of (c.transaction t) ∙ ap (λ b. keys_of (cond b (option_map (λ (n : Transaction). record n { committed = true }) (k.transaction t)) (k.transaction t))) (eq-eqb t t refl) ∙ committed_keys (k.transaction t)
+keys_stay k k' t c = ap keys_of (c.transaction t) ∙ ap (λ b. keys_of (cond b (option_map (λ (n : Transaction). record n { state = states.Committed }) (k.transaction t)) (k.transaction t))) (eq-eqb t t refl) ∙ committed_keys (k.transaction t)

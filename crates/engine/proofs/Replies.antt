@@ -117,7 +117,7 @@ abort_answered k k' seat t r is done refused = record {
 }
 
 pub alike_self : (k : Kept) → IsAlike k k
-alike_self k = record { closed = refl; horizon = refl; version = λ y i. refl; decided = λ y i b e. refl; marked = λ y n. refl; transaction = λ i. refl; protections = refl; protections_made = refl; feed = λ f. refl; feeds_opened = refl }
+alike_self k = record { closed = refl; horizon = refl; version = λ y i. refl; committed = λ y i b e. refl; marked = λ y n. refl; transaction = λ i. refl; protections = refl; protections_made = refl; feed = λ f. refl; feeds_opened = refl }
 
 -- what the closing tells is as it says, and the feeds stay where they are
 pub same_closing : (k : Kept) (n m : ℕ) (ps qs : List Protection) (i j : ℕ) (f g : ℕ → Option Place) (o q : ℕ) → n ≡ m → ps ≡ qs → i ≡ j → ((x : ℕ) → g x ≡ f x) → q ≡ o

@@ -11,9 +11,8 @@ use Rattle.kept.specs.Table.{keys_of}
 use Rattle.closing.specs.Standing.{closed_in, made_in, protections_in}
 use Rattle.feed.specs.Standing.{is_behind, opened_in, place_in, ring_of}
 use Rattle.hold_back.specs.Held.{gap_in, is_lost, rows_in}
-use Rattle.read_marks.specs.Marks.{is_marked_in}
-use Rattle.txn_table.specs.TransactionIn.{transaction_in}
-use Rattle.version_chain.specs.Stores.{is_decided_in, version_in}
+use Rattle.version_chain.specs.Stores.{is_committed_in, version_in}
+use Rattle.mvto_rules.specs.Holding.{marked_of, transactions_of, versions_of}
 use Rattle.engine.specs.declared.layers.Layers.{Layers}
 
 -- each layer's part
@@ -21,10 +20,10 @@ abbrev pub kept_of : Layers → Kept
 kept_of e = record {
   closed = closed_in e.closing;
   horizon = e.horizon;
-  version = version_in e.rules.store;
-  decided = is_decided_in e.rules.store;
-  marked = is_marked_in e.rules.marks;
-  transaction = transaction_in e.rules.txns;
+  version = version_in (versions_of e.rules);
+  committed = is_committed_in (versions_of e.rules);
+  marked = marked_of e.rules;
+  transaction = transactions_of e.rules;
   protections = protections_in e.closing;
   protections_made = made_in e.closing;
   feed = place_in e.feeds;

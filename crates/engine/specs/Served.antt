@@ -16,7 +16,8 @@ use Rattle.hold_back.specs.Held.{gap_in, is_lost, rows_in}
 use Rattle.kept.specs.HeldBack.{IsHeldFor}
 use Rattle.kept.specs.Places.{AreLeft}
 use Rattle.kept.specs.Rings.{AreOffered, AreOthersSame}
-use Rattle.version_chain.specs.Stores.{is_decided_in, version_in}
+use Rattle.version_chain.specs.Stores.{is_committed_in, version_in}
+use Rattle.mvto_rules.specs.Holding.{versions_of}
 use Rattle.engine.specs.Layers.{AreNoted, kept_of}
 use Rattle.engine.specs.Releasing.{IsLetGo}
 use Rattle.engine.specs.declared.layers.Layers.{Layers}
@@ -53,7 +54,7 @@ pub record IsPolledIn (e e' : Layers) (f max : ℕ) : Type 0 where
   pub place : Place
   pub lives : place_in e.feeds f ≡ Some place
   pub rows : List Row
-  pub left : AreLeft (version_in e.rules.store) (is_decided_in e.rules.store) place (closed_in e.closing) rows
+  pub left : AreLeft (version_in (versions_of e.rules)) (is_committed_in (versions_of e.rules)) place (closed_in e.closing) rows
   pub behind : is_behind e'.feeds f ≡ (is_behind e.feeds f && nat_lt max (length rows))
   pub told : is_behind e'.feeds f ≡ false → ring_of e'.feeds f ≡ drop max rows
   pub others : AreOthersSame f (ring_of e.feeds) (ring_of e'.feeds) (is_behind e.feeds) (is_behind e'.feeds)
@@ -84,4 +85,4 @@ IsServed e e' seat cmd reply = IsUnserved e e'
 
 -- the ring of each feed that isn't behind has the rows that are left for it
 abbrev pub AreServing : Layers → Type 0
-AreServing e = (f : ℕ) (place : Place) → place_in e.feeds f ≡ Some place → is_behind e.feeds f ≡ false → AreLeft (version_in e.rules.store) (is_decided_in e.rules.store) place (closed_in e.closing) (ring_of e.feeds f)
+AreServing e = (f : ℕ) (place : Place) → place_in e.feeds f ≡ Some place → is_behind e.feeds f ≡ false → AreLeft (version_in (versions_of e.rules)) (is_committed_in (versions_of e.rules)) place (closed_in e.closing) (ring_of e.feeds f)

@@ -1,7 +1,7 @@
 //! Closings and protections.
 ghost use Rattle.std.specs.Prelude.{◌<◌};
 ghost use Rattle.spans.specs.declared.calls.commands.Cmd.TheVariants.{Close, CloseHard, Protect, Release};
-ghost use Rattle.mvto_rules.specs.Closings.{AreOpenNoted};
+ghost use Rattle.mvto_rules.specs.Closings.{AreAllNoted};
 ghost use Rattle.kept.specs.Answered.{IsStep};
 
 use crate::layers::Layers;
@@ -20,7 +20,7 @@ impl Layers {
         if to > MAX {
             return Reply::Refused(Refusal::TsRange);
         }
-        let oldest = self.rules.txns.oldest_undecided();
+        let oldest = self.rules.oldest_undecided();
         let at = self.closing.close(to, oldest);
         self.rules.close(at);
         release_through(&mut self.feeds, &mut self.held_back, at);
@@ -28,7 +28,7 @@ impl Layers {
     }
 
     pub(crate) fn close_hard(&mut self, seat: u8, to: u64) -> Reply
-        requires { AreOpenNoted self.old.rules.store self.old.rules.txns }
+        requires { AreAllNoted self.old.rules }
         ensures step { IsStep (kept_of self.old) (kept_of self.new) seat (CloseHard to) result }
         ensures served { IsServed self.old self.new seat (CloseHard to) result }
     {

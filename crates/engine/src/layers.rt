@@ -4,7 +4,7 @@ ghost use Rattle.timestamps.specs.declared.ts.TheConstants.{MAX};
 ghost use Rattle.kept.specs.StandsFor.{nothing_kept};
 ghost use Rattle.kept.specs.Changes.{IsAlike};
 ghost use Rattle.closing.specs.Standing.{closed_in};
-ghost use Rattle.mvto_rules.specs.Closings.{AreOpenNoted};
+ghost use Rattle.mvto_rules.specs.Closings.{AreAllNoted};
 ghost use Rattle.kept.specs.Answered.{IsStep};
 
 use closing::Closing;
@@ -67,7 +67,7 @@ impl Layers {
     /// Answers a seat's command.
     pub(crate) fn step(&mut self, seat: u8, cmd: &Cmd) -> Reply
         requires noted { AreNoted (kept_of self.old) }
-        requires open { AreOpenNoted self.old.rules.store self.old.rules.txns }
+        requires open { AreAllNoted self.old.rules }
         requires number { opened_in self.old.feeds < 18446744073709551615 }
         requires low { closed_in self.old.closing ≤ MAX }
         requires room { (kept_of self.old).protections_made < 18446744073709551615 }

@@ -41,8 +41,8 @@ impl Layers {
         ensures served { IsServed self.old self.new seat (Poll feed max) result }
     {
         let closed = self.closing.closed();
-        let rules = &self.rules;
-        match self.feeds.poll_behind(&rules.store, feed, closed, max) {
+        let versions = self.rules.versions();
+        match self.feeds.poll_behind(versions, feed, closed, max) {
             Ok(messages) => Reply::Messages(messages),
             Err(_) => Reply::Refused(Refusal::NoMemory),
         }

@@ -14,8 +14,8 @@ impl Layers {
         ensures same { IsUnserved self.old self.new }
     {
         Reply::Stats {
-            versions: self.rules.store.versions(),
-            undecided: self.rules.txns.undecided(),
+            versions: self.rules.version_count(),
+            undecided: self.rules.undecided_count(),
             feeds: self.feeds.count(),
             closed: self.closing.closed(),
             horizon: self.horizon,

@@ -80,9 +80,9 @@ impl Layers {
                 let rules = &self.rules;
                 hold_rows(
                     &mut self.held_back,
-                    &rules.store,
+                    rules.versions(),
                     ts,
-                    rules.txns.write_set(ts),
+                    rules.write_set(ts),
                 );
                 Reply::Committed { keys }
             }

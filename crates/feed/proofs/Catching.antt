@@ -11,7 +11,7 @@ use Rattle.spans.specs.declared.kind.Kind.TheVariants.{Initial}
 use Rattle.spans.proofs.RowOrder.{name_order}
 use Rattle.kept.proofs.LeftRows.{parts_left}
 use Rattle.version_chain.specs.Following.{is_after_place}
-use Rattle.version_chain.specs.Stores.{Stored, is_decided_in, version_in}
+use Rattle.version_chain.specs.Stores.{Stored, is_committed_in, version_in}
 use Rattle.catch_up.specs.Firsts.{AreNextFirsts, is_past}
 use Rattle.catch_up.specs.Left.{AreNextIn}
 use Rattle.feed.specs.Firsts.{AreNextFirstsAt, AreNextStoredAt, IsLeftAt, IsNoneLeft, is_row_above, key_at}
@@ -165,7 +165,7 @@ take_both (suc m) (x ∷ xs) ys =
 
 -- what is kept of a store alone
 abbrev stored_as : Stored → ℕ → Kept
-stored_as s through = record { closed = through; horizon = 0; version = version_in s; decided = is_decided_in s; marked = λ x t. false; transaction = λ t. None; protections = []; protections_made = 0; feed = λ f. None; feeds_opened = 0 }
+stored_as s through = record { closed = through; horizon = 0; version = version_in s; committed = is_committed_in s; marked = λ x t. false; transaction = λ t. None; protections = []; protections_made = 0; feed = λ f. None; feeds_opened = 0 }
 
 -- the next of both parts are the next that are left
 pub both_next : (s : Stored) (place : Place) (through n room : ℕ) (firsts stored rows : List Row) → AreNextFirstsAt s place n firsts → room ≡ n - length firsts → AreNextStoredAt s place through room stored → rows ≡ firsts ++ stored → AreNextAt s place through n rows

@@ -7,7 +7,7 @@ use Rattle.spans.specs.Effects.{After}
 use Rattle.spans.specs.Kept.{Place}
 use Rattle.spans.specs.declared.kind.Kind.TheVariants.{Initial}
 use Rattle.kept.specs.Places.{AreFirsts, AreStored, IsFirst}
-use Rattle.version_chain.specs.Stores.{Stored, is_decided_in, version_in}
+use Rattle.version_chain.specs.Stores.{Stored, is_committed_in, version_in}
 
 -- there is a last row, and it is above t
 abbrev pub is_row_above : Option VersionName → ℕ → Bool
@@ -39,5 +39,5 @@ pub record AreNextFirstsAt (store : Stored) (place : Place) (n : ℕ) (rows : Li
 -- these are the first n stored rows that are left above the cursor
 pub record AreNextStoredAt (store : Stored) (place : Place) (through n : ℕ) (rows : List Row) : Type 0 where
   pub all : List Row
-  pub stored : AreStored (version_in store) (is_decided_in store) place through all
+  pub stored : AreStored (version_in store) (is_committed_in store) place through all
   pub first : rows ≡ take n all

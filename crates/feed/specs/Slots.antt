@@ -1,7 +1,7 @@
 -- The slots of feeds: the span of each, by number, and where the feed is served from.
 use Rattle.std.specs.Prelude.{Bool, List, None, Option, Some, false, slice_get, true, ℕ, ◌&&◌, ◌≡◌, ◌<◌, ◌≤◌}
 use Rattle.std.specs.Map.{keys_of, lookup}
-use Rattle.std.specs.Prelude.{nat_eq}
+use Rattle.std.specs.Prelude.{if◌then◌else◌, nat_eq, option_map, ◌==◌}
 use Rattle.spans.specs.Keys.{in_span}
 use Rattle.feed.specs.declared.slots.Slot.{Slot}
 use Rattle.feed.specs.declared.slots.Source.{Source}
@@ -36,6 +36,14 @@ pub record IsNext (slots : Slots) (x : List ℕ) (n i f : ℕ) : Type 0 where
 
 abbrev pub sourced : Source → Slot → Slot
 sourced source s = record { span = s.span; source = source }
+
+-- f has this slot, and the others are as they were
+abbrev pub IsSlotPut : Slots → Slots → ℕ → Slot → Type 0
+IsSlotPut slots slots' f s = (g : ℕ) → slot_of slots' g ≡ (if f == g then Some s else slot_of slots g)
+
+-- the slot of f, if it has one, says where it is served from now, and the others are as they were
+abbrev pub IsSourced : Slots → Slots → ℕ → Source → Type 0
+IsSourced slots slots' f source = (g : ℕ) → slot_of slots' g ≡ (if f == g then option_map (sourced source) (slot_of slots f) else slot_of slots g)
 
 -- the slot is as it was, or it was that of a feed that has ended, and is gone
 abbrev pub IsKept : Option Slot → Option Slot → Type 0

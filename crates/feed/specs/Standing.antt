@@ -5,7 +5,7 @@ use Rattle.timestamps.specs.declared.row.Row.{Row}
 use Rattle.spans.specs.Kept.{Place}
 use Rattle.spans.specs.declared.calls.messages.Message.{Message}
 use Rattle.kept.specs.Lists.{AreThose}
-use Rattle.version_chain.specs.Stores.{Stored, is_decided_in, version_in}
+use Rattle.version_chain.specs.Stores.{Stored, is_committed_in, version_in}
 use Rattle.kept.specs.Places.{AreLeft, moved}
 use Rattle.kept.specs.Replies.{messages_left}
 use Rattle.feed.specs.Live.{Live, sent_behind}
@@ -78,12 +78,12 @@ pub record IsCountOf (s : Standing) (n : ℕ) : Type 0 where
 -- behind them, and it stays behind where more rows are left
 pub record IsPolledFrom (store : Stored) (s s' : Standing) (f closed max : ℕ) (live : Live) (ms : List Message) : Type 0 where
   pub rows : List Row
-  pub left : AreLeft (version_in store) (is_decided_in store) live.place closed rows
+  pub left : AreLeft (version_in store) (is_committed_in store) live.place closed rows
   pub told : ms ≡ take max (messages_left closed live.place rows)
   pub put : IsPut s s' f (Some (record { place = moved ms live.place; behind = nat_lt max (length rows); ring = [] }))
 
 -- these are the first n of the rows that are left at a place
 pub record AreNextAt (store : Stored) (place : Place) (through n : ℕ) (rows : List Row) : Type 0 where
   pub all : List Row
-  pub left : AreLeft (version_in store) (is_decided_in store) place through all
+  pub left : AreLeft (version_in store) (is_committed_in store) place through all
   pub first : rows ≡ take n all

@@ -1,10 +1,10 @@
 //! All live feeds.
-ghost use Rattle.std.specs.Prelude.{true, map, ◌≡◌, ◌<◌, ◌≤◌, ℕ, None, Some, false, is_some, length, nat_lt, suc, IfOk, OnOk, OnErr, take, drop, nat_eq, if◌then◌else◌, ◌==◌, ◌++◌, IfSome};
-ghost use Rattle.indexmap.specs.IndexMap.{get};
+ghost use Rattle.std.specs.Prelude.{true, map, ◌≡◌, ◌<◌, ◌≤◌, ℕ, None, Some, false, is_some, length, suc, IfOk, OnOk, OnErr, take, ◌++◌, IfSome};
 ghost use Rattle.timestamps.specs.declared.ts.TheConstants.{MAX};
 ghost use Rattle.kept.specs.Places.{IsLeastFloor};
-ghost use Rattle.feed.specs.Live.{Live, IsOffered, begins_behind, opened_at, arrived_at, settled, due_at};
+ghost use Rattle.feed.specs.Live.{Live, IsOffered, begins_behind, opened_at, moved_on, settled, due_at};
 ghost use Rattle.feed.specs.Standing.{opened_in, live_in, place_in, seat_in, behind_in, IsPut, AreChanged, IsSentBehind, IsPolled, IsPolledFrom, IsCountOf};
+ghost use Rattle.feed.specs.Changes.{IsChangedIn};
 ghost use Rattle.feed.specs.Slots.{source_of};
 
 use crate::live::LiveFeed;
@@ -202,7 +202,7 @@ impl Feeds {
 
     /// A feed, if it is there, has an empty ring, and is behind or isn't.
     fn settle(&mut self, feed: u64, behind: bool)
-        ensures put { (l : Live) → live_in self.old feed ≡ Some l → IsPut self.old self.new feed (Some (settled behind l)) }
+        ensures put { IsChangedIn self.old.live self.new.live feed (settled behind) }
         ensures opened { opened_in self.new ≡ opened_in self.old }
     {
         let Some(_) = self.live.get(&feed) else {
@@ -214,8 +214,7 @@ impl Feeds {
 
     /// Moves a feed behind messages, of which so many were rows of its ring.
     fn move_to(&mut self, feed: u64, place: Arrival, told: u64) -> Result<(), AllocError>
-        ensures put { OnOk result ((l : Live) → live_in self.old feed ≡ Some l
-            → IsPut self.old self.new feed (Some (arrived_at place.after place.row l.behind (drop told l.ring) l))) }
+        ensures put { OnOk result (IsChangedIn self.old.live self.new.live feed (moved_on place.after place.row told)) }
         ensures opened { opened_in self.new ≡ opened_in self.old }
         ensures err { OnErr result (self.new ≡ self.old) }
     {
@@ -269,8 +268,7 @@ fn begins_behind(kind: Kind, cursor: u64, closed: u64) -> bool
 
 /// Moves a feed, if it is there, behind messages.
 fn arrive(live: &mut IndexMap<u64, LiveFeed>, feed: u64, place: Arrival, told: u64)
-    ensures { (l : Live) → get nat_eq live.old feed ≡ Some l
-        → (g : ℕ) → get nat_eq live.new g ≡ (if feed == g then Some (arrived_at place.after place.row l.behind (drop told l.ring) l) else get nat_eq live.old g) }
+    ensures { IsChangedIn live.old.entries live.new.entries feed (moved_on place.after place.row told) }
 {
     if let Some(live) = live.get_mut(&feed) {
         live.arrive(place, told);
@@ -279,8 +277,7 @@ fn arrive(live: &mut IndexMap<u64, LiveFeed>, feed: u64, place: Arrival, told: u
 
 /// A feed, if it is there, has an empty ring, and is behind or isn't.
 fn settle(live: &mut IndexMap<u64, LiveFeed>, feed: u64, behind: bool)
-    ensures { (l : Live) → get nat_eq live.old feed ≡ Some l
-        → (g : ℕ) → get nat_eq live.new g ≡ (if feed == g then Some (settled behind l) else get nat_eq live.old g) }
+    ensures { IsChangedIn live.old.entries live.new.entries feed (settled behind) }
 {
     if let Some(live) = live.get_mut(&feed) {
         live.settle(behind);

@@ -5,12 +5,12 @@
 //! offer a look in vain. So the slots that have come or turned are counted, and once offers may have looked in vain
 //! as often as there are slots, the order is made anew: by lower bound, without those of cancelled feeds, and with
 //! hulls for as many slots again.
-ghost use Rattle.std.specs.Prelude.{◌≡◌, ◌==◌, ◌<◌, ℕ, None, Some, [], if◌then◌else◌, option_map, MatchOption, OnOk, OnErr, IfSome, nat_eq, slice_get, length};
+ghost use Rattle.std.specs.Prelude.{◌≡◌, ◌<◌, ℕ, None, Some, [], if◌then◌else◌, MatchOption, OnOk, OnErr, IfSome, nat_eq, slice_get, length};
 ghost use Rattle.std.specs.Map.{keys_of, lookup, set_value};
 ghost use Rattle.std.specs.List.{IsDistinct};
 ghost use Rattle.feed.specs.declared.slots.Slot.{Slot};
 ghost use Rattle.feed.specs.declared.slots.Source.TheVariants.{Ended};
-ghost use Rattle.feed.specs.Slots.{HasEnded, IsKept, IsNext, holds_at, slot_of, sourced};
+ghost use Rattle.feed.specs.Slots.{HasEnded, IsKept, IsNext, IsSlotPut, IsSourced, holds_at, slot_of, sourced};
 ghost use Rattle.feed.specs.Hulls.{AreHulls, IsNoneFrom, IsFirstFrom};
 
 use crate::hulls::{Hull, build, first_from, first_in, is_holding, widen};
@@ -82,7 +82,7 @@ impl SpanOrder {
     /// Adds the slot of a feed that has none.
     pub(crate) fn add(&mut self, feed: u64, span: &Span, source: Source) -> Result<(), AllocError>
         requires absent { slot_of self.old feed ≡ None }
-        ensures added { OnOk result ((g : ℕ) → slot_of self.new g ≡ (if feed == g then Some (record { span = span.now; source = source }) else slot_of self.old g)) }
+        ensures added { OnOk result (IsSlotPut self.old self.new feed (record { span = span.now; source = source })) }
         ensures err { OnErr result (self.new ≡ self.old) }
     {
         let slot = Slot {
@@ -102,7 +102,7 @@ impl SpanOrder {
     /// Says where a feed is served from now. It takes no memory.
     pub(crate) fn set(&mut self, feed: u64, source: Source)
         ensures places { keys_of self.new ≡ keys_of self.old }
-        ensures put { (g : ℕ) → slot_of self.new g ≡ (if feed == g then option_map (sourced source) (slot_of self.old feed) else slot_of self.old g) }
+        ensures put { IsSourced self.old self.new feed source }
     {
         let Some(place) = self.slots.get_index_of(&feed) else {
             return;
@@ -199,7 +199,7 @@ fn turns(slots: &IndexMap<u64, Slot>, place: usize, source: &Source) -> usize {
 fn put_source(slots: &mut IndexMap<u64, Slot>, feed: u64, source: Source)
     ensures places { keys_of slots.new.entries ≡ keys_of slots.old.entries }
     ensures put { (s : Slot) → slot_of slots.old.entries feed ≡ Some s → slots.new.entries ≡ set_value (nat_eq feed) slots.old.entries (sourced source s) }
-    ensures slots { (g : ℕ) → slot_of slots.new.entries g ≡ (if feed == g then option_map (sourced source) (slot_of slots.old.entries feed) else slot_of slots.old.entries g) }
+    ensures slots { IsSourced slots.old.entries slots.new.entries feed source }
 {
     if let Some(slot) = slots.get_mut(&feed) {
         slot.source = source;

@@ -3,7 +3,9 @@ use Rattle.std.proofs.Common.{Bool, List, None, Option, Some, [], ap, arith, con
 use Rattle.std.proofs.lemmas.Bool.{eqb-true, lt-ltb}
 use Rattle.std.specs.Prelude.{is_some, nat_le, nat_lt, option_map}
 use Rattle.spans.specs.Effects.{Aborts, Begins, Commits, Effect, HardCloses, Writes}
-use Rattle.spans.specs.Kept.{IsKeptOf, Kept, Transaction, transaction_of, transaction_with}
+use Rattle.spans.specs.Kept.{IsKeptOf, Kept, Transaction, state_of, transaction_of, transaction_with}
+use Rattle.spans.specs.declared.state.State.{State}
+use Rattle.spans.specs.declared.state.State.TheVariants as states
 use Rattle.spans.specs.Transactions.{closed_of, is_aborted, is_committed, owner_of}
 use Rattle.spans.specs.Versions.{write_set}
 use Rattle.spans.proofs.Copies.{AllAllowed, Allowed}
@@ -17,7 +19,7 @@ new_is_kept = record {
   closed_at = refl;
   horizon_at = refl;
   versions = λ x t. refl;
-  decided = λ x t a is. cc;
+  committed = λ x t a is. cc;
   marks = λ x i above fresh. (λ late. cc, λ c. absurd (let no' : false ≡ true = c.mark in cc));
   transactions = λ t. none (nat_lt 0 t);
   protected = refl;
@@ -77,14 +79,14 @@ after_begins k p all fits t seat allowed τ' ts = record {
   closed_at = fits.closed_at;
   horizon_at = fits.horizon_at;
   versions = fits.versions;
-  decided = fits.decided;
+  committed = fits.committed;
   marks = fits.marks;
   transactions = λ i. ts i ∙ by_test (t == i)
       (λ same. let e : t ≡ i = eqb-true t i same in
       let h : IsFresh p i = unbegun p all i (subst (λ n. owner_of p n ≡ None) e allowed.1) in
       let above : nat_lt (closed_of p) i ≡ true = lt-ltb (closed_of p) i (omega (arith, allowed.0)) in
-      let now : transaction_of (Begins t seat ∷ p) i ≡ Some (made (is_committed p i) (is_aborted p i) (write_set p i)) = rw (above, same) refl in
-      ap (λ b. cond b (Some (new_transaction seat)) (k.transaction i)) same ∙ sym (now ∙ parts h.uncommitted h.unaborted h.wrote))
+      let now : transaction_of (Begins t seat ∷ p) i ≡ Some (made (state_of p i) (write_set p i)) = rw (above, same) refl in
+      ap (λ b. cond b (Some (new_transaction seat)) (k.transaction i)) same ∙ sym (now ∙ parts (rw (h.uncommitted, h.unaborted) refl) h.wrote))
       (λ other. let now : transaction_of (Begins t seat ∷ p) i ≡ transaction_of p i = rw other refl in
       ap (λ b. cond b (Some (new_transaction seat)) (k.transaction i)) other ∙ fits.transactions i ∙ sym now);
   protected = fits.protected;
@@ -93,8 +95,8 @@ after_begins k p all fits t seat allowed τ' ts = record {
   opened = fits.opened;
 }
   where
-    made : Bool → Bool → List (List ℕ) → Transaction
-    made c a ks = record { seat = seat; committed = c; aborted = a; keys = ks }
+    made : State → List (List ℕ) → Transaction
+    made s ks = record { seat = seat; state = s; keys = ks }
 
-    parts : {c a : Bool} {ks : List (List ℕ)} → c ≡ false → a ≡ false → ks ≡ [] → Some (made c a ks) ≡ Some (new_transaction seat)
-    parts e f g = rw (e, f, g) refl
+    parts : {s : State} {ks : List (List ℕ)} → s ≡ states.Undecided → ks ≡ [] → Some (made s ks) ≡ Some (new_transaction seat)
+    parts e f = rw (e, f) refl

@@ -5,7 +5,9 @@ use Rattle.std.proofs.lemmas.Bool.Decides.{nat_tests}
 use Rattle.std.specs.Prelude.{nat_lt, nat_le, filter, option_map, is_some, min}
 use Rattle.spans.specs.Collection.{version_name, is_dead}
 use Rattle.spans.specs.Effects.{HardCloses, Closes, After, Effect}
-use Rattle.spans.specs.Kept.{transaction_with, Transaction, Kept, IsKeptOf, kept_version}
+use Rattle.spans.specs.Kept.{state_of, transaction_with, Transaction, Kept, IsKeptOf, kept_version}
+use Rattle.spans.specs.declared.state.State.{State}
+use Rattle.spans.specs.declared.state.State.TheVariants as states
 use Rattle.spans.specs.Reads.{too_late}
 use Rattle.spans.specs.Transactions.{is_undecided, decided_through, closed_of, is_aborted, is_committed, owner_of, begun_of, least_of, undecided_timestamps}
 use Rattle.spans.specs.Versions.{committed_version_of, version_of, write_of, write_set}
@@ -14,7 +16,7 @@ use Rattle.spans.proofs.Open.{begun_among, open_above, least_below}
 use Rattle.spans.proofs.Steps.{by_test}
 use Rattle.kept.proofs.Dead.{least_low}
 use Rattle.kept.specs.Marks.{IsForgotten}
-use Rattle.kept.specs.Table.{is_open, reach, IsOldest}
+use Rattle.kept.specs.Table.{has_ended, is_open, reach, IsOldest}
 use Rattle.kept.proofs.Dead.{committed_is, committed_stands}
 use Rattle.kept.proofs.Marking.{marks_aborted}
 use Rattle.kept.proofs.Staying.{to_kept, kept_stays, marks_of}
@@ -25,9 +27,14 @@ open_is k p all fits t = ap is_open (fits.transactions t) ∙ by_test (nat_lt (c
     (λ is. rw is (by_owner (owner_of p t)))
     (λ isnt. rw isnt (sym (false_from_ne_true _ (λ u. let l : closed_of p < t = open_above p all t u in grind (arith, nat_tests)))))
   where
+    open_state : (c a : Bool) → not (has_ended (cond c states.Committed (cond a states.Aborted states.Undecided))) ≡ (not c && not a)
+    open_state true a = refl
+    open_state false true = refl
+    open_state false false = refl
+
     by_owner : (o : Option ℕ) → is_open (option_map (transaction_with p t) o) ≡ (is_some o && (not (is_committed p t) && not (is_aborted p t)))
     by_owner None = refl
-    by_owner (Some seat) = refl
+    by_owner (Some seat) = open_state (is_committed p t) (is_aborted p t)
 
 -- what is at most each of the numbers is at most the least
 least_above : (q : ℕ → Bool) (m n : ℕ) (ks : List ℕ) → m ≤ n → ((t : ℕ) → q t ≡ true → m ≤ t - 1) → m ≤ least_of n (map (λ t. t - 1) (filter q ks))
@@ -61,7 +68,7 @@ after_closes k p all fits n allowed m' τ' ms ts = record {
   closed_at = refl;
   horizon_at = fits.horizon_at;
   versions = λ y i. fits.versions y i ∙ sym (kept_stays p (Closes n) all allowed refl y i);
-  decided = fits.decided;
+  committed = fits.committed;
   marks = λ y i above fresh. let b = fits.marks y i (omega (arith, closed_grows p (Closes n) allowed)) fresh in (
     λ late. let c = b.0 late in record { reader = c.reader; mark = (ms y).above c.reader (omega (arith, c.above)) ∙ c.mark; above = c.above; none = c.none },
     λ c. b.1 (record { reader = c.reader; mark = (ms y).only c.reader c.mark; above = c.above; none = c.none }),
@@ -86,7 +93,7 @@ after_hard_closes k p all fits to n allowed v' m' τ' vs ms ts = record {
   closed_at = refl;
   horizon_at = fits.horizon_at;
   versions = kept_now;
-  decided = λ y i b is. fits.decided y i b (still y i b is);
+  committed = λ y i b is. fits.committed y i b (still y i b is);
   marks = λ y i above fresh. let b = to_kept (HardCloses to n ∷ p) (allowed, all) y (k.marked y) (v' y) (kept_now y) i above (too_late p y i ≡ true)
       (marks_aborted p all y (k.marked y) (version_of (HardCloses to n ∷ p) y) (λ w none. gone (cut w) (is_aborted p w) (write_of p w y) none) (λ w a is. stands y w a is) (marks_of k p all fits y) i (omega (arith, closed_grows p (HardCloses to n) allowed)) fresh) in (
         λ late. let c = b.0 late in record { reader = c.reader; mark = (ms y).above c.reader (omega (arith, c.above)) ∙ c.mark; above = c.above; none = c.none },
@@ -95,7 +102,7 @@ after_hard_closes k p all fits to n allowed v' m' τ' vs ms ts = record {
   transactions = λ i. ts i ∙ by_test (nat_lt n i)
       (λ is. let e : nat_lt (closed_of p) i ≡ true = (let g : closed_of p ≤ n = closed_grows p (HardCloses to n) allowed in grind (arith, nat_tests)) in
       let far : nat_le i to ≡ false = grind (arith, nat_tests, allowed) in
-      let stays : is_aborted (HardCloses to n ∷ p) i ≡ is_aborted p i = rw far refl in
+      let stays : state_of (HardCloses to n ∷ p) i ≡ state_of p i = rw far refl in
       rw is (fits.transactions i ∙ ap (λ b. cond b (option_map (transaction_with p i) (owner_of p i)) None) e ∙ ap (λ c. option_map (with_state i c) (owner_of p i)) (sym stays)))
       (λ isnt. rw isnt refl);
   protected = fits.protected;
@@ -104,8 +111,8 @@ after_hard_closes k p all fits to n allowed v' m' τ' vs ms ts = record {
   opened = fits.opened;
 }
   where
-    with_state : ℕ → Bool → ℕ → Transaction
-    with_state i c seat = record { seat = seat; committed = is_committed p i; aborted = c; keys = write_set p i }
+    with_state : ℕ → State → ℕ → Transaction
+    with_state i s seat = record { seat = seat; state = s; keys = write_set p i }
 
     cut : ℕ → Bool
     cut i = nat_le i to && (is_some (owner_of p i) && not (is_committed p i))

@@ -41,7 +41,7 @@ after_reads k p all fits j x v allowed m' others marked = record {
   closed_at = fits.closed_at;
   horizon_at = fits.horizon_at;
   versions = fits.versions;
-  decided = fits.decided;
+  committed = fits.committed;
   marks = λ y i above fresh. by_test (bytes_eq x y)
       (λ same. rw same (let e : x ≡ y = same_key x y same in
       subst (λ z. (((nat_lt (visible p x j).ts i && nat_lt i j) || too_late p z i) ≡ true) ↔ IsCrossed (m' z) (k.version z) i) e
@@ -64,7 +64,7 @@ after_scans k p all fits j span rows allowed m' others marked = record {
   closed_at = fits.closed_at;
   horizon_at = fits.horizon_at;
   versions = fits.versions;
-  decided = fits.decided;
+  committed = fits.committed;
   marks = λ y i above fresh. by_test (in_span span y)
       (λ in'. rw in' (marks_after_read k p all fits j y (m' y) (allowed.1 y in') (marked y in') i above fresh))
       (λ out. rw out (let b = fits.marks y i above fresh in (

@@ -5,7 +5,9 @@ use Rattle.std.proofs.lemmas.Bool.Decides.{nat_tests}
 use Rattle.std.specs.Prelude.{nat_lt, bytes_eq, option_map, is_some, ◌↔◌}
 use Rattle.spans.specs.Collection.{version_name, is_dead}
 use Rattle.spans.specs.Effects.{Writes, After, Aborts, Effect, Commits}
-use Rattle.spans.specs.Kept.{transaction_with, Transaction, Kept, IsKeptOf, kept_version, IsCrossed}
+use Rattle.spans.specs.Kept.{state_of, transaction_with, Transaction, Kept, IsKeptOf, kept_version, IsCrossed}
+use Rattle.spans.specs.declared.state.State.{State}
+use Rattle.spans.specs.declared.state.State.TheVariants as states
 use Rattle.spans.specs.Keys.{insert_key}
 use Rattle.spans.specs.Reads.{too_late}
 use Rattle.spans.specs.Transactions.{closed_of, is_aborted, is_committed, owner_of}
@@ -21,16 +23,16 @@ use Rattle.kept.proofs.Staying.{to_kept, kept_stays, marks_of}
 pub after_writes : (k : Kept) (p : List Effect) → AllAllowed p → IsKeptOf k p → (t : ℕ) (x : List ℕ) (a : After) → Allowed p (Writes t x a)
     → (v' : List ℕ → ℕ → Option After) (d' : List ℕ → ℕ → Bool) (τ' : ℕ → Option Transaction)
     → ((y : List ℕ) (i : ℕ) → v' y i ≡ cond ((t == i) && bytes_eq x y) (Some a) (k.version y i))
-    → ((y : List ℕ) (i : ℕ) → d' y i ≡ cond ((t == i) && bytes_eq x y) false (k.decided y i))
+    → ((y : List ℕ) (i : ℕ) → d' y i ≡ cond ((t == i) && bytes_eq x y) false (k.committed y i))
     → ((i : ℕ) → τ' i ≡ cond (t == i) (option_map (λ (n : Transaction). record n { keys = insert_key x n.keys }) (k.transaction i)) (k.transaction i))
-    → IsKeptOf (record k { version = v'; decided = d'; transaction = τ' }) (Writes t x a ∷ p)
+    → IsKeptOf (record k { version = v'; committed = d'; transaction = τ' }) (Writes t x a ∷ p)
 after_writes k p all fits t x a allowed v' d' τ' vs ds ts = record {
   closed_at = fits.closed_at;
   horizon_at = fits.horizon_at;
   versions = kept_now;
-  decided = λ y i b is. ds y i ∙ by_test ((t == i) && bytes_eq x y)
+  committed = λ y i b is. ds y i ∙ by_test ((t == i) && bytes_eq x y)
       (λ here. rw here (let e : t ≡ i = eqb-true t i (and_parts _ _ here).0 in sym (subst (λ n. is_committed p n ≡ false) e allowed.0.uncommitted)))
-      (λ other. rw other (fits.decided y i b (let e : v' y i ≡ k.version y i = vs y i ∙ (rw other refl) in sym e ∙ is)));
+      (λ other. rw other (fits.committed y i b (let e : v' y i ≡ k.version y i = vs y i ∙ (rw other refl) in sym e ∙ is)));
   marks = λ y i above fresh. to_now y i above (marks_written' y i above (sym (still y i) ∙ fresh));
   transactions = λ i. ts i ∙ by_test (t == i)
       (λ same. rw (same, fits.transactions i) (let e : (t == i) ≡ true = same in by_owner i e (nat_lt (closed_of p) i) (owner_of p i)))
@@ -42,7 +44,7 @@ after_writes k p all fits t x a allowed v' d' τ' vs ds ts = record {
 }
   where
     with_keys : ℕ → List (List ℕ) → ℕ → Transaction
-    with_keys i ks seat = record { seat = seat; committed = is_committed p i; aborted = is_aborted p i; keys = ks }
+    with_keys i ks seat = record { seat = seat; state = state_of p i; keys = ks }
 
     by_owner : (i : ℕ) → (t == i) ≡ true → (b : Bool) (o : Option ℕ) → option_map (λ (n : Transaction). record n { keys = insert_key x n.keys }) (cond b (option_map (transaction_with p i) o) None) ≡ cond b (option_map (transaction_with (Writes t x a ∷ p) i) o) None
     by_owner i e false o = refl
@@ -98,34 +100,34 @@ uncommitted_before false c o e = refl
 -- after a commit
 pub after_commits : (k : Kept) (p : List Effect) → AllAllowed p → IsKeptOf k p → (t : ℕ) → Allowed p (Commits t)
     → (d' : List ℕ → ℕ → Bool) (τ' : ℕ → Option Transaction)
-    → ((y : List ℕ) (i : ℕ) → d' y i ≡ (((t == i) && has y (write_set p t)) || k.decided y i))
-    → ((i : ℕ) → τ' i ≡ cond (t == i) (option_map (λ (n : Transaction). record n { committed = true }) (k.transaction i)) (k.transaction i))
-    → IsKeptOf (record k { decided = d'; transaction = τ' }) (Commits t ∷ p)
+    → ((y : List ℕ) (i : ℕ) → d' y i ≡ (((t == i) && has y (write_set p t)) || k.committed y i))
+    → ((i : ℕ) → τ' i ≡ cond (t == i) (option_map (λ (n : Transaction). record n { state = states.Committed }) (k.transaction i)) (k.transaction i))
+    → IsKeptOf (record k { committed = d'; transaction = τ' }) (Commits t ∷ p)
 after_commits k p all fits t allowed d' τ' ds ts = record {
   closed_at = fits.closed_at;
   horizon_at = fits.horizon_at;
   versions = kept_now;
-  decided = λ y i b is. ds y i ∙ by_test (t == i)
+  committed = λ y i b is. ds y i ∙ by_test (t == i)
       (λ same. rw same (let wrote : write_of p i y ≡ Some b = (version_wrote p y i b (kept_is p y i b (sym (fits.versions y i) ∙ is))).1 in
       let there : has y (write_set p t) ≡ true = subst (λ n. has y (write_set p n) ≡ true) (sym (eqb-true t i same)) (has_written p i y ∙ ap is_some wrote) in rw there refl))
-      (λ other. rw other (fits.decided y i b is));
+      (λ other. rw other (fits.committed y i b is));
   marks = λ y i above fresh. fits.marks y i above (uncommitted_before (is_committed p i) (t == i) (write_of p i y) fresh);
   transactions = λ i. ts i ∙ by_test (t == i)
       (λ same. rw (same, fits.transactions i) (by_owner i same (nat_lt (closed_of p) i) (owner_of p i)))
-      (λ other. rw (other, fits.transactions i) (ap (λ c. cond (nat_lt (closed_of p) i) (option_map (with_state i c) (owner_of p i)) None) (let e : is_committed (Commits t ∷ p) i ≡ is_committed p i = rw other refl in sym e)));
+      (λ other. rw (other, fits.transactions i) (ap (λ c. cond (nat_lt (closed_of p) i) (option_map (with_state i c) (owner_of p i)) None) (let e : state_of (Commits t ∷ p) i ≡ state_of p i = rw other refl in sym e)));
   protected = fits.protected;
   made = fits.made;
   feeds = fits.feeds;
   opened = fits.opened;
 }
   where
-    with_state : ℕ → Bool → ℕ → Transaction
-    with_state i c seat = record { seat = seat; committed = c; aborted = is_aborted p i; keys = write_set p i }
+    with_state : ℕ → State → ℕ → Transaction
+    with_state i s seat = record { seat = seat; state = s; keys = write_set p i }
 
-    by_owner : (i : ℕ) → (t == i) ≡ true → (b : Bool) (o : Option ℕ) → option_map (λ (n : Transaction). record n { committed = true }) (cond b (option_map (transaction_with p i) o) None) ≡ cond b (option_map (transaction_with (Commits t ∷ p) i) o) None
+    by_owner : (i : ℕ) → (t == i) ≡ true → (b : Bool) (o : Option ℕ) → option_map (λ (n : Transaction). record n { state = states.Committed }) (cond b (option_map (transaction_with p i) o) None) ≡ cond b (option_map (transaction_with (Commits t ∷ p) i) o) None
     by_owner i e false o = refl
     by_owner i e true None = refl
-    by_owner i e true (Some seat) = ap (λ c. Some (with_state i c seat)) (let e' : is_committed (Commits t ∷ p) i ≡ true = rw e refl in sym e')
+    by_owner i e true (Some seat) = ap (λ c. Some (with_state i c seat)) (let e' : state_of (Commits t ∷ p) i ≡ states.Committed = rw e refl in sym e')
 
     kept_now : (y : List ℕ) (i : ℕ) → k.version y i ≡ kept_version (Commits t ∷ p) y i
     kept_now y i = fits.versions y i ∙ sym (kept_stays p (Commits t) all allowed refl y i)
@@ -134,31 +136,32 @@ after_commits k p all fits t allowed d' τ' ds ts = record {
 pub after_aborts : (k : Kept) (p : List Effect) → AllAllowed p → IsKeptOf k p → (t : ℕ) → Allowed p (Aborts t)
     → (v' : List ℕ → ℕ → Option After) (τ' : ℕ → Option Transaction)
     → ((y : List ℕ) (i : ℕ) → v' y i ≡ cond ((t == i) && has y (write_set p t)) None (k.version y i))
-    → ((i : ℕ) → τ' i ≡ cond (t == i) (option_map (λ (n : Transaction). record n { aborted = true }) (k.transaction i)) (k.transaction i))
+    → ((i : ℕ) → τ' i ≡ cond (t == i) (option_map (λ (n : Transaction). record n { state = states.Aborted }) (k.transaction i)) (k.transaction i))
     → IsKeptOf (record k { version = v'; transaction = τ' }) (Aborts t ∷ p)
 after_aborts k p all fits t allowed v' τ' vs ts = record {
   closed_at = fits.closed_at;
   horizon_at = fits.horizon_at;
   versions = kept_now;
-  decided = λ y i b is. fits.decided y i b (still y i b is);
+  committed = λ y i b is. fits.committed y i b (still y i b is);
   marks = λ y i above fresh. to_kept (Aborts t ∷ p) (allowed, all) y (k.marked y) (v' y) (kept_now y) i above (too_late p y i ≡ true)
       (marks_aborted p all y (k.marked y) (version_of (Aborts t ∷ p) y) (λ n none. gone (t == n) (is_aborted p n) (write_of p n y) none) (λ n a is. stands y n a is) (marks_of k p all fits y) i above fresh);
   transactions = λ i. ts i ∙ by_test (t == i)
       (λ same. rw (same, fits.transactions i) (by_owner i same (nat_lt (closed_of p) i) (owner_of p i)))
-      (λ other. rw (other, fits.transactions i) (ap (λ c. cond (nat_lt (closed_of p) i) (option_map (with_state i c) (owner_of p i)) None) (let e : is_aborted (Aborts t ∷ p) i ≡ is_aborted p i = rw other refl in sym e)));
+      (λ other. rw (other, fits.transactions i) (ap (λ c. cond (nat_lt (closed_of p) i) (option_map (with_state i c) (owner_of p i)) None) (let e : state_of (Aborts t ∷ p) i ≡ state_of p i = rw other refl in sym e)));
   protected = fits.protected;
   made = fits.made;
   feeds = fits.feeds;
   opened = fits.opened;
 }
   where
-    with_state : ℕ → Bool → ℕ → Transaction
-    with_state i c seat = record { seat = seat; committed = is_committed p i; aborted = c; keys = write_set p i }
+    with_state : ℕ → State → ℕ → Transaction
+    with_state i s seat = record { seat = seat; state = s; keys = write_set p i }
 
-    by_owner : (i : ℕ) → (t == i) ≡ true → (b : Bool) (o : Option ℕ) → option_map (λ (n : Transaction). record n { aborted = true }) (cond b (option_map (transaction_with p i) o) None) ≡ cond b (option_map (transaction_with (Aborts t ∷ p) i) o) None
+    by_owner : (i : ℕ) → (t == i) ≡ true → (b : Bool) (o : Option ℕ) → option_map (λ (n : Transaction). record n { state = states.Aborted }) (cond b (option_map (transaction_with p i) o) None) ≡ cond b (option_map (transaction_with (Aborts t ∷ p) i) o) None
     by_owner i e false o = refl
     by_owner i e true None = refl
-    by_owner i e true (Some seat) = ap (λ c. Some (with_state i c seat)) (let e' : is_aborted (Aborts t ∷ p) i ≡ true = rw e refl in sym e')
+    by_owner i e true (Some seat) = ap (λ c. Some (with_state i c seat)) (let open' : is_committed p i ≡ false = subst (λ n. is_committed p n ≡ false) (eqb-true t i e) allowed.uncommitted in
+        let e' : state_of (Aborts t ∷ p) i ≡ states.Aborted = rw (open', e) refl in sym e')
 
     still : (y : List ℕ) (i : ℕ) (b : After) → v' y i ≡ Some b → k.version y i ≡ Some b
     still y i b is = step ((t == i) && has y (write_set p t)) (k.version y i) (sym (vs y i) ∙ is)

@@ -19,7 +19,7 @@ use Rattle.kept.specs.StandsFor.{StandsFor}
 use Rattle.kept.proofs.Floors.{placed_by}
 
 -- the two parts are what is left
-pub parts_left : (k : Kept) (place : Place) (firsts stored : List Row) → AreFirsts k.version place firsts → AreStored k.version k.decided place k.closed stored → AreLeft k.version k.decided place k.closed (firsts ++ stored)
+pub parts_left : (k : Kept) (place : Place) (firsts stored : List Row) → AreFirsts k.version place firsts → AreStored k.version k.committed place k.closed stored → AreLeft k.version k.committed place k.closed (firsts ++ stored)
 parts_left k place firsts stored f s = record {
   rising = rises_append firsts stored f.rising s.rising (λ r q i j. let first = (f.each r).0 i in let later = (s.each q).0 j in or_left _ _ (lt-ltb r.ts q.ts (omega (arith, first.at, later.above))));
   each = λ r. let join = in_append r firsts stored in (
@@ -37,7 +37,7 @@ take_both (suc m) (x ∷ xs) ys =
     ap (λ n. x ∷ (take m xs ++ take n ys)) less ∙ ap (λ l. x ∷ l) (take_both m xs ys)
 
 -- so the next are those of the first part, and of the second where there is room
-pub parts_next : (k : Kept) (place : Place) (max : ℕ) (firsts stored : List Row) → AreFirsts k.version place firsts → AreStored k.version k.decided place k.closed stored → AreNext k place max (take max firsts ++ take (max - length firsts) stored)
+pub parts_next : (k : Kept) (place : Place) (max : ℕ) (firsts stored : List Row) → AreFirsts k.version place firsts → AreStored k.version k.committed place k.closed stored → AreNext k place max (take max firsts ++ take (max - length firsts) stored)
 parts_next k place max firsts stored f s = record {
   all = firsts ++ stored;
   left = parts_left k place firsts stored f s;

@@ -11,7 +11,7 @@ pub mod AfterFeeds
 pub mod Late
 pub mod Noting
 pub mod VersionCounts
-pub mod Spent
+pub mod DeadSeen
 pub mod Counts
 pub mod Scans
 pub mod Untold

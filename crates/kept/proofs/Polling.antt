@@ -44,12 +44,12 @@ found_is : (k : Kept) (p : List Effect) → AllAllowed p → IsKeptOf k p → (x
 found_is k p all fits x c high low = settled_is k p fits all x c high low ∙ sym (map_at_is p c x)
 
 -- the rows that a live feed was not told are those that are left for it
-pub left_are : (k : Kept) (p : List Effect) → AllAllowed p → IsKeptOf k p → (f : ℕ) (feed : Feed) → feed_of p f ≡ Some feed → is_cancelled p f ≡ false → AreLeft k.version k.decided (place_with p f feed) (closed_of p) (untold_rows p f feed)
+pub left_are : (k : Kept) (p : List Effect) → AllAllowed p → IsKeptOf k p → (f : ℕ) (feed : Feed) → feed_of p f ≡ Some feed → is_cancelled p f ≡ false → AreLeft k.version k.committed (place_with p f feed) (closed_of p) (untold_rows p f feed)
 left_are k p all fits f feed is live =
     let h = feeding p all f feed is in
     let u = beyond_is p all f feed is h in
     let under : horizon_of p ≤ place_floor (place_with p f feed) = horizon_under p all f feed is live in
-    subst (AreLeft k.version k.decided (place_with p f feed) (closed_of p)) (sym (untold_is p f feed h.begins.0 h.begins.1)) (record {
+    subst (AreLeft k.version k.committed (place_with p f feed) (closed_of p)) (sym (untold_is p f feed h.begins.0 h.begins.1)) (record {
       rising = u.0;
       each = λ r. (
         λ i. let s = (u.1 r).0 i in elim s.0 [
@@ -66,7 +66,7 @@ left_are k p all fits f feed is live =
               let over = b.1 streamed.above in
               let high : horizon_of p < r.ts = omega (arith, under, over) in
               let there : k.version r.key r.ts ≡ Some r.after = fits.versions r.key r.ts ∙ kept_above p r.key r.ts high ∙ stands p (is_aborted p r.ts) (write_of p r.ts r.key) (not_both p all r.ts streamed.done) streamed.wrote in
-              inr (record { there = there; done = fits.decided r.key r.ts r.after there ∙ streamed.done; inside = streamed.inside; above = streamed.above; later = s.1; low = streamed.low }))
+              inr (record { there = there; done = fits.committed r.key r.ts r.after there ∙ streamed.done; inside = streamed.inside; above = streamed.above; later = s.1; low = streamed.low }))
         ],
         λ i. elim i [
           | inl s ↦ (
@@ -76,7 +76,7 @@ left_are k p all fits f feed is live =
               (u.1 r).1 (inl (s.initial, record { at = s.at; some = omega (arith, after, s.at); inside = s.inside; has = has; value = s.value }), s.later))
           | inr s ↦ (
               let there : kept_version p r.key r.ts ≡ Some r.after = sym (fits.versions r.key r.ts) ∙ s.there in
-              let done : is_committed p r.ts ≡ true = sym (fits.decided r.key r.ts r.after s.there) ∙ s.done in
+              let done : is_committed p r.ts ≡ true = sym (fits.committed r.key r.ts r.after s.there) ∙ s.done in
               (u.1 r).1 (
                 inr (record { above = s.above; low = s.low; done = done; inside = s.inside; wrote = (version_wrote p r.key r.ts r.after (kept_is p r.key r.ts r.after there)).1 }),
                 s.later,
@@ -90,14 +90,14 @@ left_are k p all fits f feed is live =
 
 -- and no other rows are
 pub left_is : (k : Kept) (p : List Effect) → AllAllowed p → IsKeptOf k p → (f : ℕ) (feed : Feed) → feed_of p f ≡ Some feed → is_cancelled p f ≡ false → (rows : List Row)
-    → AreLeft k.version k.decided (place_with p f feed) (closed_of p) rows → rows ≡ untold_rows p f feed
+    → AreLeft k.version k.committed (place_with p f feed) (closed_of p) rows → rows ≡ untold_rows p f feed
 left_is k p all fits f feed is live rows left = let all_left = left_are k p all fits f feed is live in
     only_rows rows (untold_rows p f feed) left.rising all_left.rising (λ r. (λ i. (all_left.each r).1 ((left.each r).0 i), λ i. (left.each r).1 ((all_left.each r).0 i)))
 
 -- so a poll's messages come of the store and the feed's place
 pub poll_is : (k : Kept) (p : List Effect) → AllAllowed p → IsKeptOf k p → (f max : ℕ) (feed : Feed) → feed_of p f ≡ Some feed → is_cancelled p f ≡ false → (rows : List Row)
-    → AreLeft k.version k.decided (place_with p f feed) k.closed rows
+    → AreLeft k.version k.committed (place_with p f feed) k.closed rows
     → take max (map messages.Row rows ++ due_if (is_due feed.kind (place_with p f feed).after k.closed) k.closed) ≡ next_messages p f feed max
 poll_is k p all fits f max feed is live rows left = rw fits.closed_at
-    (let left' : AreLeft k.version k.decided (place_with p f feed) (closed_of p) rows = subst (λ n. AreLeft k.version k.decided (place_with p f feed) n rows) fits.closed_at left in
+    (let left' : AreLeft k.version k.committed (place_with p f feed) (closed_of p) rows = subst (λ n. AreLeft k.version k.committed (place_with p f feed) n rows) fits.closed_at left in
     ap (λ l. take max (map messages.Row l ++ due_message p f feed)) (left_is k p all fits f feed is live rows left'))

@@ -97,15 +97,15 @@ blocked_is k p fits all x t high =
     elim s.same [
       | inl same ↦ elim (newest_is (k.version x) t).has [
         | inl zeroth ↦ both_free (seen k x t).ts (visible p x t).ts zeroth.0 (sym same ∙ zeroth.0)
-        | inr some ↦ ap (λ b. not ((seen k x t).ts == 0) && (not ((seen k x t).ts == t) && not b)) (fits.decided x _ _ some.1) ∙ ap (λ n. not (n == 0) && (not (n == t) && not (is_committed p n))) same
+        | inr some ↦ ap (λ b. not ((seen k x t).ts == 0) && (not ((seen k x t).ts == t) && not b)) (fits.committed x _ _ some.1) ∙ ap (λ n. not (n == 0) && (not (n == t) && not (is_committed p n))) same
       ]
       | inr dropped ↦ unblocked (seen k x t).ts (visible p x t).ts dropped.0 dropped.2
     ]
   where
-    both_free : (n v : ℕ) → n ≡ 0 → v ≡ 0 → (not (n == 0) && (not (n == t) && not (k.decided x n))) ≡ (not (v == 0) && (not (v == t) && not (is_committed p v)))
+    both_free : (n v : ℕ) → n ≡ 0 → v ≡ 0 → (not (n == 0) && (not (n == t) && not (k.committed x n))) ≡ (not (v == 0) && (not (v == t) && not (is_committed p v)))
     both_free n v e e' = rw (e, e') refl
 
-    unblocked : (n v : ℕ) → n ≡ 0 → is_committed p v ≡ true → (not (n == 0) && (not (n == t) && not (k.decided x n))) ≡ (not (v == 0) && (not (v == t) && not (is_committed p v)))
+    unblocked : (n v : ℕ) → n ≡ 0 → is_committed p v ≡ true → (not (n == 0) && (not (n == t) && not (k.committed x n))) ≡ (not (v == 0) && (not (v == t) && not (is_committed p v)))
     unblocked n v e c = rw (e, c) (sym (off (not (v == 0)) (not (v == t))))
       where
         off : (a b : Bool) → (a && (b && not true)) ≡ false

@@ -6,6 +6,7 @@ use Rattle.std.specs.Prelude.{is_some, nat_le, nat_lt, option_map}
 use Rattle.spans.specs.Answer.{first_refusal, first_refusal_or, is_owner, transaction_tests}
 use Rattle.spans.specs.Effects.{Effect}
 use Rattle.spans.specs.Kept.{IsKeptOf, Kept, transaction_with}
+use Rattle.spans.specs.declared.state.State.TheVariants as states
 use Rattle.spans.specs.Transactions.{closed_of, is_aborted, is_committed, owner_of}
 use Rattle.spans.specs.Versions.{write_set}
 use Rattle.spans.specs.declared.calls.replies.Refusal.{Refusal}
@@ -16,7 +17,7 @@ use Rattle.spans.proofs.Copies.{IsActive}
 use Rattle.spans.proofs.Legal.{not_false}
 use Rattle.spans.proofs.Steps.{by_test}
 use Rattle.kept.specs.Replies.{unless_refused}
-use Rattle.kept.specs.Table.{keys_of, refusal, transaction_refusal}
+use Rattle.kept.specs.Table.{has_ended, keys_of, refusal, transaction_refusal}
 
 -- tests of which none applies are passed
 tests_past : (tests more : List (Bool × Refusal)) (reply : Reply) → first_refusal tests ≡ None → first_refusal_or (tests ++ more) reply ≡ first_refusal_or more reply
@@ -54,9 +55,14 @@ refusal_is k p fits seat t = rw (fits.closed_at, fits.transactions t) (by_test (
     (λ low. rw low refl)
     (λ high. let above : nat_lt (closed_of p) t ≡ true = grind (arith, nat_tests) in rw (high, above) (by_owner (owner_of p t))))
   where
+    ended_is : (c a : Bool) → has_ended (cond c states.Committed (cond a states.Aborted states.Undecided)) ≡ (c || a)
+    ended_is true a = refl
+    ended_is false true = refl
+    ended_is false false = refl
+
     by_owner : (o : Option ℕ) → transaction_refusal seat (option_map (transaction_with p t) o) ≡ first_refusal ((not (is_some o), NoTxn) ∷ (not (is_owner o seat), NotOwner) ∷ (is_committed p t || is_aborted p t, Ended) ∷ [])
     by_owner None = refl
-    by_owner (Some s) = refl
+    by_owner (Some s) = ap (λ b. cond (not (is_owner (Some s) seat)) (Some NotOwner) (cond b (Some Ended) None)) (ended_is (is_committed p t) (is_aborted p t))
 
 -- the reply to a command of a transaction is right where it is so past the tests
 pub past_tests : (k : Kept) (p : List Effect) → IsKeptOf k p → (seat t : ℕ) (more : List (Bool × Refusal)) (reply reply' : Reply) → (refusal k seat t ≡ None → IsActive p t → reply ≡ first_refusal_or more reply')

@@ -41,7 +41,7 @@ use Rattle.kept.proofs.Polling.{poll_is}
 use Rattle.kept.proofs.Reading.{blocked_is, blocker_is, seen_value, settled_is}
 use Rattle.kept.proofs.Refusals.{past_tests, used_is, write_set_kept}
 use Rattle.kept.proofs.Scans.{scan_at_is, scan_is}
-use Rattle.kept.proofs.Spent.{dropped_count}
+use Rattle.kept.proofs.DeadSeen.{dropped_count}
 use Rattle.spans.specs.declared.calls.messages.Message.TheVariants as messages
 
 -- a reply within the range of timestamps

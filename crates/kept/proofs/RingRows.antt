@@ -237,7 +237,7 @@ rings_after_closes k p all fits d n ring ring' behind behind' goes_on was lived 
 
 -- rings after a poll
 pub rings_after_polls : (k : Kept) (p : List Effect) → AllAllowed p → IsKeptOf k p → (f m : ℕ) (ms : List Message) → Allowed p (Polls f m ms) → (ring ring' : ℕ → List Row) (behind behind' : ℕ → Bool) (place : Place) (rows : List Row)
-    → k.feed f ≡ Some place → AreLeft k.version k.decided place k.closed rows → (behind' f ≡ false → ring' f ≡ drop m rows) → AreOthersSame f ring ring' behind behind'
+    → k.feed f ≡ Some place → AreLeft k.version k.committed place k.closed rows → (behind' f ≡ false → ring' f ≡ drop m rows) → AreOthersSame f ring ring' behind behind'
     → AreRings ring behind p → AreRings ring' behind' (Polls f m ms ∷ p)
 rings_after_polls k p all fits f m ms allowed ring ring' behind behind' place rows at left own others rings g feed is live up = by_test (f == g)
     (λ same. let e : f ≡ g = eqb-true f g same in
@@ -245,7 +245,7 @@ rings_after_polls k p all fits f m ms allowed ring ring' behind behind' place ro
     let is' : feed_of p f ≡ Some feed = ap (feed_of p) e ∙ is in
     let told' : ms ≡ next_messages p f feed m = allowed.3 ∙ ap (λ v. next_messages p f v m) one in
     let here : place ≡ place_with p f feed = (let both : Some place ≡ Some (place_with p f feed) = sym at ∙ place_at k p fits f feed is' allowed.2 in cc) in
-    let left' : AreLeft k.version k.decided (place_with p f feed) (closed_of p) rows = subst (λ n. AreLeft k.version k.decided (place_with p f feed) n rows) fits.closed_at (subst (λ w. AreLeft k.version k.decided w k.closed rows) here left) in
+    let left' : AreLeft k.version k.committed (place_with p f feed) (closed_of p) rows = subst (λ n. AreLeft k.version k.committed (place_with p f feed) n rows) fits.closed_at (subst (λ w. AreLeft k.version k.committed w k.closed rows) here left) in
     subst (λ n. ring' n ≡ untold_rows (Polls f m ms ∷ p) n feed) e
     (own (subst (λ n. behind' n ≡ false) (sym e) up) ∙ ap (drop m) (left_is k p all fits f feed is' allowed.2 rows left')
     ∙ sym (ap (λ ns. untold_rows (Polls f m ns ∷ p) f feed) told' ∙ untold_polls p all f m feed is')))

@@ -24,12 +24,12 @@ use Rattle.kept.proofs.Polling.{left_are}
 use Rattle.kept.proofs.RingRows.{rings_after_closes, rings_after_opens, rings_after_polls, rings_stay, untold_closes, untold_hard_closes}
 
 -- the ring of a feed that isn't behind has what is left for it
-pub ring_serves : (k : Kept) (h : List Event) (ring : ℕ → List Row) (behind : ℕ → Bool) (f : ℕ) (place : Place) → StandsFor k h → AreRings ring behind (effects_of h) → k.feed f ≡ Some place → behind f ≡ false → AreLeft k.version k.decided place k.closed (ring f)
+pub ring_serves : (k : Kept) (h : List Event) (ring : ℕ → List Row) (behind : ℕ → Bool) (f : ℕ) (place : Place) → StandsFor k h → AreRings ring behind (effects_of h) → k.feed f ≡ Some place → behind f ≡ false → AreLeft k.version k.committed place k.closed (ring f)
 ring_serves k h ring behind f place stands rings at up =
     let l = placed_by k (effects_of h) stands.fits f place at in
-    subst (λ w. AreLeft k.version k.decided w k.closed (ring f)) l.3
-    (subst (λ n. AreLeft k.version k.decided (place_with (effects_of h) f l.0) n (ring f)) (sym stands.fits.closed_at)
-    (subst (AreLeft k.version k.decided (place_with (effects_of h) f l.0) (closed_of (effects_of h))) (sym (rings f l.0 l.1 l.2 up)) (left_are k (effects_of h) (legal_allowed h stands.legal) stands.fits f l.0 l.1 l.2)))
+    subst (λ w. AreLeft k.version k.committed w k.closed (ring f)) l.3
+    (subst (λ n. AreLeft k.version k.committed (place_with (effects_of h) f l.0) n (ring f)) (sym stands.fits.closed_at)
+    (subst (AreLeft k.version k.committed (place_with (effects_of h) f l.0) (closed_of (effects_of h))) (sym (rings f l.0 l.1 l.2 up)) (left_are k (effects_of h) (legal_allowed h stands.legal) stands.fits f l.0 l.1 l.2)))
 
 -- a right event's effect is allowed
 allowed_after : (h : List Event) (e : Event) (d : Effect) → IsRightEvent (effects_of h) e → effect_of e ≡ d → Allowed (effects_of h) d
@@ -51,7 +51,7 @@ rings_hard_close k h e to n ring ring' behind behind' stands right is rings offe
 
 -- rings after a poll
 pub rings_poll : (k : Kept) (h : List Event) (e : Event) (f max : ℕ) (ms : List Message) (ring ring' : ℕ → List Row) (behind behind' : ℕ → Bool) (place : Place) (rows : List Row) → StandsFor k h → IsRightEvent (effects_of h) e → effect_of e ≡ Polls f max ms
-    → AreRings ring behind (effects_of h) → k.feed f ≡ Some place → AreLeft k.version k.decided place k.closed rows → (behind' f ≡ false → ring' f ≡ drop max rows) → AreOthersSame f ring ring' behind behind' → AreRings ring' behind' (effects_of (e ∷ h))
+    → AreRings ring behind (effects_of h) → k.feed f ≡ Some place → AreLeft k.version k.committed place k.closed rows → (behind' f ≡ false → ring' f ≡ drop max rows) → AreOthersSame f ring ring' behind behind' → AreRings ring' behind' (effects_of (e ∷ h))
 rings_poll k h e f max ms ring ring' behind behind' place rows stands right is rings at left own others =
     subst (λ d. AreRings ring' behind' (d ∷ effects_of h)) (sym is)
     (rings_after_polls k (effects_of h) (legal_allowed h stands.legal) stands.fits f max ms (allowed_after h e (Polls f max ms) right is) ring ring' behind behind' place rows at left own others rings)

@@ -70,7 +70,7 @@ scan_is k p all fits t high span keys are =
     ∙ ap (λ ks. first_refusal_or (map (λ x. (is_blocked p x t, Blocked (visible p x t).ts)) ks) rows)
     (filtered_same (λ x. is_blocked p x t) keys (filter (in_span span) (written_keys p)) are.rising (filter_rises (in_span span) (written_keys p) (keys_rise p)) (λ x is. let f = filter_in (in_span span) x (written_keys p) in (
       λ i. f.1 (((are.each x).0 i).0, blocked_in p x t is),
-      λ i. seen_key k span keys are x t (f.0 i).0 (inl (positive (seen k x t).ts (not ((seen k x t).ts == t) && not (k.decided x (seen k x t).ts)) (blocked_is k p fits all x t high ∙ is))),
+      λ i. seen_key k span keys are x t (f.0 i).0 (inl (positive (seen k x t).ts (not ((seen k x t).ts == t) && not (k.committed x (seen k x t).ts)) (blocked_is k p fits all x t high ∙ is))),
     )))
     ∙ sym (tests_that_apply (λ x. is_blocked p x t) (λ x. Blocked (visible p x t).ts) (filter (in_span span) (written_keys p)) rows)
   where

@@ -21,8 +21,8 @@ use Rattle.kept.proofs.AfterFeeds.{after_cancels, after_opens, after_polls, afte
 use Rattle.kept.proofs.AfterReads.{after_reads, after_scans, read_noted}
 use Rattle.kept.proofs.AfterWrites.{after_aborts, after_commits, after_writes}
 use Rattle.kept.proofs.Refusals.{write_set_kept}
-use Rattle.kept.proofs.Spent.{after_drops}
-use Rattle.kept.proofs.Staying.{after_nothing, after_snapshot_reads, after_snapshot_scans, alike_kept, other_decided}
+use Rattle.kept.proofs.DeadSeen.{after_drops}
+use Rattle.kept.proofs.Staying.{after_nothing, after_snapshot_reads, after_snapshot_scans, alike_kept, other_committed}
 
 -- where its effect is allowed, what is kept of the effects stands for the longer history
 stands_after : (k k' : Kept) (h : List Event) (e : Event) (d : Effect) → StandsFor k h → IsRightEvent (effects_of h) e → effect_of e ≡ d
@@ -65,22 +65,22 @@ scan_stands k k' h e t span rows stands right is c = stands_after k k' h e (Scan
 pub write_stands : (k k' : Kept) (h : List Event) (e : Event) (t : ℕ) (x : List ℕ) (a : After) → StandsFor k h → IsRightEvent (effects_of h) e → effect_of e ≡ Writes t x a → IsWritten k k' t x a → StandsFor k' (e ∷ h)
 write_stands k k' h e t x a stands right is c = stands_after k k' h e (Writes t x a) stands right is (λ all allowed.
     subst (λ n. IsKeptOf n (Writes t x a ∷ effects_of h)) (sym c.rest)
-    (other_decided (record k { version = k'.version; decided = λ y i. cond ((t == i) && bytes_eq x y) false (k.decided y i); transaction = k'.transaction }) (Writes t x a ∷ effects_of h)
-    (after_writes k (effects_of h) all stands.fits t x a allowed k'.version (λ y i. cond ((t == i) && bytes_eq x y) false (k.decided y i)) k'.transaction c.version (λ y i. refl) c.transaction)
-    k'.decided c.decided))
+    (other_committed (record k { version = k'.version; committed = λ y i. cond ((t == i) && bytes_eq x y) false (k.committed y i); transaction = k'.transaction }) (Writes t x a ∷ effects_of h)
+    (after_writes k (effects_of h) all stands.fits t x a allowed k'.version (λ y i. cond ((t == i) && bytes_eq x y) false (k.committed y i)) k'.transaction c.version (λ y i. refl) c.transaction)
+    k'.committed c.committed))
 
 -- a commit
 pub commit_stands : (k k' : Kept) (h : List Event) (e : Event) (t : ℕ) → StandsFor k h → IsRightEvent (effects_of h) e → effect_of e ≡ Commits t → IsCommittedBy k k' t → StandsFor k' (e ∷ h)
 commit_stands k k' h e t stands right is c = stands_after k k' h e (Commits t) stands right is (λ all allowed.
     let keys : keys_of (k.transaction t) ≡ write_set (effects_of h) t = write_set_kept k (effects_of h) stands.fits t allowed in
     subst (λ n. IsKeptOf n (Commits t ∷ effects_of h)) (sym c.rest)
-    (alike_kept (record k { decided = λ y i. ((t == i) && has y (write_set (effects_of h) t)) || k.decided y i; transaction = k'.transaction }) (record k { version = k'.version; decided = k'.decided; transaction = k'.transaction }) (Commits t ∷ effects_of h)
-    (after_commits k (effects_of h) all stands.fits t allowed (λ y i. ((t == i) && has y (write_set (effects_of h) t)) || k.decided y i) k'.transaction (λ y i. refl) c.transaction)
+    (alike_kept (record k { committed = λ y i. ((t == i) && has y (write_set (effects_of h) t)) || k.committed y i; transaction = k'.transaction }) (record k { version = k'.version; committed = k'.committed; transaction = k'.transaction }) (Commits t ∷ effects_of h)
+    (after_commits k (effects_of h) all stands.fits t allowed (λ y i. ((t == i) && has y (write_set (effects_of h) t)) || k.committed y i) k'.transaction (λ y i. refl) c.transaction)
     (record {
       closed = refl;
       horizon = refl;
       version = c.version;
-      decided = λ y i b there. c.decided y i b there ∙ ap (λ ks. ((t == i) && has y ks) || k.decided y i) keys;
+      committed = λ y i b there. c.committed y i b there ∙ ap (λ ks. ((t == i) && has y ks) || k.committed y i) keys;
       marked = λ y n. refl;
       transaction = λ i. refl;
       protections = refl;
@@ -94,9 +94,9 @@ pub abort_stands : (k k' : Kept) (h : List Event) (e : Event) (t : ℕ) → Stan
 abort_stands k k' h e t stands right is c = stands_after k k' h e (Aborts t) stands right is (λ all allowed.
     let keys : keys_of (k.transaction t) ≡ write_set (effects_of h) t = write_set_kept k (effects_of h) stands.fits t allowed in
     subst (λ n. IsKeptOf n (Aborts t ∷ effects_of h)) (sym c.rest)
-    (other_decided (record k { version = k'.version; transaction = k'.transaction }) (Aborts t ∷ effects_of h)
+    (other_committed (record k { version = k'.version; transaction = k'.transaction }) (Aborts t ∷ effects_of h)
     (after_aborts k (effects_of h) all stands.fits t allowed k'.version k'.transaction (λ y i. c.version y i ∙ ap (λ ks. cond ((t == i) && has y ks) None (k.version y i)) keys) c.transaction)
-    k'.decided c.decided))
+    k'.committed c.committed))
 
 -- a closing
 pub close_stands : (k k' : Kept) (h : List Event) (e : Event) (n : ℕ) → StandsFor k h → IsRightEvent (effects_of h) e → effect_of e ≡ Closes n → IsClosedAt k k' n → StandsFor k' (e ∷ h)
@@ -107,17 +107,17 @@ close_stands k k' h e n stands right is c = stands_after k k' h e (Closes n) sta
 pub hard_close_stands : (k k' : Kept) (h : List Event) (e : Event) (to n : ℕ) → StandsFor k h → IsRightEvent (effects_of h) e → effect_of e ≡ HardCloses to n → IsHardClosedAt k k' to n → StandsFor k' (e ∷ h)
 hard_close_stands k k' h e to n stands right is c = stands_after k k' h e (HardCloses to n) stands right is (λ all allowed.
     subst (λ m. IsKeptOf m (HardCloses to n ∷ effects_of h)) (sym c.rest)
-    (other_decided (record k { closed = n; version = k'.version; marked = k'.marked; transaction = k'.transaction }) (HardCloses to n ∷ effects_of h)
+    (other_committed (record k { closed = n; version = k'.version; marked = k'.marked; transaction = k'.transaction }) (HardCloses to n ∷ effects_of h)
     (after_hard_closes k (effects_of h) all stands.fits to n allowed k'.version k'.marked k'.transaction c.version c.marked c.transaction)
-    k'.decided c.decided))
+    k'.committed c.committed))
 
 -- a collection
 pub collect_stands : (k k' : Kept) (h : List Event) (e : Event) (n : ℕ) → StandsFor k h → IsRightEvent (effects_of h) e → effect_of e ≡ Collects n → IsCollectedTo k k' n → StandsFor k' (e ∷ h)
 collect_stands k k' h e n stands right is c = stands_after k k' h e (Collects n) stands right is (λ all allowed.
     subst (λ m. IsKeptOf m (Collects n ∷ effects_of h)) (sym c.rest)
-    (other_decided (record k { horizon = n; version = k'.version }) (Collects n ∷ effects_of h)
+    (other_committed (record k { horizon = n; version = k'.version }) (Collects n ∷ effects_of h)
     (after_drops k (effects_of h) all stands.fits n allowed k'.version c.version)
-    k'.decided c.decided))
+    k'.committed c.committed))
 
 -- a protection
 pub protect_stands : (k k' : Kept) (h : List Event) (e : Event) (id t : ℕ) → StandsFor k h → IsRightEvent (effects_of h) e → effect_of e ≡ Protects id t → IsProtectedBy k k' id t → StandsFor k' (e ∷ h)

@@ -61,7 +61,7 @@ after_nothing k p fits = record {
   closed_at = fits.closed_at;
   horizon_at = fits.horizon_at;
   versions = fits.versions;
-  decided = fits.decided;
+  committed = fits.committed;
   marks = fits.marks;
   transactions = fits.transactions;
   protected = fits.protected;
@@ -76,7 +76,7 @@ after_snapshot_reads k p t x v fits = record {
   closed_at = fits.closed_at;
   horizon_at = fits.horizon_at;
   versions = fits.versions;
-  decided = fits.decided;
+  committed = fits.committed;
   marks = fits.marks;
   transactions = fits.transactions;
   protected = fits.protected;
@@ -91,7 +91,7 @@ after_snapshot_scans k p t span rows fits = record {
   closed_at = fits.closed_at;
   horizon_at = fits.horizon_at;
   versions = fits.versions;
-  decided = fits.decided;
+  committed = fits.committed;
   marks = fits.marks;
   transactions = fits.transactions;
   protected = fits.protected;
@@ -100,13 +100,13 @@ after_snapshot_scans k p t span rows fits = record {
   opened = fits.opened;
 }
 
--- the decided flag matters only where a version is
-pub other_decided : (k : Kept) (p : List Effect) → IsKeptOf k p → (d' : List ℕ → ℕ → Bool) → ((x : List ℕ) (t : ℕ) (a : After) → k.version x t ≡ Some a → d' x t ≡ k.decided x t) → IsKeptOf (record k { decided = d' }) p
-other_decided k p fits d' same = record {
+-- the committed flag matters only where a version is
+pub other_committed : (k : Kept) (p : List Effect) → IsKeptOf k p → (d' : List ℕ → ℕ → Bool) → ((x : List ℕ) (t : ℕ) (a : After) → k.version x t ≡ Some a → d' x t ≡ k.committed x t) → IsKeptOf (record k { committed = d' }) p
+other_committed k p fits d' same = record {
   closed_at = fits.closed_at;
   horizon_at = fits.horizon_at;
   versions = fits.versions;
-  decided = λ x t a is. same x t a is ∙ fits.decided x t a is;
+  committed = λ x t a is. same x t a is ∙ fits.committed x t a is;
   marks = fits.marks;
   transactions = fits.transactions;
   protected = fits.protected;
@@ -121,7 +121,7 @@ alike_kept k k' p fits c = record {
   closed_at = c.closed ∙ fits.closed_at;
   horizon_at = c.horizon ∙ fits.horizon_at;
   versions = λ x t. c.version x t ∙ fits.versions x t;
-  decided = λ x t a is. let was : k.version x t ≡ Some a = sym (c.version x t) ∙ is in c.decided x t a was ∙ fits.decided x t a was;
+  committed = λ x t a is. let was : k.version x t ≡ Some a = sym (c.version x t) ∙ is in c.committed x t a was ∙ fits.committed x t a was;
   marks = λ x i above fresh. let b = fits.marks x i above fresh in (
     λ late. let m = b.0 late in record { reader = m.reader; mark = c.marked x m.reader ∙ m.mark; above = m.above; none = λ n low high. c.version x n ∙ m.none n low high },
     λ m. b.1 (record { reader = m.reader; mark = sym (c.marked x m.reader) ∙ m.mark; above = m.above; none = λ n low high. sym (c.version x n) ∙ m.none n low high }),

@@ -6,6 +6,7 @@ use Rattle.spans.specs.Collection.{VersionName}
 use Rattle.spans.specs.Effects.{Aborts, Begins, Cancels, Closes, Collects, Commits, Effect, HardCloses, NoEffect, Opens, Polls, Protects, Reads, Releases, Scans, SnapshotReads, SnapshotScans, Writes, effect}
 use Rattle.spans.specs.Kept.{Kept, Place}
 use Rattle.spans.specs.Legal.{is_accepted, may_lack_memory}
+use Rattle.spans.specs.declared.span.Span.{Span}
 use Rattle.spans.specs.declared.calls.commands.Cmd.{Cmd}
 use Rattle.spans.specs.declared.calls.commands.Cmd.TheVariants.{Abort, Begin, Cancel, Close, CloseHard, Collect, Commit, Del, Get, Open, OpenEvery, OpenInitial, Poll, Protect, Put, ReadAt, Release, Scan, ScanAt, Stats}
 use Rattle.spans.specs.declared.calls.replies.Refusal.TheVariants.{NoMemory}
@@ -21,28 +22,62 @@ use Rattle.kept.specs.Places.{AreNext}
 use Rattle.kept.specs.Replies.{abort_reply, begin_reply, cancel_reply, close_hard_reply, close_reply, collect_reply, commit_reply, get_reply, open_reply, poll_reply, protect_reply, read_at_reply, release_reply, scan_at_reply, scan_reply, stats_reply, write_reply}
 use Rattle.kept.specs.Table.{IsOldest, is_open, refusal}
 
+-- ---- replies that rest on what the layers find in what is kept, which is asked for only where the reply uses it
+
+-- to a scan, by the keys of the span
+abbrev pub IsScanReply : Kept → ℕ → ℕ → Span → Reply → Type 0
+IsScanReply k seat t span r = (keys : List (List ℕ)) × (refusal k seat t ≡ None → AreKeysOf k span keys) × (r ≡ scan_reply k seat t keys)
+
+-- to a write of x, by the test of its marks
+abbrev pub IsWriteReply : Kept → ℕ → ℕ → List ℕ → Reply → Type 0
+IsWriteReply k seat t x r = (late : Bool) × (refusal k seat t ≡ None → IsLate k x t late) × (r ≡ write_reply k seat t late)
+
+-- to a closing, by the oldest undecided transaction
+abbrev pub IsCloseReply : Kept → ℕ → Reply → Type 0
+IsCloseReply k to r = (oldest : Option ℕ) × (to ≤ MAX → IsOldest k.transaction oldest) × (r ≡ close_reply k to oldest)
+
+-- to a hard closing, by the undecided transactions at or below to
+abbrev pub IsHardCloseReply : Kept → ℕ → Reply → Type 0
+IsHardCloseReply k to r = (cut : List ℕ) × (to ≤ MAX → AreThose (λ t. nat_le t to && is_open (k.transaction t)) cut) × (r ≡ close_hard_reply k to cut)
+
+-- to a scan at a closed timestamp, by the keys of the span
+abbrev pub IsScanAtReply : Kept → ℕ → Span → Reply → Type 0
+IsScanAtReply k t span r = (keys : List (List ℕ)) × (t ≤ k.closed → k.horizon ≤ t → AreKeysOf k span keys) × (r ≡ scan_at_reply k t keys)
+
+-- to a collection, by what holds it back and by the versions that are dead by the horizon that it reaches
+abbrev pub IsCollectReply : Kept → ℕ → Reply → Type 0
+IsCollectReply k to r = (protection : Option ℕ) × (floor : Option ℕ) × (dropped : List VersionName) × (to ≤ MAX → IsCollected k (reached k to protection floor) protection floor dropped) × (r ≡ collect_reply to (reached k to protection floor) dropped)
+
+-- to a poll, by the next rows of the seat's own feed
+abbrev pub IsPollReply : Kept → ℕ → ℕ → ℕ → Reply → Type 0
+IsPollReply k seat f max r = (rows : List Row) × ((place : Place) → k.feed f ≡ Some place → place.seat ≡ seat → AreNext k place max rows) × (r ≡ poll_reply k seat f max rows)
+
+-- with the numbers of the database, by the versions, the undecided transactions and the live feeds
+abbrev pub IsStatsReply : Kept → Reply → Type 0
+IsStatsReply k r = (versions : List VersionName) × (undecided : List ℕ) × (feeds : List ℕ) × AreThose (λ v. is_some (k.version v.key v.ts)) versions × AreThose (λ t. is_open (k.transaction t)) undecided × AreThose (λ f. is_some (k.feed f)) feeds × (r ≡ stats_reply k versions undecided feeds)
+
 -- the reply to a seat's command, by what is kept and what the layers find in it
 abbrev pub IsReplyOf : Kept → ℕ → Cmd → Reply → Type 0
 IsReplyOf k seat (Begin t) r = r ≡ begin_reply k t
 IsReplyOf k seat (Get t x) r = r ≡ get_reply k seat t x
-IsReplyOf k seat (Scan t span) r = (keys : List (List ℕ)) × (refusal k seat t ≡ None → AreKeysOf k span keys) × (r ≡ scan_reply k seat t keys)
-IsReplyOf k seat (Put t x v) r = (late : Bool) × (refusal k seat t ≡ None → IsLate k x t late) × (r ≡ write_reply k seat t late)
-IsReplyOf k seat (Del t x) r = (late : Bool) × (refusal k seat t ≡ None → IsLate k x t late) × (r ≡ write_reply k seat t late)
+IsReplyOf k seat (Scan t span) r = IsScanReply k seat t span r
+IsReplyOf k seat (Put t x v) r = IsWriteReply k seat t x r
+IsReplyOf k seat (Del t x) r = IsWriteReply k seat t x r
 IsReplyOf k seat (Commit t) r = r ≡ commit_reply k seat t
 IsReplyOf k seat (Abort t) r = r ≡ abort_reply k seat t
-IsReplyOf k seat (Close to) r = (oldest : Option ℕ) × (to ≤ MAX → IsOldest k.transaction oldest) × (r ≡ close_reply k to oldest)
-IsReplyOf k seat (CloseHard to) r = (cut : List ℕ) × (to ≤ MAX → AreThose (λ t. nat_le t to && is_open (k.transaction t)) cut) × (r ≡ close_hard_reply k to cut)
+IsReplyOf k seat (Close to) r = IsCloseReply k to r
+IsReplyOf k seat (CloseHard to) r = IsHardCloseReply k to r
 IsReplyOf k seat (ReadAt t x) r = r ≡ read_at_reply k t x
-IsReplyOf k seat (ScanAt t span) r = (keys : List (List ℕ)) × (t ≤ k.closed → k.horizon ≤ t → AreKeysOf k span keys) × (r ≡ scan_at_reply k t keys)
+IsReplyOf k seat (ScanAt t span) r = IsScanAtReply k t span r
 IsReplyOf k seat (Protect t) r = r ≡ protect_reply k t
 IsReplyOf k seat (Release id) r = r ≡ release_reply k id
-IsReplyOf k seat (Collect to) r = (protection : Option ℕ) × (floor : Option ℕ) × (dropped : List VersionName) × (to ≤ MAX → IsCollected k (reached k to protection floor) protection floor dropped) × (r ≡ collect_reply to (reached k to protection floor) dropped)
+IsReplyOf k seat (Collect to) r = IsCollectReply k to r
 IsReplyOf k seat (Open span cursor) r = r ≡ open_reply Plain k cursor
 IsReplyOf k seat (OpenInitial span cursor) r = r ≡ open_reply Initial k cursor
 IsReplyOf k seat (OpenEvery span cursor gap) r = r ≡ open_reply (Every gap) k cursor
-IsReplyOf k seat (Poll f max) r = (rows : List Row) × ((place : Place) → k.feed f ≡ Some place → place.seat ≡ seat → AreNext k place max rows) × (r ≡ poll_reply k seat f max rows)
+IsReplyOf k seat (Poll f max) r = IsPollReply k seat f max r
 IsReplyOf k seat (Cancel f) r = r ≡ cancel_reply k f
-IsReplyOf k seat Stats r = (versions : List VersionName) × (undecided : List ℕ) × (feeds : List ℕ) × AreThose (λ v. is_some (k.version v.key v.ts)) versions × AreThose (λ t. is_open (k.transaction t)) undecided × AreThose (λ f. is_some (k.feed f)) feeds × (r ≡ stats_reply k versions undecided feeds)
+IsReplyOf k seat Stats r = IsStatsReply k r
 
 -- what an effect changes of what is kept
 abbrev pub IsChangedBy : Kept → Kept → Effect → Type 0

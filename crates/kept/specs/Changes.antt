@@ -10,17 +10,18 @@ use Rattle.spans.specs.Keys.{in_span, insert_key}
 use Rattle.spans.specs.declared.calls.messages.Message.{Message}
 use Rattle.spans.specs.declared.span.Span.{Span}
 use Rattle.spans.proofs.WriteSets.{has}
-use Rattle.kept.specs.Finding.{is_spent}
+use Rattle.kept.specs.Finding.{is_dead_in}
 use Rattle.kept.specs.Marks.{IsForgotten, IsNoted}
 use Rattle.kept.specs.Places.{moved}
 use Rattle.kept.specs.Table.{is_open, keys_of, new_transaction}
+use Rattle.spans.specs.declared.state.State.TheVariants as states
 
 -- all is as it was
 pub record IsAlike (k k' : Kept) : Type 0 where
   pub closed : k'.closed ≡ k.closed
   pub horizon : k'.horizon ≡ k.horizon
   pub version : (y : List ℕ) (i : ℕ) → k'.version y i ≡ k.version y i
-  pub decided : (y : List ℕ) (i : ℕ) (b : After) → k.version y i ≡ Some b → k'.decided y i ≡ k.decided y i
+  pub committed : (y : List ℕ) (i : ℕ) (b : After) → k.version y i ≡ Some b → k'.committed y i ≡ k.committed y i
   pub marked : (y : List ℕ) (n : ℕ) → k'.marked y n ≡ k.marked y n
   pub transaction : (i : ℕ) → k'.transaction i ≡ k.transaction i
   pub protections : k'.protections ≡ k.protections
@@ -48,23 +49,23 @@ pub record IsScannedBy (k k' : Kept) (t : ℕ) (span : Span) : Type 0 where
 -- t has an undecided version of x, and x is in its write set
 pub record IsWritten (k k' : Kept) (t : ℕ) (x : List ℕ) (a : After) : Type 0 where
   pub version : (y : List ℕ) (i : ℕ) → k'.version y i ≡ (if (t == i) && bytes_eq x y then Some a else k.version y i)
-  pub decided : (y : List ℕ) (i : ℕ) (b : After) → k'.version y i ≡ Some b → k'.decided y i ≡ (if (t == i) && bytes_eq x y then false else k.decided y i)
+  pub committed : (y : List ℕ) (i : ℕ) (b : After) → k'.version y i ≡ Some b → k'.committed y i ≡ (if (t == i) && bytes_eq x y then false else k.committed y i)
   pub transaction : (i : ℕ) → k'.transaction i ≡ (if t == i then option_map (λ (n : Transaction). record n { keys = insert_key x n.keys }) (k.transaction i) else k.transaction i)
-  pub rest : k' ≡ record k { version = k'.version; decided = k'.decided; transaction = k'.transaction }
+  pub rest : k' ≡ record k { version = k'.version; committed = k'.committed; transaction = k'.transaction }
 
 -- the versions of t's write set are committed, and so is t
 pub record IsCommittedBy (k k' : Kept) (t : ℕ) : Type 0 where
   pub version : (y : List ℕ) (i : ℕ) → k'.version y i ≡ k.version y i
-  pub decided : (y : List ℕ) (i : ℕ) (b : After) → k.version y i ≡ Some b → k'.decided y i ≡ (((t == i) && has y (keys_of (k.transaction t))) || k.decided y i)
-  pub transaction : (i : ℕ) → k'.transaction i ≡ (if t == i then option_map (λ (n : Transaction). record n { committed = true }) (k.transaction i) else k.transaction i)
-  pub rest : k' ≡ record k { version = k'.version; decided = k'.decided; transaction = k'.transaction }
+  pub committed : (y : List ℕ) (i : ℕ) (b : After) → k.version y i ≡ Some b → k'.committed y i ≡ (((t == i) && has y (keys_of (k.transaction t))) || k.committed y i)
+  pub transaction : (i : ℕ) → k'.transaction i ≡ (if t == i then option_map (λ (n : Transaction). record n { state = states.Committed }) (k.transaction i) else k.transaction i)
+  pub rest : k' ≡ record k { version = k'.version; committed = k'.committed; transaction = k'.transaction }
 
 -- the versions of t's write set are gone, and t is aborted
 pub record IsAbortedBy (k k' : Kept) (t : ℕ) : Type 0 where
   pub version : (y : List ℕ) (i : ℕ) → k'.version y i ≡ (if (t == i) && has y (keys_of (k.transaction t)) then None else k.version y i)
-  pub decided : (y : List ℕ) (i : ℕ) (b : After) → k'.version y i ≡ Some b → k'.decided y i ≡ k.decided y i
-  pub transaction : (i : ℕ) → k'.transaction i ≡ (if t == i then option_map (λ (n : Transaction). record n { aborted = true }) (k.transaction i) else k.transaction i)
-  pub rest : k' ≡ record k { version = k'.version; decided = k'.decided; transaction = k'.transaction }
+  pub committed : (y : List ℕ) (i : ℕ) (b : After) → k'.version y i ≡ Some b → k'.committed y i ≡ k.committed y i
+  pub transaction : (i : ℕ) → k'.transaction i ≡ (if t == i then option_map (λ (n : Transaction). record n { state = states.Aborted }) (k.transaction i) else k.transaction i)
+  pub rest : k' ≡ record k { version = k'.version; committed = k'.committed; transaction = k'.transaction }
 
 -- transactions at or below n are forgotten, and marks of readers there may be
 pub record IsClosedAt (k k' : Kept) (n : ℕ) : Type 0 where
@@ -75,16 +76,16 @@ pub record IsClosedAt (k k' : Kept) (n : ℕ) : Type 0 where
 -- the same, and the versions of undecided transactions at or below to are gone
 pub record IsHardClosedAt (k k' : Kept) (to n : ℕ) : Type 0 where
   pub version : (y : List ℕ) (i : ℕ) → k'.version y i ≡ (if nat_le i to && is_open (k.transaction i) then None else k.version y i)
-  pub decided : (y : List ℕ) (i : ℕ) (b : After) → k'.version y i ≡ Some b → k'.decided y i ≡ k.decided y i
+  pub committed : (y : List ℕ) (i : ℕ) (b : After) → k'.version y i ≡ Some b → k'.committed y i ≡ k.committed y i
   pub marked : (y : List ℕ) → IsForgotten (k.marked y) (k'.marked y) n
   pub transaction : (i : ℕ) → k'.transaction i ≡ (if nat_lt n i then k.transaction i else None)
-  pub rest : k' ≡ record k { closed = n; version = k'.version; decided = k'.decided; marked = k'.marked; transaction = k'.transaction }
+  pub rest : k' ≡ record k { closed = n; version = k'.version; committed = k'.committed; marked = k'.marked; transaction = k'.transaction }
 
 -- the versions that are dead by the horizon n are gone
 pub record IsCollectedTo (k k' : Kept) (n : ℕ) : Type 0 where
-  pub version : (y : List ℕ) (i : ℕ) → k'.version y i ≡ (if is_spent k n y i then None else k.version y i)
-  pub decided : (y : List ℕ) (i : ℕ) (b : After) → k'.version y i ≡ Some b → k'.decided y i ≡ k.decided y i
-  pub rest : k' ≡ record k { horizon = n; version = k'.version; decided = k'.decided }
+  pub version : (y : List ℕ) (i : ℕ) → k'.version y i ≡ (if is_dead_in k n y i then None else k.version y i)
+  pub committed : (y : List ℕ) (i : ℕ) (b : After) → k'.version y i ≡ Some b → k'.committed y i ≡ k.committed y i
+  pub rest : k' ≡ record k { horizon = n; version = k'.version; committed = k'.committed }
 
 -- one protection more
 abbrev pub IsProtectedBy : Kept → Kept → ℕ → ℕ → Type 0

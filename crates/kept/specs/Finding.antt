@@ -14,7 +14,7 @@ seen k x t = newest (k.version x) t
 
 -- the version that is found is another transaction's, which is undecided
 abbrev pub is_seen_blocked : Kept → List ℕ → ℕ → Bool
-is_seen_blocked k x t = let n = (seen k x t).ts in not (n == 0) && (not (n == t) && not (k.decided x n))
+is_seen_blocked k x t = let n = (seen k x t).ts in not (n == 0) && (not (n == t) && not (k.committed x n))
 
 -- the least timestamp above t at which there is a version
 abbrev pub IsNextAbove : (ℕ → Option After) → ℕ → Option ℕ → Type 0
@@ -28,12 +28,12 @@ pub record AreKeysOf (k : Kept) (span : Span) (keys : List (List ℕ)) : Type 0 
 
 -- the kept version of x at t, where it is committed
 abbrev pub kept_committed : Kept → List ℕ → ℕ → Option After
-kept_committed k x t = if k.decided x t then k.version x t else None
+kept_committed k x t = if k.committed x t then k.version x t else None
 
 -- of what is kept alone: committed at or below n, and a delete or older than another such version of its key
-abbrev pub is_spent : Kept → ℕ → List ℕ → ℕ → Bool
-is_spent k n x t = k.decided x t && (nat_le t n && (is_delete (k.version x t) || nat_lt t (newest (kept_committed k x) n).ts))
+abbrev pub is_dead_in : Kept → ℕ → List ℕ → ℕ → Bool
+is_dead_in k n x t = k.committed x t && (nat_le t n && (is_delete (k.version x t) || nat_lt t (newest (kept_committed k x) n).ts))
 
 -- a kept version that a collection through n drops
 abbrev pub is_dropped : Kept → ℕ → VersionName → Bool
-is_dropped k n v = is_some (k.version v.key v.ts) && is_spent k n v.key v.ts
+is_dropped k n v = is_some (k.version v.key v.ts) && is_dead_in k n v.key v.ts

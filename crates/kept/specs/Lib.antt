@@ -3,9 +3,10 @@ pub mod Finding
 pub mod Marks
 pub mod Table
 pub mod Places
+pub mod StandsFor
 pub mod Rings
 pub mod HeldBack
-pub mod StandsFor
+pub mod Leading
 pub mod Collecting
 pub mod Changes
 pub mod Replies

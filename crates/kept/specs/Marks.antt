@@ -1,5 +1,6 @@
 -- What marking and forgetting readers of a key has to do, and what is asked of the marks.
 use Rattle.std.specs.Prelude.{Bool, List, None, Option, Some, false, true, ℕ, ◌<◌, ◌==◌, ◌↔◌, ◌≡◌, ◌≤◌, ◌⊎◌}
+use Rattle.timestamps.specs.declared.ts.TheConstants.{MAX}
 use Rattle.spans.specs.Kept.{Kept}
 use Rattle.kept.specs.Finding.{IsNextAbove, seen}
 
@@ -43,6 +44,27 @@ pub record IsNoted (k : Kept) (x : List ℕ) (t : ℕ) (m' : ℕ → Bool) : Typ
   pub is_next : IsNextAbove (k.version x) t next
   pub own : (seen k x t).ts ≡ t → (n : ℕ) → m' n ≡ k.marked x n
   pub other : ((seen k x t).ts == t) ≡ false → IsMarkedBy (k.marked x) m' t (seen k x t).ts (until next)
+
+-- ---- ways to note a read
+
+-- the read of x by t finds t's own version, and next is the first above it
+abbrev pub FindsOwn : Kept → List ℕ → ℕ → Option ℕ → Type 0
+FindsOwn k x t next = IsNextAbove (k.version x) t next × ((seen k x t).ts ≡ t)
+
+-- it finds another's version or none, and next is the first above t
+abbrev pub FindsOther : Kept → List ℕ → ℕ → Option ℕ → Type 0
+FindsOther k x t next = IsNextAbove (k.version x) t next × ((seen k x t).ts < t)
+
+abbrev pub AreSameMarks : (m m' : ℕ → Bool) → Type 0
+AreSameMarks m m' = (n : ℕ) → m' n ≡ m n
+
+-- one reader more
+abbrev pub IsAddedMark : ℕ → (m m' : ℕ → Bool) → Type 0
+IsAddedMark t m m' = (n : ℕ) → (m' n ≡ true) ↔ ((n ≡ t) ⊎ (m n ≡ true))
+
+-- a timestamp's reader is joined with all that lie between what it found and the next version
+abbrev pub IsMergedMark : Kept → List ℕ → ℕ → Option ℕ → (ℕ → Bool) → Type 0
+IsMergedMark k x t next m' = (t ≤ MAX) × IsPiece (k.marked x) m' t (seen k x t).ts (until next)
 
 -- the marks through n are forgotten, some or all; those above it stand
 pub record IsForgotten (m m' : ℕ → Bool) (n : ℕ) : Type 0 where

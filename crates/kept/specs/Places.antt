@@ -1,5 +1,5 @@
 -- What the place of a live feed answers.
-use Rattle.std.specs.Prelude.{Bool, List, None, Option, Some, is_some, max, min, nat_lt, take, true, ℕ, ◌&&◌, ◌-◌, ◌↔◌, ◌≡◌, ◌<◌, ◌≤◌, ◌⊎◌}
+use Rattle.std.specs.Prelude.{Bool, List, None, Option, Some, is_some, length, max, min, nat_lt, take, true, ℕ, ◌&&◌, ◌++◌, ◌-◌, ◌↔◌, ◌≡◌, ◌<◌, ◌≤◌, ◌⊎◌}
 use Rattle.timestamps.specs.declared.row.Row.{Row}
 use Rattle.spans.specs.Collection.{LiveFeed, VersionName}
 use Rattle.spans.specs.Consumer.{is_after_name}
@@ -53,22 +53,22 @@ pub record IsFirst (version : List ℕ → ℕ → Option After) (place : Place)
   pub later : is_beyond place r ≡ true
 
 -- a committed version of the feed's span that is kept, above the cursor, beyond the place and not above a timestamp
-pub record IsStored (version : List ℕ → ℕ → Option After) (decided : List ℕ → ℕ → Bool) (place : Place) (through : ℕ) (r : Row) : Type 0 where
+pub record IsStored (version : List ℕ → ℕ → Option After) (committed : List ℕ → ℕ → Bool) (place : Place) (through : ℕ) (r : Row) : Type 0 where
   pub there : version r.key r.ts ≡ Some r.after
-  pub done : decided r.key r.ts ≡ true
+  pub done : committed r.key r.ts ≡ true
   pub inside : in_span place.span r.key ≡ true
   pub above : place.cursor < r.ts
   pub later : is_beyond place r ≡ true
   pub low : r.ts ≤ through
 
 -- a row that is left for a feed at the place
-abbrev pub IsLeft : (version : List ℕ → ℕ → Option After) → (decided : List ℕ → ℕ → Bool) → Place → ℕ → Row → Type 0
-IsLeft version decided place through r = IsFirst version place r ⊎ IsStored version decided place through r
+abbrev pub IsLeft : (version : List ℕ → ℕ → Option After) → (committed : List ℕ → ℕ → Bool) → Place → ℕ → Row → Type 0
+IsLeft version committed place through r = IsFirst version place r ⊎ IsStored version committed place through r
 
 -- these are the rows that are left for a feed at the place, in their order
-pub record AreLeft (version : List ℕ → ℕ → Option After) (decided : List ℕ → ℕ → Bool) (place : Place) (through : ℕ) (rows : List Row) : Type 0 where
+pub record AreLeft (version : List ℕ → ℕ → Option After) (committed : List ℕ → ℕ → Bool) (place : Place) (through : ℕ) (rows : List Row) : Type 0 where
   pub rising : RisingRows rows
-  pub each : (r : Row) → IsRowIn r rows ↔ IsLeft version decided place through r
+  pub each : (r : Row) → IsRowIn r rows ↔ IsLeft version committed place through r
 
 -- the first of them: what an initial feed has left of the values at its cursor, keys rising
 pub record AreFirsts (version : List ℕ → ℕ → Option After) (place : Place) (rows : List Row) : Type 0 where
@@ -76,12 +76,24 @@ pub record AreFirsts (version : List ℕ → ℕ → Option After) (place : Plac
   pub each : (r : Row) → IsRowIn r rows ↔ IsFirst version place r
 
 -- and the others: the stored rows
-pub record AreStored (version : List ℕ → ℕ → Option After) (decided : List ℕ → ℕ → Bool) (place : Place) (through : ℕ) (rows : List Row) : Type 0 where
+pub record AreStored (version : List ℕ → ℕ → Option After) (committed : List ℕ → ℕ → Bool) (place : Place) (through : ℕ) (rows : List Row) : Type 0 where
   pub rising : RisingRows rows
-  pub each : (r : Row) → IsRowIn r rows ↔ IsStored version decided place through r
+  pub each : (r : Row) → IsRowIn r rows ↔ IsStored version committed place through r
+
+-- the two parts of what is left for a feed at the place
+abbrev pub AreParts : Kept → Place → List Row → List Row → Type 0
+AreParts k place firsts stored = AreFirsts k.version place firsts × AreStored k.version k.committed place k.closed stored
+
+-- what is left for a feed at the place, through closed
+abbrev pub AreLeftAt : Kept → Place → List Row → Type 0
+AreLeftAt k place rows = AreLeft k.version k.committed place k.closed rows
+
+-- at most max of the two parts together: of the second only as many as the first leaves room for
+abbrev pub first_of : ℕ → List Row → List Row → List Row
+first_of max firsts stored = take max firsts ++ take (max - length firsts) stored
 
 -- rows begin as those that are left for a feed at the place do: as far as max, or up to their end
 pub record AreNext (k : Kept) (place : Place) (max : ℕ) (rows : List Row) : Type 0 where
   pub all : List Row
-  pub left : AreLeft k.version k.decided place k.closed all
+  pub left : AreLeft k.version k.committed place k.closed all
   pub first : take max rows ≡ take max all

@@ -1,12 +1,19 @@
 -- Feeds that are served from rings, and the rows that are held back until they are closed. A ring has the rows that its
 -- feed was not told, unless the feed is behind: then they are looked up in the versions that are kept.
-use Rattle.std.specs.Prelude.{Bool, List, None, Some, false, filter, max, nat_lt, true, ℕ, ◌&&◌, ◌++◌, ◌==◌, ◌≡◌}
+use Rattle.std.specs.Prelude.{Bool, List, None, Some, [], drop, false, filter, max, nat_lt, true, ℕ, ◌&&◌, ◌++◌, ◌==◌, ◌∷◌, ◌≡◌, ◌≤◌}
 use Rattle.timestamps.specs.declared.row.Row.{Row}
-use Rattle.spans.specs.Effects.{Closes, Effect, HardCloses, Opens, Polls}
+use Rattle.spans.specs.Effects.{Closes, Effect, HardCloses, Opens, Polls, effect_of, effects_of}
 use Rattle.spans.specs.Feeds.{Feed, feed_of, is_cancelled, untold_rows}
 use Rattle.spans.specs.Kept.{Kept, Place}
 use Rattle.spans.specs.Keys.{in_span}
+use Rattle.spans.specs.Legal.{IsLegal, IsRightEvent}
+use Rattle.spans.specs.Streams.{stream_of}
+use Rattle.spans.specs.declared.calls.events.Event.{Event}
+use Rattle.spans.specs.declared.kind.Kind.{Kind}
+use Rattle.spans.specs.declared.kind.Kind.TheVariants.{Initial}
 use Rattle.spans.specs.declared.span.Span.{Span}
+use Rattle.kept.specs.Places.{AreLeftAt}
+use Rattle.kept.specs.StandsFor.{StandsFor}
 
 -- the span of all keys
 abbrev pub whole : Span
@@ -29,6 +36,46 @@ AreOffered k ring ring' behind behind' rows = (f : ℕ) (place : Place) → k.fe
 abbrev pub AreOthersSame : ℕ → (ring ring' : ℕ → List Row) → (behind behind' : ℕ → Bool) → Type 0
 AreOthersSame f ring ring' behind behind' = (g : ℕ) → (f == g) ≡ false → behind' g ≡ false → (behind g ≡ false) × (ring' g ≡ ring g)
 
+-- ---- as the theorems say it
+
+-- the rows in each feed's ring, and which feeds are behind
+pub record Rings : Type 0 where
+  pub rows : ℕ → List Row
+  pub behind : ℕ → Bool
+
+-- after h, each live feed that isn't behind has in its ring what it was not told
+abbrev pub AreRingsAt : List Event → Rings → Type 0
+AreRingsAt h r = AreRings r.rows r.behind (effects_of h)
+
+-- the rings r of h, for which k stands, become r' of h with an event that is right after it and has this effect
+abbrev pub RingsFollow : Kept → List Event → Effect → Rings → Rings → Type 0
+RingsFollow k h d r r' = (e : Event) → StandsFor k h → IsRightEvent (effects_of h) e → effect_of e ≡ d → AreRingsAt h r → AreRingsAt (e ∷ h) r'
+
+-- whatever the history
+abbrev pub RingsLead : Kept → Effect → Rings → Rings → Type 0
+RingsLead k d r r' = (h : List Event) → RingsFollow k h d r r'
+
+-- each live feed that isn't behind has in its ring the rows that are left for it
+abbrev pub HoldWhatIsLeft : Kept → Rings → Type 0
+HoldWhatIsLeft k r = (f : ℕ) (place : Place) → k.feed f ≡ Some place → r.behind f ≡ false → AreLeftAt k place (r.rows f)
+
+-- each live feed is offered the rows of h that a closing at n releases
+abbrev pub AreOfferedAt : Kept → List Event → ℕ → Rings → Rings → Type 0
+AreOfferedAt k h n r r' = AreOffered k r.rows r'.rows r.behind r'.behind (stream_of (effects_of h) whole k.closed n)
+
+-- f lives, and has in its ring what is left for it but the first max, unless it is behind; the other rings stay
+abbrev pub IsPolledRing : Kept → ℕ → ℕ → Rings → Rings → Type 0
+IsPolledRing k f max r r' = (place : Place) × (rows : List Row) × (k.feed f ≡ Some place) × AreLeftAt k place rows
+    × (r'.behind f ≡ false → r'.rows f ≡ drop max rows) × AreOthersSame f r.rows r'.rows r.behind r'.behind
+
+-- f is behind, or opens at or above closed with an empty ring and is no initial feed; the other rings stay
+abbrev pub IsOpenedRing : Kept → ℕ → Kind → ℕ → Rings → Rings → Type 0
+IsOpenedRing k f kind cursor r r' = (r'.behind f ≡ false → (kind ≡ Initial → ⊥) × (k.closed ≤ cursor) × (r'.rows f ≡ [])) × AreOthersSame f r.rows r'.rows r.behind r'.behind
+
+-- of live feeds the rings are the same, or the feed falls behind
+abbrev pub AreLiveSame : Kept → Rings → Rings → Type 0
+AreLiveSame k r r' = (f : ℕ) (place : Place) → k.feed f ≡ Some place → r'.behind f ≡ false → (r.behind f ≡ false) × (r'.rows f ≡ r.rows f)
+
 -- the effect moves neither closed nor a feed's place
 abbrev pub is_quiet : Effect → Bool
 is_quiet (Closes at) = false
@@ -36,3 +83,7 @@ is_quiet (HardCloses to at) = false
 is_quiet (Opens f seat kind span cursor) = false
 is_quiet (Polls f max ms) = false
 is_quiet d = true
+
+-- e is right after h, which is legal, and moves neither closed nor a feed's place
+abbrev pub IsQuietAfter : List Event → Event → Type 0
+IsQuietAfter h e = IsLegal h × IsRightEvent (effects_of h) e × (is_quiet (effect_of e) ≡ true)

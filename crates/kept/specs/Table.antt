@@ -1,13 +1,21 @@
 -- What the table of transactions answers.
-use Rattle.std.specs.Prelude.{Bool, List, None, Option, Some, [], false, if◌then◌else◌, min, nat_le, not, true, ℕ, ◌&&◌, ◌-◌, ◌==◌, ◌||◌, ◌≡◌, ◌≤◌}
+use Rattle.std.specs.Prelude.{Bool, List, None, Option, Some, [], false, if◌then◌else◌, min, nat_le, not, true, ℕ, ◌-◌, ◌==◌, ◌≡◌, ◌≤◌}
 use Rattle.spans.specs.Kept.{Kept, Transaction}
+use Rattle.spans.specs.declared.state.State.{State}
+use Rattle.spans.specs.declared.state.State.TheVariants as states
 use Rattle.spans.specs.declared.calls.replies.Refusal.{Refusal}
 use Rattle.spans.specs.declared.calls.replies.Refusal.TheVariants.{Ended, NoTxn, NotOwner}
+
+-- it has committed or was aborted
+abbrev pub has_ended : State → Bool
+has_ended states.Undecided = false
+has_ended states.Committed = true
+has_ended states.Aborted = true
 
 -- why a command of the transaction is refused, by what the table has
 abbrev pub transaction_refusal : ℕ → Option Transaction → Option Refusal
 transaction_refusal seat None = Some NoTxn
-transaction_refusal seat (Some n) = if not (n.seat == seat) then Some NotOwner else (if n.committed || n.aborted then Some Ended else None)
+transaction_refusal seat (Some n) = if not (n.seat == seat) then Some NotOwner else (if has_ended n.state then Some Ended else None)
 
 -- the first test of a transaction's command that applies
 abbrev pub refusal : Kept → ℕ → ℕ → Option Refusal
@@ -15,7 +23,7 @@ refusal k seat t = if nat_le t k.closed then Some Ended else transaction_refusal
 
 -- a transaction that has just begun
 abbrev pub new_transaction : ℕ → Transaction
-new_transaction seat = record { seat = seat; committed = false; aborted = false; keys = [] }
+new_transaction seat = record { seat = seat; state = states.Undecided; keys = [] }
 
 -- the keys that it wrote, rising
 abbrev pub keys_of : Option Transaction → List (List ℕ)
@@ -25,7 +33,7 @@ keys_of (Some n) = n.keys
 -- the transaction is undecided
 abbrev pub is_open : Option Transaction → Bool
 is_open None = false
-is_open (Some n) = not n.committed && not n.aborted
+is_open (Some n) = not (has_ended n.state)
 
 -- the least timestamp of an undecided transaction
 abbrev pub IsOldest : (ℕ → Option Transaction) → Option ℕ → Type 0

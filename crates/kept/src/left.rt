@@ -1,5 +1,5 @@
 //! The rows that are left for a feed, in the two parts in which a store finds them.
-ghost use Rattle.std.specs.Prelude.{List, [], length, ℕ, Some, take, ◌++◌, ◌-◌, ◌≡◌, ◌<◌, ◌≤◌};
+ghost use Rattle.std.specs.Prelude.{List, [], ℕ, Some, ◌++◌, ◌≡◌, ◌<◌, ◌≤◌};
 ghost use Rattle.timestamps.specs.declared.row.Row.{Row};
 ghost use Rattle.spans.specs.declared.calls.events.Event.{Event};
 ghost use Rattle.spans.specs.declared.kind.Kind.TheVariants.{Initial};
@@ -7,7 +7,7 @@ ghost use Rattle.spans.specs.Collection.{VersionName};
 ghost use Rattle.spans.specs.Feeds.{start_at};
 ghost use Rattle.spans.specs.Kept.{Kept, Place};
 ghost use Rattle.kept.specs.StandsFor.{StandsFor};
-ghost use Rattle.kept.specs.Places.{AreFirsts, AreLeft, AreNext, AreStored};
+ghost use Rattle.kept.specs.Places.{AreFirsts, AreLeftAt, AreNext, AreParts, first_of};
 
 /// What is left for a feed is first what an initial feed has left of the values at its cursor, and
 /// then the stored rows beyond its place. The first part is empty for a feed of another kind, for one
@@ -17,8 +17,8 @@ ghost use Rattle.kept.specs.Places.{AreFirsts, AreLeft, AreNext, AreStored};
 ///
 /// It does nothing. Its contract is the theorem.
 pub fn rows_left()
-    ensures joined { (k : Kept) (place : Place) (firsts stored : List Row) → AreFirsts k.version place firsts → AreStored k.version k.decided place k.closed stored → AreLeft k.version k.decided place k.closed (firsts ++ stored) }
-    ensures next { (k : Kept) (place : Place) (max : ℕ) (firsts stored : List Row) → AreFirsts k.version place firsts → AreStored k.version k.decided place k.closed stored → AreNext k place max (take max firsts ++ take (max - length firsts) stored) }
+    ensures joined { (k : Kept) (place : Place) (first more : List Row) → AreParts k place first more → AreLeftAt k place (first ++ more) }
+    ensures next { (k : Kept) (place : Place) (max : ℕ) (first more : List Row) → AreParts k place first more → AreNext k place max (first_of max first more) }
     ensures another_kind { (k : Kept) (place : Place) → (place.kind ≡ Initial → ⊥) → AreFirsts k.version place [] }
     ensures resolved { (k : Kept) (place : Place) → place.cursor ≤ place.after → AreFirsts k.version place [] }
     ensures past { (k : Kept) (place : Place) (n : VersionName) → place.row ≡ Some n → place.cursor < n.ts → AreFirsts k.version place [] }

@@ -12,7 +12,7 @@ use Rattle.kept.specs.Changes.{IsClosedAt, IsHardClosedAt}
 use Rattle.kept.specs.Lists.{AreThose}
 use Rattle.kept.specs.Table.{is_open, keys_of}
 use Rattle.txn_table.specs.TransactionIn.{Table, transaction_in}
-use Rattle.version_chain.specs.Stores.{IsAbortedIn, Stored, is_decided_in, version_in}
+use Rattle.version_chain.specs.Stores.{IsAbortedIn, Stored, is_committed_in, version_in}
 use Rattle.mvto_rules.specs.Closings.{AreCut, AreOpenNoted, is_cut}
 use Rattle.mvto_rules.specs.Tables.{AreInRange}
 use Rattle.timestamps.specs.declared.ts.TheConstants.{MAX}
@@ -37,7 +37,7 @@ pub record IsCutting (s s' : Stored) (table : Table) (to : ℕ) (rest : List ℕ
 
 pub cut_begins : (s : Stored) (table : Table) (to : ℕ) (all : List ℕ) → AreThose (is_cut table to) all → IsCutting s s table to all
 cut_begins s table to all those = record {
-  cut = record { version = λ y i. sym (ap (λ b. cond b None (version_in s y i)) (none i)); decided = λ y i b e. refl };
+  cut = record { version = λ y i. sym (ap (λ b. cond b None (version_in s y i)) (none i)); committed = λ y i b e. refl };
   part = λ t i. (those.each t).0 i;
   distinct = those.distinct;
 }
@@ -71,7 +71,7 @@ cut_goes_on s s1 s2 table to x rest noted cutting aborted = record {
     version = λ y i. by_test (x == i)
         (λ same. subst (λ j. version_in s2 y j ≡ cond (is_cut table to j && not (is_among j rest)) None (version_in s y j)) (eqb-true x i same) (here y))
         (λ other. aborted.version y i ∙ ap (λ b. cond (b && has y keys) None (version_in s1 y i)) other ∙ cutting.cut.version y i ∙ ap (λ b. cond (is_cut table to i && not (b || is_among i rest)) None (version_in s y i)) other);
-    decided = λ y i b e. aborted.decided y i b e ∙ cutting.cut.decided y i b (is_some_not (version_in s2 y i) (version_in s1 y i) ((x == i) && has y keys) (aborted.version y i) b e);
+    committed = λ y i b e. aborted.committed y i b e ∙ cutting.cut.committed y i b (is_some_not (version_in s2 y i) (version_in s1 y i) ((x == i) && has y keys) (aborted.version y i) b e);
   };
   part = λ t i. cutting.part t (inr i);
   distinct = cutting.distinct.1;
@@ -101,7 +101,7 @@ cut_goes_on s s1 s2 table to x rest noted cutting aborted = record {
         ∙ sym (ap (λ b. cond b None (version_in s y x)) gone)
 
 pub cut_ends : (s s' : Stored) (table : Table) (to : ℕ) → IsCutting s s' table to [] → AreCut s s' (is_cut table to)
-cut_ends s s' table to cutting = record { version = λ y i. cutting.cut.version y i ∙ ap (λ b. cond b None (version_in s y i)) (and_true (is_cut table to i)); decided = cutting.cut.decided }
+cut_ends s s' table to cutting = record { version = λ y i. cutting.cut.version y i ∙ ap (λ b. cond b None (version_in s y i)) (and_true (is_cut table to i)); committed = cutting.cut.committed }
   where
     and_true : (b : Bool) → (b && true) ≡ b
     and_true true = refl
@@ -109,15 +109,15 @@ cut_ends s s' table to cutting = record { version = λ y i. cutting.cut.version 
 
 -- what was cut and then closed was closed hard
 pub hard_closed : (k k' : Kept) (v : List ℕ → ℕ → Option After) (d : List ℕ → ℕ → Bool) (to n : ℕ)
-    → ((y : List ℕ) (i : ℕ) → v y i ≡ cond (nat_le i to && is_open (k.transaction i)) None (k.version y i)) → ((y : List ℕ) (i : ℕ) (b : After) → v y i ≡ Some b → d y i ≡ k.decided y i)
-    → IsClosedAt (record k { version = v; decided = d }) k' n → IsHardClosedAt k k' to n
-hard_closed k k' v d to n version decided closed =
+    → ((y : List ℕ) (i : ℕ) → v y i ≡ cond (nat_le i to && is_open (k.transaction i)) None (k.version y i)) → ((y : List ℕ) (i : ℕ) (b : After) → v y i ≡ Some b → d y i ≡ k.committed y i)
+    → IsClosedAt (record k { version = v; committed = d }) k' n → IsHardClosedAt k k' to n
+hard_closed k k' v d to n version committed closed =
     let sv : k'.version ≡ v = ap (λ (j : Kept). j.version) closed.rest in
-    let sd : k'.decided ≡ d = ap (λ (j : Kept). j.decided) closed.rest in
+    let sd : k'.committed ≡ d = ap (λ (j : Kept). j.committed) closed.rest in
     record {
       version = λ y i. ap (λ f. f y i) sv ∙ version y i;
-      decided = λ y i b e. ap (λ f. f y i) sd ∙ decided y i b (sym (ap (λ f. f y i) sv) ∙ e);
+      committed = λ y i b e. ap (λ f. f y i) sd ∙ committed y i b (sym (ap (λ f. f y i) sv) ∙ e);
       marked = closed.marked;
       transaction = closed.transaction;
-      rest = closed.rest ∙ ap (λ f. record k { closed = n; version = f; decided = d; marked = k'.marked; transaction = k'.transaction }) (sym sv) ∙ ap (λ g. record k { closed = n; version = k'.version; decided = g; marked = k'.marked; transaction = k'.transaction }) (sym sd);
+      rest = closed.rest ∙ ap (λ f. record k { closed = n; version = f; committed = d; marked = k'.marked; transaction = k'.transaction }) (sym sv) ∙ ap (λ g. record k { closed = n; version = k'.version; committed = g; marked = k'.marked; transaction = k'.transaction }) (sym sd);
     }

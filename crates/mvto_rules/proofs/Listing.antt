@@ -8,7 +8,7 @@ use Rattle.spans.specs.Keys.{in_span, with_value}
 use Rattle.spans.specs.declared.span.Span.{Span}
 use Rattle.spans.proofs.Keyed.{RisingKeys}
 use Rattle.version_chain.specs.Chains.{Entry, chain_of}
-use Rattle.version_chain.specs.Stores.{Stored, is_decided_in, version_in}
+use Rattle.version_chain.specs.Stores.{Stored, is_committed_in, version_in}
 use Rattle.version_chain.specs.declared.chain.Version.{Version}
 use Rattle.mvto_rules.specs.Scans.{entries_of, keys_in, rows_in}
 use Rattle.mvto_rules.specs.Sights.{value_in}
@@ -30,7 +30,7 @@ row_more : (xs rows : List (List ℕ × List ℕ)) (x : List ℕ) (a : After) �
 row_more xs rows x None = append_assoc xs [] rows
 row_more xs rows x (Some v) = append_assoc xs ((x, v) ∷ []) rows
 
-pub list_goes_on : (s : Stored) (t : ℕ) (span : Span) (x : List ℕ) (vs : List Version) (rest : List Entry) (rows rows' : List (List ℕ × List ℕ)) (o : Option Version) → IsListing s t span ((x, vs) ∷ rest) rows → IsThere (version_in s x) (is_decided_in s x) t o
+pub list_goes_on : (s : Stored) (t : ℕ) (span : Span) (x : List ℕ) (vs : List Version) (rest : List Entry) (rows rows' : List (List ℕ × List ℕ)) (o : Option Version) → IsListing s t span ((x, vs) ∷ rest) rows → IsThere (version_in s x) (is_committed_in s x) t o
     → rows' ≡ rows ++ with_value x (value_in o) [] → IsListing s t span rest rows'
 list_goes_on s t span x vs rest rows rows' o list there is = record {
   each = list.each.1;

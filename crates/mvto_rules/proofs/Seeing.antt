@@ -14,7 +14,7 @@ use Rattle.kept.specs.Finding.{is_seen_blocked, seen}
 use Rattle.kept.specs.Replies.{get_reply, unless_refused}
 use Rattle.kept.specs.Table.{refusal}
 use Rattle.version_chain.specs.Chains.{chain_of}
-use Rattle.version_chain.specs.Stores.{IsNewestIn, Stored, after_of, is_committed, is_decided_in, version_in}
+use Rattle.version_chain.specs.Stores.{IsNewestIn, Stored, after_of, is_committed, is_committed_in, version_in}
 use Rattle.version_chain.specs.Versions.{IsNewestOf, IsNoneUpTo, version_of}
 use Rattle.version_chain.specs.declared.chain.Version.{Version}
 use Rattle.mvto_rules.specs.Sights.{sight_of, ts_of, value_in, would_stop}
@@ -22,15 +22,15 @@ use Rattle.mvto_rules.specs.declared.sight.Sight.{Sight}
 use Rattle.mvto_rules.specs.declared.sight.Sight.TheVariants as sights
 
 -- what stands at a key for a read at t: the version, or none
-pub record IsThere (version : ℕ → Option After) (decided : ℕ → Bool) (t : ℕ) (o : Option Version) : Type 0 where
+pub record IsThere (version : ℕ → Option After) (committed : ℕ → Bool) (t : ℕ) (o : Option Version) : Type 0 where
   pub is : newest version t ≡ version_at (ts_of o) (value_in o)
   pub low : ts_of o ≤ t
-  pub done : IfSome o (λ v. decided v.ts ≡ v.decided)
+  pub done : IfSome o (λ v. committed v.ts ≡ v.committed)
   pub named : IfSome o (λ v. 1 ≤ v.ts)
 
 -- what is newest in the store is there
 pub found_there : (s : Stored) (x : List ℕ) (t m : ℕ) (o : Option (Bor Version)) → m ≡ t → MatchOption o ((i : ℕ) → i ≤ m → version_in s x i ≡ None) (λ v. IsNewestIn s x m v.now)
-    → IfSome (option_copied o) (λ v. 1 ≤ v.ts) → IsThere (version_in s x) (is_decided_in s x) t (option_copied o)
+    → IfSome (option_copied o) (λ v. 1 ≤ v.ts) → IsThere (version_in s x) (is_committed_in s x) t (option_copied o)
 found_there s x t m None same none named = record {
   is = newest_only (version_in s x) t 0 None (record { at_most = omega arith; gap = λ i l h. none i (omega arith); has = inl (refl, refl) });
   low = omega arith;
@@ -40,7 +40,7 @@ found_there s x t m None same none named = record {
 found_there s x t m (Some b) same new named = record {
   is = newest_only (version_in s x) t b.now.ts b.now.after (record { at_most = omega (arith, new.at_most); gap = λ i l h. new.gap i l (omega arith); has = inr (omega (arith, named), new.version) });
   low = omega (arith, new.at_most);
-  done = new.decided;
+  done = new.committed;
   named = named;
 }
 
@@ -51,7 +51,7 @@ chain_newest s x vs m None is none = λ i l. ap (λ us. after_of (version_of us 
 chain_newest s x vs m (Some b) is new = record {
   at_most = new.at_most;
   version = ap (λ us. after_of (version_of us b.now.ts)) is ∙ ap after_of new.one;
-  decided = ap (λ us. is_committed (version_of us b.now.ts)) is ∙ ap is_committed new.one;
+  committed = ap (λ us. is_committed (version_of us b.now.ts)) is ∙ ap is_committed new.one;
   gap = λ i l h. ap (λ us. after_of (version_of us i)) is ∙ ap after_of (new.gap i l h);
 }
 
@@ -82,11 +82,11 @@ and_false : (b : Bool) → (b && false) ≡ false
 and_false true = refl
 and_false false = refl
 
-stops : (d : ℕ → Bool) (t : ℕ) (o : Option Version) → IfSome o (λ v. d v.ts ≡ v.decided) → IfSome o (λ v. 1 ≤ v.ts) → would_stop d t (ts_of o) ≡ is_stopped (sight_of t o)
+stops : (d : ℕ → Bool) (t : ℕ) (o : Option Version) → IfSome o (λ v. d v.ts ≡ v.committed) → IfSome o (λ v. 1 ≤ v.ts) → would_stop d t (ts_of o) ≡ is_stopped (sight_of t o)
 stops d t None done named = refl
 stops d t (Some v) done named = by_test (v.ts == t)
     (λ own. rw own (and_false (not (v.ts == 0))))
-    (λ other. rw other (by_test v.decided
+    (λ other. rw other (by_test v.committed
     (λ on. rw (done, on) (and_false (not (v.ts == 0))))
     (λ off. let some : (v.ts == 0) ≡ false = grind (arith, nat_tests) in rw (done, off, some) refl)))
 
@@ -94,7 +94,7 @@ of_whom : (t : ℕ) (o : Option Version) → 0 < t → IsOf t o (sight_of t o)
 of_whom t None low = (refl, grind (arith, nat_tests))
 of_whom t (Some v) low = by_test (v.ts == t)
     (λ own. rw own (eqb-true v.ts t own))
-    (λ other. rw other (by_test v.decided
+    (λ other. rw other (by_test v.committed
     (λ on. rw on (refl, other))
     (λ off. rw off (refl, other))))
 
@@ -107,12 +107,12 @@ pub blocked_is : (f : ℕ → Option After) (d : ℕ → Bool) (t : ℕ) (o : Op
 blocked_is f d t o there = ap (λ v. would_stop d t v.ts) there.is ∙ stops d t o there.done there.named
 
 -- the reply to a read that isn't refused by its transaction
-pub reply_is : (k : Kept) (seat t : ℕ) (x : List ℕ) (o : Option Version) (s : Sight) → 0 < t → refusal k seat t ≡ None → IsThere (k.version x) (k.decided x) t o → s ≡ sight_of t o → told s (value_in o) ≡ get_reply k seat t x
+pub reply_is : (k : Kept) (seat t : ℕ) (x : List ℕ) (o : Option Version) (s : Sight) → 0 < t → refusal k seat t ≡ None → IsThere (k.version x) (k.committed x) t o → s ≡ sight_of t o → told s (value_in o) ≡ get_reply k seat t x
 reply_is k seat t x o s low free there is =
     ap (λ r. told r (value_in o)) is
     ∙ told_is t o (sight_of t o) (of_whom t o low)
     ∙ sym (ap (λ v. cond (is_stopped (sight_of t o)) (Refused (Blocked v.ts)) (Found v.after)) there.is)
-    ∙ sym (ap (λ b. cond b (Refused (Blocked (seen k x t).ts)) (Found (seen k x t).after)) (blocked_is (k.version x) (k.decided x) t o there))
+    ∙ sym (ap (λ b. cond b (Refused (Blocked (seen k x t).ts)) (Found (seen k x t).after)) (blocked_is (k.version x) (k.committed x) t o there))
     ∙ sym (ap (λ r. unless_refused r (cond (is_seen_blocked k x t) (Refused (Blocked (seen k x t).ts)) (Found (seen k x t).after))) free)
 
 -- the version that was read is another's, or none

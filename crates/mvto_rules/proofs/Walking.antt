@@ -16,7 +16,7 @@ use Rattle.kept.specs.Finding.{IsNextAbove}
 use Rattle.kept.specs.Marks as marking
 use Rattle.read_marks.specs.declared.piece.Piece.{Piece}
 use Rattle.version_chain.specs.Chains.{Entry, chain_of}
-use Rattle.version_chain.specs.Stores.{Stored, after_of, is_decided_in, version_in}
+use Rattle.version_chain.specs.Stores.{Stored, after_of, is_committed_in, version_in}
 use Rattle.version_chain.specs.Versions.{IsNewestOf, IsNoneUpTo, version_of}
 use Rattle.version_chain.specs.declared.chain.Version.{Version}
 use Rattle.version_chain.proofs.InSpans.{chain_among, chain_nowhere, passes_among}
@@ -32,25 +32,25 @@ use Rattle.mvto_rules.proofs.Seeing.{IsThere, blocked_is, blocker_is, chain_newe
 
 -- what stands at an entry's key
 pub there_at : (s : Stored) (t m : ℕ) (x : List ℕ) (vs : List Version) (o : Option (Bor Version)) → chain_of s x ≡ vs → m ≡ t → MatchOption o (IsNoneUpTo vs m) (λ v. IsNewestOf vs m v.now) → IfSome (option_copied o) (λ v. 1 ≤ v.ts)
-    → IsThere (version_in s x) (is_decided_in s x) t (option_copied o)
+    → IsThere (version_in s x) (is_committed_in s x) t (option_copied o)
 there_at s t m x vs o is same newest named = found_there s x t m o same (chain_newest s x vs m o is newest) named
 
 -- it stops the reader
-pub stopped_at : (s : Stored) (t n : ℕ) (x : List ℕ) (xs : List (List ℕ)) (o : Option Version) → 0 < t → IsThere (version_in s x) (is_decided_in s x) t o → sights.Blocked n ≡ sight_of t o → first_blocker s t (x ∷ xs) ≡ Some n
+pub stopped_at : (s : Stored) (t n : ℕ) (x : List ℕ) (xs : List (List ℕ)) (o : Option Version) → 0 < t → IsThere (version_in s x) (is_committed_in s x) t o → sights.Blocked n ≡ sight_of t o → first_blocker s t (x ∷ xs) ≡ Some n
 stopped_at s t n x xs o low there is =
-    let stops = blocker_is (version_in s x) (is_decided_in s x) t o n low there is in
+    let stops = blocker_is (version_in s x) (is_committed_in s x) t o n low there is in
     ap (λ b. cond b (Some (newest_in s t x).ts) (first_blocker s t xs)) stops.1 ∙ ap Some stops.0
 
 -- or it doesn't
-pub passed_at : (s : Stored) (t : ℕ) (x : List ℕ) (xs : List (List ℕ)) (o : Option Version) → IsThere (version_in s x) (is_decided_in s x) t o → is_stopped (sight_of t o) ≡ false → first_blocker s t (x ∷ xs) ≡ first_blocker s t xs
-passed_at s t x xs o there free = ap (λ b. cond b (Some (newest_in s t x).ts) (first_blocker s t xs)) (blocked_is (version_in s x) (is_decided_in s x) t o there ∙ free)
+pub passed_at : (s : Stored) (t : ℕ) (x : List ℕ) (xs : List (List ℕ)) (o : Option Version) → IsThere (version_in s x) (is_committed_in s x) t o → is_stopped (sight_of t o) ≡ false → first_blocker s t (x ∷ xs) ≡ first_blocker s t xs
+passed_at s t x xs o there free = ap (λ b. cond b (Some (newest_in s t x).ts) (first_blocker s t xs)) (blocked_is (version_in s x) (is_committed_in s x) t o there ∙ free)
 
 row_more : (xs rows : List (List ℕ × List ℕ)) (x : List ℕ) (a : After) → (xs ++ with_value x a []) ++ rows ≡ xs ++ with_value x a rows
 row_more xs rows x None = append_assoc xs [] rows
 row_more xs rows x (Some v) = append_assoc xs ((x, v) ∷ []) rows
 
 -- then the walk goes on behind it
-stepped : (s : Stored) (t : ℕ) (span : Span) (x : List ℕ) (vs : List Version) (rest : List Entry) (w w' : Walk) (o : Option Version) → IsWalking s t span ((x, vs) ∷ rest) w → IsThere (version_in s x) (is_decided_in s x) t o → is_stopped (sight_of t o) ≡ false
+stepped : (s : Stored) (t : ℕ) (span : Span) (x : List ℕ) (vs : List Version) (rest : List Entry) (w w' : Walk) (o : Option Version) → IsWalking s t span ((x, vs) ∷ rest) w → IsThere (version_in s x) (is_committed_in s x) t o → is_stopped (sight_of t o) ≡ false
     → w'.cut.lo ≡ Some (successor x) → AreMade s t span (is_below (Some (successor x))) w'.cut.pieces.items → w'.rows.items ≡ w.rows.items ++ with_value x (value_in o) [] → IsWalking s t span rest w'
 stepped s t span x vs rest w w' o walk there free lo made rows = record {
   ahead = subst (λ l. AreAhead s span l rest) (sym lo) (ahead_of s span w.cut.lo x vs rest walk.ahead);
@@ -59,20 +59,20 @@ stepped s t span x vs rest w w' o walk there free lo made rows = record {
   free = sym (passed_at s t x (keys_of rest) o there free) ∙ walk.free;
 }
 
-pub stepped_own : (s : Stored) (t : ℕ) (span : Span) (x : List ℕ) (vs : List Version) (rest : List Entry) (w w' : Walk) (o : Option Version) → 0 < t → t ≤ MAX → IsWalking s t span ((x, vs) ∷ rest) w → IsThere (version_in s x) (is_decided_in s x) t o → sights.Own ≡ sight_of t o
+pub stepped_own : (s : Stored) (t : ℕ) (span : Span) (x : List ℕ) (vs : List Version) (rest : List Entry) (w w' : Walk) (o : Option Version) → 0 < t → t ≤ MAX → IsWalking s t span ((x, vs) ∷ rest) w → IsThere (version_in s x) (is_committed_in s x) t o → sights.Own ≡ sight_of t o
     → (w'.cut.pieces.items ≡ w.cut.pieces.items ++ without_version w.cut.lo (Some x) ∷ []) × (w'.cut.lo ≡ Some (successor x)) → w'.rows.items ≡ w.rows.items ++ with_value x (value_in o) [] → IsWalking s t span rest w'
 stepped_own s t span x vs rest w w' o low high walk there is cut rows =
     let made = passed s t span w.cut.lo x vs rest w.cut.pieces.items low high walk.ahead walk.made in
-    let own = own_passed s t span x (w.cut.pieces.items ++ without_version w.cut.lo (Some x) ∷ []) made (own_is (version_in s x) (is_decided_in s x) t o low there is) in
+    let own = own_passed s t span x (w.cut.pieces.items ++ without_version w.cut.lo (Some x) ∷ []) made (own_is (version_in s x) (is_committed_in s x) t o low there is) in
     stepped s t span x vs rest w w' o walk there (ap is_stopped (sym is)) cut.1 (subst (AreMade s t span (is_below (Some (successor x)))) (sym cut.0) own) rows
 
-pub stepped_other : (s : Stored) (t above to : ℕ) (span : Span) (x : List ℕ) (vs : List Version) (rest : List Entry) (w w' : Walk) (o : Option Version) (mid : Cut) → 0 < t → t ≤ MAX → IsWalking s t span ((x, vs) ∷ rest) w → IsThere (version_in s x) (is_decided_in s x) t o
+pub stepped_other : (s : Stored) (t above to : ℕ) (span : Span) (x : List ℕ) (vs : List Version) (rest : List Entry) (w w' : Walk) (o : Option Version) (mid : Cut) → 0 < t → t ≤ MAX → IsWalking s t span ((x, vs) ∷ rest) w → IsThere (version_in s x) (is_committed_in s x) t o
     → sights.Other above ≡ sight_of t o → (next : Option ℕ) × IsNextAbove (λ i. after_of (version_of vs i)) t next × (to ≡ marking.until next)
     → (mid.pieces.items ≡ w.cut.pieces.items ++ without_version w.cut.lo (Some x) ∷ []) × (mid.lo ≡ Some (successor x))
     → (spot : Span) × (w'.cut.pieces.items ≡ mid.pieces.items ++ record { span = spot; above = above; until = to } ∷ []) × ((y : List ℕ) → in_span spot y ≡ bytes_eq x y)
     → w'.cut.lo ≡ mid.lo → w'.rows.items ≡ w.rows.items ++ with_value x (value_in o) [] → IsWalking s t span rest w'
 stepped_other s t above to span x vs rest w w' o mid low high walk there is next cut spot same rows =
-    let other = other_is (version_in s x) (is_decided_in s x) t o above low there is in
+    let other = other_is (version_in s x) (is_committed_in s x) t o above low there is in
     let gap : IsGap s t x above to = record {
       at = other.0;
       low = other.1;
@@ -126,7 +126,7 @@ pub record IsSeeking (s : Stored) (t : ℕ) (span : Span) (rest : List Entry) : 
 pub seek_begins : (s : Stored) (t : ℕ) (span : Span) (found : List Entry) → found ≡ entries_of s span → RisingKeys (keys_of found) → IsSeeking s t span found
 seek_begins s t span found those rising = record { each = each_found s span found [] found those rising refl; free = ap (λ es. first_blocker s t (keys_of es)) those }
 
-pub seek_goes_on : (s : Stored) (t : ℕ) (span : Span) (x : List ℕ) (vs : List Version) (rest : List Entry) (o : Option Version) → IsSeeking s t span ((x, vs) ∷ rest) → IsThere (version_in s x) (is_decided_in s x) t o → is_stopped (sight_of t o) ≡ false → IsSeeking s t span rest
+pub seek_goes_on : (s : Stored) (t : ℕ) (span : Span) (x : List ℕ) (vs : List Version) (rest : List Entry) (o : Option Version) → IsSeeking s t span ((x, vs) ∷ rest) → IsThere (version_in s x) (is_committed_in s x) t o → is_stopped (sight_of t o) ≡ false → IsSeeking s t span rest
 seek_goes_on s t span x vs rest o seek there free = record { each = seek.each.1; free = sym (passed_at s t x (keys_of rest) o there free) ∙ seek.free }
 
 nothing_more : (xs : List (List ℕ × List ℕ)) → xs ++ [] ≡ xs

@@ -10,7 +10,7 @@ use Rattle.kept.specs.Finding.{is_dropped}
 use Rattle.kept.specs.Lists.{AreThose}
 use Rattle.kept.specs.Table.{is_open, keys_of}
 use Rattle.txn_table.specs.TransactionIn.{Table, transaction_in}
-use Rattle.version_chain.specs.Stores.{Stored, is_decided_in, version_in}
+use Rattle.version_chain.specs.Stores.{Stored, is_committed_in, version_in}
 use Rattle.mvto_rules.specs.Holding.{holding}
 use Rattle.mvto_rules.specs.declared.rules.Rules.{Rules}
 
@@ -22,16 +22,24 @@ is_cut table to t = nat_le t to && is_open (transaction_in table t)
 abbrev pub AreOpenNoted : Stored → Table → Type 0
 AreOpenNoted s table = (y : List ℕ) (t : ℕ) → is_open (transaction_in table t) ≡ true → has y (keys_of (transaction_in table t)) ≡ false → version_in s y t ≡ None
 
+-- the same of what the rules hold
+abbrev pub AreAllNoted : Rules → Type 0
+AreAllNoted r = AreOpenNoted r.store r.txns
+
 -- the versions at these timestamps are gone
 pub record AreCut (s s' : Stored) (among : ℕ → Bool) : Type 0 where
   pub version : (y : List ℕ) (i : ℕ) → version_in s' y i ≡ (if among i then None else version_in s y i)
-  pub decided : (y : List ℕ) (i : ℕ) (b : After) → version_in s' y i ≡ Some b → is_decided_in s' y i ≡ is_decided_in s y i
+  pub committed : (y : List ℕ) (i : ℕ) (b : After) → version_in s' y i ≡ Some b → is_committed_in s' y i ≡ is_committed_in s y i
 
 -- how many undecided transactions are at or below to
 pub record IsCutCount (table : Table) (to count : ℕ) : Type 0 where
   pub cut : List ℕ
   pub those : AreThose (is_cut table to) cut
   pub counted : length cut ≡ count
+
+-- the same of what the rules hold
+abbrev pub IsCutOf : Rules → ℕ → ℕ → Type 0
+IsCutOf r to count = IsCutCount r.txns to count
 
 -- the versions that are dead by the horizon are gone, count of them
 pub record IsCollected (k : Kept) (r r' : Rules) (horizon count : ℕ) : Type 0 where

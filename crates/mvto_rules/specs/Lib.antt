@@ -1,7 +1,9 @@
 pub mod Tables
 pub mod Sights
 pub mod Pieces
+pub mod Cuts
 pub mod Scans
 pub mod Readings
 pub mod Holding
+pub mod Accepting
 pub mod Closings

@@ -13,7 +13,7 @@ use Rattle.kept.specs.Marks as marking
 use Rattle.read_marks.specs.Marks.{HaveGaps}
 use Rattle.read_marks.specs.declared.piece.Piece.{Piece}
 use Rattle.version_chain.specs.Chains.{Entry, chain_of}
-use Rattle.version_chain.specs.Stores.{Stored, is_decided_in, version_in}
+use Rattle.version_chain.specs.Stores.{Stored, is_committed_in, version_in}
 use Rattle.mvto_rules.specs.Sights.{would_stop}
 use Rattle.mvto_rules.specs.declared.walk.Walk.{Walk}
 use Rattle.spans.specs.Newest as reads
@@ -32,7 +32,7 @@ newest_in s t x = newest (version_in s x) t
 
 -- that is another's, which is undecided
 abbrev pub stops_in : Stored → ℕ → List ℕ → Bool
-stops_in s t x = would_stop (is_decided_in s x) t (newest_in s t x).ts
+stops_in s t x = would_stop (is_committed_in s x) t (newest_in s t x).ts
 
 -- at the first of the keys where the newest version is another's, which is undecided, its timestamp
 abbrev pub first_blocker : Stored → ℕ → List (List ℕ) → Option ℕ
@@ -58,6 +58,10 @@ pub record AreMade (s : Stored) (t : ℕ) (span : Span) (is_past : List ℕ → 
   pub within : (p : Piece) → Has p pieces → (x : List ℕ) → in_span p.span x ≡ true → (in_span span x ≡ true) × (is_past x ≡ true) × IsGap s t x p.above p.until
   pub each : (x : List ℕ) → in_span span x ≡ true → is_past x ≡ true → ((newest_in s t x).ts ≡ t) ⊎ ((p : Piece) × Has p pieces × (in_span p.span x ≡ true))
 
+-- the same of every key of the span
+abbrev pub AreAllMade : Stored → ℕ → Span → List Piece → Type 0
+AreAllMade s t span pieces = AreMade s t span (λ x. true) pieces
+
 -- the entries are those of the span from the bound on
 pub record AreAhead (s : Stored) (span : Span) (lo : Option (List ℕ)) (entries : List Entry) : Type 0 where
   pub rising : RisingKeys (keys_of entries)
@@ -81,3 +85,7 @@ pub record IsWalking (s : Stored) (t : ℕ) (span : Span) (entries : List Entry)
 abbrev pub DoesStep : Stored → ℕ → Span → List Entry → Walk → Option ℕ → Type 0
 DoesStep s t span entries w None = IsWalking s t span entries w
 DoesStep s t span entries w (Some by) = first_blocker s t (keys_in s span) ≡ Some by
+
+-- the walk, at t, becomes w' by the entry, or by is what stops it there
+abbrev pub Visits : ℕ → Entry → Walk → Walk → Option ℕ → Type 0
+Visits t entry w w' by = (s : Stored) (span : Span) (rest : List Entry) → IsWalking s t span (entry ∷ rest) w → DoesStep s t span rest w' by

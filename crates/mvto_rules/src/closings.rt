@@ -1,8 +1,8 @@
 //! What closing and collecting do to the versions, the marks and the transactions.
-ghost use Rattle.std.specs.Prelude.{◌≡◌, ◌≤◌, ℕ, IfOk, OnErr};
+ghost use Rattle.std.specs.Prelude.{◌≤◌, IfOk, OnErr};
 ghost use Rattle.spans.specs.Kept.{Kept};
-ghost use Rattle.kept.specs.Changes.{IsAlike, IsClosedAt, IsHardClosedAt};
-ghost use Rattle.mvto_rules.specs.Closings.{AreCut, AreOpenNoted, IsCollected, IsCutCount, is_cut};
+ghost use Rattle.kept.specs.Changes.{IsClosedAt, IsHardClosedAt};
+ghost use Rattle.mvto_rules.specs.Closings.{AreCut, AreOpenNoted, IsCutCount, is_cut};
 ghost use Rattle.mvto_rules.specs.Tables.{AreInRange};
 
 use crate::rules::Rules;
@@ -12,11 +12,12 @@ use txn_table::Txns;
 use version_chain::Store;
 
 impl Rules {
-    ghost use Rattle.mvto_rules.specs.Holding.{holding};
+    ghost use Rattle.mvto_rules.specs.Holding.{Changes, Stays, with_closed};
+    ghost use Rattle.mvto_rules.specs.Closings.{AreAllNoted, IsCollected, IsCutOf};
 
     /// Forgets the transactions and the readers at or below what is now closed. It takes no memory.
     pub fn close(&mut self, closed: u64)
-        ensures { (k : Kept) → IsClosedAt (holding k self.old) (record (holding k self.new) { closed = closed }) closed }
+        ensures { Changes self.old self.new (λ k k'. IsClosedAt k (with_closed closed k') closed) }
     {
         self.marks.forget_through(closed);
         self.txns.forget_through(closed);
@@ -25,10 +26,10 @@ impl Rules {
     /// Takes back what the undecided transactions at or below `to` wrote, and says how many they are;
     /// then it forgets as `close` does. It takes no memory.
     pub fn close_hard(&mut self, to: u64, closed: u64) -> u64
-        requires noted { AreOpenNoted self.old.store self.old.txns }
+        requires noted { AreAllNoted self.old }
         requires reached { to ≤ closed }
-        ensures count { IsCutCount self.old.txns to result }
-        ensures closed { (k : Kept) → IsHardClosedAt (holding k self.old) (record (holding k self.new) { closed = closed }) to closed }
+        ensures count { IsCutOf self.old to result }
+        ensures closed { Changes self.old self.new (λ k k'. IsHardClosedAt k (with_closed closed k') to closed) }
     {
         let count = take_back_through(&mut self.store, &self.txns, to);
         self.close(closed);
@@ -39,7 +40,7 @@ impl Rules {
     /// list them, nothing goes.
     pub fn collect(&mut self, horizon: u64) -> Result<u64, AllocError>
         ensures ok { IfOk result (λ count. (k : Kept) → IsCollected k self.old self.new horizon count) }
-        ensures err { OnErr result ((k : Kept) → IsAlike (holding k self.old) (holding k self.new)) }
+        ensures err { OnErr result (Stays self.old self.new) }
     {
         self.store.drop_dead(horizon)
     }

@@ -1,6 +1,5 @@
 //! A span cut into the pieces that a read of each of its keys marks.
-ghost use Rattle.std.specs.Prelude.{◌≡◌, ◌++◌, ◌∷◌, [], ℕ, List, Some, bytes_eq, IfOk, OnOk};
-ghost use Rattle.spans.specs.Keys.{in_span};
+ghost use Rattle.std.specs.Prelude.{◌≡◌, ◌++◌, ◌∷◌, [], Some, IfOk, OnOk};
 ghost use Rattle.spans.specs.Successors.{successor};
 ghost use Rattle.read_marks.specs.declared.piece.Piece.{Piece};
 ghost use Rattle.mvto_rules.specs.Pieces.{without_version};
@@ -21,6 +20,8 @@ pub(crate) struct Cut {
 }
 
 impl Cut {
+    ghost use Rattle.mvto_rules.specs.Cuts.{HasPiece, HasPieceOf, IsPassed};
+
     /// No piece of the span.
     pub(crate) fn new(alloc: Global, span: &Span) -> Result<Cut, AllocError>
         ensures { IfOk result (λ cut. (cut.pieces.items ≡ []) × (cut.lo ≡ span.now.lo)) }
@@ -34,7 +35,7 @@ impl Cut {
 
     /// A piece of the keys up to this one, of which none has a version. The next begins above it.
     pub(crate) fn pass(&mut self, alloc: Global, key: &Key) -> Result<(), AllocError>
-        ensures { OnOk result ((self.new.pieces.items ≡ self.old.pieces.items ++ without_version self.old.lo (Some key.now) ∷ []) × (self.new.lo ≡ Some (successor key.now))) }
+        ensures { OnOk result (IsPassed self.old self.new key.now) }
     {
         let hi = bound_at(alloc, key)?;
         let next = Bound::successor(alloc, key)?;
@@ -50,7 +51,7 @@ impl Cut {
         above: u64,
         until: u64,
     ) -> Result<(), AllocError>
-        ensures piece { OnOk result ((span : Span) × (self.new.pieces.items ≡ self.old.pieces.items ++ record { span = span; above = above; until = until } ∷ []) × ((x : List ℕ) → in_span span x ≡ bytes_eq key.now x)) }
+        ensures piece { OnOk result (HasPieceOf self.old self.new key.now above until) }
         ensures lo { OnOk result (self.new.lo ≡ self.old.lo) }
     {
         let span = span_of(alloc, key)?;
@@ -58,7 +59,7 @@ impl Cut {
     }
 
     fn push(&mut self, span: Span, above: u64, until: u64) -> Result<(), AllocError>
-        ensures pieces { OnOk result (self.new.pieces.items ≡ self.old.pieces.items ++ record { span = span; above = above; until = until } ∷ []) }
+        ensures pieces { OnOk result (HasPiece self.old self.new span above until) }
         ensures lo { self.new.lo ≡ self.old.lo }
     {
         self.pieces.push(Piece { span, above, until })?;

@@ -30,6 +30,7 @@
 
 mod closings;
 mod cut;
+mod holdings;
 mod reading;
 mod rules;
 mod sight;

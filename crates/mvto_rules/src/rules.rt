@@ -1,26 +1,22 @@
 //! The versions, the marks of readers and the transactions, under the rules that tie them.
-ghost use Rattle.std.specs.Prelude.{◌≡◌, ◌<◌, ◌≤◌, ◌==◌, ◌&&◌, ℕ, List, Bool, true, false, Some, None, IfOk, IfErr, OnOk, OnErr, bytes_eq, option_map, if◌then◌else◌};
+ghost use Rattle.std.specs.Prelude.{◌≡◌, ◌<◌, ◌≤◌, ℕ, List, true, false, Some, None, IfOk, IfErr, OnOk, OnErr};
 ghost use Rattle.std.specs.Option.{option_copied};
 ghost use Rattle.timestamps.specs.declared.ts.TheConstants.{MAX};
 ghost use Rattle.spans.specs.Effects.{After};
 ghost use Rattle.spans.specs.Legal.{is_accepted};
-ghost use Rattle.spans.specs.Kept.{Kept, Transaction};
-ghost use Rattle.spans.specs.Keys.{insert_key};
 ghost use Rattle.spans.specs.declared.span.Span.{Span};
 ghost use Rattle.spans.specs.declared.calls.replies.Refusal.{Refusal};
 ghost use Rattle.spans.specs.declared.calls.replies.Refusal.TheVariants.{TooLate};
 ghost use Rattle.spans.specs.declared.calls.replies.Reply.TheVariants.{Aborted, Committed, Found, Refused, Started, Written};
 ghost use Rattle.spans.specs.declared.calls.replies.Reply.TheVariants as replies;
-ghost use Rattle.spans.proofs.WriteSets.{has};
+ghost use Rattle.kept.specs.Answered.{IsScanReply, IsWriteReply};
+ghost use Rattle.kept.specs.Leading.{Pairs};
 ghost use Rattle.kept.specs.Changes.{IsAbortedBy, IsAlike, IsBegun, IsCommittedBy, IsReadBy, IsScannedBy, IsWritten};
-ghost use Rattle.kept.specs.Finding.{AreKeysOf, seen};
-ghost use Rattle.kept.specs.Marks.{IsLate, IsPiece, until};
-ghost use Rattle.kept.specs.Replies.{abort_reply, begin_reply, commit_reply, get_reply, scan_reply, write_reply};
-ghost use Rattle.kept.specs.Table.{keys_of, refusal};
-ghost use Rattle.read_marks.specs.Marks.{is_marked_in};
-ghost use Rattle.txn_table.specs.TransactionIn.{transaction_in};
+ghost use Rattle.kept.specs.Finding.{seen};
+ghost use Rattle.kept.specs.Replies.{abort_reply, begin_reply, commit_reply, get_reply};
+ghost use Rattle.kept.specs.Table.{refusal};
 ghost use Rattle.version_chain.specs.Stores.{version_in};
-ghost use Rattle.mvto_rules.specs.Scans.{AreMade};
+ghost use Rattle.mvto_rules.specs.Accepting.{IsScanAccepted, IsWriteAccepted};
 ghost use Rattle.mvto_rules.specs.Tables.{AreInRange};
 
 use crate::reading::{Reading, read_span};
@@ -29,12 +25,13 @@ use crate::spot::span_of;
 use read_marks::{Marks, Piece};
 use spans::calls::{Refusal, Reply, Rows};
 use spans::span::Span;
+use spans::state::State;
 use std::alloc::{AllocError, Global};
 use std::slice;
 use timestamps::key::Key;
 use timestamps::ts::Ts;
 use timestamps::value::Value;
-use txn_table::{Outcome, State, Txns};
+use txn_table::{Outcome, Txns};
 use version_chain::Store;
 
 /// The versions, the marks of readers, and the transactions, under the rules that tie them.
@@ -44,20 +41,21 @@ use version_chain::Store;
 #[derive(Drop)]
 pub struct Rules {
     pub(crate) alloc: Global,
-    pub store: Store,
-    pub marks: Marks,
-    pub txns: Txns,
+    pub(crate) store: Store,
+    pub(crate) marks: Marks,
+    pub(crate) txns: Txns,
     pub ghost in_range: { AreInRange txns },
 }
 
 impl Rules {
-    ghost use Rattle.mvto_rules.specs.Holding.{holding};
+    ghost use Rattle.mvto_rules.specs.Scans.{AreAllMade};
+    ghost use Rattle.mvto_rules.specs.Holding.{AtClosed, Changes, IsNotedIn, Stays, StaysIfRefused, marked_of, transactions_of, versions_of};
 
     /// No version, no mark and no transaction.
     pub fn new(alloc: Global) -> Rules
-        ensures versions { (x : List ℕ) (t : ℕ) → version_in result.store x t ≡ None }
-        ensures marks { (x : List ℕ) (j : ℕ) → is_marked_in result.marks x j ≡ false }
-        ensures transactions { (t : ℕ) → transaction_in result.txns t ≡ None }
+        ensures versions { (x : List ℕ) (t : ℕ) → version_in (versions_of result) x t ≡ None }
+        ensures marks { (x : List ℕ) (j : ℕ) → marked_of result x j ≡ false }
+        ensures transactions { (t : ℕ) → transactions_of result t ≡ None }
     {
         Rules {
             alloc,
@@ -69,11 +67,11 @@ impl Rules {
 
     /// Begins a transaction of a seat above what is closed, unless one of its timestamp began before.
     pub fn begin(&mut self, closed: u64, seat: u8, ts: u64) -> Result<Reply, AllocError>
-        ensures reply { IfOk result (λ reply. (k : Kept) → k.closed ≡ closed → reply ≡ begin_reply (holding k self.old) ts) }
-        ensures begun { IfOk result (λ reply. (k : Kept) → reply ≡ Started → IsBegun (holding k self.old) (holding k self.new) ts seat) }
-        ensures refused { IfOk result (λ reply. (k : Kept) (r : Refusal) → reply ≡ Refused r → IsAlike (holding k self.old) (holding k self.new)) }
-        ensures err { OnErr result ((k : Kept) → IsAlike (holding k self.old) (holding k self.new)) }
-        ensures accepted { OnErr result ((k : Kept) → k.closed ≡ closed → is_accepted (begin_reply (holding k self.old) ts) ≡ true) }
+        ensures reply { IfOk result (λ reply. AtClosed closed self.old (λ k. reply ≡ begin_reply k ts)) }
+        ensures begun { IfOk result (λ reply. Changes self.old self.new (λ k k'. reply ≡ Started → IsBegun k k' ts seat)) }
+        ensures refused { IfOk result (StaysIfRefused self.old self.new) }
+        ensures err { OnErr result (Stays self.old self.new) }
+        ensures accepted { OnErr result (AtClosed closed self.old (λ k. is_accepted (begin_reply k ts) ≡ true)) }
     {
         let Some(timestamp) = Ts::new(ts) else {
             return Ok(Reply::Refused(Refusal::TsRange));
@@ -90,11 +88,11 @@ impl Rules {
 
     /// Reads a key, and marks the reader, unless the version is its own.
     pub fn get(&mut self, closed: u64, seat: u8, ts: u64, key: &Key) -> Result<Reply, AllocError>
-        ensures reply { IfOk result (λ reply. (k : Kept) → k.closed ≡ closed → reply ≡ get_reply (holding k self.old) seat ts key.now) }
-        ensures read { IfOk result (λ reply. (k : Kept) (v : After) → reply ≡ Found v → IsReadBy (holding k self.old) (holding k self.new) ts key.now) }
-        ensures refused { IfOk result (λ reply. (k : Kept) (r : Refusal) → reply ≡ Refused r → IsAlike (holding k self.old) (holding k self.new)) }
-        ensures err { OnErr result ((k : Kept) → IsAlike (holding k self.old) (holding k self.new)) }
-        ensures accepted { OnErr result ((k : Kept) → k.closed ≡ closed → is_accepted (get_reply (holding k self.old) seat ts key.now) ≡ true) }
+        ensures reply { IfOk result (λ reply. AtClosed closed self.old (λ k. reply ≡ get_reply k seat ts key.now)) }
+        ensures read { IfOk result (λ reply. Changes self.old self.new (λ k k'. (v : After) → reply ≡ Found v → IsReadBy k k' ts key.now)) }
+        ensures refused { IfOk result (StaysIfRefused self.old self.new) }
+        ensures err { OnErr result (Stays self.old self.new) }
+        ensures accepted { OnErr result (AtClosed closed self.old (λ k. is_accepted (get_reply k seat ts key.now) ≡ true)) }
     {
         let ts = match self.undecided(closed, seat, ts) {
             Err(refusal) => return Ok(Reply::Refused(refusal)),
@@ -118,8 +116,8 @@ impl Rules {
     /// Marks the reader of a key, who read the version of `above`, or none where that is 0.
     fn mark(&mut self, key: &Key, ts: Ts, above: u64) -> Result<(), AllocError>
         requires { above < ts }
-        ensures ok { OnOk result ((k : Kept) → (seen (holding k self.old) key.now ts).ts ≡ above → IsReadBy (holding k self.old) (holding k self.new) ts key.now) }
-        ensures err { OnErr result ((k : Kept) → IsAlike (holding k self.old) (holding k self.new)) }
+        ensures ok { OnOk result (Changes self.old self.new (λ k k'. (seen k key.now ts).ts ≡ above → IsReadBy k k' ts key.now)) }
+        ensures err { OnErr result (Stays self.old self.new) }
     {
         let until = self.store.next_above(key, ts.get()).unwrap_or(u64::MAX);
         let span = span_of(self.alloc, key)?;
@@ -137,13 +135,13 @@ impl Rules {
         key: &Key,
         after: Option<&Value>,
     ) -> Result<Reply, AllocError>
-        requires noted { closed < ts → has key.now (keys_of (transaction_in self.old.txns ts)) ≡ false → version_in self.old.store key.now ts ≡ None }
-        ensures reply { IfOk result (λ reply. (k : Kept) → k.closed ≡ closed → (late : Bool) × (refusal (holding k self.old) seat ts ≡ None → IsLate (holding k self.old) key.now ts late) × (reply ≡ write_reply (holding k self.old) seat ts late)) }
-        ensures written { IfOk result (λ reply. (k : Kept) → reply ≡ Written → IsWritten (holding k self.old) (holding k self.new) ts key.now (option_copied after.entry)) }
-        ensures too_late { IfOk result (λ reply. (k : Kept) → reply ≡ Refused TooLate → IsAbortedBy (holding k self.old) (holding k self.new) ts) }
-        ensures refused { IfOk result (λ reply. (k : Kept) (r : Refusal) → reply ≡ Refused r → (r ≡ TooLate → ⊥) → IsAlike (holding k self.old) (holding k self.new)) }
-        ensures err { OnErr result ((k : Kept) → IsAlike (holding k self.old) (holding k self.new)) }
-        ensures accepted { OnErr result ((k : Kept) → k.closed ≡ closed → (late : Bool) × (refusal (holding k self.old) seat ts ≡ None → IsLate (holding k self.old) key.now ts late) × (is_accepted (write_reply (holding k self.old) seat ts late) ≡ true)) }
+        requires noted { closed < ts → IsNotedIn self.old ts key.now }
+        ensures reply { IfOk result (λ reply. AtClosed closed self.old (λ k. IsWriteReply k seat ts key.now reply)) }
+        ensures written { IfOk result (λ reply. Changes self.old self.new (λ k k'. reply ≡ Written → IsWritten k k' ts key.now (option_copied after.entry))) }
+        ensures too_late { IfOk result (λ reply. Changes self.old self.new (λ k k'. reply ≡ Refused TooLate → IsAbortedBy k k' ts)) }
+        ensures refused { IfOk result (λ reply. Changes self.old self.new (λ k k'. (r : Refusal) → reply ≡ Refused r → (r ≡ TooLate → ⊥) → IsAlike k k')) }
+        ensures err { OnErr result (Stays self.old self.new) }
+        ensures accepted { OnErr result (AtClosed closed self.old (λ k. IsWriteAccepted k seat ts key.now)) }
     {
         let ts = match self.undecided(closed, seat, ts) {
             Err(refusal) => return Ok(Reply::Refused(refusal)),
@@ -160,9 +158,9 @@ impl Rules {
 
     /// Puts a version in, and notes its key. Where the note is refused, the version is taken out.
     fn put(&mut self, ts: Ts, key: &Key, after: Option<&Value>) -> Result<(), AllocError>
-        requires noted { has key.now (keys_of (transaction_in self.old.txns ts)) ≡ false → version_in self.old.store key.now ts ≡ None }
-        ensures ok { OnOk result ((k : Kept) → IsWritten (holding k self.old) (holding k self.new) ts key.now (option_copied after.entry)) }
-        ensures err { OnErr result ((k : Kept) → IsAlike (holding k self.old) (holding k self.new)) }
+        requires noted { IsNotedIn self.old ts key.now }
+        ensures ok { OnOk result (Changes self.old self.new (λ k k'. IsWritten k k' ts key.now (option_copied after.entry))) }
+        ensures err { OnErr result (Stays self.old self.new) }
     {
         self.store.write(key, ts, after)?;
         if self.txns.add_key(ts, key).is_err() {
@@ -175,11 +173,11 @@ impl Rules {
     /// Reads the keys of a span, and marks the reader at all of them, those without a version too, but
     /// for keys where the version is its own. That something stops the reader is answered without memory.
     pub fn scan(&mut self, closed: u64, seat: u8, ts: u64, span: &Span) -> Result<Reply, AllocError>
-        ensures reply { IfOk result (λ reply. (k : Kept) → k.closed ≡ closed → (keys : List (List ℕ)) × (refusal (holding k self.old) seat ts ≡ None → AreKeysOf (holding k self.old) span.now keys) × (reply ≡ scan_reply (holding k self.old) seat ts keys)) }
-        ensures read { IfOk result (λ reply. (k : Kept) (rows : List (List ℕ × List ℕ)) → reply ≡ replies.Rows rows → IsScannedBy (holding k self.old) (holding k self.new) ts span.now) }
-        ensures refused { IfOk result (λ reply. (k : Kept) (r : Refusal) → reply ≡ Refused r → IsAlike (holding k self.old) (holding k self.new)) }
-        ensures err { OnErr result ((k : Kept) → IsAlike (holding k self.old) (holding k self.new)) }
-        ensures accepted { OnErr result ((k : Kept) → k.closed ≡ closed → (keys : List (List ℕ)) × (refusal (holding k self.old) seat ts ≡ None → AreKeysOf (holding k self.old) span.now keys) × (is_accepted (scan_reply (holding k self.old) seat ts keys) ≡ true)) }
+        ensures reply { IfOk result (λ reply. AtClosed closed self.old (λ k. IsScanReply k seat ts span.now reply)) }
+        ensures read { IfOk result (λ reply. Changes self.old self.new (λ k k'. (rows : Pairs) → reply ≡ replies.Rows rows → IsScannedBy k k' ts span.now)) }
+        ensures refused { IfOk result (StaysIfRefused self.old self.new) }
+        ensures err { OnErr result (Stays self.old self.new) }
+        ensures accepted { OnErr result (AtClosed closed self.old (λ k. IsScanAccepted k seat ts span.now)) }
     {
         let ts = match self.undecided(closed, seat, ts) {
             Err(refusal) => return Ok(Reply::Refused(refusal)),
@@ -196,19 +194,19 @@ impl Rules {
 
     /// Marks the reader of a span by its pieces.
     fn mark_all(&mut self, pieces: &[Piece], ts: Ts) -> Result<(), AllocError>
-        requires pieces { (span : Span) × AreMade self.old.store ts span (λ x. true) pieces.now }
+        requires pieces { (span : Span) × AreAllMade self.old.store ts span pieces.now }
         requires in_range { ts ≤ MAX }
-        ensures ok { OnOk result ((k : Kept) (span : Span) → AreMade self.old.store ts span (λ x. true) pieces.now → IsScannedBy (holding k self.old) (holding k self.new) ts span) }
-        ensures err { OnErr result ((k : Kept) → IsAlike (holding k self.old) (holding k self.new)) }
+        ensures ok { OnOk result (Changes self.old self.new (λ k k'. (span : Span) → AreAllMade self.old.store ts span pieces.now → IsScannedBy k k' ts span)) }
+        ensures err { OnErr result (Stays self.old self.new) }
     {
         self.marks.add_pieces(pieces, ts)
     }
 
     /// Commits a transaction with what it wrote. It takes no memory.
     pub fn commit(&mut self, closed: u64, seat: u8, ts: u64) -> Reply
-        ensures reply { (k : Kept) → k.closed ≡ closed → result ≡ commit_reply (holding k self.old) seat ts }
-        ensures committed { (k : Kept) (n : ℕ) → result ≡ Committed n → IsCommittedBy (holding k self.old) (holding k self.new) ts }
-        ensures refused { (k : Kept) (r : Refusal) → result ≡ Refused r → IsAlike (holding k self.old) (holding k self.new) }
+        ensures reply { AtClosed closed self.old (λ k. result ≡ commit_reply k seat ts) }
+        ensures committed { Changes self.old self.new (λ k k'. (n : ℕ) → result ≡ Committed n → IsCommittedBy k k' ts) }
+        ensures refused { StaysIfRefused self.old self.new result }
     {
         match self.undecided(closed, seat, ts) {
             Err(refusal) => Reply::Refused(refusal),
@@ -224,9 +222,9 @@ impl Rules {
 
     /// Aborts a transaction, and takes back what it wrote. It takes no memory.
     pub fn abort(&mut self, closed: u64, seat: u8, ts: u64) -> Reply
-        ensures reply { (k : Kept) → k.closed ≡ closed → result ≡ abort_reply (holding k self.old) seat ts }
-        ensures aborted { (k : Kept) → result ≡ Aborted → IsAbortedBy (holding k self.old) (holding k self.new) ts }
-        ensures refused { (k : Kept) (r : Refusal) → result ≡ Refused r → IsAlike (holding k self.old) (holding k self.new) }
+        ensures reply { AtClosed closed self.old (λ k. result ≡ abort_reply k seat ts) }
+        ensures aborted { Changes self.old self.new (λ k k'. result ≡ Aborted → IsAbortedBy k k' ts) }
+        ensures refused { StaysIfRefused self.old self.new result }
     {
         match self.undecided(closed, seat, ts) {
             Err(refusal) => Reply::Refused(refusal),
@@ -239,7 +237,7 @@ impl Rules {
 
     /// Takes back what a transaction wrote, and notes that it was aborted.
     fn take_back(&mut self, ts: Ts)
-        ensures { (k : Kept) → IsAbortedBy (holding k self.old) (holding k self.new) ts }
+        ensures { Changes self.old self.new (λ k k'. IsAbortedBy k k' ts) }
     {
         let written = self.txns.write_set(ts.get());
         self.store.abort(ts, written);
@@ -249,8 +247,8 @@ impl Rules {
     /// The timestamp of a transaction that the seat may still use, or why it may not.
     fn undecided(&self, closed: u64, seat: u8, ts: u64) -> Result<Ts, Refusal>
         ensures ok { IfOk result (λ t. t ≡ ts) }
-        ensures none { OnOk result ((k : Kept) → k.closed ≡ closed → refusal (holding k self.now) seat ts ≡ None) }
-        ensures err { IfErr result (λ r. (k : Kept) → k.closed ≡ closed → refusal (holding k self.now) seat ts ≡ Some r) }
+        ensures none { OnOk result (AtClosed closed self.now (λ k. refusal k seat ts ≡ None)) }
+        ensures err { IfErr result (λ r. AtClosed closed self.now (λ k. refusal k seat ts ≡ Some r)) }
         ensures other { IfErr result (λ r. r ≡ TooLate → ⊥) }
         ensures in_range { OnOk result ((1 ≤ ts) × (ts ≤ MAX)) }
         ensures above { OnOk result (closed < ts) }

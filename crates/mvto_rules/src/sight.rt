@@ -34,7 +34,7 @@ impl Sight {
         let at = version.ts.get();
         if at == ts.get() {
             Sight::Own
-        } else if version.decided {
+        } else if version.committed {
             Sight::Other(at)
         } else {
             Sight::Blocked(at)

@@ -1,5 +1,5 @@
 //! Reads at a closed timestamp, of what was committed there. They mark nothing.
-ghost use Rattle.std.specs.Prelude.{◌≡◌, ◌≤◌, ℕ, List, IfOk, IfSome};
+ghost use Rattle.std.specs.Prelude.{◌≡◌, ◌≤◌, IfOk, IfSome};
 ghost use Rattle.std.specs.Option.{option_copied};
 ghost use Rattle.spans.specs.Kept.{Kept};
 ghost use Rattle.spans.proofs.Keyed.{RisingKeys};
@@ -19,7 +19,7 @@ use version_chain::chain::Version;
 use version_chain::{Steps, Store};
 
 impl Rules {
-    ghost use Rattle.mvto_rules.specs.Holding.{holding};
+    ghost use Rattle.mvto_rules.specs.Holding.{holding, versions_of};
 
     /// What the newest version of a key at or below `t` left.
     pub fn read_at(&self, t: u64, key: &Key) -> Result<Option<Value>, AllocError>
@@ -32,8 +32,8 @@ impl Rules {
 
     /// The keys of a span whose newest version at or below `t` has a value, with it.
     pub fn scan_at(&self, t: u64, span: &Span) -> Result<Rows, AllocError>
-        ensures keys { (k : Kept) → AreKeysOf (holding k self.now) span.now (keys_in self.now.store span.now) }
-        ensures rows { IfOk result (λ rows. rows ≡ rows_in self.now.store t (keys_in self.now.store span.now)) }
+        ensures keys { (k : Kept) → AreKeysOf (holding k self.now) span.now (keys_in (versions_of self.now) span.now) }
+        ensures rows { IfOk result (λ rows. rows ≡ rows_in (versions_of self.now) t (keys_in (versions_of self.now) span.now)) }
     {
         let rows = rows_at(self.alloc, &self.store, span, t)?;
         Ok(Rows::from_vec(rows))

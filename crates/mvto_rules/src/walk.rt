@@ -1,12 +1,10 @@
 //! A walk through the keys of a span that have a version.
-ghost use Rattle.std.specs.Prelude.{◌≡◌, ◌++◌, ◌∷◌, [], ℕ, List, Option, None, Some, IfOk, OnOk};
+ghost use Rattle.std.specs.Prelude.{◌≡◌, ◌++◌, [], ℕ, Option, None, Some, IfOk, OnOk};
 ghost use Rattle.std.specs.Option.{option_copied};
 ghost use Rattle.spans.specs.Keys.{with_value};
-ghost use Rattle.spans.specs.declared.span.Span.{Span};
 ghost use Rattle.kept.specs.Finding.{IsNextAbove};
 ghost use Rattle.kept.specs.Marks as marking;
-ghost use Rattle.version_chain.specs.Chains.{Entry};
-ghost use Rattle.version_chain.specs.Stores.{Stored, after_of};
+ghost use Rattle.version_chain.specs.Stores.{after_of};
 ghost use Rattle.version_chain.specs.Versions.{version_of};
 ghost use Rattle.mvto_rules.specs.Sights.{value_in};
 
@@ -29,7 +27,7 @@ pub(crate) struct Walk {
 }
 
 impl Walk {
-    ghost use Rattle.mvto_rules.specs.Scans.{DoesStep, IsWalking};
+    ghost use Rattle.mvto_rules.specs.Scans.{Visits};
 
     /// Nothing found yet of the span.
     pub(crate) fn new(alloc: Global, span: &Span) -> Result<Walk, AllocError>
@@ -50,7 +48,7 @@ impl Walk {
         chain: &Chain,
         ts: Ts,
     ) -> Result<Option<u64>, AllocError>
-        ensures { IfOk result (λ by. (s : Stored) (span : Span) (rest : List Entry) → IsWalking s ts span ((key.now, chain.now) ∷ rest) self.old → DoesStep s ts span rest self.new by) }
+        ensures { IfOk result (Visits ts (key.now, chain.now) self.old self.new) }
     {
         let newest = chain.newest_at(ts.get(), &mut Steps::new());
         match Sight::of(newest, ts) {

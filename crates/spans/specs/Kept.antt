@@ -5,6 +5,8 @@
 use Rattle.std.specs.Prelude.{ℕ, List, [], ◌∷◌, Bool, true, ◌≡◌, ◌<◌, ◌↔◌, nat_lt, if◌then◌else◌, Option, Some, None, option_map}
 use Rattle.spans.specs.declared.span.Span.{Span}
 use Rattle.spans.specs.declared.kind.Kind.{Kind}
+use Rattle.spans.specs.declared.state.State.{State}
+use Rattle.spans.specs.declared.state.State.TheVariants as states
 use Rattle.spans.specs.declared.calls.messages.Message.{Message}
 use Rattle.spans.specs.declared.calls.messages.Message.TheVariants as messages
 use Rattle.spans.specs.Effects.{After, Effect}
@@ -15,11 +17,10 @@ use Rattle.spans.specs.Feeds.{Feed, feed_of, feeds_opened, is_cancelled, told_to
 use Rattle.spans.specs.Collection.{Protection, VersionName, version_name, horizon_of, protections_of, protections_made, is_dead}
 use Rattle.spans.specs.Consumer.{name_of}
 
--- a transaction: its owner, how it ended, and the keys that it wrote, rising
+-- a transaction: its owner, how it stands, and the keys that it wrote, rising
 pub record Transaction : Type 0 where
   pub seat : ℕ
-  pub committed : Bool
-  pub aborted : Bool
+  pub state : State
   pub keys : List (List ℕ)
 
 -- a live feed and its place: the greatest of its start and its resolved timestamps, and the name of the row that was told
@@ -38,7 +39,7 @@ pub record Kept : Type 0 where
   pub closed : ℕ
   pub horizon : ℕ
   pub version : List ℕ → ℕ → Option After
-  pub decided : List ℕ → ℕ → Bool
+  pub committed : List ℕ → ℕ → Bool
   pub marked : List ℕ → ℕ → Bool
   pub transaction : ℕ → Option Transaction
   pub protections : List Protection
@@ -50,8 +51,12 @@ pub record Kept : Type 0 where
 abbrev pub kept_version : List Effect → List ℕ → ℕ → Option After
 kept_version p x t = if is_dead p (version_name x t) then None else version_of p x t
 
+-- how t stands. (In a legal history none has committed and was aborted too.)
+abbrev pub state_of : List Effect → ℕ → State
+state_of p t = if is_committed p t then states.Committed else (if is_aborted p t then states.Aborted else states.Undecided)
+
 abbrev pub transaction_with : List Effect → ℕ → ℕ → Transaction
-transaction_with p t seat = record { seat = seat; committed = is_committed p t; aborted = is_aborted p t; keys = write_set p t }
+transaction_with p t seat = record { seat = seat; state = state_of p t; keys = write_set p t }
 
 -- a transaction above closed
 abbrev pub transaction_of : List Effect → ℕ → Option Transaction
@@ -83,7 +88,7 @@ pub record IsKeptOf (k : Kept) (p : List Effect) : Type 0 where
   pub closed_at : k.closed ≡ closed_of p
   pub horizon_at : k.horizon ≡ horizon_of p
   pub versions : (x : List ℕ) (t : ℕ) → k.version x t ≡ kept_version p x t
-  pub decided : (x : List ℕ) (t : ℕ) (a : After) → k.version x t ≡ Some a → k.decided x t ≡ is_committed p t
+  pub committed : (x : List ℕ) (t : ℕ) (a : After) → k.version x t ≡ Some a → k.committed x t ≡ is_committed p t
   pub marks : (x : List ℕ) (i : ℕ) → closed_of p < i → committed_version_of p x i ≡ None → (too_late p x i ≡ true) ↔ IsCrossed (k.marked x) (k.version x) i
   pub transactions : (t : ℕ) → k.transaction t ≡ transaction_of p t
   pub protected : k.protections ≡ protections_of p

@@ -1,4 +1,4 @@
-//! Bounds of spans: 1 to 65 bytes, so that the place just above any key is one.
+//! Bounds of spans: 1 to 257 bytes, so that the place just above any key is one.
 ghost use Rattle.std.specs.Prelude.{◌≡◌, ℕ, List, Some, ◌<◌, ◌≤◌, ◌⊎◌, length, bytes_eq, IfOk, IfErr, OnOk};
 ghost use Rattle.std.specs.Cmp.{partial_equiv_from_equiv};
 ghost use Rattle.std.specs.Cmp.Lexicographic.{nat_list_eq_equiv};
@@ -16,7 +16,7 @@ use std::ops;
 use timestamps::key::{Key, MAX_KEY_BYTES};
 
 /// The most bytes that a bound has: one more than a key.
-pub const MAX_BOUND_BYTES: usize = 65;
+pub const MAX_BOUND_BYTES: usize = 257;
 
 /// A place among the keys: 1 to [`MAX_BOUND_BYTES`] bytes, compared with keys byte by byte.
 ///
@@ -54,7 +54,7 @@ impl Bound {
         ensures bytes { IfOk result (λ b. b ≡ bytes.now) }
         ensures in_range { OnOk result ((1 ≤ length bytes.now) × (length bytes.now ≤ MAX_BOUND_BYTES)) }
         ensures refused { IfErr result (λ e. e ≡ BoundLength → (length bytes.now ≡ 0) ⊎ (MAX_BOUND_BYTES < length bytes.now)) }
-        ensures limit { MAX_BOUND_BYTES ≡ 65 }
+        ensures limit { MAX_BOUND_BYTES ≡ 257 }
         ensures memory { IfErr result (λ e. e ≡ NoMemory → (1 ≤ length bytes.now) × (length bytes.now ≤ MAX_BOUND_BYTES)) }
     {
         if bytes.is_empty() || bytes.len() > MAX_BOUND_BYTES {
@@ -69,7 +69,7 @@ impl Bound {
     /// The bound of these bytes, which it keeps. Where they are one more than a key has, the first of them are copied.
     fn of(alloc: Global, bytes: Vec<u8>) -> Result<Bound, BoundError>
         requires some { 1 ≤ length bytes.items }
-        requires few { length bytes.items ≤ 65 }
+        requires few { length bytes.items ≤ MAX_BOUND_BYTES }
         ensures bytes { IfOk result (λ b. b ≡ bytes.items) }
         ensures memory { IfErr result (λ e. e ≡ NoMemory) }
     {

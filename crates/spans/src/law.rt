@@ -1,11 +1,9 @@
 //! The law of histories: what holds of every legal history, as the contract of one function.
-ghost use Rattle.std.specs.Prelude.{List, ℕ, suc, ◌≡◌, ◌≤◌, ◌↔◌, true, Some};
+ghost use Rattle.std.specs.Prelude.{List, ℕ, ◌≡◌, ◌↔◌, true, Some};
 ghost use Rattle.spans.specs.declared.calls.events.Event.{Event};
-ghost use Rattle.spans.specs.Effects.{After, effects_of};
+ghost use Rattle.spans.specs.Effects.{effects_of};
 ghost use Rattle.spans.specs.Legal.{IsLegal};
-ghost use Rattle.spans.specs.Reads.{IsRead, IsReadAcross, too_late};
-ghost use Rattle.spans.specs.Newest.{IsNewest};
-ghost use Rattle.spans.specs.Versions.{committed_version_of};
+ghost use Rattle.spans.specs.Reads.{IsReadAcross, ReadNewest, too_late};
 ghost use Rattle.spans.specs.Feeds.{Feed, feed_of};
 ghost use Rattle.spans.specs.FeedRight.{FeedIsRight};
 ghost use Rattle.spans.specs.Consumer.{ConsumerIsRight};
@@ -26,7 +24,7 @@ ghost use Rattle.spans.specs.Serial.{IsOneCopy};
 pub fn law_of_histories()
     ensures one_copy { (h : List Event) → IsLegal h → IsOneCopy (effects_of h) }
     ensures write_rule { (h : List Event) (x : List ℕ) (i : ℕ) → (too_late (effects_of h) x i ≡ true) ↔ IsReadAcross (effects_of h) x i }
-    ensures reads_from { (h : List Event) → IsLegal h → (t : ℕ) (x : List ℕ) (k : ℕ) (v : After) → IsRead (effects_of h) (suc t) x k v → k ≤ t → IsNewest (committed_version_of (effects_of h) x) t k v }
+    ensures reads_from { (h : List Event) → IsLegal h → ReadNewest (effects_of h) }
     ensures feeds { (h : List Event) → IsLegal h → (f : ℕ) (feed : Feed) → feed_of (effects_of h) f ≡ Some feed → FeedIsRight (effects_of h) f feed }
     ensures consumers { (h : List Event) → IsLegal h → (f : ℕ) (feed : Feed) → feed_of (effects_of h) f ≡ Some feed → ConsumerIsRight (effects_of h) f feed }
 {}

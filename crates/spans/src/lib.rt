@@ -25,3 +25,4 @@ pub mod kind;
 pub mod law;
 mod pieces;
 pub mod span;
+pub mod state;

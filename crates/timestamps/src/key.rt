@@ -1,4 +1,4 @@
-//! Keys: 1 to 64 bytes, in byte order.
+//! Keys: 1 to 256 bytes, in byte order.
 ghost use Rattle.std.specs.Prelude.{◌≡◌, ℕ, List, ◌<◌, ◌≤◌, ◌+◌, ◌⊎◌, Some, refl, length, bytes_eq, IfOk, IfErr, OnOk};
 ghost use Rattle.std.specs.Cmp.{on_equiv, on_total, on_po, on_per, partial_equiv_from_equiv};
 ghost use Rattle.std.specs.Cmp.Lexicographic.{nat_list_eq_equiv, nat_list_cmp_total, texts_ties, texts_po};
@@ -11,7 +11,7 @@ use std::cmp::Ordering;
 use std::marker::Model;
 
 /// The most bytes that a key has.
-pub const MAX_KEY_BYTES: usize = 64;
+pub const MAX_KEY_BYTES: usize = 256;
 
 /// What a value is stored under: 1 to [`MAX_KEY_BYTES`] bytes, ordered byte by byte, a beginning
 /// before what it begins.
@@ -22,12 +22,13 @@ pub struct Key {
 
 impl Model for Key {
     ghost use Rattle.std.specs.Prelude.{ℕ, List, ◌≤◌, length};
+    ghost use Rattle.timestamps.specs.declared.key.TheConstants.{MAX_KEY_BYTES};
 
     ghost Value = { List ℕ };
 
     ghost view = { λ k. k.bytes.items };
 
-    ghost invariant = { λ k. (1 ≤ length k.bytes.items) × (length k.bytes.items ≤ 64) };
+    ghost invariant = { λ k. (1 ≤ length k.bytes.items) × (length k.bytes.items ≤ MAX_KEY_BYTES) };
 }
 
 /// Why bytes are no key.
@@ -45,7 +46,7 @@ impl Key {
         ensures bytes { IfOk result (λ k. k ≡ bytes.now) }
         ensures in_range { OnOk result ((1 ≤ length bytes.now) × (length bytes.now ≤ MAX_KEY_BYTES)) }
         ensures refused { IfErr result (λ e. e ≡ KeyLength → (length bytes.now ≡ 0) ⊎ (MAX_KEY_BYTES < length bytes.now)) }
-        ensures limit { MAX_KEY_BYTES ≡ 64 }
+        ensures limit { MAX_KEY_BYTES ≡ 256 }
         ensures memory { IfErr result (λ e. e ≡ NoMemory → (1 ≤ length bytes.now) × (length bytes.now ≤ MAX_KEY_BYTES)) }
     {
         if bytes.is_empty() || bytes.len() > MAX_KEY_BYTES {

@@ -1,11 +1,11 @@
 //! The smallest words of the database: timestamps, keys, values and the rows that join them.
 //!
 //! A [`Timestamp`](ts::Ts) is a number from 1 to 9223372036854775807, so that 0 can mean "before all"
-//! and one more still fits a `u64`. A key is 1 to 64 bytes, ordered byte by byte; a value is 0 to 1024
+//! and one more still fits a `u64`. A key is 1 to 256 bytes, ordered byte by byte; a value is 0 to 65536
 //! bytes. Contracts see a timestamp as its number, a key or a value as its list of bytes. Threads that
 //! want timestamps of their own lease them, 32 at a time, from an [`Oracle`](oracle::Oracle). A rising
-//! list of timestamps is searched by [`Halves`](halves::Halves), and a map by
-//! [`Moment`](moment::Moment)s, which are keys that are ordered as timestamps are.
+//! list of timestamps is searched by [`BinarySearch`](binary_search::BinarySearch), and a map by
+//! [`TsKey`](ts_key::TsKey)s, which are keys that are ordered as timestamps are.
 //!
 //! ```text
 //! Ts::new(0)            None                  Key::new(alloc, b"")      Err(KeyLength)
@@ -19,12 +19,12 @@
 //! many timestamps as the length of the list has binary digits.
 #![tactic(auto)]
 
+pub mod binary_search;
 mod blocks;
-pub mod halves;
 pub mod key;
 pub mod lease;
-pub mod moment;
 pub mod oracle;
 pub mod row;
 pub mod ts;
+pub mod ts_key;
 pub mod value;

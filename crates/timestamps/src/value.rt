@@ -1,4 +1,4 @@
-//! Values: 0 to 1024 bytes.
+//! Values: 0 to 65536 bytes.
 ghost use Rattle.std.specs.Prelude.{◌≡◌, ℕ, List, ◌<◌, ◌≤◌, length, bytes_eq, IfOk, IfErr, OnOk};
 ghost use Rattle.std.specs.Cmp.{partial_equiv_from_equiv};
 ghost use Rattle.std.specs.Cmp.Lexicographic.{nat_list_eq_equiv};
@@ -9,7 +9,7 @@ use std::alloc::{AllocError, Global};
 use std::marker::Model;
 
 /// The most bytes that a value has.
-pub const MAX_VALUE_BYTES: usize = 1024;
+pub const MAX_VALUE_BYTES: usize = 65536;
 
 /// What is stored under a key: 0 to [`MAX_VALUE_BYTES`] bytes.
 #[derive(Debug, Drop)]
@@ -19,12 +19,13 @@ pub struct Value {
 
 impl Model for Value {
     ghost use Rattle.std.specs.Prelude.{ℕ, List, ◌≤◌, length};
+    ghost use Rattle.timestamps.specs.declared.value.TheConstants.{MAX_VALUE_BYTES};
 
     ghost Value = { List ℕ };
 
     ghost view = { λ v. v.bytes.items };
 
-    ghost invariant = { λ v. length v.bytes.items ≤ 1024 };
+    ghost invariant = { λ v. length v.bytes.items ≤ MAX_VALUE_BYTES };
 }
 
 /// Why bytes are no value.
@@ -42,7 +43,7 @@ impl Value {
         ensures bytes { IfOk result (λ v. v ≡ bytes.now) }
         ensures in_range { OnOk result (length bytes.now ≤ MAX_VALUE_BYTES) }
         ensures refused { IfErr result (λ e. e ≡ ValueLength → MAX_VALUE_BYTES < length bytes.now) }
-        ensures limit { MAX_VALUE_BYTES ≡ 1024 }
+        ensures limit { MAX_VALUE_BYTES ≡ 65536 }
         ensures memory { IfErr result (λ e. e ≡ NoMemory → length bytes.now ≤ MAX_VALUE_BYTES) }
     {
         if bytes.len() > MAX_VALUE_BYTES {

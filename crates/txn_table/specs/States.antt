@@ -1,16 +1,26 @@
--- How a transaction stands, and how it ends.
-use Rattle.std.specs.Prelude.{if◌then◌else◌, true}
+-- How a transaction begins, what it notes and how it ends.
+use Rattle.std.specs.Prelude.{List, Option, Some, unwrap_or, ℕ}
 use Rattle.spans.specs.Kept.{Transaction}
+use Rattle.spans.specs.Keys.{insert_key}
+use Rattle.spans.specs.declared.state.State.{State}
+use Rattle.spans.specs.declared.state.State.TheVariants as states
+use Rattle.kept.specs.Table.{new_transaction}
 use Rattle.txn_table.specs.declared.transaction.Outcome.{Outcome}
 use Rattle.txn_table.specs.declared.transaction.Outcome.TheVariants as outcomes
-use Rattle.txn_table.specs.declared.transaction.State.{State}
-use Rattle.txn_table.specs.declared.transaction.State.TheVariants as states
 
--- how it stands
-abbrev pub state_of : Transaction → State
-state_of n = if n.committed then states.Committed else (if n.aborted then states.Aborted else states.Undecided)
+-- the transaction that there is, or else a new one of the seat
+abbrev pub begun : ℕ → Option Transaction → Option Transaction
+begun seat o = Some (unwrap_or o (new_transaction seat))
+
+-- the transaction, with the key in its write set
+abbrev pub with_key : List ℕ → Transaction → Transaction
+with_key x n = record n { keys = insert_key x n.keys }
+
+-- how a transaction stands that has ended so
+abbrev pub state_after : Outcome → State
+state_after outcomes.Committed = states.Committed
+state_after outcomes.Aborted = states.Aborted
 
 -- the transaction, ended so
 abbrev pub decided : Outcome → Transaction → Transaction
-decided outcomes.Committed n = record n { committed = true }
-decided outcomes.Aborted n = record n { aborted = true }
+decided outcome n = record n { state = state_after outcome }

@@ -1,5 +1,5 @@
 -- What a table of transactions says.
-use Rattle.std.specs.Prelude.{Bool, List, Option, length, ℕ, ◌≡◌}
+use Rattle.std.specs.Prelude.{Bool, List, Option, if◌then◌else◌, length, ℕ, ◌==◌, ◌≡◌}
 use Rattle.std.specs.BTreeMap.{is_at}
 use Rattle.std.specs.Map.{lookup}
 use Rattle.std.specs.Ordering.{nat_cmp}
@@ -13,6 +13,10 @@ Table = List (ℕ × Transaction)
 -- the transaction of t
 abbrev pub transaction_in : Table → ℕ → Option Transaction
 transaction_in table t = lookup (is_at (nat_cmp t)) table
+
+-- the transaction of t became f of what it was, and the others are as they were
+abbrev pub IsSetAt : Table → Table → ℕ → (Option Transaction → Option Transaction) → Type 0
+IsSetAt table table' t f = (i : ℕ) → transaction_in table' i ≡ (if t == i then f (transaction_in table i) else transaction_in table i)
 
 -- n is how many timestamps pass the test
 abbrev pub IsCountOf : (ℕ → Bool) → ℕ → Type 0

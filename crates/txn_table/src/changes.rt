@@ -2,48 +2,44 @@
 ghost use Rattle.std.specs.Prelude.{◌≡◌, ◌==◌, ◌&&◌, ℕ, List, None, OnOk, OnErr, false, nat_lt, option_map, if◌then◌else◌};
 ghost use Rattle.std.specs.BTreeSet.{contains};
 ghost use Rattle.std.specs.Ordering.{nat_cmp};
-ghost use Rattle.spans.specs.Kept.{Transaction};
-ghost use Rattle.spans.specs.Keys.{insert_key};
 ghost use Rattle.spans.proofs.WriteSets.{has};
 ghost use Rattle.kept.specs.Table.{keys_of};
-ghost use Rattle.txn_table.specs.States.{decided};
-ghost use Rattle.txn_table.specs.TransactionIn.{transaction_in};
+ghost use Rattle.txn_table.specs.States.{decided, with_key};
+ghost use Rattle.txn_table.specs.TransactionIn.{transaction_in, IsSetAt};
 
 use crate::transaction::{Outcome, Transaction};
 use std::alloc::AllocError;
 use std::collections::{BTreeMap, BTreeSet};
 use timestamps::key::Key;
-use timestamps::moment::Moment;
+use timestamps::ts_key::TsKey;
 
 /// Notes that the transaction of `ts` wrote the key.
 pub(crate) fn add_key_at(
-    table: &mut BTreeMap<Moment, Transaction>,
+    table: &mut BTreeMap<TsKey, Transaction>,
     ts: u64,
     key: &Key,
 ) -> Result<(), AllocError>
-    ensures ok { OnOk result ((i : ℕ) → transaction_in table.new.entries i
-        ≡ (if ts == i then option_map (λ (n : Transaction). record n { keys = insert_key key.now n.keys }) (transaction_in table.old.entries i) else transaction_in table.old.entries i)) }
+    ensures ok { OnOk result (IsSetAt table.old.entries table.new.entries ts (option_map (with_key key.now))) }
     ensures err { OnErr result (table.new.entries ≡ table.old.entries) }
     ensures absent { OnErr result (has key.now (keys_of (transaction_in table.old.entries ts)) ≡ false) }
 {
-    match table.get_mut(&Moment(ts)) {
+    match table.get_mut(&TsKey(ts)) {
         None => Ok(()),
         Some(transaction) => transaction.add_key(key),
     }
 }
 
 /// Ends the transaction of `ts`.
-pub(crate) fn decide_at(table: &mut BTreeMap<Moment, Transaction>, ts: u64, outcome: Outcome)
-    ensures { (i : ℕ) → transaction_in table.new.entries i
-        ≡ (if ts == i then option_map (decided outcome) (transaction_in table.old.entries i) else transaction_in table.old.entries i) }
+pub(crate) fn decide_at(table: &mut BTreeMap<TsKey, Transaction>, ts: u64, outcome: Outcome)
+    ensures { IsSetAt table.old.entries table.new.entries ts (option_map (decided outcome)) }
 {
-    if let Some(transaction) = table.get_mut(&Moment(ts)) {
+    if let Some(transaction) = table.get_mut(&TsKey(ts)) {
         transaction.decide(outcome);
     }
 }
 
 /// Drops the transactions at or below `ts`.
-pub(crate) fn forget_transactions(table: &mut BTreeMap<Moment, Transaction>, ts: u64)
+pub(crate) fn forget_transactions(table: &mut BTreeMap<TsKey, Transaction>, ts: u64)
     ensures { (i : ℕ) → transaction_in table.new.entries i
         ≡ (if nat_lt ts i then transaction_in table.old.entries i else None) }
 {
@@ -56,7 +52,7 @@ pub(crate) fn forget_transactions(table: &mut BTreeMap<Moment, Transaction>, ts:
 }
 
 /// Drops the timestamps at or below `ts`.
-pub(crate) fn forget_undecided(undecided: &mut BTreeSet<Moment>, ts: u64)
+pub(crate) fn forget_undecided(undecided: &mut BTreeSet<TsKey>, ts: u64)
     ensures { (i : ℕ) → contains nat_cmp undecided.new i
         ≡ (nat_lt ts i && contains nat_cmp undecided.old i) }
 {

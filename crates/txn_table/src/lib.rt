@@ -1,4 +1,4 @@
-//! The table of transactions: of each that began and isn't forgotten, its owner, how it ended, and
+//! The table of transactions: of each that began and isn't forgotten, its owner, how it stands, and
 //! the keys that it wrote.
 //!
 //! An ordered map by timestamp, and beside it an ordered set of the timestamps that are undecided.
@@ -23,5 +23,5 @@ mod transaction;
 mod txns;
 mod write_set;
 
-pub use transaction::{Outcome, State};
+pub use transaction::Outcome;
 pub use txns::Txns;

@@ -4,23 +4,13 @@ ghost use Rattle.spans.specs.Keys.{insert_key};
 ghost use Rattle.spans.proofs.Keyed.{RisingKeys};
 ghost use Rattle.spans.proofs.WriteSets.{has};
 ghost use Rattle.kept.specs.Table.{new_transaction};
-ghost use Rattle.txn_table.specs.States.{state_of, decided};
+ghost use Rattle.txn_table.specs.States.{decided};
 
 use crate::write_set::WriteSet;
+use spans::state::State;
 use std::alloc::{AllocError, Global};
 use std::marker::Model;
 use timestamps::key::Key;
-
-/// How a transaction stands.
-#[derive(Clone, Copy, Debug, PartialEq, Eq)]
-pub enum State {
-    /// It has begun, and has not ended.
-    Undecided,
-    /// It has committed.
-    Committed,
-    /// It was aborted.
-    Aborted,
-}
 
 /// How a transaction ends.
 #[derive(Clone, Copy, Debug, PartialEq, Eq)]
@@ -31,13 +21,11 @@ pub enum Outcome {
     Aborted,
 }
 
-/// A transaction: its owner, whether it has committed and whether it was aborted, each by a word of
-/// its own as in the definitions, and the keys that it wrote.
+/// A transaction: its owner, how it stands, and the keys that it wrote.
 #[derive(Debug, Drop)]
 pub(crate) struct Transaction {
     seat: u8,
-    committed: bool,
-    aborted: bool,
+    state: State,
     keys: WriteSet,
 }
 
@@ -46,7 +34,7 @@ impl Model for Transaction {
 
     ghost Value = { kept.Transaction };
 
-    ghost view = { λ t. record { seat = t.seat; committed = t.committed; aborted = t.aborted; keys = t.keys } };
+    ghost view = { λ t. record { seat = t.seat; state = t.state; keys = t.keys } };
 }
 
 impl Transaction {
@@ -56,8 +44,7 @@ impl Transaction {
     {
         Transaction {
             seat,
-            committed: false,
-            aborted: false,
+            state: State::Undecided,
             keys: WriteSet::new(alloc),
         }
     }
@@ -71,15 +58,9 @@ impl Transaction {
 
     /// How it stands.
     pub(crate) fn state(&self) -> State
-        ensures { result ≡ state_of self.now }
+        ensures { result ≡ self.now.state }
     {
-        if self.committed {
-            return State::Committed;
-        }
-        if self.aborted {
-            return State::Aborted;
-        }
-        State::Undecided
+        self.state
     }
 
     /// The keys that it wrote.
@@ -110,9 +91,9 @@ impl Transaction {
     pub(crate) fn decide(&mut self, outcome: Outcome)
         ensures { self.new ≡ decided outcome self.old }
     {
-        match outcome {
-            Outcome::Committed => self.committed = true,
-            Outcome::Aborted => self.aborted = true,
-        }
+        self.state = match outcome {
+            Outcome::Committed => State::Committed,
+            Outcome::Aborted => State::Aborted,
+        };
     }
 }

@@ -1,32 +1,32 @@
 //! The transactions that stand, by timestamp.
-ghost use Rattle.std.specs.Prelude.{◌≡◌, ◌==◌, ◌&&◌, ℕ, List, [], Some, None, IfSome, IfOk, OnOk, OnErr, IsSome, false, nat_le, nat_lt, option_map, is_none, unwrap_or, if◌then◌else◌, length, ◌<◌, ◌^◌};
+ghost use Rattle.std.specs.Prelude.{◌≡◌, ◌&&◌, ℕ, List, [], Some, None, IfSome, IfOk, OnOk, OnErr, IsSome, false, nat_le, nat_lt, option_map, is_none, if◌then◌else◌, length, ◌<◌, ◌^◌};
 ghost use Rattle.std.specs.List.Sorted.{IsStrictlyIncreasing};
 ghost use Rattle.spans.specs.Kept.{Transaction};
-ghost use Rattle.spans.specs.Keys.{insert_key};
 ghost use Rattle.spans.proofs.Keyed.{RisingKeys};
 ghost use Rattle.spans.proofs.WriteSets.{has};
 ghost use Rattle.kept.specs.Lists.{AreThose};
-ghost use Rattle.kept.specs.Table.{IsOldest, is_open, keys_of, new_transaction};
-ghost use Rattle.txn_table.specs.States.{state_of, decided};
-ghost use Rattle.txn_table.specs.TransactionIn.{transaction_in, IsCountOf};
+ghost use Rattle.kept.specs.Table.{IsOldest, is_open, keys_of};
+ghost use Rattle.txn_table.specs.States.{begun, decided, with_key};
+ghost use Rattle.txn_table.specs.TransactionIn.{transaction_in, IsCountOf, IsSetAt};
 
 use crate::changes::{add_key_at, decide_at, forget_transactions, forget_undecided};
-use crate::transaction::{Outcome, State, Transaction};
+use crate::transaction::{Outcome, Transaction};
+use spans::state::State;
 use std::alloc::{AllocError, Global};
 use std::collections::btree_map::Entry;
 use std::collections::btree_set::Range;
 use std::collections::{BTreeMap, BTreeSet};
 use std::marker::Model;
 use timestamps::key::Key;
-use timestamps::moment::Moment;
 use timestamps::ts::Ts;
+use timestamps::ts_key::TsKey;
 
 /// The transactions, and which of them are undecided.
 #[derive(Debug, Drop)]
 pub struct Txns {
     alloc: Global,
-    table: BTreeMap<Moment, Transaction>,
-    undecided: BTreeSet<Moment>,
+    table: BTreeMap<TsKey, Transaction>,
+    undecided: BTreeSet<TsKey>,
 }
 
 impl Model for Txns {
@@ -56,12 +56,11 @@ impl Txns {
     /// no memory where there is one; where memory is wanting, nothing has begun.
     pub fn begin(&mut self, ts: Ts, seat: u8) -> Result<bool, AllocError>
         ensures new { IfOk result (λ new. new ≡ is_none (transaction_in self.old ts)) }
-        ensures ok { OnOk result ((i : ℕ) → transaction_in self.new i
-            ≡ (if ts == i then Some (unwrap_or (transaction_in self.old i) (new_transaction seat)) else transaction_in self.old i)) }
+        ensures ok { OnOk result (IsSetAt self.old self.new ts (begun seat)) }
         ensures err { OnErr result (self.new ≡ self.old) }
         ensures free { OnErr result (transaction_in self.old ts ≡ None) }
     {
-        let ts = Moment(ts.get());
+        let ts = TsKey(ts.get());
         match self.table.entry(ts)? {
             Entry::Occupied(_) => Ok(false),
             Entry::Vacant(place) => {
@@ -76,7 +75,7 @@ impl Txns {
     pub fn owner(&self, ts: u64) -> Option<u8>
         ensures { result ≡ option_map (λ (n : Transaction). n.seat) (transaction_in self.now ts) }
     {
-        match self.table.get(&Moment(ts)) {
+        match self.table.get(&TsKey(ts)) {
             None => None,
             Some(transaction) => Some(transaction.seat()),
         }
@@ -84,9 +83,9 @@ impl Txns {
 
     /// How the transaction of `ts` stands.
     pub fn state(&self, ts: u64) -> Option<State>
-        ensures { result ≡ option_map state_of (transaction_in self.now ts) }
+        ensures { result ≡ option_map (λ (n : Transaction). n.state) (transaction_in self.now ts) }
     {
-        match self.table.get(&Moment(ts)) {
+        match self.table.get(&TsKey(ts)) {
             None => None,
             Some(transaction) => Some(transaction.state()),
         }
@@ -97,7 +96,7 @@ impl Txns {
         ensures keys { result.now ≡ keys_of (transaction_in self.now ts) }
         ensures rising { RisingKeys result.now }
     {
-        match self.table.get(&Moment(ts)) {
+        match self.table.get(&TsKey(ts)) {
             None => &[],
             Some(transaction) => transaction.keys(),
         }
@@ -107,7 +106,7 @@ impl Txns {
     pub fn has_key(&self, ts: u64, key: &Key) -> bool
         ensures { result ≡ has key.now (keys_of (transaction_in self.now ts)) }
     {
-        match self.table.get(&Moment(ts)) {
+        match self.table.get(&TsKey(ts)) {
             None => false,
             Some(transaction) => transaction.has_key(key),
         }
@@ -116,8 +115,7 @@ impl Txns {
     /// Notes that the transaction of `ts` wrote the key. It takes no memory where the key is noted
     /// already; where memory is wanting, nothing is noted.
     pub fn add_key(&mut self, ts: Ts, key: &Key) -> Result<(), AllocError>
-        ensures ok { OnOk result ((i : ℕ) → transaction_in self.new i
-            ≡ (if ts == i then option_map (λ (n : Transaction). record n { keys = insert_key key.now n.keys }) (transaction_in self.old i) else transaction_in self.old i)) }
+        ensures ok { OnOk result (IsSetAt self.old self.new ts (option_map (with_key key.now))) }
         ensures err { OnErr result (self.new ≡ self.old) }
         ensures absent { OnErr result (has key.now (keys_of (transaction_in self.old ts)) ≡ false) }
     {
@@ -126,11 +124,10 @@ impl Txns {
 
     /// Ends the transaction of `ts`, where there is one. It takes no memory.
     pub fn decide(&mut self, ts: Ts, outcome: Outcome)
-        ensures { (i : ℕ) → transaction_in self.new i
-            ≡ (if ts == i then option_map (decided outcome) (transaction_in self.old i) else transaction_in self.old i) }
+        ensures { IsSetAt self.old self.new ts (option_map (decided outcome)) }
     {
         decide_at(&mut self.table, ts.get(), outcome);
-        self.undecided.remove(&Moment(ts.get()));
+        self.undecided.remove(&TsKey(ts.get()));
     }
 
     /// The least timestamp that is undecided.
@@ -151,12 +148,12 @@ impl Txns {
     }
 
     /// The undecided timestamps at or below `to`, rising.
-    pub fn undecided_through(&self, to: u64) -> Range<'_, Moment>
+    pub fn undecided_through(&self, to: u64) -> Range<'_, TsKey>
         ensures those { AreThose (λ t. nat_le t to && is_open (transaction_in self.now t)) result }
         ensures rising { IsStrictlyIncreasing result }
         ensures fits { length result < 2 ^ 63 }
     {
-        self.undecided.range(..=Moment(to))
+        self.undecided.range(..=TsKey(to))
     }
 
     /// Forgets the transactions at or below `ts`, undecided ones too. It takes no memory.

@@ -8,7 +8,7 @@ use Rattle.std.proofs.lemmas.Bool.Decides.{nat_tests}
 use Rattle.spans.proofs.Steps.{by_test, newest_only}
 use Rattle.version_chain.specs.declared.chain.Version.{Version}
 use Rattle.version_chain.specs.Versions.{AreAbove, DoRise, version_of, IsPlaceAbove}
-use Rattle.version_chain.specs.Spent.{after_if_committed, newest_of, is_spent_version, is_spent_at}
+use Rattle.version_chain.specs.Dead.{after_if_committed, newest_of, is_dead_version, is_dead_at}
 use Rattle.version_chain.proofs.Places.{rises_at, found, same_ts}
 
 above_filtered : (t : ℕ) (p : Version → Bool) (vs : List Version) → AreAbove t vs → AreAbove t (filter p vs)
@@ -44,56 +44,56 @@ low_ones (v ∷ vs) t (suc n) p =
     })))
 
 -- nothing above a horizon is dead by it
-high_lives : (n top : ℕ) (v : Version) → nat_le v.ts n ≡ false → is_spent_version n top v ≡ false
-high_lives n top v high = by_test v.decided (λ on. rw (on, high) refl) (λ off. rw off refl)
+high_lives : (n top : ℕ) (v : Version) → nat_le v.ts n ≡ false → is_dead_version n top v ≡ false
+high_lives n top v high = by_test v.committed (λ on. rw (on, high) refl) (λ off. rw off refl)
 
-all_high : (n top : ℕ) (vs : List Version) → ((k : ℕ) (d : Version) → k < length vs → n < (get_or vs k d).ts) → filter (λ (v : Version). not (is_spent_version n top v)) vs ≡ vs
+all_high : (n top : ℕ) (vs : List Version) → ((k : ℕ) (d : Version) → k < length vs → n < (get_or vs k d).ts) → filter (λ (v : Version). not (is_dead_version n top v)) vs ≡ vs
 all_high n top [] above = refl
 all_high n top (v ∷ vs) above =
     let up : n < v.ts = above zero v (omega arith) in
     let high : nat_le v.ts n ≡ false = grind (arith, nat_tests) in
     rw (high_lives n top v high) (ap (λ ws. v ∷ ws) (all_high n top vs (λ k d lt. above (suc k) d (omega arith))))
 
-thinned_low : (n top place : ℕ) (vs : List Version) → IsPlaceAbove vs n place → filter (λ (v : Version). not (is_spent_version n top v)) (take place vs) ++ drop place vs ≡ filter (λ (v : Version). not (is_spent_version n top v)) vs
+thinned_low : (n top place : ℕ) (vs : List Version) → IsPlaceAbove vs n place → filter (λ (v : Version). not (is_dead_version n top v)) (take place vs) ++ drop place vs ≡ filter (λ (v : Version). not (is_dead_version n top v)) vs
 thinned_low n top zero vs p = sym (all_high n top vs (λ k d lt. p.above k d (omega arith) lt))
 thinned_low n top (suc m) [] p = absurd (omega (arith, p.within))
 thinned_low n top (suc m) (v ∷ vs) p =
-    let more : filter (λ (v : Version). not (is_spent_version n top v)) (take m vs) ++ drop m vs ≡ filter (λ (v : Version). not (is_spent_version n top v)) vs = thinned_low n top m vs (record {
+    let more : filter (λ (v : Version). not (is_dead_version n top v)) (take m vs) ++ drop m vs ≡ filter (λ (v : Version). not (is_dead_version n top v)) vs = thinned_low n top m vs (record {
       within = omega (arith, p.within);
       below = λ k d lt. p.below (suc k) d (omega arith);
       above = λ k d at lt. p.above (suc k) d (omega arith) (omega arith);
     }) in
-    by_test (is_spent_version n top v)
+    by_test (is_dead_version n top v)
     (λ on. rw on more)
     (λ off. rw off (ap (λ ws. v ∷ ws) more))
 
 -- so where what is dead before the place is gone all that is dead is gone
-pub thinned_whole : {n place : ℕ} {vs ws us : List Version} (top : ℕ) → vs ≡ ws → IsPlaceAbove ws n place → us ≡ filter (λ (v : Version). not (is_spent_version n top v)) (take place vs) ++ drop place vs → us ≡ filter (λ (v : Version). not (is_spent_version n top v)) ws
-thinned_whole {n} {place} {vs} {ws} top same at less = less ∙ ap (λ vs. filter (λ (v : Version). not (is_spent_version n top v)) (take place vs) ++ drop place vs) same ∙ thinned_low n top place ws at
+pub thinned_whole : {n place : ℕ} {vs ws us : List Version} (top : ℕ) → vs ≡ ws → IsPlaceAbove ws n place → us ≡ filter (λ (v : Version). not (is_dead_version n top v)) (take place vs) ++ drop place vs → us ≡ filter (λ (v : Version). not (is_dead_version n top v)) ws
+thinned_whole {n} {place} {vs} {ws} top same at less = less ∙ ap (λ vs. filter (λ (v : Version). not (is_dead_version n top v)) (take place vs) ++ drop place vs) same ∙ thinned_low n top place ws at
 
 -- what is dead is among those
-pub dead_low : (n top : ℕ) (vs : List Version) (i : ℕ) → is_spent_at n top vs i ≡ true → list_any (is_spent_version n top) (filter (λ (v : Version). nat_le v.ts n) vs) ≡ true
+pub dead_low : (n top : ℕ) (vs : List Version) (i : ℕ) → is_dead_at n top vs i ≡ true → list_any (is_dead_version n top) (filter (λ (v : Version). nat_le v.ts n) vs) ≡ true
 dead_low n top [] i e = e
 dead_low n top (v ∷ vs) i e =
     let more = filter (λ (v : Version). nat_le v.ts n) vs in
-    elim (or_cases ((v.ts == i) && is_spent_version n top v) (is_spent_at n top vs i) e) [
-      | inl here ↦ (let q : is_spent_version n top v ≡ true = (and_parts (v.ts == i) (is_spent_version n top v) here).1 in
-          let low : nat_le v.ts n ≡ true = (and_parts (nat_le v.ts n) (is_none v.after || nat_lt v.ts top) (and_parts v.decided (nat_le v.ts n && (is_none v.after || nat_lt v.ts top)) q).1).0 in
-          subst (λ b. list_any (is_spent_version n top) (cond b (v ∷ more) more) ≡ true) (sym low) (or_left (is_spent_version n top v) (list_any (is_spent_version n top) more) q))
+    elim (or_cases ((v.ts == i) && is_dead_version n top v) (is_dead_at n top vs i) e) [
+      | inl here ↦ (let q : is_dead_version n top v ≡ true = (and_parts (v.ts == i) (is_dead_version n top v) here).1 in
+          let low : nat_le v.ts n ≡ true = (and_parts (nat_le v.ts n) (is_none v.after || nat_lt v.ts top) (and_parts v.committed (nat_le v.ts n && (is_none v.after || nat_lt v.ts top)) q).1).0 in
+          subst (λ b. list_any (is_dead_version n top) (cond b (v ∷ more) more) ≡ true) (sym low) (or_left (is_dead_version n top v) (list_any (is_dead_version n top) more) q))
       | inr there ↦ by_test (nat_le v.ts n)
-          (λ on. subst (λ b. list_any (is_spent_version n top) (cond b (v ∷ more) more) ≡ true) (sym on) (or_right (is_spent_version n top v) (list_any (is_spent_version n top) more) (dead_low n top vs i there)))
-          (λ off. subst (λ b. list_any (is_spent_version n top) (cond b (v ∷ more) more) ≡ true) (sym off) (dead_low n top vs i there))
+          (λ on. subst (λ b. list_any (is_dead_version n top) (cond b (v ∷ more) more) ≡ true) (sym on) (or_right (is_dead_version n top v) (list_any (is_dead_version n top) more) (dead_low n top vs i there)))
+          (λ off. subst (λ b. list_any (is_dead_version n top) (cond b (v ∷ more) more) ≡ true) (sym off) (dead_low n top vs i there))
     ]
 
-pub same_low : (n top : ℕ) (vs : List Version) (i : ℕ) → is_spent_at n top (filter (λ (v : Version). nat_le v.ts n) vs) i ≡ is_spent_at n top vs i
+pub same_low : (n top : ℕ) (vs : List Version) (i : ℕ) → is_dead_at n top (filter (λ (v : Version). nat_le v.ts n) vs) i ≡ is_dead_at n top vs i
 same_low n top [] i = refl
 same_low n top (v ∷ vs) i =
     let more = filter (λ (v : Version). nat_le v.ts n) vs in
     by_test (nat_le v.ts n)
-    (λ on. subst (λ b. is_spent_at n top (cond b (v ∷ more) more) i ≡ is_spent_at n top (v ∷ vs) i) (sym on) (ap (λ b. ((v.ts == i) && is_spent_version n top v) || b) (same_low n top vs i)))
+    (λ on. subst (λ b. is_dead_at n top (cond b (v ∷ more) more) i ≡ is_dead_at n top (v ∷ vs) i) (sym on) (ap (λ b. ((v.ts == i) && is_dead_version n top v) || b) (same_low n top vs i)))
     (λ off.
-    let no : ((v.ts == i) && is_spent_version n top v) ≡ false = ap (λ b. (v.ts == i) && b) (high_lives n top v off) ∙ and_false (v.ts == i) in
-    subst (λ b. is_spent_at n top (cond b (v ∷ more) more) i ≡ is_spent_at n top (v ∷ vs) i) (sym off) (same_low n top vs i ∙ sym (ap (λ b. b || is_spent_at n top vs i) no)))
+    let no : ((v.ts == i) && is_dead_version n top v) ≡ false = ap (λ b. (v.ts == i) && b) (high_lives n top v off) ∙ and_false (v.ts == i) in
+    subst (λ b. is_dead_at n top (cond b (v ∷ more) more) i ≡ is_dead_at n top (v ∷ vs) i) (sym off) (same_low n top vs i ∙ sym (ap (λ b. b || is_dead_at n top vs i) no)))
   where
     and_false : (b : Bool) → (b && false) ≡ false
     and_false true = refl
@@ -111,7 +111,7 @@ whole (x ∷ xs) (suc n) l = ap (λ ys. x ∷ ys) (whole xs n (omega arith))
 pub record IsTopBelow (vs : List Version) (n place : ℕ) : Type 0 where
   pub within : place ≤ length vs
   pub below : (k : ℕ) (d : Version) → k < place → (get_or vs k d).ts ≤ n
-  pub undone : (k : ℕ) (d : Version) → place ≤ k → k < length vs → (get_or vs k d).ts ≤ n → (get_or vs k d).decided ≡ false
+  pub undone : (k : ℕ) (d : Version) → place ≤ k → k < length vs → (get_or vs k d).ts ≤ n → (get_or vs k d).committed ≡ false
 
 pub top_from : (vs : List Version) (n place : ℕ) → IsPlaceAbove vs n place → IsTopBelow vs n place
 top_from vs n place p = record {
@@ -120,22 +120,22 @@ top_from vs n place p = record {
   undone = λ k d at lt low. absurd (let up : n < (get_or vs k d).ts = p.above k d at lt in omega arith);
 }
 
-same_done : (vs : List Version) (k : ℕ) (d e : Version) → k < length vs → (get_or vs k d).decided ≡ (get_or vs k e).decided
-same_done vs k d e lt = ap (λ (v : Version). v.decided) (get_or_default vs k d e lt)
+same_done : (vs : List Version) (k : ℕ) (d e : Version) → k < length vs → (get_or vs k d).committed ≡ (get_or vs k e).committed
+same_done vs k d e lt = ap (λ (v : Version). v.committed) (get_or_default vs k d e lt)
 
-pub top_lower : (vs : List Version) (n place : ℕ) (v : Version) → IsTopBelow vs n place → 0 < place → v ≡ get_or vs (place - 1) v → v.decided ≡ false → IsTopBelow vs n (place - 1)
+pub top_lower : (vs : List Version) (n place : ℕ) (v : Version) → IsTopBelow vs n place → 0 < place → v ≡ get_or vs (place - 1) v → v.committed ≡ false → IsTopBelow vs n (place - 1)
 top_lower vs n place v p some is off = record {
   within = omega (arith, p.within);
   below = λ k d lt. p.below k d (omega arith);
   undone = λ k d at lt low. by_test (k == place - 1)
-      (λ here. let e : k ≡ place - 1 = eqb-true k _ here in ap (λ j. (get_or vs j d).decided) e ∙ same_done vs (place - 1) d v (omega (arith, p.within)) ∙ sym (ap (λ (w : Version). w.decided) is) ∙ off)
+      (λ here. let e : k ≡ place - 1 = eqb-true k _ here in ap (λ j. (get_or vs j d).committed) e ∙ same_done vs (place - 1) d v (omega (arith, p.within)) ∙ sym (ap (λ (w : Version). w.committed) is) ∙ off)
       (λ there. p.undone k d (let ne = eqb-false k (place - 1) there in grind (arith, ne)) lt low);
 }
 
-undone_at : (vs : List Version) (i : ℕ) → ((k : ℕ) (d : Version) → k < length vs → (get_or vs k d).ts ≡ i → (get_or vs k d).decided ≡ false) → after_if_committed (version_of vs i) ≡ None
+undone_at : (vs : List Version) (i : ℕ) → ((k : ℕ) (d : Version) → k < length vs → (get_or vs k d).ts ≡ i → (get_or vs k d).committed ≡ false) → after_if_committed (version_of vs i) ≡ None
 undone_at [] i h = refl
 undone_at (v ∷ vs) i h = by_test (v.ts == i)
-    (λ here. let off : v.decided ≡ false = h zero v (omega arith) (eqb-true v.ts i here) in rw here (rw off refl))
+    (λ here. let off : v.committed ≡ false = h zero v (omega arith) (eqb-true v.ts i here) in rw here (rw off refl))
     (λ there. rw there (undone_at vs i (λ k d lt same. h (suc k) d (omega arith) same)))
 
 pub top_none : (vs : List Version) (n place : ℕ) → IsTopBelow vs n place → place ≡ 0 → newest_of vs n ≡ 0
@@ -145,7 +145,7 @@ top_none vs n place p none = ap (λ m. m.ts) (newest_only (λ i. after_if_commit
   has = inl (refl, refl);
 }))
 
-pub top_is : (vs : List Version) (n place : ℕ) (v : Version) → DoRise vs → IsTopBelow vs n place → 0 < place → v ≡ get_or vs (place - 1) v → v.decided ≡ true → 0 < v.ts → newest_of vs n ≡ v.ts
+pub top_is : (vs : List Version) (n place : ℕ) (v : Version) → DoRise vs → IsTopBelow vs n place → 0 < place → v ≡ get_or vs (place - 1) v → v.committed ≡ true → 0 < v.ts → newest_of vs n ≡ v.ts
 top_is vs n place v r p some is on pos =
     let lt : place - 1 < length vs = omega (arith, p.within) in
     let here : v.ts ≡ (get_or vs (place - 1) v).ts = ap (λ (w : Version). w.ts) is in

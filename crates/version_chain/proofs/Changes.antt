@@ -10,7 +10,7 @@ use Rattle.std.proofs.lemmas.Map.Text.{is_eq-slice_cmp}
 use Rattle.timestamps.specs.Bytes.{key_cmp}
 use Rattle.spans.proofs.Steps.{by_test, same_key}
 use Rattle.version_chain.specs.declared.chain.Version.{Version}
-use Rattle.version_chain.specs.Versions.{version_of, committed}
+use Rattle.version_chain.specs.Versions.{version_of, as_committed}
 use Rattle.version_chain.specs.Chains.{Entry, or_empty, chain_of, found_in, IsChangedAt, AreFilled}
 
 -- what became of the versions of one key
@@ -80,11 +80,11 @@ pub filled_write : {A E : Type 0} (r : Result A E) (vs ws : List Version) (v : V
 filled_write (Ok x) vs ws v some ok err = none_empty ws v.ts v (ok v.ts ∙ (let e : (v.ts == v.ts) ≡ true = eq-eqb _ _ refl in rw e refl))
 filled_write (Err x) vs ws v some ok err = λ none. some (sym err ∙ none)
 
-pub filled_commit : (vs ws : List Version) (t : ℕ) → (vs ≡ [] → ⊥) → IsEdited vs ws t (option_map committed) → ws ≡ [] → ⊥
+pub filled_commit : (vs ws : List Version) (t : ℕ) → (vs ≡ [] → ⊥) → IsEdited vs ws t (option_map as_committed) → ws ≡ [] → ⊥
 filled_commit [] ws t some edit = λ none. some refl
 filled_commit (v ∷ vs) ws t some edit =
     let e : (v.ts == v.ts) ≡ true = eq-eqb _ _ refl in
     let one : version_of (v ∷ vs) v.ts ≡ Some v = rw e refl in
     by_test (t == v.ts)
-    (λ same. none_empty ws v.ts (committed v) (edit v.ts ∙ rw (same, e) refl))
+    (λ same. none_empty ws v.ts (as_committed v) (edit v.ts ∙ rw (same, e) refl))
     (λ other. none_empty ws v.ts v (edit v.ts ∙ rw (other, e) refl))

@@ -5,7 +5,7 @@ use Rattle.std.specs.Prelude.{option_map}
 use Rattle.std.proofs.lemmas.Bool.{eqb-true, ne_eqb}
 use Rattle.spans.proofs.Steps.{by_test}
 use Rattle.version_chain.specs.declared.chain.Version.{Version}
-use Rattle.version_chain.specs.Versions.{AreAbove, DoRise, version_of, committed, IsPlaceAbove, IsPlaceOf, IsFreePlace}
+use Rattle.version_chain.specs.Versions.{AreAbove, DoRise, version_of, as_committed, IsPlaceAbove, IsPlaceOf, IsFreePlace}
 use Rattle.version_chain.proofs.Places.{above_at, rises_at, found, none_at, same_ts}
 
 -- ---- the place of a timestamp
@@ -87,10 +87,10 @@ rises_set (w ∷ vs) (suc k) v r p =
 
 -- one to read a list by where there is none
 pub some_version : Version
-some_version = record { ts = 0; after = None; decided = false }
+some_version = record { ts = 0; after = None; committed = false }
 
-pub rises_commit : (vs : List Version) (k t : ℕ) (d : Version) → DoRise vs → IsPlaceOf vs t k → DoRise (set vs k (committed (get_or vs k d)))
-rises_commit vs k t d r p = rises_set vs k (committed (get_or vs k d)) r (record { within = p.within; here = λ e. p.here e ∙ sym (p.here d) })
+pub rises_commit : (vs : List Version) (k t : ℕ) (d : Version) → DoRise vs → IsPlaceOf vs t k → DoRise (set vs k (as_committed (get_or vs k d)))
+rises_commit vs k t d r p = rises_set vs k (as_committed (get_or vs k d)) r (record { within = p.within; here = λ e. p.here e ∙ sym (p.here d) })
 
 above_remove : (vs : List Version) (t k : ℕ) → AreAbove t vs → AreAbove t (remove vs k)
 above_remove [] t zero a = tt
@@ -138,11 +138,11 @@ set_finds (w ∷ vs) (suc k) v i r p =
     (set_finds vs k v i r.1 (record { within = lt; here = λ d. p.here d }))
 
 pub commit_finds : (vs : List Version) (k : ℕ) (v : Version) (t i : ℕ) → DoRise vs → IsPlaceOf vs t k → v ≡ get_or vs k v
-    → version_of (set vs k (committed v)) i ≡ cond (t == i) (option_map committed (version_of vs i)) (version_of vs i)
+    → version_of (set vs k (as_committed v)) i ≡ cond (t == i) (option_map as_committed (version_of vs i)) (version_of vs i)
 commit_finds vs k v t i r p is =
     let here : v.ts ≡ t = ap (λ w. w.ts) is ∙ p.here v in
-    let place : IsPlaceOf vs (committed v).ts k = record { within = p.within; here = λ d. p.here d ∙ sym here } in
-    set_finds vs k (committed v) i r place ∙ ap (λ n. cond (n == i) (Some (committed v)) (version_of vs i)) here ∙ by_test (t == i)
+    let place : IsPlaceOf vs (as_committed v).ts k = record { within = p.within; here = λ d. p.here d ∙ sym here } in
+    set_finds vs k (as_committed v) i r place ∙ ap (λ n. cond (n == i) (Some (as_committed v)) (version_of vs i)) here ∙ by_test (t == i)
     (λ same. let one : version_of vs i ≡ Some v = ap (version_of vs) (sym (eqb-true t i same)) ∙ some_placed vs t k v r p ∙ ap Some (sym is) in rw (same, one) refl)
     (λ other. rw other refl)
 
@@ -164,7 +164,7 @@ remove_finds (w ∷ vs) (suc k) t i r p =
     (remove_finds vs k t i r.1 (record { within = lt; here = λ d. p.here d }))
 
 -- no version of t, and so nothing to mark or to take out
-pub unmarked : (vs : List Version) (t i : ℕ) → version_of vs t ≡ None → version_of vs i ≡ cond (t == i) (option_map committed (version_of vs i)) (version_of vs i)
+pub unmarked : (vs : List Version) (t i : ℕ) → version_of vs t ≡ None → version_of vs i ≡ cond (t == i) (option_map as_committed (version_of vs i)) (version_of vs i)
 unmarked vs t i none = by_test (t == i)
     (λ same. let e : version_of vs i ≡ None = ap (version_of vs) (sym (eqb-true t i same)) ∙ none in rw (same, e) refl)
     (λ other. rw other refl)

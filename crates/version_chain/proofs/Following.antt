@@ -22,7 +22,7 @@ use Rattle.spans.proofs.Steps.{by_test}
 use Rattle.version_chain.specs.declared.chain.Version.{Version}
 use Rattle.version_chain.specs.declared.index.Index.{Index}
 use Rattle.version_chain.specs.Chains.{found_in}
-use Rattle.version_chain.specs.Stores.{Stored, after_of, is_committed, version_in, is_decided_in}
+use Rattle.version_chain.specs.Stores.{Stored, after_of, is_committed, version_in, is_committed_in}
 use Rattle.version_chain.specs.Indexes.{is_listed, listed_in, IsIndexOf, AreBetween}
 use Rattle.version_chain.specs.Following.{is_before, is_after_place, IsLeft, IsNoneAfter, IsFirstAfter, IsCommittedAt, IsNoneAmong, IsFirstAmong}
 use Rattle.version_chain.proofs.Indexes.{Keyed, listed_first}
@@ -61,18 +61,18 @@ after_beside ts key x high = grind (arith, nat_tests)
 
 pub none_after : (s : Stored) (ts : ℕ) (key : List ℕ) (through : ℕ) → IsNoneAfter s ts (Some key) ts → IsNoneAfter s ts None through → IsNoneAfter s ts (Some key) through
 none_after s ts key through beside above y i left = elim (cases_lt ts i) [
-  | inl over ↦ above y i (record { decided = left.decided; later = lt-ltb ts i over; low = left.low })
-  | inr at ↦ beside y i (record { decided = left.decided; later = left.later; low = at })
+  | inl over ↦ above y i (record { committed = left.committed; later = lt-ltb ts i over; low = left.low })
+  | inr at ↦ beside y i (record { committed = left.committed; later = left.later; low = at })
 ]
 
 pub first_above : (s : Stored) (ts : ℕ) (key : List ℕ) (through : ℕ) (x : List ℕ) (v : Version) → IsNoneAfter s ts (Some key) ts → IsFirstAfter s ts None through x v → IsFirstAfter s ts (Some key) through x v
 first_above s ts key through x v beside is = record {
-  left = record { decided = is.left.decided; later = or_left (nat_lt ts v.ts) ((ts == v.ts) && key_lt key x) is.left.later; low = is.left.low };
+  left = record { committed = is.left.committed; later = or_left (nat_lt ts v.ts) ((ts == v.ts) && key_lt key x) is.left.later; low = is.left.low };
   version = is.version;
-  decided = is.decided;
+  committed = is.committed;
   first = λ y i left. elim (cases_lt ts i) [
-    | inl over ↦ is.first y i (record { decided = left.decided; later = lt-ltb ts i over; low = left.low })
-    | inr at ↦ absurd (beside y i (record { decided = left.decided; later = left.later; low = at }))
+    | inl over ↦ is.first y i (record { committed = left.committed; later = lt-ltb ts i over; low = left.low })
+    | inr at ↦ absurd (beside y i (record { committed = left.committed; later = left.later; low = at }))
   ];
 }
 
@@ -86,7 +86,7 @@ in_of_any y (x ∷ keys) any = elim (or_cases (is_at (key_cmp y) x) (list_any (i
 ]
 
 -- what is committed is listed
-committed_listed : (s : Stored) (index : Index) → IsIndexOf s index → (y : List ℕ) (i : ℕ) → is_decided_in s y i ≡ true → is_listed index y i ≡ true
+committed_listed : (s : Stored) (index : Index) → IsIndexOf s index → (y : List ℕ) (i : ℕ) → is_committed_in s y i ≡ true → is_listed index y i ≡ true
 committed_listed s index is y i done = is y i ∙ some (found_in s y i) done
   where
     some : (o : Option Version) → is_committed o ≡ true → is_some o ≡ true
@@ -106,14 +106,14 @@ first_is s ts key through t keys x v later low all is =
     let at : v.ts ≡ t = is.committed.at in
     record {
       left = record {
-        decided = ap (is_decided_in s x) at ∙ ap is_committed is.committed.found ∙ is.committed.decided;
+        committed = ap (is_committed_in s x) at ∙ ap is_committed is.committed.found ∙ is.committed.done;
         later = ap (is_after_place ts key x) at ∙ later;
         low = omega arith;
       };
       version = ap (version_in s x) at ∙ ap after_of is.committed.found;
-      decided = is.committed.decided;
+      committed = is.committed.done;
       first = λ y i left. elim (all y i left) [
-        | inl here ↦ beside_is_not_before i y v.ts x (here.0 ∙ sym at) (is.first y here.1 (ap (is_decided_in s y) (sym here.0) ∙ left.decided))
+        | inl here ↦ beside_is_not_before i y v.ts x (here.0 ∙ sym at) (is.first y here.1 (ap (is_committed_in s y) (sym here.0) ∙ left.committed))
         | inr over ↦ later_is_not_before i y v.ts x (omega arith)
       ];
     }
@@ -122,14 +122,14 @@ first_is s ts key through t keys x v later low all is =
 pub record AreUnseen (s : Stored) (keys : List (List ℕ)) (t : ℕ) (unseen : List (List ℕ)) : Type 0 where
   pub rising : RisingKeys unseen
   pub among : (y : List ℕ) → IsIn y unseen → IsIn y keys
-  pub all : (y : List ℕ) → IsIn y keys → is_decided_in s y t ≡ true → IsIn y unseen
+  pub all : (y : List ℕ) → IsIn y keys → is_committed_in s y t ≡ true → IsIn y unseen
 
-pub unseen_goes_on : (s : Stored) (keys : List (List ℕ)) (t : ℕ) (x : List ℕ) (unseen : List (List ℕ)) → is_decided_in s x t ≡ false → AreUnseen s keys t (x ∷ unseen) → AreUnseen s keys t unseen
+pub unseen_goes_on : (s : Stored) (keys : List (List ℕ)) (t : ℕ) (x : List ℕ) (unseen : List (List ℕ)) → is_committed_in s x t ≡ false → AreUnseen s keys t (x ∷ unseen) → AreUnseen s keys t unseen
 unseen_goes_on s keys t x unseen none are = record {
   rising = are.rising.1;
   among = λ y i. are.among y (inr i);
   all = λ y i done. elim (are.all y i done) [
-    | inl here ↦ absurd (both_ways _ none (ap (λ k. is_decided_in s k t) here ∙ done))
+    | inl here ↦ absurd (both_ways _ none (ap (λ k. is_committed_in s k t) here ∙ done))
     | inr there ↦ there
   ];
 }
@@ -154,13 +154,13 @@ left_beside : (s : Stored) (index : Index) (ts : ℕ) (key : List ℕ) (keys : B
     → (y : List ℕ) (i : ℕ) → IsLeft s ts (Some key) ts y i → (i ≡ ts) × IsIn y part
 left_beside s index ts key keys part indexed listed are y i left =
     let at = at_place ts key y i left.later left.low in
-    (at.0, in_part (range_contains key_cmp (Excluded key) Unbounded) keys part are y (rw at.1 refl) (listed y ∙ committed_listed s index indexed y ts (ap (is_decided_in s y) (sym at.0) ∙ left.decided)))
+    (at.0, in_part (range_contains key_cmp (Excluded key) Unbounded) keys part are y (rw at.1 refl) (listed y ∙ committed_listed s index indexed y ts (ap (is_committed_in s y) (sym at.0) ∙ left.committed)))
 
 pub none_beside : (s : Stored) (index : Index) (ts : ℕ) (key : List ℕ) (keys : BTreeSet (List ℕ)) (part : List (List ℕ)) → IsIndexOf s index → ((y : List ℕ) → contains key_cmp keys y ≡ is_listed index y ts) → AreBeside key keys part
     → IsNoneAmong s part ts → IsNoneAfter s ts (Some key) ts
 none_beside s index ts key keys part indexed listed are none y i left =
     let here = left_beside s index ts key keys part indexed listed are y i left in
-    both_ways _ (none y here.1) (ap (is_decided_in s y) (sym here.0) ∙ left.decided)
+    both_ways _ (none y here.1) (ap (is_committed_in s y) (sym here.0) ∙ left.committed)
 
 pub is_first_beside : (s : Stored) (index : Index) (ts : ℕ) (key : List ℕ) (keys : BTreeSet (List ℕ)) (part : List (List ℕ)) (x : List ℕ) (v : Version) → IsIndexOf s index → ((y : List ℕ) → contains key_cmp keys y ≡ is_listed index y ts)
     → AreBeside key keys part → IsFirstAmong s part ts x v → IsFirstAfter s ts (Some key) ts x v
@@ -222,7 +222,7 @@ pub ahead_goes_on : (s : Stored) (a b t : ℕ) (keys : BTreeSet (List ℕ)) (es 
 ahead_goes_on s a b t keys es part are none ahead = record {
   between = between_lower a t b es ahead.between.0 ahead.between.2;
   all = λ y i left. elim (left_next t keys es part are y i (ahead.all y i left)) [
-    | inl here ↦ absurd (both_ways _ (none y here.1) (ap (is_decided_in s y) (sym here.0) ∙ left.decided))
+    | inl here ↦ absurd (both_ways _ (none y here.1) (ap (is_committed_in s y) (sym here.0) ∙ left.committed))
     | inr there ↦ there
   ];
 }

@@ -1,4 +1,5 @@
 -- The entries of a span are those of a range, up to the first key that is not below its end.
+use Rattle.timestamps.specs.declared.key.TheConstants.{MAX_KEY_BYTES}
 use Rattle.std.proofs.Common.{◌≡◌, ℕ, zero, suc, ◌<◌, ◌≤◌, Bool, true, false, cond, ◌&&◌, List, [], ◌∷◌, ◌++◌, length, take, Option, Some, None, refl, sym, ◌∙◌, ap, subst, inl, inr, arith}
 use Rattle.std.specs.Prelude.{not, nat_le}
 use Rattle.std.specs.List.{filter}
@@ -69,15 +70,15 @@ longer m n e = grind (arith, nat_tests)
 
 pub starts_before : (low : Option (List ℕ)) (x : List ℕ) → from_low low x ≡ true → is_from_start key_cmp (start_of low) x ≡ true
 starts_before None x from = refl
-starts_before (Some low) x from = by_test (nat_le (length low) 64)
+starts_before (Some low) x from = by_test (nat_le (length low) MAX_KEY_BYTES)
     (λ fits. rw fits (same_start low x ∙ from))
-    (λ more. rw more (above_shorter 64 low x (longer _ _ more) (not_true _ from)))
+    (λ more. rw more (above_shorter MAX_KEY_BYTES low x (longer _ _ more) (not_true _ from)))
 
-pub starts_at : (low : Option (List ℕ)) (x : List ℕ) → length x ≤ 64 → is_from_start key_cmp (start_of low) x ≡ true → from_low low x ≡ true
+pub starts_at : (low : Option (List ℕ)) (x : List ℕ) → length x ≤ MAX_KEY_BYTES → is_from_start key_cmp (start_of low) x ≡ true → from_low low x ≡ true
 starts_at None x short from = refl
-starts_at (Some low) x short from = by_test (nat_le (length low) 64)
+starts_at (Some low) x short from = by_test (nat_le (length low) MAX_KEY_BYTES)
     (λ fits. sym (same_start low x) ∙ rw fits at from)
-    (λ more. ap not (above_whole 64 low x (longer _ _ more) short (rw more at from)))
+    (λ more. ap not (above_whole MAX_KEY_BYTES low x (longer _ _ more) short (rw more at from)))
 
 -- ---- filtered entries
 
@@ -168,7 +169,7 @@ stays_above (Some high) x y past less = by_order (key_cmp y high) refl
 pub ahead_next : (span : Span) (e : Entry) (es : List Entry) → AreAhead span.lo (e ∷ es) → AreAhead span.lo es
 ahead_next span e es a = record { rising = a.rising.1; behind = a.behind.1 }
 
-pub step_inside : (span : Span) (e : Entry) (es : List Entry) → AreAhead span.lo (e ∷ es) → length e.0 ≤ 64 → below_high span.hi e.0 ≡ true
+pub step_inside : (span : Span) (e : Entry) (es : List Entry) → AreAhead span.lo (e ∷ es) → length e.0 ≤ MAX_KEY_BYTES → below_high span.hi e.0 ≡ true
     → filter (λ (d : Entry). in_span span d.0) (e ∷ es) ≡ e ∷ filter (λ (d : Entry). in_span span d.0) es
 step_inside span e es a short below =
     let from : from_low span.lo e.0 ≡ true = a.behind.0 short in

@@ -1,5 +1,5 @@
 pub mod Places
-pub mod Halves
+pub mod BinarySearch
 pub mod Edits
 pub mod Changes
 pub mod Meaning
@@ -7,7 +7,7 @@ pub mod Counts
 pub mod InSpans
 pub mod Indexes
 pub mod Soundness
-pub mod Spent
+pub mod Dead
 pub mod Chained
 pub mod Thinning
 pub mod Gone

@@ -14,9 +14,9 @@ use Rattle.version_chain.specs.declared.index.Index.{Index}
 use Rattle.version_chain.specs.Versions.{version_of}
 use Rattle.version_chain.specs.Chains.{chain_of, found_in}
 use Rattle.version_chain.specs.Stores.{Stored, is_committed}
-use Rattle.version_chain.specs.Spent.{is_spent_version, is_spent_at, is_spent_in, newest_of}
+use Rattle.version_chain.specs.Dead.{is_dead_version, is_dead_at, is_dead_in, newest_of}
 use Rattle.version_chain.specs.Indexes.{is_listed, IsIndexOf}
-use Rattle.version_chain.proofs.Spent.{holds, spent_here, top_above}
+use Rattle.version_chain.proofs.Dead.{holds, dead_here, top_above}
 
 pub pushed_keeps : (xs : List (List ℕ)) (x y : List ℕ) → has y xs ≡ true → has y (xs ++ x ∷ []) ≡ true
 pushed_keeps xs x y e = list_any-append (λ z. bytes_eq z y) xs (x ∷ []) ∙ or_left (has y xs) (has y (x ∷ [])) e
@@ -34,18 +34,18 @@ next_or_rest x y xs rest is any = elim (or_cases (is_at (key_cmp y) x) (list_any
   | inr there ↦ inr there
 ]
 
-at_held : (n top : ℕ) (vs : List Version) (i : ℕ) → holds n top (version_of vs i) ≡ true → is_spent_at n top vs i ≡ true
+at_held : (n top : ℕ) (vs : List Version) (i : ℕ) → holds n top (version_of vs i) ≡ true → is_dead_at n top vs i ≡ true
 at_held n top [] i e = e
 at_held n top (v ∷ vs) i e = by_test (v.ts == i)
-    (λ here. or_left ((v.ts == i) && is_spent_version n top v) (is_spent_at n top vs i) (and_from (v.ts == i) (is_spent_version n top v) here (rw here at e)))
-    (λ there. or_right ((v.ts == i) && is_spent_version n top v) (is_spent_at n top vs i) (at_held n top vs i (rw there at e)))
+    (λ here. or_left ((v.ts == i) && is_dead_version n top v) (is_dead_at n top vs i) (and_from (v.ts == i) (is_dead_version n top v) here (rw here at e)))
+    (λ there. or_right ((v.ts == i) && is_dead_version n top v) (is_dead_at n top vs i) (at_held n top vs i (rw there at e)))
 
 -- what is dead in a store is dead in its chain
-pub dead_at : (es : Stored) (n : ℕ) (y : List ℕ) (i : ℕ) → is_spent_in es n y i ≡ true → is_spent_at n (newest_of (chain_of es y) n) (chain_of es y) i ≡ true
-dead_at es n y i is = at_held n (newest_of (chain_of es y) n) (chain_of es y) i (sym (spent_here (chain_of es y) n i) ∙ is)
+pub dead_at : (es : Stored) (n : ℕ) (y : List ℕ) (i : ℕ) → is_dead_in es n y i ≡ true → is_dead_at n (newest_of (chain_of es y) n) (chain_of es y) i ≡ true
+dead_at es n y i is = at_held n (newest_of (chain_of es y) n) (chain_of es y) i (sym (dead_here (chain_of es y) n i) ∙ is)
 
 -- a key with something newly dead is listed at its newest committed timestamp, which lies between the horizons
-pub dead_listed : (es : Stored) (index : Index) (m n : ℕ) → IsIndexOf es index → ((y : List ℕ) (i : ℕ) → is_spent_in es m y i ≡ false) → (y : List ℕ) (i : ℕ) → is_spent_in es n y i ≡ true
+pub dead_listed : (es : Stored) (index : Index) (m n : ℕ) → IsIndexOf es index → ((y : List ℕ) (i : ℕ) → is_dead_in es m y i ≡ false) → (y : List ℕ) (i : ℕ) → is_dead_in es n y i ≡ true
     → (m < newest_of (chain_of es y) n) × (newest_of (chain_of es y) n ≤ n) × (is_listed index y (newest_of (chain_of es y) n) ≡ true)
 dead_listed es index m n indexed settled y i is =
     let top = top_above (found_in es y) m n i (settled y) is in

@@ -7,12 +7,12 @@ use Rattle.spans.proofs.Steps.{by_test, same_key}
 use Rattle.version_chain.specs.declared.chain.Version.{Version}
 use Rattle.version_chain.specs.declared.index.Index.{Index}
 use Rattle.version_chain.specs.Chains.{found_in, IsChangedAt}
-use Rattle.version_chain.specs.Versions.{committed}
+use Rattle.version_chain.specs.Versions.{as_committed}
 use Rattle.version_chain.specs.Stores.{Stored, after_of, is_committed}
-use Rattle.version_chain.specs.Spent.{is_spent_in}
+use Rattle.version_chain.specs.Dead.{is_dead_in}
 use Rattle.version_chain.specs.Indexes.{is_listed, IsIndexOf, IsSound}
 use Rattle.version_chain.proofs.Counts.{counted_alike}
-use Rattle.version_chain.proofs.Spent.{unspent_lower}
+use Rattle.version_chain.proofs.Dead.{live_lower}
 use Rattle.version_chain.proofs.Thinning.{settled_fewer}
 
 at_place : (es : Stored) (x : List ℕ) (t : ℕ) (y : List ℕ) (i : ℕ) → ((t == i) && bytes_eq x y) ≡ true → found_in es x t ≡ found_in es y i
@@ -51,10 +51,10 @@ indexed_replaced es fs index x t a h some is y i = is y i ∙ by_test ((t == i) 
 -- ---- nothing is dead by the horizon
 
 abbrev pub AreSettled : Stored → ℕ → Type 0
-AreSettled es n = (x : List ℕ) (t : ℕ) → is_spent_in es n x t ≡ false
+AreSettled es n = (x : List ℕ) (t : ℕ) → is_dead_in es n x t ≡ false
 
 -- an undecided version came, or took the place of one
-pub settled_write : (es fs : Stored) (x : List ℕ) (t n : ℕ) (a : Version) → a.decided ≡ false → IsChangedAt es fs x t (λ _. Some a) → AreSettled es n → AreSettled fs n
+pub settled_write : (es fs : Stored) (x : List ℕ) (t n : ℕ) (a : Version) → a.committed ≡ false → IsChangedAt es fs x t (λ _. Some a) → AreSettled es n → AreSettled fs n
 settled_write es fs x t n a open' h none = settled_fewer es fs n (λ y i low done. by_test ((t == i) && bytes_eq x y)
     (λ here. let found : found_in fs y i ≡ Some a = h y i ∙ (rw here refl) in absurd (both_ways _ open' (ap is_committed (sym found) ∙ done)))
     (λ there. h y i ∙ (rw there refl))) none
@@ -67,7 +67,7 @@ settled_drop es fs x t n h none = settled_fewer es fs n (λ y i low done. by_tes
 
 -- a version above a lower horizon changed
 pub settled_above : (es fs : Stored) (x : List ℕ) (t m n : ℕ) (f : Option Version → Option Version) → IsChangedAt es fs x t f → m ≤ n → m < t → AreSettled es n → AreSettled fs m
-settled_above es fs x t m n f h low above none = settled_fewer es fs m (λ y i at done. let off : (t == i) ≡ false = ne_eqb t i (λ same. omega arith) in h y i ∙ (rw off refl)) (λ y i. unspent_lower (found_in es y) m n low (none y) i)
+settled_above es fs x t m n f h low above none = settled_fewer es fs m (λ y i at done. let off : (t == i) ≡ false = ne_eqb t i (λ same. omega arith) in h y i ∙ (rw off refl)) (λ y i. live_lower (found_in es y) m n low (none y) i)
 
 -- what is found is as it was
 pub sound_alike : (es fs : Stored) (index : Index) (n horizon : ℕ) → ((y : List ℕ) (i : ℕ) → found_in fs y i ≡ found_in es y i) → IsSound es index n horizon → IsSound fs index n horizon
@@ -108,18 +108,18 @@ none_went es fs x t h none y i = h y i ∙ by_test ((t == i) && bytes_eq x y)
     nothing (Some v) e = (let no' : true ≡ false = e in cc)
 
 -- a version is marked as committed, above the horizon
-pub sound_commit : (es fs : Stored) (index : Index) (x : List ℕ) (t n m horizon : ℕ) → IsChangedAt es fs x t (option_map committed) → m ≤ horizon → m < t → IsSound es index n horizon → IsSound fs index n m
+pub sound_commit : (es fs : Stored) (index : Index) (x : List ℕ) (t n m horizon : ℕ) → IsChangedAt es fs x t (option_map as_committed) → m ≤ horizon → m < t → IsSound es index n horizon → IsSound fs index n m
 sound_commit es fs index x t n m horizon h low above s = record {
   counted = counted_alike es fs n (λ v. there v.key v.ts ∙ refl) s.counted;
   indexed = λ y i. s.indexed y i ∙ sym (marked_there y i);
-  settled = settled_above es fs x t m horizon (option_map committed) h low above s.settled;
+  settled = settled_above es fs x t m horizon (option_map as_committed) h low above s.settled;
 }
   where
-    some_marked : (o : Option Version) → is_some (option_map committed o) ≡ is_some o
+    some_marked : (o : Option Version) → is_some (option_map as_committed o) ≡ is_some o
     some_marked None = refl
     some_marked (Some v) = refl
 
-    after_marked : (o : Option Version) → is_some (after_of (option_map committed o)) ≡ is_some (after_of o)
+    after_marked : (o : Option Version) → is_some (after_of (option_map as_committed o)) ≡ is_some (after_of o)
     after_marked None = refl
     after_marked (Some v) = refl
 

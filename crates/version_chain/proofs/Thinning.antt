@@ -17,14 +17,14 @@ use Rattle.version_chain.specs.declared.index.Index.{Index}
 use Rattle.version_chain.specs.Versions.{DoRise, version_of}
 use Rattle.version_chain.specs.Chains.{Entry, chain_of, found_in, or_empty}
 use Rattle.version_chain.specs.Stores.{Stored, after_of, is_committed, version_in, IsCountOf}
-use Rattle.version_chain.specs.Spent.{is_spent_version, is_spent_at, is_spent_in, is_dropped_in, left_of, IsThinnedAt, AreThinned, IsCollectedIn}
+use Rattle.version_chain.specs.Dead.{is_dead_version, is_dead_at, is_dead_in, is_dropped_in, left_of, IsThinnedAt, AreThinned, IsCollectedIn}
 use Rattle.version_chain.specs.Indexes.{is_listed, IsIndexOf}
 use Rattle.version_chain.proofs.Changes.{ArePut}
-use Rattle.version_chain.proofs.Spent.{holds, left_holds, left_filtered, at_found, same_spent, unspent_left, unspent_fewer}
+use Rattle.version_chain.proofs.Dead.{holds, left_holds, left_filtered, at_found, same_dead, live_left, live_fewer}
 
 -- ---- one key
 
-pub thinned_put : (es fs : List Entry) (x : List ℕ) (w : Option (List Version)) (n top : ℕ) → ArePut es fs x w → (vs : List Version) → chain_of es x ≡ vs → or_empty w ≡ filter (λ (v : Version). not (is_spent_version n top v)) vs → DoRise vs → IsThinnedAt es fs x n top
+pub thinned_put : (es fs : List Entry) (x : List ℕ) (w : Option (List Version)) (n top : ℕ) → ArePut es fs x w → (vs : List Version) → chain_of es x ≡ vs → or_empty w ≡ filter (λ (v : Version). not (is_dead_version n top v)) vs → DoRise vs → IsThinnedAt es fs x n top
 thinned_put es fs x w n top put vs chain left rises y i = ap (λ o. version_of (or_empty o) i) (put y) ∙ by_test (bytes_eq x y)
     (λ here.
     let at : is_at (key_cmp x) y ≡ true = is_eq-slice_cmp x y ∙ here in
@@ -34,10 +34,10 @@ thinned_put es fs x w n top put vs chain left rises y i = ap (λ o. version_of (
 
 -- the index of what is left
 pub indexed_thinned : (es fs : Stored) (index index' : Index) (x : List ℕ) (n top : ℕ) → IsThinnedAt es fs x n top → DoRise (chain_of es x)
-    → ((y : List ℕ) (i : ℕ) → is_listed index' y i ≡ cond (bytes_eq x y && is_spent_at n top (chain_of es x) i) false (is_listed index y i)) → IsIndexOf es index → IsIndexOf fs index'
+    → ((y : List ℕ) (i : ℕ) → is_listed index' y i ≡ cond (bytes_eq x y && is_dead_at n top (chain_of es x) i) false (is_listed index y i)) → IsIndexOf es index → IsIndexOf fs index'
 indexed_thinned es fs index index' x n top thin rises less is y i = less y i ∙ by_test (bytes_eq x y)
     (λ here.
-    let same : is_spent_at n top (chain_of es x) i ≡ holds n top (found_in es y i) = at_found n top (chain_of es x) i rises ∙ ap (λ z. holds n top (found_in es z i)) (same_key x y here) in
+    let same : is_dead_at n top (chain_of es x) i ≡ holds n top (found_in es y i) = at_found n top (chain_of es x) i rises ∙ ap (λ z. holds n top (found_in es z i)) (same_key x y here) in
     let left : found_in fs y i ≡ cond (holds n top (found_in es y i)) None (found_in es y i) = thin y i ∙ (rw here (left_holds n top (found_in es y i))) in
     ap (λ b. cond (bytes_eq x y && b) false (is_listed index y i)) same ∙ ap (λ b. cond (b && holds n top (found_in es y i)) false (is_listed index y i)) here ∙ ap (cond (holds n top (found_in es y i)) false) (is y i) ∙ some_left (holds n top (found_in es y i)) (found_in es y i) ∙ ap is_some (sym left))
     (λ there. rw there (is y i ∙ ap is_some (sym (thin y i ∙ (rw there refl)))))
@@ -57,8 +57,8 @@ there_thinned es fs x n top thin y i = ap (λ o. is_some (after_of o)) (thin y i
     some_left false o = refl
 
 -- fewer versions: nothing more is dead
-pub settled_fewer : (es fs : Stored) (n : ℕ) → ((y : List ℕ) (i : ℕ) → i ≤ n → is_committed (found_in fs y i) ≡ true → found_in fs y i ≡ found_in es y i) → ((y : List ℕ) (i : ℕ) → is_spent_in es n y i ≡ false) → (y : List ℕ) (i : ℕ) → is_spent_in fs n y i ≡ false
-settled_fewer es fs n fewer none y i = unspent_fewer (found_in es y) (found_in fs y) n (fewer y) (none y) i
+pub settled_fewer : (es fs : Stored) (n : ℕ) → ((y : List ℕ) (i : ℕ) → i ≤ n → is_committed (found_in fs y i) ≡ true → found_in fs y i ≡ found_in es y i) → ((y : List ℕ) (i : ℕ) → is_dead_in es n y i ≡ false) → (y : List ℕ) (i : ℕ) → is_dead_in fs n y i ≡ false
+settled_fewer es fs n fewer none y i = live_fewer (found_in es y) (found_in fs y) n (fewer y) (none y) i
 
 pub fewer_thinned : (es fs : Stored) (x : List ℕ) (n top : ℕ) → IsThinnedAt es fs x n top → (y : List ℕ) (i : ℕ) → is_committed (found_in fs y i) ≡ true → found_in fs y i ≡ found_in es y i
 fewer_thinned es fs x n top thin y i done = by_test (bytes_eq x y)
@@ -72,7 +72,7 @@ pub thinned_nothing : (es : Stored) (x : List ℕ) (n : ℕ) → chain_of es x �
 thinned_nothing es x n none y i = by_test (bytes_eq x y)
     (λ here.
     let nothing : found_in es y i ≡ None = ap (λ vs. version_of vs i) (sym (ap (chain_of es) (same_key x y here)) ∙ none) in
-    nothing ∙ sym (gone (bytes_eq x y && is_spent_in es n y i) (found_in es y i) nothing))
+    nothing ∙ sym (gone (bytes_eq x y && is_dead_in es n y i) (found_in es y i) nothing))
     (λ there. rw there refl)
   where
     gone : (b : Bool) (o : Option Version) → o ≡ None → cond b None o ≡ None
@@ -84,15 +84,15 @@ thinned_nothing es x n none y i = by_test (bytes_eq x y)
 pub thinned_more : (es fs gs : Stored) (done : List (List ℕ)) (x : List ℕ) (n : ℕ) → AreThinned es fs (λ y. has y done) n → AreThinned fs gs (bytes_eq x) n → AreThinned es gs (λ y. has y (done ++ x ∷ [])) n
 thinned_more es fs gs done x n first second y i = second y i ∙ by_test (has y done)
     (λ before.
-    let left : (j : ℕ) → found_in fs y j ≡ cond (is_spent_in es n y j) None (found_in es y j) = λ j. first y j ∙ ap (λ b. cond (b && is_spent_in es n y j) None (found_in es y j)) before in
-    let none : is_spent_in fs n y i ≡ false = unspent_left (found_in es y) (found_in fs y) n left i in
+    let left : (j : ℕ) → found_in fs y j ≡ cond (is_dead_in es n y j) None (found_in es y j) = λ j. first y j ∙ ap (λ b. cond (b && is_dead_in es n y j) None (found_in es y j)) before in
+    let none : is_dead_in fs n y i ≡ false = live_left (found_in es y) (found_in fs y) n left i in
     ap (λ b. cond (bytes_eq x y && b) None (found_in fs y i)) none ∙ and_none (bytes_eq x y) (found_in fs y i) ∙ left i
-    ∙ sym (ap (λ b. cond (b && is_spent_in es n y i) None (found_in es y i)) (among y ∙ ap (λ b. b || (bytes_eq x y || false)) before)))
+    ∙ sym (ap (λ b. cond (b && is_dead_in es n y i) None (found_in es y i)) (among y ∙ ap (λ b. b || (bytes_eq x y || false)) before)))
     (λ after.
-    let same : (j : ℕ) → found_in fs y j ≡ found_in es y j = λ j. first y j ∙ ap (λ b. cond (b && is_spent_in es n y j) None (found_in es y j)) after in
-    ap (λ b. cond (bytes_eq x y && b) None (found_in fs y i)) (same_spent (found_in es y) (found_in fs y) n i same)
-    ∙ ap (cond (bytes_eq x y && is_spent_in es n y i) None) (same i)
-    ∙ ap (λ b. cond (b && is_spent_in es n y i) None (found_in es y i)) (sym (among y ∙ ap (λ b. b || (bytes_eq x y || false)) after ∙ or_false (bytes_eq x y))))
+    let same : (j : ℕ) → found_in fs y j ≡ found_in es y j = λ j. first y j ∙ ap (λ b. cond (b && is_dead_in es n y j) None (found_in es y j)) after in
+    ap (λ b. cond (bytes_eq x y && b) None (found_in fs y i)) (same_dead (found_in es y) (found_in fs y) n i same)
+    ∙ ap (cond (bytes_eq x y && is_dead_in es n y i) None) (same i)
+    ∙ ap (λ b. cond (b && is_dead_in es n y i) None (found_in es y i)) (sym (among y ∙ ap (λ b. b || (bytes_eq x y || false)) after ∙ or_false (bytes_eq x y))))
   where
     among : (y : List ℕ) → has y (done ++ x ∷ []) ≡ (has y done || (bytes_eq x y || false))
     among y = list_any-append (λ z. bytes_eq z y) done (x ∷ [])
@@ -106,19 +106,19 @@ thinned_more es fs gs done x n first second y i = second y i ∙ by_test (has y 
     and_none false o = refl
 
 -- where the keys are all that have something dead, all that is dead is gone
-pub all_thinned : (es fs : Stored) (among : List ℕ → Bool) (n : ℕ) → ((y : List ℕ) (i : ℕ) → is_spent_in es n y i ≡ true → among y ≡ true) → AreThinned es fs among n → (y : List ℕ) (i : ℕ) → found_in fs y i ≡ cond (is_spent_in es n y i) None (found_in es y i)
-all_thinned es fs among n all thin y i = thin y i ∙ by_test (is_spent_in es n y i)
-    (λ on. ap (λ b. cond (b && is_spent_in es n y i) None (found_in es y i)) (all y i on))
+pub all_thinned : (es fs : Stored) (among : List ℕ → Bool) (n : ℕ) → ((y : List ℕ) (i : ℕ) → is_dead_in es n y i ≡ true → among y ≡ true) → AreThinned es fs among n → (y : List ℕ) (i : ℕ) → found_in fs y i ≡ cond (is_dead_in es n y i) None (found_in es y i)
+all_thinned es fs among n all thin y i = thin y i ∙ by_test (is_dead_in es n y i)
+    (λ on. ap (λ b. cond (b && is_dead_in es n y i) None (found_in es y i)) (all y i on))
     (λ off. ap (λ b. cond (among y && b) None (found_in es y i)) off ∙ and_none (among y) (found_in es y i) ∙ sym (ap (λ b. cond b None (found_in es y i)) off))
   where
     and_none : (b : Bool) (o : Option Version) → cond (b && false) None o ≡ o
     and_none true o = refl
     and_none false o = refl
 
-pub settled_thinned : (es fs : Stored) (n : ℕ) → ((y : List ℕ) (i : ℕ) → found_in fs y i ≡ cond (is_spent_in es n y i) None (found_in es y i)) → (y : List ℕ) (i : ℕ) → is_spent_in fs n y i ≡ false
-settled_thinned es fs n left y i = unspent_left (found_in es y) (found_in fs y) n (left y) i
+pub settled_thinned : (es fs : Stored) (n : ℕ) → ((y : List ℕ) (i : ℕ) → found_in fs y i ≡ cond (is_dead_in es n y i) None (found_in es y i)) → (y : List ℕ) (i : ℕ) → is_dead_in fs n y i ≡ false
+settled_thinned es fs n left y i = live_left (found_in es y) (found_in fs y) n (left y) i
 
-pub collected : (es fs : Stored) (n before after : ℕ) → ((y : List ℕ) (i : ℕ) → found_in fs y i ≡ cond (is_spent_in es n y i) None (found_in es y i)) → IsCountOf es before → IsCountOf fs after → (after ≤ before) × IsCollectedIn es fs n (before - after)
+pub collected : (es fs : Stored) (n before after : ℕ) → ((y : List ℕ) (i : ℕ) → found_in fs y i ≡ cond (is_dead_in es n y i) None (found_in es y i)) → IsCountOf es before → IsCountOf fs after → (after ≤ before) × IsCollectedIn es fs n (before - after)
 collected es fs n before after left c d =
     let gone = filter (is_dropped_in es n) c.versions in
     let kept = filter (λ v. not (is_dropped_in es n v)) c.versions in
@@ -127,13 +127,13 @@ collected es fs n before after left c d =
     let second : length d.versions ≡ after = d.count in
     let same : length kept ≡ length d.versions = same_length kept d.versions (distinct_filter (λ v. not (is_dropped_in es n v)) c.versions c.all.distinct) d.all.distinct (λ v.
     let h = has_filter (λ v. not (is_dropped_in es n v)) v c.versions in (
-      λ i. (d.all.each v).1 (still v ∙ kept_there (is_spent_in es n v.key v.ts) (is_some (version_in es v.key v.ts)) (h.0 i).0 ((c.all.each v).0 (h.0 i).1)),
-      λ i. (let b = and_parts (not (is_spent_in es n v.key v.ts)) (is_some (version_in es v.key v.ts)) (sym (still v) ∙ (d.all.each v).0 i) in h.1 (there_kept (is_spent_in es n v.key v.ts) (is_some (version_in es v.key v.ts)) b.0 b.1, (c.all.each v).1 b.1)),
+      λ i. (d.all.each v).1 (still v ∙ kept_there (is_dead_in es n v.key v.ts) (is_some (version_in es v.key v.ts)) (h.0 i).0 ((c.all.each v).0 (h.0 i).1)),
+      λ i. (let b = and_parts (not (is_dead_in es n v.key v.ts)) (is_some (version_in es v.key v.ts)) (sym (still v) ∙ (d.all.each v).0 i) in h.1 (there_kept (is_dead_in es n v.key v.ts) (is_some (version_in es v.key v.ts)) b.0 b.1, (c.all.each v).1 b.1)),
     )) in (
       omega arith,
       record {
-        version = λ y i. ap after_of (left y i) ∙ after_left (is_spent_in es n y i) (found_in es y i);
-        decided = λ y i b is. ap is_committed (left y i) ∙ by_test (is_spent_in es n y i)
+        version = λ y i. ap after_of (left y i) ∙ after_left (is_dead_in es n y i) (found_in es y i);
+        committed = λ y i b is. ap is_committed (left y i) ∙ by_test (is_dead_in es n y i)
             (λ on. absurd (let none : found_in fs y i ≡ None = left y i ∙ (rw on refl) in let no : None ≡ Some b = sym (ap after_of none) ∙ is in cc))
             (λ off. rw off refl);
         dropped = gone;
@@ -141,7 +141,7 @@ collected es fs n before after left c d =
           distinct = distinct_filter (is_dropped_in es n) c.versions c.all.distinct;
           each = λ v. let h = has_filter (is_dropped_in es n) v c.versions in (
             λ i. (h.0 i).0,
-            λ e. h.1 (e, (c.all.each v).1 (and_parts (is_some (version_in es v.key v.ts)) (is_spent_in es n v.key v.ts) e).0),
+            λ e. h.1 (e, (c.all.each v).1 (and_parts (is_some (version_in es v.key v.ts)) (is_dead_in es n v.key v.ts) e).0),
           );
         };
         counted = omega arith;
@@ -156,8 +156,8 @@ collected es fs n before after left c d =
     some_left true o = refl
     some_left false o = refl
 
-    still : (v : VersionName) → is_some (version_in fs v.key v.ts) ≡ (not (is_spent_in es n v.key v.ts) && is_some (version_in es v.key v.ts))
-    still v = ap (λ o. is_some (after_of o)) (left v.key v.ts) ∙ some_left (is_spent_in es n v.key v.ts) (found_in es v.key v.ts)
+    still : (v : VersionName) → is_some (version_in fs v.key v.ts) ≡ (not (is_dead_in es n v.key v.ts) && is_some (version_in es v.key v.ts))
+    still v = ap (λ o. is_some (after_of o)) (left v.key v.ts) ∙ some_left (is_dead_in es n v.key v.ts) (found_in es v.key v.ts)
 
     kept_there : (s t : Bool) → not (t && s) ≡ true → t ≡ true → (not s && t) ≡ true
     kept_there true true e f = e

@@ -1,4 +1,5 @@
 -- The keys of a span that have a version.
+use Rattle.timestamps.specs.declared.key.TheConstants.{MAX_KEY_BYTES}
 use Rattle.std.specs.Prelude.{ℕ, List, [], ◌∷◌, true, ◌≡◌, ◌≤◌, length, take, nat_le, if◌then◌else◌, Option, Some, None}
 use Rattle.std.specs.List.{filter}
 use Rattle.std.specs.Map.{keys_of}
@@ -19,7 +20,7 @@ starting_at start es = entries_between key_cmp start Unbounded es
 -- no key lies before the bound, of those that are no longer than a key may be
 abbrev pub AreBehind : Option (List ℕ) → List Entry → Type 0
 AreBehind low [] = Unit {0}
-AreBehind low (e ∷ es) = (length e.0 ≤ 64 → from_low low e.0 ≡ true) × AreBehind low es
+AreBehind low (e ∷ es) = (length e.0 ≤ MAX_KEY_BYTES → from_low low e.0 ≡ true) × AreBehind low es
 
 -- rising keys, none of which lies before the bound
 pub record AreAhead (low : Option (List ℕ)) (es : List Entry) : Type 0 where

@@ -1,5 +1,5 @@
 -- Which keys have a version at each timestamp.
-use Rattle.std.specs.Prelude.{ℕ, List, [], ◌∷◌, Bool, false, ◌≡◌, ◌<◌, ◌≤◌, Option, Some, None, is_some}
+use Rattle.std.specs.Prelude.{ℕ, List, [], ◌∷◌, Bool, bytes_eq, false, if◌then◌else◌, ◌&&◌, ◌||◌, ◌==◌, ◌≡◌, ◌<◌, ◌≤◌, Option, Some, None, is_some}
 use Rattle.std.specs.Map.{lookup}
 use Rattle.std.specs.BTreeMap.{is_at}
 use Rattle.std.specs.BTreeSet.{BTreeSet, contains}
@@ -8,7 +8,7 @@ use Rattle.timestamps.specs.Bytes.{key_cmp}
 use Rattle.version_chain.specs.declared.index.Index.{Index}
 use Rattle.version_chain.specs.Chains.{Entry, found_in}
 use Rattle.version_chain.specs.Stores.{IsCountOf}
-use Rattle.version_chain.specs.Spent.{is_spent_in}
+use Rattle.version_chain.specs.Dead.{is_dead_in}
 
 -- x is one of the keys, if there are any
 abbrev pub is_among : Option (BTreeSet (List ℕ)) → List ℕ → Bool
@@ -21,6 +21,18 @@ listed_in es x t = is_among (lookup (is_at (nat_cmp t)) es) x
 
 abbrev pub is_listed : Index → List ℕ → ℕ → Bool
 is_listed index x t = listed_in index.keys.entries x t
+
+-- x is listed at t too
+abbrev pub IsListedAt : Index → Index → ℕ → List ℕ → Type 0
+IsListedAt index index' t x = (y : List ℕ) (i : ℕ) → is_listed index' y i ≡ (((t == i) && bytes_eq x y) || is_listed index y i)
+
+-- x is no longer listed at t
+abbrev pub IsUnlistedAt : Index → Index → ℕ → List ℕ → Type 0
+IsUnlistedAt index index' t x = (y : List ℕ) (i : ℕ) → is_listed index' y i ≡ (if (t == i) && bytes_eq x y then false else is_listed index y i)
+
+-- x is no longer listed at the timestamps that pass the test
+abbrev pub IsUnlisted : Index → Index → List ℕ → (ℕ → Bool) → Type 0
+IsUnlisted index index' x gone = (y : List ℕ) (i : ℕ) → is_listed index' y i ≡ (if bytes_eq x y && gone i then false else is_listed index y i)
 
 -- rising timestamps above a and at or below b
 abbrev pub AreBetween : ℕ → ℕ → List (ℕ × BTreeSet (List ℕ)) → Type 0
@@ -35,4 +47,4 @@ IsIndexOf es index = (x : List ℕ) (t : ℕ) → is_listed index x t ≡ is_som
 pub record IsSound (es : List Entry) (index : Index) (n horizon : ℕ) : Type 0 where
   pub counted : IsCountOf es n
   pub indexed : IsIndexOf es index
-  pub settled : (x : List ℕ) (t : ℕ) → is_spent_in es horizon x t ≡ false
+  pub settled : (x : List ℕ) (t : ℕ) → is_dead_in es horizon x t ≡ false

@@ -2,6 +2,6 @@ pub mod Versions
 pub mod Chains
 pub mod Stores
 pub mod InSpans
-pub mod Spent
+pub mod Dead
 pub mod Indexes
 pub mod Following

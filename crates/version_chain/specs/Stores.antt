@@ -16,15 +16,15 @@ after_of o = option_map (λ (v : Version). v.after) o
 
 abbrev pub is_committed : Option Version → Bool
 is_committed None = false
-is_committed (Some v) = v.decided
+is_committed (Some v) = v.committed
 
 -- what the version of x at t left, where there is one
 abbrev pub version_in : Stored → List ℕ → ℕ → Option After
 version_in s x t = after_of (found_in s x t)
 
 -- there is a version of x at t, and it is committed
-abbrev pub is_decided_in : Stored → List ℕ → ℕ → Bool
-is_decided_in s x t = is_committed (found_in s x t)
+abbrev pub is_committed_in : Stored → List ℕ → ℕ → Bool
+is_committed_in s x t = is_committed (found_in s x t)
 
 -- n is how many versions there are
 pub record IsCountOf (s : Stored) (n : ℕ) : Type 0 where
@@ -36,25 +36,25 @@ pub record IsCountOf (s : Stored) (n : ℕ) : Type 0 where
 pub record IsNewestIn (s : Stored) (x : List ℕ) (t : ℕ) (v : Version) : Type 0 where
   pub at_most : v.ts ≤ t
   pub version : version_in s x v.ts ≡ Some v.after
-  pub decided : is_decided_in s x v.ts ≡ v.decided
+  pub committed : is_committed_in s x v.ts ≡ v.committed
   pub gap : (i : ℕ) → v.ts < i → i ≤ t → version_in s x i ≡ None
 
 -- the store means what it did
 pub record IsAsBefore (s s' : Stored) : Type 0 where
   pub version : (y : List ℕ) (i : ℕ) → version_in s' y i ≡ version_in s y i
-  pub decided : (y : List ℕ) (i : ℕ) → is_decided_in s' y i ≡ is_decided_in s y i
+  pub committed : (y : List ℕ) (i : ℕ) → is_committed_in s' y i ≡ is_committed_in s y i
 
 -- t has an undecided version of x
 pub record IsWrittenTo (s s' : Stored) (t : ℕ) (x : List ℕ) (a : After) : Type 0 where
   pub version : (y : List ℕ) (i : ℕ) → version_in s' y i ≡ (if (t == i) && bytes_eq x y then Some a else version_in s y i)
-  pub decided : (y : List ℕ) (i : ℕ) (b : After) → version_in s' y i ≡ Some b → is_decided_in s' y i ≡ (if (t == i) && bytes_eq x y then false else is_decided_in s y i)
+  pub committed : (y : List ℕ) (i : ℕ) (b : After) → version_in s' y i ≡ Some b → is_committed_in s' y i ≡ (if (t == i) && bytes_eq x y then false else is_committed_in s y i)
 
 -- the versions of t at these keys are committed
 pub record IsCommittedIn (s s' : Stored) (t : ℕ) (keys : List (List ℕ)) : Type 0 where
   pub version : (y : List ℕ) (i : ℕ) → version_in s' y i ≡ version_in s y i
-  pub decided : (y : List ℕ) (i : ℕ) (b : After) → version_in s y i ≡ Some b → is_decided_in s' y i ≡ (((t == i) && has y keys) || is_decided_in s y i)
+  pub committed : (y : List ℕ) (i : ℕ) (b : After) → version_in s y i ≡ Some b → is_committed_in s' y i ≡ (((t == i) && has y keys) || is_committed_in s y i)
 
 -- the versions of t at these keys are gone
 pub record IsAbortedIn (s s' : Stored) (t : ℕ) (keys : List (List ℕ)) : Type 0 where
   pub version : (y : List ℕ) (i : ℕ) → version_in s' y i ≡ (if (t == i) && has y keys then None else version_in s y i)
-  pub decided : (y : List ℕ) (i : ℕ) (b : After) → version_in s' y i ≡ Some b → is_decided_in s' y i ≡ is_decided_in s y i
+  pub committed : (y : List ℕ) (i : ℕ) (b : After) → version_in s' y i ≡ Some b → is_committed_in s' y i ≡ is_committed_in s y i

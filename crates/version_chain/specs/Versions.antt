@@ -55,5 +55,5 @@ pub record IsLeastAbove (vs : List Version) (t : ℕ) (v : Version) : Type 0 whe
   pub gap : (i : ℕ) → t < i → i < v.ts → version_of vs i ≡ None
 
 -- the version, marked as committed
-abbrev pub committed : Version → Version
-committed v = record v { decided = true }
+abbrev pub as_committed : Version → Version
+as_committed v = record v { committed = true }

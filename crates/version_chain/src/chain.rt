@@ -2,14 +2,14 @@
 ghost use Rattle.std.specs.Prelude.{◌≡◌, ℕ, ◌<◌, ◌≤◌, ◌+◌, ◌^◌, ◌==◌, ◌↔◌, [], ◌∷◌, suc, length, slice_index_or, if◌then◌else◌, MatchOption, MatchResult, Some, None, IsTrue, IfOk, OnOk, OnErr, is_some, is_none, option_map, nat_le, not, true, take, drop, ◌++◌};
 ghost use Rattle.version_chain.specs.declared.chain.Version.{Version};
 ghost use Rattle.std.specs.List.{filter};
-ghost use Rattle.version_chain.specs.Spent.{is_spent_version, newest_of, is_spent_at};
-ghost use Rattle.version_chain.specs.Versions.{DoRise, version_of, committed, IsPlaceAbove, IsNoneUpTo, IsNewestOf, IsNoneAbove, IsLeastAbove, IsPlaceOf, IsFreePlace};
+ghost use Rattle.version_chain.specs.Dead.{is_dead_version, newest_of, is_dead_at};
+ghost use Rattle.version_chain.specs.Versions.{DoRise, version_of, as_committed, IsPlaceAbove, IsNoneUpTo, IsNewestOf, IsNoneAbove, IsLeastAbove, IsPlaceOf, IsFreePlace};
 
 use crate::steps::Steps;
 use crate::versions::Versions;
 use std::alloc::{AllocError, Global};
 use std::marker::Model;
-use timestamps::halves::Halves;
+use timestamps::binary_search::BinarySearch;
 use timestamps::ts::Ts;
 use timestamps::value::Value;
 
@@ -20,17 +20,17 @@ pub struct Version {
     /// The value, or `None` for a delete.
     pub after: Option<Value>,
     /// Whether the transaction has committed.
-    pub decided: bool,
+    pub committed: bool,
 }
 
 impl Version {
     /// Whether it is dead by the horizon, where `top` is the timestamp of the newest committed version of
     /// its key at or below that.
-    pub(crate) fn is_spent(&self, horizon: u64, top: u64) -> bool
-        ensures { result ≡ is_spent_version horizon top self.now }
+    pub(crate) fn is_dead_by(&self, horizon: u64, top: u64) -> bool
+        ensures { result ≡ is_dead_version horizon top self.now }
     {
         let ts = self.ts.get();
-        self.decided && (ts <= horizon && (self.after.is_none() || ts < top))
+        self.committed && (ts <= horizon && (self.after.is_none() || ts < top))
     }
 }
 
@@ -77,7 +77,7 @@ impl Chain {
         ensures place { IsPlaceAbove self.now t result }
         ensures steps { (d : ℕ) → length self.now < 2 ^ d → steps.new.count ≤ steps.old.count + d }
     {
-        let mut left = Halves::of(self.all().len());
+        let mut left = BinarySearch::of(self.all().len());
         while left.size > 0 {
             let read = self.ts_at(left.middle(), steps);
             left = left.after(read, t);
@@ -177,7 +177,7 @@ impl Chain {
     /// Marks the version of `ts`, where there is one, as committed.
     pub(crate) fn commit(&mut self, ts: u64)
         ensures { (i : ℕ) → version_of self.new i
-            ≡ (if ts == i then option_map committed (version_of self.old i) else version_of self.old i) }
+            ≡ (if ts == i then option_map as_committed (version_of self.old i) else version_of self.old i) }
     {
         if let Ok(place) = self.place_of(ts) {
             self.versions.commit(place);
@@ -214,7 +214,7 @@ impl Chain {
         while place > 0 {
             place -= 1;
             let version = &self.all()[place];
-            if version.decided {
+            if version.committed {
                 return version.ts.get();
             }
         }
@@ -223,11 +223,11 @@ impl Chain {
 
     /// Whether a version is dead by the horizon, where `top` is the timestamp of the newest committed
     /// one at or below that.
-    pub(crate) fn has_spent(&self, horizon: u64, top: u64) -> bool
-        ensures { (i : ℕ) → is_spent_at horizon top self.now i ≡ true → IsTrue result }
+    pub(crate) fn has_dead(&self, horizon: u64, top: u64) -> bool
+        ensures { (i : ℕ) → is_dead_at horizon top self.now i ≡ true → IsTrue result }
     {
         for version in self.through(horizon) {
-            if version.is_spent(horizon, top) {
+            if version.is_dead_by(horizon, top) {
                 return true;
             }
         }
@@ -236,9 +236,9 @@ impl Chain {
 
     /// Drops the versions that are dead by the horizon, and says how many. Those above it are not
     /// looked at.
-    pub(crate) fn drop_spent(&mut self, horizon: u64, top: u64) -> u64
-        ensures left { self.new ≡ filter (λ (v : Version). not (is_spent_version horizon top v)) self.old }
-        ensures count { result ≡ length (filter (is_spent_version horizon top) self.old) }
+    pub(crate) fn drop_dead(&mut self, horizon: u64, top: u64) -> u64
+        ensures left { self.new ≡ filter (λ (v : Version). not (is_dead_version horizon top v)) self.old }
+        ensures count { result ≡ length (filter (is_dead_version horizon top) self.old) }
         ensures rising { DoRise self.old }
     {
         let before = self.all().len();

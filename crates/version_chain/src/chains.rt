@@ -1,15 +1,13 @@
 //! The chains of all keys.
-ghost use Rattle.std.specs.Prelude.{◌≡◌, ℕ, List, [], Some, None, MatchOption, IfOk, OnOk, OnErr, is_some, is_none, option_map, length, true, false, IsTrue};
+ghost use Rattle.std.specs.Prelude.{◌≡◌, ℕ, List, [], Some, None, MatchOption, IfOk, OnOk, OnErr, is_some, is_none, option_map, length, true, false};
 ghost use Rattle.version_chain.specs.declared.chain.Version.{Version};
-ghost use Rattle.version_chain.specs.Versions.{DoRise, committed, IsNoneUpTo, IsNewestOf, IsNoneAbove, IsLeastAbove};
+ghost use Rattle.version_chain.specs.Versions.{DoRise, as_committed, IsNoneUpTo, IsNewestOf, IsNoneAbove, IsLeastAbove};
 ghost use Rattle.version_chain.specs.Chains.{AreFilled, found_in, chain_of, IsChangedAt};
-ghost use Rattle.version_chain.specs.Stores.{is_decided_in};
+ghost use Rattle.version_chain.specs.Stores.{is_committed_in};
 ghost use Rattle.version_chain.specs.Following.{IsCommittedAt, IsFirstAmong, IsNoneAmong};
 ghost use Rattle.version_chain.specs.InSpans.{AreFound, AreFrom};
-ghost use Rattle.version_chain.specs.Spent.{is_spent_version, is_spent_at, newest_of, IsThinnedAt};
+ghost use Rattle.version_chain.specs.Dead.{is_dead_version, IsThinnedAt, AreDeadFound, TellsDead};
 ghost use Rattle.std.specs.List.{filter};
-ghost use Rattle.std.specs.BTreeSet.{contains};
-ghost use Rattle.timestamps.specs.Bytes.{key_cmp};
 ghost use Rattle.spans.proofs.Keyed.{RisingKeys};
 ghost use Rattle.spans.proofs.WriteSets.{has};
 
@@ -83,10 +81,10 @@ impl Chains {
 
     /// The version of the key at `ts`, where it is committed.
     fn committed_at(&self, key: &Key, ts: u64) -> Option<&Version>
-        ensures { MatchOption result (is_decided_in self.now key.now ts ≡ false) (λ v. IsCommittedAt self.now key.now ts v.now) }
+        ensures { MatchOption result (is_committed_in self.now key.now ts ≡ false) (λ v. IsCommittedAt self.now key.now ts v.now) }
     {
         let version = self.newest_at(key, ts)?;
-        if version.ts.get() != ts || !version.decided {
+        if version.ts.get() != ts || !version.committed {
             return None;
         }
         Some(version)
@@ -154,7 +152,7 @@ impl Chains {
 
     /// Marks a version, where there is one, as committed.
     pub(crate) fn commit(&mut self, key: &Key, ts: u64)
-        ensures { IsChangedAt self.old self.new key.now ts (option_map committed) }
+        ensures { IsChangedAt self.old self.new key.now ts (option_map as_committed) }
     {
         let Some(chain) = self.map.get_mut(key) else {
             return;
@@ -186,15 +184,15 @@ impl Chains {
 
     /// Drops the versions of a key that are dead by the horizon, where `top` is the timestamp of the
     /// newest committed one at or below that, and says how many.
-    pub(crate) fn drop_spent(&mut self, key: &Key, horizon: u64, top: u64) -> u64
+    pub(crate) fn drop_dead(&mut self, key: &Key, horizon: u64, top: u64) -> u64
         ensures left { IsThinnedAt self.old self.new key.now horizon top }
-        ensures count { result ≡ length (filter (is_spent_version horizon top) (chain_of self.old key.now)) }
+        ensures count { result ≡ length (filter (is_dead_version horizon top) (chain_of self.old key.now)) }
         ensures rising { DoRise (chain_of self.old key.now) }
     {
         let Some(chain) = self.map.get_mut(key) else {
             return 0;
         };
-        let dropped = chain.drop_spent(horizon, top);
+        let dropped = chain.drop_dead(horizon, top);
         if chain.is_empty() {
             self.map.remove(key);
         }
@@ -203,21 +201,20 @@ impl Chains {
 
     /// Adds those of the keys whose newest committed version at or below the horizon is of `ts`, and
     /// of which a version is dead by the horizon.
-    pub(crate) fn add_spent(
+    pub(crate) fn add_dead(
         &self,
-        spent: &mut Vec<Key>,
+        dead: &mut Vec<Key>,
         keys: &BTreeSet<Key>,
         ts: u64,
         horizon: u64,
     ) -> Result<(), AllocError>
-        ensures keeps { OnOk result ((y : List ℕ) → has y spent.old.items ≡ true → has y spent.new.items ≡ true) }
-        ensures adds { OnOk result ((y : List ℕ) (i : ℕ) → contains key_cmp keys.now y ≡ true → newest_of (chain_of self.now y) horizon ≡ ts
-            → is_spent_at horizon ts (chain_of self.now y) i ≡ true → has y spent.new.items ≡ true) }
+        ensures keeps { OnOk result ((y : List ℕ) → has y dead.old.items ≡ true → has y dead.new.items ≡ true) }
+        ensures adds { OnOk result (AreDeadFound self.now horizon ts keys.now dead.new.items) }
     {
         for key in keys {
-            if self.has_spent(key, ts, horizon) {
+            if self.has_dead(key, ts, horizon) {
                 let key = key.copy()?;
-                spent.push(key)?;
+                dead.push(key)?;
             }
         }
         Ok(())
@@ -225,12 +222,12 @@ impl Chains {
 
     /// Whether the newest committed version at or below the horizon is of `ts`, and a version of the
     /// key is dead by the horizon.
-    fn has_spent(&self, key: &Key, ts: u64, horizon: u64) -> bool
-        ensures { (i : ℕ) → newest_of (chain_of self.now key.now) horizon ≡ ts → is_spent_at horizon ts (chain_of self.now key.now) i ≡ true → IsTrue result }
+    fn has_dead(&self, key: &Key, ts: u64, horizon: u64) -> bool
+        ensures { TellsDead self.now horizon ts key.now result }
     {
         match self.map.get(key) {
             None => false,
-            Some(chain) => chain.newest_committed(horizon) == ts && chain.has_spent(horizon, ts),
+            Some(chain) => chain.newest_committed(horizon) == ts && chain.has_dead(horizon, ts),
         }
     }
 }

@@ -1,4 +1,5 @@
 //! The keys of a span that have a version.
+ghost use Rattle.timestamps.specs.declared.key.TheConstants.{MAX_KEY_BYTES};
 ghost use Rattle.std.specs.Prelude.{◌≡◌, ◌≤◌, length};
 ghost use Rattle.std.specs.Map.Iter.{TakesFirst, deref_pair};
 ghost use Rattle.std.specs.Iterator.{at_most};
@@ -71,7 +72,7 @@ impl<'a> Iterator for InSpan<'a> {
 /// Whether the key is below the bound, where there is one.
 fn is_below(high: &Option<Bound>, key: &Key) -> bool
     ensures below { result ≡ below_high high.now key.now }
-    ensures in_range { length key.now ≤ 64 }
+    ensures in_range { length key.now ≤ MAX_KEY_BYTES }
 {
     let bytes = key.bytes();
     match high {

@@ -6,11 +6,11 @@ ghost use Rattle.std.specs.Map.{keys_of};
 ghost use Rattle.spans.specs.Keys.{in_span};
 ghost use Rattle.spans.proofs.Keyed.{RisingKeys};
 ghost use Rattle.kept.specs.Finding.{IsNextAbove};
-ghost use Rattle.version_chain.specs.Versions.{committed};
-ghost use Rattle.version_chain.specs.Following.{IsFirstAfter, IsNoneAfter};
+ghost use Rattle.version_chain.specs.Versions.{as_committed};
+ghost use Rattle.version_chain.specs.Following.{IsFirstFound};
 ghost use Rattle.version_chain.specs.Chains.{Entry, AreFilled, IsChangedAt};
 ghost use Rattle.spans.proofs.WriteSets.{has};
-ghost use Rattle.version_chain.specs.Spent.{is_spent_in, IsCollectedIn, AreThinned};
+ghost use Rattle.version_chain.specs.Dead.{is_dead_in, IsCollectedIn, AreThinned};
 ghost use Rattle.version_chain.specs.Stores.{version_in, IsCountOf, IsNewestIn, IsAsBefore, IsWrittenTo, IsCommittedIn, IsAbortedIn};
 
 use crate::chain::Version;
@@ -94,8 +94,7 @@ impl Store {
         key: Option<&Key>,
         through: u64,
     ) -> Option<(&Key, &Version)>
-        ensures { MatchOption result (IsNoneAfter self.now ts (option_copied key.entry) through)
-            (λ found. IsFirstAfter self.now ts (option_copied key.entry) through found.0.now found.1.now) }
+        ensures { IsFirstFound self.now ts (option_copied key.entry) through result }
     {
         let Some(key) = key else {
             return self.committed_above(ts, through);
@@ -111,8 +110,7 @@ impl Store {
 
     /// The first committed version of `ts` at a key above `key`, with its key.
     fn committed_beside(&self, ts: u64, key: &Key) -> Option<(&Key, &Version)>
-        ensures { MatchOption result (IsNoneAfter self.now ts (Some key.now) ts)
-            (λ found. IsFirstAfter self.now ts (Some key.now) ts found.0.now found.1.now) }
+        ensures { IsFirstFound self.now ts (Some key.now) ts result }
     {
         let keys = self.index.keys_at(ts)?;
         let above = keys.range((Bound::Excluded(key), Bound::Unbounded));
@@ -121,8 +119,7 @@ impl Store {
 
     /// The first committed version above `after` and at or below `through`, with its key.
     fn committed_above(&self, after: u64, through: u64) -> Option<(&Key, &Version)>
-        ensures { MatchOption result (IsNoneAfter self.now after None through)
-            (λ found. IsFirstAfter self.now after None through found.0.now found.1.now) }
+        ensures { IsFirstFound self.now after None through result }
     {
         if through <= after {
             return None;
@@ -160,7 +157,7 @@ impl Store {
         let version = Version {
             ts,
             after,
-            decided: false,
+            committed: false,
         };
         let new = self.chains.write(key, version)?;
         if new {
@@ -184,7 +181,7 @@ impl Store {
 
     /// Marks a version, where there is one, as committed.
     fn commit_at(&mut self, key: &Key, ts: Ts)
-        ensures { IsChangedAt self.old self.new key.now ts (option_map committed) }
+        ensures { IsChangedAt self.old self.new key.now ts (option_map as_committed) }
     {
         // a version that commits below it may be dead by it, or make others so
         self.dropped_through = self.dropped_through.min(ts.get() - 1);
@@ -219,27 +216,27 @@ impl Store {
         ensures ok { IfOk result (λ count. IsCollectedIn self.old self.new horizon count) }
         ensures err { OnErr result (IsAsBefore self.old self.new) }
     {
-        let keys = self.spent_keys(horizon)?;
+        let keys = self.dead_keys(horizon)?;
         Ok(self.thin_all(keys.as_slice(), horizon))
     }
 
     /// The keys of which a version is dead by the horizon.
-    fn spent_keys(&self, horizon: u64) -> Result<Vec<Key>, AllocError>
-        ensures { IfOk result (λ keys. (y : List ℕ) (i : ℕ) → is_spent_in self.now horizon y i ≡ true → has y keys.items ≡ true) }
+    fn dead_keys(&self, horizon: u64) -> Result<Vec<Key>, AllocError>
+        ensures { IfOk result (λ keys. (y : List ℕ) (i : ℕ) → is_dead_in self.now horizon y i ≡ true → has y keys.items ≡ true) }
     {
         let mut keys = Vec::new(self.chains.alloc());
         if horizon <= self.dropped_through {
             return Ok(keys);
         }
         for (ts, written) in self.index.between(self.dropped_through, horizon) {
-            self.chains.add_spent(&mut keys, written, ts.0, horizon)?;
+            self.chains.add_dead(&mut keys, written, ts.0, horizon)?;
         }
         Ok(keys)
     }
 
     /// Drops what is dead by the horizon, which the keys have, and says how many versions that was.
     fn thin_all(&mut self, keys: &[Key], horizon: u64) -> u64
-        requires all { (y : List ℕ) (i : ℕ) → is_spent_in self.old horizon y i ≡ true → has y keys.now ≡ true }
+        requires all { (y : List ℕ) (i : ℕ) → is_dead_in self.old horizon y i ≡ true → has y keys.now ≡ true }
         ensures { IsCollectedIn self.old self.new horizon result }
     {
         let before = self.count;
@@ -259,8 +256,8 @@ impl Store {
         };
         let top = chain.newest_committed(horizon);
         self.index
-            .remove_spent(key, chain.through(horizon), horizon, top);
-        self.count -= self.chains.drop_spent(key, horizon, top);
+            .remove_dead(key, chain.through(horizon), horizon, top);
+        self.count -= self.chains.drop_dead(key, horizon, top);
     }
 }
 

@@ -2,8 +2,8 @@
 ghost use Rattle.std.specs.Prelude.{◌≡◌, ◌<◌, ◌≤◌, ◌++◌, ◌∷◌, [], length, take, drop, slice_set, slice_index_or, not, IfOk, OnOk, OnErr};
 ghost use Rattle.std.specs.List.{filter, insert, remove};
 ghost use Rattle.version_chain.specs.declared.chain.Version.{Version};
-ghost use Rattle.version_chain.specs.Versions.{committed};
-ghost use Rattle.version_chain.specs.Spent.{is_spent_version};
+ghost use Rattle.version_chain.specs.Versions.{as_committed};
+ghost use Rattle.version_chain.specs.Dead.{is_dead_version};
 
 use crate::chain::Version;
 use std::alloc::{AllocError, Global};
@@ -66,9 +66,9 @@ impl Versions {
     /// Marks the version at a place as committed.
     pub(crate) fn commit(&mut self, place: usize)
         requires { place < length self.old }
-        ensures { (d : Version) → self.new ≡ slice_set self.old place (committed (slice_index_or self.old place d)) }
+        ensures { (d : Version) → self.new ≡ slice_set self.old place (as_committed (slice_index_or self.old place d)) }
     {
-        self.places[self.gone + place].decided = true;
+        self.places[self.gone + place].committed = true;
     }
 
     /// Puts a version in at a place. Those from there on are moved, but for a first one that finds a
@@ -98,11 +98,11 @@ impl Versions {
     /// Drops those before a place that are dead by the horizon.
     pub(crate) fn drop_before(&mut self, place: usize, horizon: u64, top: u64)
         requires { place ≤ length self.old }
-        ensures { self.new ≡ filter (λ (v : Version). not (is_spent_version horizon top v)) (take place self.old) ++ drop place self.old }
+        ensures { self.new ≡ filter (λ (v : Version). not (is_dead_version horizon top v)) (take place self.old) ++ drop place self.old }
     {
         let first = self.gone;
-        let spent = put_first(&mut self.places[first..first + place], horizon, top);
-        self.drop_first(spent);
+        let dead = put_first(&mut self.places[first..first + place], horizon, top);
+        self.drop_first(dead);
     }
 
     // Drops so many at the front.
@@ -132,11 +132,11 @@ impl Versions {
 fn put_first(versions: &mut [Version], horizon: u64, top: u64) -> usize
     ensures within { result ≤ length versions.old }
     ensures len { length versions.new ≡ length versions.old }
-    ensures others { drop result versions.new ≡ filter (λ (v : Version). not (is_spent_version horizon top v)) versions.old }
+    ensures others { drop result versions.new ≡ filter (λ (v : Version). not (is_dead_version horizon top v)) versions.old }
 {
     let mut kept = 0;
     for i in 0..versions.len() {
-        if !versions[i].is_spent(horizon, top) {
+        if !versions[i].is_dead_by(horizon, top) {
             versions.swap(kept, i);
             kept += 1;
         }

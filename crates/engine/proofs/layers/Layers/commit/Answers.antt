@@ -2,6 +2,7 @@ use Rattle.std.proofs.Common.{ap, inl, refl, subst, sym, ◌∙◌}
 use Rattle.spans.specs.declared.calls.commands.Cmd.TheVariants.{Commit}
 use Rattle.spans.proofs.WriteSets.{has}
 use Rattle.kept.specs.Answered.{IsAnswered}
+use Rattle.version_chain.specs.Stores.{version_in}
 use Rattle.mvto_rules.specs.Holding.{holding}
 use Rattle.engine.specs.Layers.{kept_of}
 use Rattle.engine.proofs.HoldingRows.{commit_held, keys_stay}
@@ -21,7 +22,7 @@ returns-in-Committed-clause-served c = (
       let k = kept_of c.args.self.now in
       let done = c.commit.ensures.committed k c.in-Committed.keys c.in-Committed.is in
       let keys = c.write_set.ensures.keys ∙ keys_stay k (holding k c.commit.new.self) c.args.ts done in
-      commit_held k c.commit.new.self.store c.args.ts c.write_set.result.now c.args.self.now.held_back c.hold_rows.new.held (λ x. done.version x c.args.ts) (λ x out. noted x c.args.ts above (ap (has x) (sym keys) ∙ out)) c.hold_rows.ensures.rising c.hold_rows.ensures.held rising none,
+      commit_held k c.versions.result.now c.args.ts c.write_set.result.now c.args.self.now.held_back c.hold_rows.new.held (λ x. ap (λ s. version_in s x c.args.ts) c.versions.ensures ∙ done.version x c.args.ts) (λ x out. noted x c.args.ts above (ap (has x) (sym keys) ∙ out)) c.hold_rows.ensures.rising c.hold_rows.ensures.held rising none,
 )
 
 pub returns-in_default-clause-step : goal.returns-in_default-clause-step

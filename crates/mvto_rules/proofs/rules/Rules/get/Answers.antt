@@ -4,7 +4,7 @@ use Rattle.spans.specs.Legal.{is_accepted}
 use Rattle.spans.specs.declared.calls.replies.Reply.TheVariants.{Found}
 use Rattle.kept.specs.Changes.{IsReadBy}
 use Rattle.kept.specs.Finding.{seen}
-use Rattle.version_chain.specs.Stores.{is_decided_in, version_in}
+use Rattle.version_chain.specs.Stores.{is_committed_in, version_in}
 use Rattle.mvto_rules.specs.Holding.{holding}
 use Rattle.mvto_rules.specs.Sights.{sight_of}
 use Rattle.mvto_rules.proofs.Noting.{any_err, own_is_read}
@@ -24,7 +24,7 @@ returns-in_ok-after-in-Own-clause-read c = λ k v e.
     let there = found_there c.args.self.now.store c.args.key.now c.args.ts c.get.result c.newest_at-newest.result same c.newest_at-newest.ensures c.of.ensures.above in
     let low : 0 < c.args.ts = omega (arith, c.get.ensures.in_range.0) in
     own_is_read (holding k c.args.self.now) c.args.self.now.store c.args.key.now c.args.ts refl
-    (own_is (version_in c.args.self.now.store c.args.key.now) (is_decided_in c.args.self.now.store c.args.key.now) c.args.ts (option_copied c.newest_at-newest.result) low there (c.in-Own.ensures.sight ∙ ap (λ t. sight_of t (option_copied c.newest_at-newest.result)) c.in-Ok.ensures.ok))
+    (own_is (version_in c.args.self.now.store c.args.key.now) (is_committed_in c.args.self.now.store c.args.key.now) c.args.ts (option_copied c.newest_at-newest.result) low there (c.in-Own.ensures.sight ∙ ap (λ t. sight_of t (option_copied c.newest_at-newest.result)) c.in-Ok.ensures.ok))
 
 pub returns-in_ok-mark-in-Other-clause-reply : goal.returns-in_ok-mark-in-Other-clause-reply
 returns-in_ok-mark-in-Other-clause-reply c = λ k at.
@@ -38,7 +38,7 @@ returns-in_ok-mark-in-Other-clause-read c = λ k v e.
     let same = c.get.ensures.number ∙ c.in-Ok.ensures.ok in
     let there = found_there c.args.self.now.store c.args.key.now c.args.ts c.get.result c.newest_at-newest.result same c.newest_at-newest.ensures c.of.ensures.above in
     let low : 0 < c.args.ts = omega (arith, c.get.ensures.in_range.0) in
-    let other = other_is (version_in c.args.self.now.store c.args.key.now) (is_decided_in c.args.self.now.store c.args.key.now) c.args.ts (option_copied c.newest_at-newest.result) _ low there (c.in-Other.ensures.sight ∙ ap (λ t. sight_of t (option_copied c.newest_at-newest.result)) c.in-Ok.ensures.ok) in
+    let other = other_is (version_in c.args.self.now.store c.args.key.now) (is_committed_in c.args.self.now.store c.args.key.now) c.args.ts (option_copied c.newest_at-newest.result) _ low there (c.in-Other.ensures.sight ∙ ap (λ t. sight_of t (option_copied c.newest_at-newest.result)) c.in-Ok.ensures.ok) in
     subst (λ t. IsReadBy (holding k c.args.self.now) (holding k c.mark.new.self) t c.args.key.now) c.in-Ok.ensures.ok (c.in_ok-mark-in-Other.ensures.ok k (ap (λ t. (seen (holding k c.args.self.now) c.args.key.now t).ts) c.in-Ok.ensures.ok ∙ other.0))
 
 pub returns-in_err-after-in-Own-clause-accepted : goal.returns-in_err-after-in-Own-clause-accepted

@@ -1,6 +1,6 @@
 use Rattle.std.proofs.Common.{get_or, arith, sym}
 use Rattle.version_chain.proofs.Places.{up_to}
-use Rattle.version_chain.proofs.Halves.{half_is_left}
+use Rattle.version_chain.proofs.BinarySearch.{half_is_left}
 use Rattle.version_chain.proofs.chain.Chain.place_above.Goals as goal
 
 pub ts_at-read-requires : goal.ts_at-read-requires

@@ -1,5 +1,5 @@
 use Rattle.std.proofs.Common.{ℕ, ◌+◌, ◌^◌, ◌<◌, ◌≤◌, length, get_or}
-use Rattle.timestamps.specs.Halves.{AreLeft}
+use Rattle.timestamps.specs.BinarySearch.{AreLeft}
 use Rattle.version_chain.specs.declared.chain.Version.{Version}
 use Rattle.version_chain.proofs.chain.Chain.place_above.Given as goal
 

@@ -3,7 +3,7 @@ use Rattle.std.proofs.Math.Seq.{take-suc}
 use Rattle.spans.proofs.WriteSets.{has}
 use Rattle.version_chain.specs.Chains.{found_in}
 use Rattle.version_chain.specs.Stores.{IsCountOf}
-use Rattle.version_chain.specs.Spent.{is_spent_in, AreThinned}
+use Rattle.version_chain.specs.Dead.{is_dead_in, AreThinned}
 use Rattle.version_chain.proofs.Soundness.{AreSettled, settled_max}
 use Rattle.version_chain.proofs.Thinning.{all_thinned, collected, settled_thinned, thinned_more, whole_keys}
 use Rattle.version_chain.proofs.store.Store.thin_all.Goals as goal
@@ -15,10 +15,10 @@ loop-key-preserved c =
     (thinned_more c.args.self.now c.loop-key.self c.thin.new.self (take c.loop-key.key-index c.args.keys.now) c.key-item.result c.args.horizon c.loop-key.invariant c.thin.ensures)
 
 -- all that was dead is gone
-left : (c : goal.After-self-1) → (y : List ℕ) (i : ℕ) → found_in c.self-2.inside.chains y i ≡ cond (is_spent_in c.args.self.now c.args.horizon y i) None (found_in c.args.self.now y i)
+left : (c : goal.After-self-1) → (y : List ℕ) (i : ℕ) → found_in c.self-2.inside.chains y i ≡ cond (is_dead_in c.args.self.now c.args.horizon y i) None (found_in c.args.self.now y i)
 left c =
     let thin : AreThinned c.args.self.now c.loop-key.self (λ y. has y c.args.keys.now) c.args.horizon = subst (λ ks. AreThinned c.args.self.now c.loop-key.self (λ y. has y ks) c.args.horizon) (whole_keys c.args.keys.now c.loop-key.key-index c.loop-key-test.false) c.loop-key.invariant in
-    subst (λ es. (y : List ℕ) (i : ℕ) → found_in es y i ≡ cond (is_spent_in c.args.self.now c.args.horizon y i) None (found_in c.args.self.now y i)) (sym c.self-2.view_is)
+    subst (λ es. (y : List ℕ) (i : ℕ) → found_in es y i ≡ cond (is_dead_in c.args.self.now c.args.horizon y i) None (found_in c.args.self.now y i)) (sym c.self-2.view_is)
     (all_thinned c.args.self.now c.loop-key.self (λ y. has y c.args.keys.now) c.args.horizon c.requires.all thin)
 
 pub overflow_sub-result : goal.overflow_sub-result

@@ -1,6 +1,6 @@
 use Rattle.std.proofs.Common.{take}
 use Rattle.spans.proofs.WriteSets.{has}
-use Rattle.version_chain.specs.Spent.{AreThinned}
+use Rattle.version_chain.specs.Dead.{AreThinned}
 use Rattle.version_chain.proofs.store.Store.thin_all.Given as goal
 
 abbrev pub invariant-loop-key : goal.invariant-loop-key

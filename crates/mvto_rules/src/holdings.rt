@@ -1,0 +1,66 @@
+//! What the rules hold, to be read.
+ghost use Rattle.std.specs.Prelude.{◌≡◌};
+ghost use Rattle.spans.proofs.Keyed.{RisingKeys};
+ghost use Rattle.spans.proofs.WriteSets.{has};
+ghost use Rattle.kept.specs.Table.{IsOldest, is_open, keys_of};
+ghost use Rattle.txn_table.specs.TransactionIn.{IsCountOf};
+ghost use Rattle.version_chain.specs.Stores as stores;
+
+use crate::rules::Rules;
+use read_marks::Marks;
+use timestamps::key::Key;
+use version_chain::Store;
+
+impl Rules {
+    ghost use Rattle.mvto_rules.specs.Holding.{marked_of, transactions_of, versions_of};
+    ghost use Rattle.read_marks.specs.Marks.{is_marked_in};
+
+    /// The versions.
+    pub fn versions(&self) -> &Store
+        ensures { result.now ≡ versions_of self.now }
+    {
+        &self.store
+    }
+
+    /// How many versions there are.
+    pub fn version_count(&self) -> u64
+        ensures { stores.IsCountOf (versions_of self.now) result }
+    {
+        self.store.versions()
+    }
+
+    /// The marks of readers.
+    pub fn marks(&self) -> &Marks
+        ensures { is_marked_in result.now ≡ marked_of self.now }
+    {
+        &self.marks
+    }
+
+    /// The least timestamp that is undecided.
+    pub fn oldest_undecided(&self) -> Option<u64>
+        ensures { IsOldest (transactions_of self.now) result }
+    {
+        self.txns.oldest_undecided()
+    }
+
+    /// How many transactions are undecided.
+    pub fn undecided_count(&self) -> u64
+        ensures { IsCountOf (λ t. is_open (transactions_of self.now t)) result }
+    {
+        self.txns.undecided()
+    }
+
+    /// The keys that the transaction of `ts` wrote, rising; none where there is no transaction.
+    pub fn write_set(&self, ts: u64) -> &[Key]
+        ensures keys { result.now ≡ keys_of (transactions_of self.now ts) }
+        ensures rising { RisingKeys result.now }
+    {
+        self.txns.write_set(ts)
+    }
+    /// Whether the transaction of `ts` noted the key, as a write asks of a caller.
+    pub fn has_key(&self, ts: u64, key: &Key) -> bool
+        ensures { result ≡ has key.now (keys_of (transactions_of self.now ts)) }
+    {
+        self.txns.has_key(ts, key)
+    }
+}
