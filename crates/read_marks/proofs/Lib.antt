@@ -12,3 +12,4 @@ pub mod Keeping
 pub mod Alike
 pub mod Extents
 pub mod Pieces
+pub mod Succeeding

@@ -1,13 +1,15 @@
 -- What the words of a text are, and that they spell it.
-use Rattle.std.proofs.Common.{ℕ, zero, suc, List, [], ◌∷◌, ◌++◌, ◌≡◌, ◌<◌, ◌≤◌, ◌+◌, ◌*◌, ◌/◌, ◌%◌, ◌^◌, refl, sym, ap, ◌∙◌, arith, length, get_or, set, take, drop, ◌-◌, ◌⊎◌, inl, inr, below_more, nat_cmp, subst}
+use Rattle.std.proofs.Common.{ℕ, zero, suc, List, [], ◌∷◌, ◌++◌, ◌≡◌, ◌<◌, ◌≤◌, ◌+◌, ◌*◌, ◌/◌, ◌%◌, ◌^◌, refl, sym, ap, ◌∙◌, arith, length, get_or, set, take, drop, ◌-◌, ◌⊎◌, inl, inr, below_more, nat_cmp, min, subst, Ordering, Less, Equal, Greater}
 use Rattle.std.proofs.Math.Nat.{mul_assoc}
 use Rattle.std.proofs.Math.Seq.{drop-nil, take-length}
-use Rattle.std.proofs.lemmas.List.{drop-drop, drop_all, get_or-drop, get_or-set_other, get_or-set_same, get_or-take, length-set, length-drop, length-take-le}
+use Rattle.std.proofs.lemmas.List.{drop-drop, drop_all, get_or-drop, get_or-set_other, get_or-set_same, get_or-take, length-set, length-drop, take-append-drop}
+use Rattle.std.specs.Cmp.{ranks}
+use Rattle.std.specs.Ordering.{MatchOrdering, ordering_then}
 use Rattle.std.proofs.lemmas.Bool.{cases_lt}
 use Rattle.std.proofs.lemmas.Nat.{pow-add}
 use Rattle.timestamps.specs.Bytes.{key_cmp}
-use Rattle.read_marks.specs.Words.{front_from, front_of, words_of, digits, bytes_of, text_of, IsText}
-use Rattle.read_marks.proofs.Fronts.{AreBytes, cmp_on, front_read, fronts_differ, padded, spelt}
+use Rattle.read_marks.specs.Words.{AreBytes, front_from, front_of, words_of, digits, bytes_of, text_of, IsText}
+use Rattle.read_marks.proofs.Fronts.{cmp_on, front_read, fronts_differ, fronts_same, fronts_skip, padded, spelt}
 
 -- how many numbers n bytes can be
 abbrev width : ℕ → ℕ
@@ -90,7 +92,7 @@ word_at zero i xs l = absurd (omega arith)
 word_at (suc n) zero xs l = refl
 word_at (suc n) (suc i) xs l = let e : 8 + 8 * i ≡ 8 * suc i = omega arith in word_at n i (drop 8 xs) (omega arith) ∙ ap front_of (drop-drop (8 * i) 8 xs ∙ ap (λ k. drop k xs) e)
 
-words_made : (n : ℕ) (words xs : List ℕ) → length words ≡ n → ((i : ℕ) → i < n → get_or words i 0 ≡ front_of (drop (8 * i) xs)) → words ≡ words_of n xs
+pub words_made : (n : ℕ) (words xs : List ℕ) → length words ≡ n → ((i : ℕ) → i < n → get_or words i 0 ≡ front_of (drop (8 * i) xs)) → words ≡ words_of n xs
 words_made zero [] xs e at = refl
 words_made zero (w ∷ words) xs e at = absurd (omega arith)
 words_made (suc n) [] xs e at = absurd (omega arith)
@@ -117,20 +119,26 @@ digits_back (suc n) m k a (x ∷ xs) zs h e =
     let lowest : (a * 256 + x) % 256 ≡ x = omega arith in
     digits_back n (suc m) k (a * 256 + x) xs zs (λ j. h (suc j)) (omega arith) ∙ ap (λ t. digits m t ((a * 256 + x) % 256 ∷ filled n xs zs)) above ∙ ap (λ t. digits m a (t ∷ filled n xs zs)) lowest
 
-taken_filled : (m : ℕ) (xs zs : List ℕ) → take (length (drop m xs)) zs ≡ drop m xs → take (length xs) (filled m xs zs) ≡ xs
-taken_filled zero xs zs e = e
-taken_filled (suc m) [] zs e = refl
-taken_filled (suc m) (x ∷ xs) zs e = ap (λ t. x ∷ t) (taken_filled m xs zs e)
+take_none : (n : ℕ) → ◌≡◌ {A = List ℕ} (take n []) []
+take_none zero = refl
+take_none (suc n) = refl
 
--- the words of a text spell it
-spelt_back : (n : ℕ) (xs : List ℕ) → AreBytes xs → length xs ≤ 8 * n → take (length xs) (bytes_of (words_of n xs)) ≡ xs
-spelt_back zero [] h short = refl
-spelt_back zero (x ∷ xs) h short = absurd (omega arith)
-spelt_back (suc n) xs h short =
+taken_filled : (m k j : ℕ) (xs zs : List ℕ) → j ≡ m + k → take (length (drop m xs)) zs ≡ take k (drop m xs) → take (length xs) (filled m xs zs) ≡ take j xs
+taken_filled zero k j xs zs is e = let same : k ≡ j = omega arith in e ∙ ap (λ t. take t xs) same
+taken_filled (suc m) k j [] zs is e = sym (take_none j)
+taken_filled (suc m) k zero (x ∷ xs) zs is e = absurd (omega arith)
+taken_filled (suc m) k (suc j) (x ∷ xs) zs is e = ap (λ t. x ∷ t) (taken_filled m k j xs zs (omega arith) e)
+
+-- what is behind some bytes of bytes is bytes
+pub drop_bytes : (n : ℕ) (xs : List ℕ) → AreBytes xs → AreBytes (drop n xs)
+drop_bytes n xs h k = let e = get_or-drop n xs k 0 in omega (arith, h (n + k))
+
+-- the words of a text spell its first bytes
+spelt_back : (n : ℕ) (xs : List ℕ) → AreBytes xs → take (length xs) (bytes_of (words_of n xs)) ≡ take (8 * n) xs
+spelt_back zero xs h = take_none (length xs)
+spelt_back (suc n) xs h =
     let others = bytes_of (words_of n (drop 8 xs)) in
-    let rest : AreBytes (drop 8 xs) = λ k. rw (get_or-drop 8 xs k 0) (h (8 + k)) in
-    let more : take (length (drop 8 xs)) others ≡ drop 8 xs = spelt_back n (drop 8 xs) rest (omega (arith, length-drop 8 xs)) in
-    ap (take (length xs)) (digits_back 8 0 8 0 xs others h refl) ∙ taken_filled 8 xs others more
+    ap (take (length xs)) (digits_back 8 0 8 0 xs others h refl) ∙ taken_filled 8 (8 * n) (8 * suc n) xs others (omega arith) (spelt_back n (drop 8 xs) (drop_bytes 8 xs h))
 
 -- what words spell are bytes, eight of each
 bytes_first : (x : ℕ) (xs : List ℕ) → x < 256 → AreBytes xs → AreBytes (x ∷ xs)
@@ -150,35 +158,39 @@ take_bytes zero xs h = λ k. omega arith
 take_bytes (suc n) [] h = λ k. omega arith
 take_bytes (suc n) (x ∷ xs) h = bytes_first x (take n xs) (h 0) (take_bytes n xs (λ k. h (suc k)))
 
-digits_length : (n w : ℕ) (xs : List ℕ) → length (digits n w xs) ≡ n + length xs
-digits_length zero w xs = omega arith
-digits_length (suc n) w xs = let turned : n + suc (length xs) ≡ suc n + length xs = omega arith in digits_length n (w / 256) (w % 256 ∷ xs) ∙ turned
-
-spelt_length : (words : List ℕ) → length (bytes_of words) ≡ 8 * length words
-spelt_length [] = refl
-spelt_length (w ∷ words) = omega (arith, digits_length 8 w (bytes_of words), spelt_length words)
+append_bytes : (xs ys : List ℕ) → AreBytes xs → AreBytes ys → AreBytes (xs ++ ys)
+append_bytes [] ys h g = g
+append_bytes (x ∷ xs) ys h g = bytes_first x (xs ++ ys) (h 0) (append_bytes xs ys (λ k. h (suc k)) g)
 
 -- what words were made of is what they spell
-module _ (words : List ℕ) (len : ℕ) (xs : List ℕ) (h : AreBytes xs) (e : len ≡ length xs) (short : length xs ≤ 65) (made : words ≡ words_of 9 xs) where
-  pub is_made_of : text_of words len ≡ xs
-  is_made_of = rw (e, made) (spelt_back 9 xs h (omega arith))
+module _ (words : List ℕ) (len : ℕ) (rest xs : List ℕ) (h : AreBytes xs) (e : len ≡ length xs) (made : words ≡ words_of 6 xs) (behind : rest ≡ drop 48 xs) where
+  pub is_made_of : text_of words len rest ≡ xs
+  is_made_of = rw (e, made, behind) (ap (λ t. t ++ drop 48 xs) (spelt_back 6 xs h) ∙ take-append-drop 48 xs)
 
-  pub is_text : IsText words len
-  is_text = (omega arith, made ∙ ap (words_of 9) (sym is_made_of))
+  pub is_text : IsText words len rest
+  is_text = record {
+    bytes = subst AreBytes (sym behind) (drop_bytes 48 xs h);
+    length_is = ap length is_made_of ∙ sym e;
+    words_are = made ∙ ap (words_of 6) (sym is_made_of);
+    rest_is = behind ∙ ap (drop 48) (sym is_made_of);
+  }
 
 -- a text in words
-module _ (words : List ℕ) (len : ℕ) (text : List ℕ) (view : text_of words len ≡ text) where
+module _ (words : List ℕ) (len : ℕ) (rest text : List ℕ) (view : text_of words len rest ≡ text) (is : IsText words len rest) where
   pub text_bytes : AreBytes text
-  text_bytes = subst AreBytes view (take_bytes len (bytes_of words) (spelt_bytes words))
+  text_bytes = subst AreBytes view (append_bytes (take len (bytes_of words)) rest (take_bytes len (bytes_of words) (spelt_bytes words)) is.bytes)
 
-  pub text_length : IsText words len → length words ≡ 9 → length text ≡ len
-  text_length is nine = ap length (sym view) ∙ length-take-le len (bytes_of words) (omega (arith, is.0, spelt_length words))
+  pub text_length : length text ≡ len
+  text_length = ap length (sym view) ∙ is.length_is
 
-  pub text_words : IsText words len → words ≡ words_of 9 text
-  text_words is = is.1 ∙ ap (words_of 9) view
+  pub text_words : words ≡ words_of 6 text
+  text_words = is.words_are ∙ ap (words_of 6) view
 
-  text_word : IsText words len → (i k : ℕ) → i < 9 → 8 * i ≡ k → get_or words i 0 ≡ front_of (drop k text)
-  text_word is i k l e = ap (λ t. get_or t i 0) (text_words is) ∙ word_at 9 i text l ∙ ap (λ t. front_of (drop t text)) e
+  pub text_rest : rest ≡ drop 48 text
+  text_rest = is.rest_is ∙ ap (drop 48) view
+
+  text_word : (i k : ℕ) → i < 6 → 8 * i ≡ k → get_or words i 0 ≡ front_of (drop k text)
+  text_word i k l e = ap (λ t. get_or t i 0) text_words ∙ word_at 6 i text l ∙ ap (λ t. front_of (drop t text)) e
 
 pub bytes_zero : (xs : List ℕ) → AreBytes xs → AreBytes (xs ++ 0 ∷ [])
 bytes_zero xs h = λ k. rw (padded xs (0 ∷ []) k zero_read) (h k)
@@ -196,18 +208,59 @@ words_differ m xs ys h g same f =
     differ ∙ rw (left, right) (cmp_on before (front_of (drop m xs)) (front_of (drop m ys)))
 
 -- Two texts in words that are the same up to one of them: where these words differ they decide, and where they don't the texts are the same up to the next.
-module _ (words words' : List ℕ) (len len' : ℕ) (text text' : List ℕ) (view : text_of words len ≡ text) (view' : text_of words' len' ≡ text') (is : IsText words len) (is' : IsText words' len') (at k : ℕ) (place : 8 * at ≡ k) (within : at < 9) (same : front_from k 0 text ≡ front_from k 0 text') where
+module _ (words words' : List ℕ) (len len' : ℕ) (rest rest' text text' : List ℕ) (view : text_of words len rest ≡ text) (view' : text_of words' len' rest' ≡ text') (is : IsText words len rest) (is' : IsText words' len' rest') (at k : ℕ) (place : 8 * at ≡ k) (within : at < 6) (same : front_from k 0 text ≡ front_from k 0 text') where
   word : get_or words at 0 ≡ front_of (drop k text)
-  word = text_word words len text view is at k within place
+  word = text_word words len rest text view is at k within place
 
   word' : get_or words' at 0 ≡ front_of (drop k text')
-  word' = text_word words' len' text' view' is' at k within place
+  word' = text_word words' len' rest' text' view' is' at k within place
 
   pub words_decide : (get_or words at 0 ≡ get_or words' at 0 → ⊥) → nat_cmp (get_or words at 0) (get_or words' at 0) ≡ key_cmp text text'
-  words_decide differ = rw (word, word') (sym (words_differ k text text' (text_bytes words len text view) (text_bytes words' len' text' view') same (λ e. differ (word ∙ e ∙ sym word'))))
+  words_decide differ = rw (word, word') (sym (words_differ k text text' (text_bytes words len rest text view is) (text_bytes words' len' rest' text' view' is') same (λ e. differ (word ∙ e ∙ sym word'))))
 
   pub words_go_on : get_or words at 0 ≡ get_or words' at 0 → front_from (k + 8) 0 text ≡ front_from (k + 8) 0 text'
   words_go_on e = alike_on k text text' same (sym word ∙ e ∙ word')
+
+-- All words from one on, where the texts are the same up to it: the first that differ decide, and where none do the texts are the same up to the end of the words.
+module _ (xs ys : List ℕ) (h : AreBytes xs) (g : AreBytes ys) where
+  abbrev Decide : (n m : ℕ) → Ordering → Type 0
+  Decide n m r = ((r ≡ Equal → ⊥) → key_cmp xs ys ≡ r) × (r ≡ Equal → front_from (m + 8 * n) 0 xs ≡ front_from (m + 8 * n) 0 ys)
+
+  first_turn : (n m x y : ℕ) (o more : Ordering) → MatchOrdering o (x < y) (x ≡ y) (y < x) → o ≡ nat_cmp x y → ((x ≡ y → ⊥) → key_cmp xs ys ≡ nat_cmp x y) → (x ≡ y → Decide n (m + 8) more) → Decide (suc n) m (ordering_then o more)
+  first_turn n m x y Less more l is differ same = (λ _. differ (λ e. let t : x < y = l in absurd (omega arith)) ∙ sym is, λ e. cc)
+  first_turn n m x y Equal more e is differ same = let all : m + 8 + 8 * n ≡ m + 8 * suc n = omega arith in ((same e).0, λ t. subst (λ k. front_from k 0 xs ≡ front_from k 0 ys) all ((same e).1 t))
+  first_turn n m x y Greater more l is differ same = (λ _. differ (λ e. let t : y < x = l in absurd (omega arith)) ∙ sym is, λ e. cc)
+
+  by_words : (n m : ℕ) → front_from m 0 xs ≡ front_from m 0 ys → Decide n m (key_cmp (words_of n (drop m xs)) (words_of n (drop m ys)))
+  by_words zero m same = let all : m ≡ m + 8 * 0 = omega arith in (λ f. absurd (f refl), λ e. subst (λ k. front_from k 0 xs ≡ front_from k 0 ys) all same)
+  by_words (suc n) m same =
+      first_turn n m (front_of (drop m xs)) (front_of (drop m ys)) (nat_cmp (front_of (drop m xs)) (front_of (drop m ys))) (key_cmp (words_of n (drop 8 (drop m xs))) (words_of n (drop 8 (drop m ys))))
+      (ranks (front_of (drop m xs)) (front_of (drop m ys))) refl (words_differ m xs ys h g same)
+      (λ e. let on : m + 8 ≡ 8 + m = omega arith in rw (drop-drop 8 m xs, drop-drop 8 m ys) (by_words n (m + 8) (alike_on m xs ys same e)))
+
+  pub all_words : Decide 6 0 (key_cmp (words_of 6 xs) (words_of 6 ys))
+  all_words = by_words 6 0 refl
+
+-- Bytes whose words have been compared with those of a text: words that differ decide, and where none do the rest does.
+module _ (words : List ℕ) (len : ℕ) (rest text bytes : List ℕ) (view : text_of words len rest ≡ text) (is : IsText words len rest) (h : AreBytes bytes) (order : Ordering) (compared : order ≡ key_cmp (words_of 6 bytes) words) where
+  by_text : order ≡ key_cmp (words_of 6 bytes) (words_of 6 text)
+  by_text = compared ∙ ap (key_cmp (words_of 6 bytes)) (text_words words len rest text view is)
+
+  g : AreBytes text
+  g = text_bytes words len rest text view is
+
+  pub order_decides : (order ≡ Equal → ⊥) → order ≡ key_cmp bytes text
+  order_decides f = by_text ∙ sym ((all_words bytes text h g).0 (λ e. f (by_text ∙ e)))
+
+  module _ (same : order ≡ Equal) where
+    fronts : front_from 48 0 bytes ≡ front_from 48 0 text
+    fronts = (all_words bytes text h g).1 (sym by_text ∙ same)
+
+    pub lengths_decide : min (length bytes) len ≤ 48 → nat_cmp (length bytes) len ≡ key_cmp bytes text
+    lengths_decide short = let e = text_length words len rest text view is in rw (← e) (sym (fronts_same 48 0 bytes text h g fronts (omega arith)))
+
+    pub rests_decide : 48 < min (length bytes) len → key_cmp (drop 48 bytes) rest ≡ key_cmp bytes text
+    rests_decide long = let e = text_length words len rest text view is in rw (text_rest words len rest text view is) (sym (fronts_skip 48 0 bytes text h g fronts (omega arith) (omega arith)))
 
 -- Words that are put down one after another before zeros: the next one, and that those are all if it is the last.
 module _ (words : List ℕ) (at word : ℕ) (xs : List ℕ) (within : at < length words) where
@@ -219,10 +272,10 @@ module _ (words : List ℕ) (at word : ℕ) (xs : List ℕ) (within : at < lengt
   pub zeros_put : ((i : ℕ) → at ≤ i → get_or words i 0 ≡ 0) → (i : ℕ) → at + 1 ≤ i → get_or (set words at word) i 0 ≡ 0
   zeros_put zeros i l = get_or-set_other words at i word 0 (omega arith) ∙ zeros i (omega arith)
 
-  pub all_put : length words ≡ 9 → length xs < 8 * at + 8 → word ≡ front_of (drop (8 * at) xs) → ((i : ℕ) → i < at → get_or words i 0 ≡ front_of (drop (8 * i) xs)) → ((i : ℕ) → at ≤ i → get_or words i 0 ≡ 0) → set words at word ≡ words_of 9 xs
-  all_put nine short e made zeros = words_made 9 (set words at word) xs (length-set words at word ∙ nine) each
+  pub all_put : length words ≡ 6 → length xs < 8 * at + 8 → word ≡ front_of (drop (8 * at) xs) → ((i : ℕ) → i < at → get_or words i 0 ≡ front_of (drop (8 * i) xs)) → ((i : ℕ) → at ≤ i → get_or words i 0 ≡ 0) → set words at word ≡ words_of 6 xs
+  all_put six short e made zeros = words_made 6 (set words at word) xs (length-set words at word ∙ six) each
     where
-      each : (i : ℕ) → i < 9 → get_or (set words at word) i 0 ≡ front_of (drop (8 * i) xs)
+      each : (i : ℕ) → i < 6 → get_or (set words at word) i 0 ≡ front_of (drop (8 * i) xs)
       each i l = elim (decide i) [ inl before ↦ next_put e made i before | inr behind ↦ zeros_put zeros i behind ∙ sym (ap front_of (drop_all (8 * i) xs (omega arith))) ]
         where
           decide : (i : ℕ) → (i < at + 1) ⊎ (at + 1 ≤ i)

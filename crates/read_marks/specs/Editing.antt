@@ -1,5 +1,5 @@
 -- The steps of an edit: starts at the bounds, new readers for the starts between them, and their putting in.
-use Rattle.std.specs.Prelude.{ℕ, List, [], ◌∷◌, Bool, ◌≡◌, Vec, IsSome, Option, Some, None}
+use Rattle.std.specs.Prelude.{ℕ, List, [], ◌∷◌, Bool, ◌≡◌, Vec, IsSome, Option, Some, None, MatchOption}
 use Rattle.std.specs.Global.{Global}
 use Rattle.std.specs.List.{AllByRecursion, filter}
 use Rattle.std.specs.Map.{set_value}
@@ -51,6 +51,14 @@ pub record IsSegment (m : BTreeMap (List ℕ) (List ℕ)) (p : Patch) : Type 0 w
   pub start : get key_cmp m p.lo ≡ Some readers
   pub end : IsEnd m p.hi
   pub alone : filter (λ e. picks p e.0) m.entries ≡ (p.lo, readers) ∷ []
+
+-- what is found if one segment is a patch, and only then
+abbrev pub TellsSegment : {A : Type 0} → BTreeMap (List ℕ) (List ℕ) → Patch → Option A → Type 0
+TellsSegment m p found = MatchOption found (IsSegment m p → ⊥) (λ _. IsSegment m p)
+
+-- the same where a segment starts at the patch's beginning
+abbrev pub TellsSegmentAt : {A : Type 0} → BTreeMap (List ℕ) (List ℕ) → Patch → Option A → Type 0
+TellsSegmentAt m p found = MatchOption found (IsSegment m p → ⊥) (λ _. IsStart m p.lo → IsSegment m p)
 
 -- for each entry, its start once more, and its readers merged, less those that are forgotten
 abbrev pub AreFresh : (forgotten above until ts : ℕ) → Entries → Entries → Type 0

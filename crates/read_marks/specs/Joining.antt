@@ -1,5 +1,5 @@
 -- Lists of patches that edit alike.
-use Rattle.std.specs.Prelude.{ℕ, List, Bool, true, ◌≡◌, ◌<◌, ◌≤◌, Some, IfSome}
+use Rattle.std.specs.Prelude.{ℕ, List, ◌∷◌, ◌++◌, Bool, true, ◌≡◌, ◌<◌, ◌≤◌, Some, IfSome}
 use Rattle.std.specs.List.{AllByRecursion}
 use Rattle.std.specs.BTreeMap.Range.{IsLtBy}
 use Rattle.timestamps.specs.Bytes.{key_cmp}
@@ -13,6 +13,18 @@ use Rattle.read_marks.specs.declared.patch.Patch.{Patch}
 -- what the one list makes of the readers m of a key, the other makes of them too
 abbrev pub EditsAs : (x : List ℕ) (ts : ℕ) (m : ℕ → Bool) → List Patch → List Patch → Type 0
 EditsAs x ts m ps qs = (m' : ℕ → Bool) → AreEdited (λ p. holds p x) ts ps m m' → AreEdited (λ p. holds p x) ts qs m m'
+
+-- so for any readers of any key
+abbrev pub EditAnyAs : (ts : ℕ) → List Patch → List Patch → Type 0
+EditAnyAs ts ps qs = (x : List ℕ) (m : ℕ → Bool) → EditsAs x ts m ps qs
+
+-- so for the readers that each key has, less those that are forgotten
+abbrev pub EditReadersAs : Segments → (forgotten ts : ℕ) → List Patch → List Patch → Type 0
+EditReadersAs segments forgotten ts ps qs = (x : List ℕ) → EditsAs x ts (is_kept forgotten (readers_at segments x)) ps qs
+
+-- the new patches do what the old ones did, and then one more, whatever comes behind
+abbrev pub AddsPatch : (old : List Patch) → Patch → (new : List Patch) → Type 0
+AddsPatch old p new = (x : List ℕ) (ts : ℕ) (m : ℕ → Bool) (more : List Patch) → EditsAs x ts m (new ++ more) (old ++ p ∷ more)
 
 -- the patch ends above where it begins
 abbrev pub RunsForward : Patch → Type 0

@@ -1,5 +1,6 @@
 -- A map from starts to readers as a step function of the keys (this project).
-use Rattle.std.specs.Prelude.{ℕ, List, [], ◌∷◌, Bool, true, false, not, cond}
+use Rattle.std.specs.Prelude.{ℕ, List, [], ◌∷◌, ◌≡◌, Bool, true, false, not, cond, Option, MatchOption}
+use Rattle.std.specs.Borrow.{Bor}
 use Rattle.std.specs.List.{count_by}
 use Rattle.std.specs.Map.{values_of}
 use Rattle.std.specs.Ordering.{is_le}
@@ -19,6 +20,14 @@ reaches x start = not (key_lt x start)
 -- the readers of a key: those of the greatest start not above it
 abbrev pub readers_at : Segments → List ℕ → List ℕ
 readers_at m x = step_at (reaches x) [] m.starts.entries
+
+-- the readers of a key, or nothing, which is as none
+abbrev pub AreReadersOf : Segments → List ℕ → Option (Bor (List ℕ)) → Type 0
+AreReadersOf m x found = MatchOption found (readers_at m x ≡ []) (λ r. readers_at m x ≡ r.now)
+
+-- each key has the readers that it had
+abbrev pub KeepsReaders : (old new : Segments) → Type 0
+KeepsReaders old new = (x : List ℕ) → readers_at new x ≡ readers_at old x
 
 -- the readers of the segment before a start
 abbrev pub readers_before : Segments → List ℕ → List ℕ

@@ -1,5 +1,9 @@
 -- Bytes as numbers of eight bytes each, the first byte the greatest digit.
-use Rattle.std.specs.Prelude.{ℕ, zero, suc, List, [], ◌∷◌, ◌+◌, ◌*◌, ◌/◌, ◌%◌, ◌≡◌, ◌≤◌, take, drop}
+use Rattle.std.specs.Prelude.{ℕ, zero, suc, List, [], ◌∷◌, ◌++◌, ◌+◌, ◌*◌, ◌/◌, ◌%◌, ◌≡◌, ◌<◌, get_or, length, take, drop}
+
+-- numbers of one byte
+abbrev pub AreBytes : List ℕ → Type 0
+AreBytes xs = (k : ℕ) → get_or xs k 0 < 256
 
 -- n bytes after the number `above`, the greatest first: zeros stand for those that are missing
 abbrev pub front_from : (n above : ℕ) → List ℕ → ℕ
@@ -26,10 +30,13 @@ abbrev pub bytes_of : List ℕ → List ℕ
 bytes_of [] = []
 bytes_of (word ∷ words) = digits 8 word (bytes_of words)
 
--- the text that words spell, as long as is said
-abbrev pub text_of : (words : List ℕ) (len : ℕ) → List ℕ
-text_of words len = take len (bytes_of words)
+-- the text that words spell, as far as it is said to go, and the rest of it
+abbrev pub text_of : (words : List ℕ) (len : ℕ) (rest : List ℕ) → List ℕ
+text_of words len rest = take len (bytes_of words) ++ rest
 
--- It is at most 65 bytes, and the words are those that it has: what is behind its last byte is 0.
-abbrev pub IsText : (words : List ℕ) (len : ℕ) → Type 0
-IsText words len = (len ≤ 65) × (words ≡ words_of 9 (text_of words len))
+-- The length and the words are those of the text, zeros behind its last byte, and the rest is what is behind the words.
+pub record IsText (words : List ℕ) (len : ℕ) (rest : List ℕ) : Type 0 where
+  pub bytes : AreBytes rest
+  pub length_is : length (text_of words len rest) ≡ len
+  pub words_are : words ≡ words_of 6 (text_of words len rest)
+  pub rest_is : rest ≡ drop 48 (text_of words len rest)

@@ -12,7 +12,7 @@ pub(crate) struct Extent {
 }
 
 impl Extent {
-    /// That of one timestamp.
+    /// From one timestamp to itself.
     pub(crate) fn of(ts: u64) -> Extent
         ensures least { result.least ≡ ts }
         ensures greatest { result.greatest ≡ ts }
@@ -23,7 +23,7 @@ impl Extent {
         }
     }
 
-    /// Whether all of it is in the gap of a patch.
+    /// Whether the gap of a patch holds all of it.
     pub(crate) fn is_in_gap_of(&self, patch: &Patch) -> bool
         ensures { IsTrue result → IsInGap self.now patch.now }
     {

@@ -1,13 +1,10 @@
-//! Few patches for what is asked: one that holds no key goes, and neighbours that do the same become
-//! one. So that more do, a patch has the widest gap wherever that does the same: where no reader of its
-//! keys is outside its own gap.
-ghost use Rattle.std.specs.Prelude.{◌≡◌, ◌<◌, ◌++◌, ◌∷◌, ◌≤◌, ℕ, Bool, List, IfOk, IsTrue, OnOk, map};
-ghost use Rattle.read_marks.specs.declared.patch.Patch.{Patch};
-ghost use Rattle.read_marks.specs.Readers.{is_kept};
-ghost use Rattle.read_marks.specs.Segments.{readers_at};
+//! Few patches for what is asked. A patch that holds no key is left out. Neighbours that do the same become
+//! one. A patch gets the widest gap where no reader of its keys is outside its own gap: that does the same, and
+//! more neighbours are alike.
+ghost use Rattle.std.specs.Prelude.{◌<◌, ◌≤◌, ℕ, IfOk, IsTrue, OnOk, map};
 ghost use Rattle.read_marks.specs.Marks as marking;
 ghost use Rattle.read_marks.specs.Patches.{HaveGaps, own_piece, patch_of};
-ghost use Rattle.read_marks.specs.Joining.{EditsAs, IsExtentOf, IsFree, RunForward};
+ghost use Rattle.read_marks.specs.Joining.{AddsPatch, EditAnyAs, EditReadersAs, IsExtentOf, IsFree, RunForward};
 
 use crate::extent::Extent;
 use crate::patch::Patch;
@@ -16,11 +13,11 @@ use crate::segments::Segments;
 use spans::span::Span;
 use std::alloc::{AllocError, Global};
 
-/// One more patch, which may become one with the last.
+/// Adds a patch, or makes the last one longer by it.
 fn push(patches: &mut Vec<Patch>, patch: Patch) -> Result<(), AllocError>
     requires forward { RunForward patches.old.items }
     ensures forward { OnOk result (RunForward patches.new.items) }
-    ensures edits { OnOk result ((x : List ℕ) (ts : ℕ) (m : ℕ → Bool) (more : List Patch) → EditsAs x ts m (patches.new.items ++ more) (patches.old.items ++ patch ∷ more)) }
+    ensures edits { OnOk result (AddsPatch patches.old.items patch patches.new.items) }
     ensures gaps { OnOk result ((ts : ℕ) → HaveGaps ts patches.old.items → patch.above < ts → ts ≤ patch.until → HaveGaps ts patches.new.items) }
 {
     if !patch.runs_forward() {
@@ -36,17 +33,17 @@ fn push(patches: &mut Vec<Patch>, patch: Patch) -> Result<(), AllocError>
     Ok(())
 }
 
-/// From the beginning of the first piece to the end of the last; where there is none, no key.
-fn around(pieces: &[Piece]) -> Patch {
-    let mut around = Patch::new();
+/// From the beginning of the first piece to the end of the last. Without pieces it holds no key.
+fn around(alloc: Global, pieces: &[Piece]) -> Result<Patch, AllocError> {
+    let mut around = Patch::new(alloc);
     if let (Some(first), Some(last)) = (pieces.first(), pieces.last()) {
-        around.set_ends(&first.span.lo, &last.span.hi);
+        around.set_ends(alloc, &first.span.lo, &last.span.hi)?;
     }
-    around
+    Ok(around)
 }
 
-/// Whether no reader of a patch's keys, nor `ts`, is outside its gap. What is known of the keys around
-/// it mostly says so already.
+/// Whether the gap of a patch holds `ts` and each reader of its keys. What is known of the keys around it
+/// mostly tells.
 fn is_free(
     segments: &Segments,
     patch: &Patch,
@@ -74,14 +71,14 @@ pub(crate) fn patches_of(
 ) -> Result<Vec<Patch>, AllocError>
     requires low { 0 < ts }
     requires gaps { marking.HaveGaps ts pieces.now }
-    ensures edits { IfOk result (λ patches. (x : List ℕ) → EditsAs x ts (is_kept forgotten (readers_at segments.now x)) patches.items (map patch_of pieces.now)) }
+    ensures edits { IfOk result (λ patches. EditReadersAs segments.now forgotten ts patches.items (map patch_of pieces.now)) }
     ensures gaps { IfOk result (λ patches. HaveGaps ts patches.items) }
 {
-    let around = around(pieces);
+    let around = around(alloc, pieces)?;
     let known = segments.extent(&around, ts, forgotten);
     let mut patches = Vec::new(alloc);
     for piece in pieces {
-        let mut patch = Patch::of(piece);
+        let mut patch = Patch::of(alloc, piece)?;
         if is_free(segments, &patch, &around, known, ts, forgotten) {
             patch.widen();
         }
@@ -90,15 +87,16 @@ pub(crate) fn patches_of(
     Ok(patches)
 }
 
-/// The patches of spans in whose gaps `ts` meets no reader but itself.
+/// The patches of spans, each in the gap that holds `ts` alone.
 pub(crate) fn own_patches(alloc: Global, spans: &[Span], ts: u64) -> Result<Vec<Patch>, AllocError>
     requires { 0 < ts }
-    ensures edits { IfOk result (λ patches. (x : List ℕ) (m : ℕ → Bool) → EditsAs x ts m patches.items (map (λ span. patch_of (own_piece ts span)) spans.now)) }
+    ensures edits { IfOk result (λ patches. EditAnyAs ts patches.items (map (λ span. patch_of (own_piece ts span)) spans.now)) }
     ensures gaps { IfOk result (λ patches. HaveGaps ts patches.items) }
 {
     let mut patches = Vec::new(alloc);
     for span in spans {
-        push(&mut patches, Patch::own(span, ts))?;
+        let patch = Patch::own(alloc, span, ts)?;
+        push(&mut patches, patch)?;
     }
     Ok(patches)
 }

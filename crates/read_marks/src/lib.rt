@@ -1,8 +1,14 @@
 //! Which transactions read which keys.
 //!
-//! A [`Marks`] is seen as pairs of a key and a reader, a timestamp. It is kept as a step function: an
-//! ordered map from starts to rising lists of readers, where a start speaks for all keys from it up
-//! to the next one. A span is marked by splitting at its two bounds and editing what lies between.
+//! A [`Marks`] is seen as pairs of a key and a reader. A reader is the timestamp of a transaction. The read
+//! rule adds marks, and the write rule asks whether a later reader stands in the way of a version.
+//!
+//! Marks are kept as a step function: an ordered map from starts to lists of readers. A start and its readers
+//! are a segment. To mark a span, segments are split at its two bounds, and those between them are edited.
+//!
+//! 1. Starts rise, and so do the readers of each segment.
+//! 2. A key has the readers of the greatest start that is not above it.
+//! 3. A reader at or below the bound of what is forgotten counts no more, even where it still lies in memory.
 //!
 //! ```text
 //! new                                no start: no key has a reader
@@ -12,20 +18,27 @@
 //! forget through 10                  the same, and beside it the bound 10: c has the reader 20 alone
 //! ```
 //!
-//! A piece is what a read marks: of a key's readers above the version that was read and up to the next
-//! one, only the greatest can refuse a write. Where no reader stands outside that gap, the widest gap
-//! does the same, so that most pieces of a scan are one before anything is split. Neighbours with the
-//! same readers are joined; a key that has a segment, and comes to have the readers of what is before
-//! it, is joined with that by the next sweep.
+//! A piece is what a read marks. Of a key's readers above the version that was read and up to the next version,
+//! only the greatest can refuse a write, so that one stands for all. Where no reader lies outside that gap, the
+//! widest gap does the same. So most pieces of a scan become one before anything is split. Neighbours with the
+//! same readers are joined. A key with a segment of its own is joined with what is before it only by a sweep.
 //!
-//! With n starts and m readers of one, a look-up costs O(log n + log m) and forgetting O(1); neither
-//! takes memory. A mark on one whole segment, as on a key or a span that was read before, edits its
-//! readers in place by two searches of the starts: O(log n + log m), and those above its gap move; a
-//! neighbour that is asked and has the same latest reader is compared whole. A key behind which no
-//! segment starts is split off first, and copies the readers around it. Any other mark copies readers,
-//! O(log n + m) for each start that it touches. What is forgotten there goes, in place once it is more
-//! than half. Where the starts have doubled, or a reader comes that counts as forgotten, a walk sweeps
-//! all of them. [`Marks::spans`] walks.
+//! Costs, with n starts and m readers of one segment:
+//!
+//! - `any_between`: O(log n + log m)
+//! - `forget_through`: O(1)
+//! - `add` of keys that are one segment: O(log n + log m), in place; the readers above the gap move, and a
+//!   neighbour with the same latest reader is compared whole
+//! - `add` of a key that has no segment: O(log n + m); it is split off, which copies the readers around it
+//! - any other `add`, `add_all`, `add_pieces`: O(log n + m) for each start that it touches
+//! - a sweep: O(all starts and readers); it comes where the starts have doubled since the last one, or where a
+//!   reader comes that counts as forgotten
+//! - `spans`: O(n)
+//!
+//! What adds marks takes memory: for a new segment, for copied readers and for a new reader. Of a start the
+//! first 48 bytes lie in place, and only a longer one takes memory of its own. `any_between` takes memory only
+//! for a key of more than 48 bytes, and where that is refused a walk over all starts answers. A sweep copies one
+//! start at a time. Where the copy of a long one is refused, it leaves the other segments to the next sweep.
 #![tactic(auto)]
 
 mod extent;

@@ -4,15 +4,14 @@ ghost use Rattle.std.specs.List.{Contains};
 ghost use Rattle.spans.specs.Keys.{in_span};
 ghost use Rattle.kept.specs.Marks.{IsBetween, IsPiece};
 ghost use Rattle.read_marks.specs.declared.piece.Piece.{Piece};
-ghost use Rattle.read_marks.specs.Marks.{AreApart, HaveGaps, in_any, is_marked_in, marked_spans};
+ghost use Rattle.read_marks.specs.Marks.{AddsInside, AreApart, AreMarksEdited, HaveGaps, KeepsOutside, in_any, is_marked_in, marked_spans};
 ghost use Rattle.read_marks.specs.Patches as patching;
-ghost use Rattle.read_marks.specs.Patches.{AreEdited, holds, patch_of};
+ghost use Rattle.read_marks.specs.Patches.{patch_of};
 
 use crate::joining::{own_patches, patches_of};
 use crate::patch::Patch;
 use crate::piece::Piece;
 use crate::segments::Segments;
-use crate::start::Start;
 use spans::span::Span;
 use std::alloc::{AllocError, Global};
 use std::slice;
@@ -22,7 +21,7 @@ use timestamps::ts::Ts;
 // Fewer starts are never swept for their number.
 const LEAST_SWEEP: usize = 64;
 
-/// Pairs of a key and a reader: those of the segments, less those with a reader that is forgotten.
+/// Pairs of a key and a reader. They are those of the segments, less the pairs whose reader is forgotten.
 #[derive(Debug, Drop)]
 pub struct Marks {
     alloc: Global,
@@ -50,9 +49,7 @@ impl Marks {
         ensures { IsTrue result ↔ IsBetween (is_marked_in self.now key.now) above to }
     {
         let above = above.max(self.forgotten);
-        let mut start = Start::new();
-        start.set(key.bytes());
-        match self.segments.readers(&start) {
+        match self.segments.readers_of(key.bytes()) {
             None => false,
             Some(readers) => readers.any_between(above, to),
         }
@@ -71,8 +68,8 @@ impl Marks {
         ensures err { OnErr result ((x : List ℕ) (j : ℕ) → is_marked_in self.new x j ≡ is_marked_in self.old x j) }
     {
         let ts = ts.get();
-        let mut patch = Patch::new();
-        patch.set_own(span, ts);
+        let mut patch = Patch::new(self.alloc);
+        patch.set_own(self.alloc, span, ts)?;
         self.edit(slice::from_ref(&patch), ts)
     }
 
@@ -91,10 +88,8 @@ impl Marks {
     pub fn add_pieces(&mut self, pieces: &[Piece], ts: Ts) -> Result<(), AllocError>
         requires apart { AreApart pieces.now }
         requires gaps { HaveGaps ts pieces.now }
-        ensures inside { OnOk result ((p : Piece) → Contains pieces.now p → (x : List ℕ) → in_span p.span x ≡ true →
-            IsPiece (is_marked_in self.old x) (is_marked_in self.new x) ts p.above p.until) }
-        ensures outside { OnOk result ((x : List ℕ) → ((p : Piece) → Contains pieces.now p → in_span p.span x ≡ false) →
-            (j : ℕ) → is_marked_in self.new x j ≡ is_marked_in self.old x j) }
+        ensures inside { OnOk result (AddsInside pieces.now ts self.old self.new) }
+        ensures outside { OnOk result (KeepsOutside pieces.now self.old self.new) }
         ensures err { OnErr result ((x : List ℕ) (j : ℕ) → is_marked_in self.new x j ≡ is_marked_in self.old x j) }
     {
         let ts = ts.get();
@@ -106,21 +101,21 @@ impl Marks {
         self.segments.edit(&patches, ts, self.forgotten)
     }
 
-    // The same of one piece, as the read of a key or of a span has: its patch needs no memory.
+    // Adds one piece, as the read of a key or of a span has. Its patch takes memory only for long bounds.
     fn add_piece(&mut self, piece: &Piece, ts: u64) -> Result<(), AllocError>
         requires ts { 0 < ts }
         requires low { piece.now.above < ts }
         requires high { ts ≤ piece.now.until }
-        ensures ok { OnOk result ((x : List ℕ) → AreEdited (λ p. holds p x) ts (patch_of piece.now ∷ []) (is_marked_in self.old x) (is_marked_in self.new x)) }
+        ensures ok { OnOk result (AreMarksEdited ts (patch_of piece.now ∷ []) self.old self.new) }
         ensures err { OnErr result ((x : List ℕ) (j : ℕ) → is_marked_in self.new x j ≡ is_marked_in self.old x j) }
     {
-        let mut patch = Patch::new();
-        patch.set(piece);
+        let mut patch = Patch::new(self.alloc);
+        patch.set(self.alloc, piece)?;
         self.edit(slice::from_ref(&patch), ts)
     }
 
-    /// How many spans with readers are kept. Those whose readers are all forgotten count too, until
-    /// they are swept. It walks all of them.
+    /// How many spans with readers are kept. A span whose readers are all forgotten counts until it is swept.
+    /// It walks all of them.
     pub fn spans(&self) -> u64
         ensures { result ≡ marked_spans self.now }
     {
@@ -131,15 +126,15 @@ impl Marks {
     fn edit(&mut self, patches: &[Patch], ts: u64) -> Result<(), AllocError>
         requires low { 0 < ts }
         requires gaps { patching.HaveGaps ts patches.now }
-        ensures ok { OnOk result ((x : List ℕ) → AreEdited (λ p. holds p x) ts patches.now (is_marked_in self.old x) (is_marked_in self.new x)) }
+        ensures ok { OnOk result (AreMarksEdited ts patches.now self.old self.new) }
         ensures err { OnErr result ((x : List ℕ) (j : ℕ) → is_marked_in self.new x j ≡ is_marked_in self.old x j) }
     {
         self.make_room_for(ts);
         self.segments.edit(patches, ts, self.forgotten)
     }
 
-    // What is forgotten really goes, in a walk over all segments: a call of its own, so that the marks that
-    // need none, which are most, are short.
+    // What is forgotten really goes, in a walk over all segments. Most marks need none. So that they are short,
+    // this is a call of its own.
     #[inline(never)]
     fn sweep(&mut self)
         ensures marks { (x : List ℕ) (j : ℕ) → is_marked_in self.new x j ≡ is_marked_in self.old x j }
@@ -150,8 +145,8 @@ impl Marks {
         self.sweep_at = self.segments.len().saturating_mul(2).max(LEAST_SWEEP);
     }
 
-    // A pair with a reader that counts as forgotten can't be kept, so that a sweep comes first. One
-    // comes too where the starts have doubled since the last. Mostly these are two comparisons.
+    // A pair whose reader counts as forgotten can't be kept, and so a sweep comes first. A sweep comes too where
+    // the starts have doubled since the last one. Mostly these are two comparisons.
     #[inline(always)]
     fn make_room_for(&mut self, ts: u64)
         requires { 0 < ts }

@@ -1,9 +1,9 @@
-//! A piece by the starts of its span.
-ghost use Rattle.std.specs.Prelude.{◌≡◌, ◌<◌, ◌≤◌, IsTrue, List, [], ℕ, MatchOption, Some, false, true, unwrap_or};
+//! A piece with starts for the bounds of its span.
+ghost use Rattle.std.specs.Prelude.{◌≡◌, ◌<◌, ◌≤◌, IsTrue, IfOk, OnOk, List, [], ℕ, MatchOption, Some, false, true, unwrap_or};
 ghost use Rattle.std.specs.Range.Bound.{bound_map};
 ghost use Rattle.spans.specs.KeyOrder.{below_high};
 ghost use Rattle.spans.specs.Successors.{successor};
-ghost use Rattle.read_marks.specs.Patches.{holds, patch_of, own_piece};
+ghost use Rattle.read_marks.specs.Patches.{IsOneKey, holds, patch_of, own_piece};
 ghost use Rattle.read_marks.specs.Editing.{end_in, picks};
 ghost use Rattle.read_marks.specs.Joining.{GoesOn, IsInside, RunsForward, in_widest_gap};
 
@@ -11,6 +11,7 @@ use crate::piece::Piece;
 use crate::start::Start;
 use spans::bound;
 use spans::span::Span;
+use std::alloc::{AllocError, Global};
 use std::ops::Bound;
 
 /// From `lo` on, and below `hi` where that is given, the readers above `above` and up to `until`
@@ -24,78 +25,89 @@ pub(crate) struct Patch {
 }
 
 impl Patch {
-    /// One that holds no key, in no gap.
-    pub(crate) fn new() -> Patch {
+    /// A patch that holds no key and has no gap.
+    pub(crate) fn new(alloc: Global) -> Patch {
         Patch {
-            lo: Start::new(),
-            hi: Some(Start::new()),
+            lo: Start::new(alloc),
+            hi: Some(Start::new(alloc)),
             above: 0,
             until: 0,
         }
     }
 
-    /// One that holds all keys, in no gap.
-    pub(crate) fn of_all_keys() -> Patch {
+    /// A patch that holds all keys and has no gap.
+    pub(crate) fn of_all_keys(alloc: Global) -> Patch {
         Patch {
             hi: None,
-            ..Patch::new()
+            ..Patch::new(alloc)
         }
     }
 
-    /// Its keys become those between two bounds.
-    pub(crate) fn set_ends(&mut self, low: &Option<bound::Bound>, high: &Option<bound::Bound>)
-        ensures { self.new ≡ record self.old { lo = unwrap_or low.now []; hi = high.now } }
+    /// Its keys become those between two bounds. Only a bound of more than 48 bytes takes memory.
+    pub(crate) fn set_ends(
+        &mut self,
+        alloc: Global,
+        low: &Option<bound::Bound>,
+        high: &Option<bound::Bound>,
+    ) -> Result<(), AllocError>
+        ensures { OnOk result (self.new ≡ record self.old { lo = unwrap_or low.now []; hi = high.now }) }
     {
         match low {
-            None => self.lo.set(&[]),
-            Some(low) => self.lo.set(low.bytes()),
+            None => self.lo.clear(),
+            Some(low) => self.lo.set(low.bytes())?,
         }
         match high {
             None => self.hi = None,
-            Some(high) => self.hi.get_or_insert_with(Start::new).set(high.bytes()),
+            Some(high) => {
+                let hi = self.hi.get_or_insert_with(|| Start::new(alloc));
+                hi.set(high.bytes())?;
+            }
         }
+        Ok(())
     }
 
-    /// It becomes that of a piece, where it lies: to move starts that were written just before is to
-    /// wait for them.
-    pub(crate) fn set(&mut self, piece: &Piece)
-        ensures is { self.new ≡ patch_of piece.now }
-        ensures in_range { self.new.until ≤ 18446744073709551615 }
+    /// It becomes the patch of a piece, where it lies. To move starts that were written just before is to wait
+    /// for them.
+    pub(crate) fn set(&mut self, alloc: Global, piece: &Piece) -> Result<(), AllocError>
+        ensures is { OnOk result (self.new ≡ patch_of piece.now) }
+        ensures in_range { OnOk result (self.new.until ≤ 18446744073709551615) }
     {
         let Piece { span, above, until } = piece;
-        self.set_ends(&span.lo, &span.hi);
+        self.set_ends(alloc, &span.lo, &span.hi)?;
         self.above = *above;
         self.until = *until;
+        Ok(())
     }
 
-    /// It becomes the one of a span in whose gap `ts` meets no reader but itself.
-    pub(crate) fn set_own(&mut self, span: &Span, ts: u64)
+    /// It becomes the patch of a span, in the gap that holds `ts` alone.
+    pub(crate) fn set_own(&mut self, alloc: Global, span: &Span, ts: u64) -> Result<(), AllocError>
         requires { 0 < ts }
-        ensures { self.new ≡ patch_of (own_piece ts span.now) }
+        ensures { OnOk result (self.new ≡ patch_of (own_piece ts span.now)) }
     {
-        self.set_ends(&span.lo, &span.hi);
+        self.set_ends(alloc, &span.lo, &span.hi)?;
         self.above = ts - 1;
         self.until = ts;
+        Ok(())
     }
 
-    /// That of a piece.
-    pub(crate) fn of(piece: &Piece) -> Patch
-        ensures is { result ≡ patch_of piece.now }
-        ensures in_range { result.until ≤ 18446744073709551615 }
+    /// The patch of a piece.
+    pub(crate) fn of(alloc: Global, piece: &Piece) -> Result<Patch, AllocError>
+        ensures is { IfOk result (λ patch. patch ≡ patch_of piece.now) }
+        ensures in_range { IfOk result (λ patch. patch.until ≤ 18446744073709551615) }
     {
-        let mut patch = Patch::new();
-        patch.set(piece);
-        patch
+        let mut patch = Patch::new(alloc);
+        patch.set(alloc, piece)?;
+        Ok(patch)
     }
 
-    /// That of a span, for `ts` alone.
-    pub(crate) fn own(span: &Span, ts: u64) -> Patch
+    /// The patch of a span, in the gap that holds `ts` alone.
+    pub(crate) fn own(alloc: Global, span: &Span, ts: u64) -> Result<Patch, AllocError>
         requires { 0 < ts }
-        ensures { result ≡ patch_of (own_piece ts span.now) }
+        ensures { IfOk result (λ patch. patch ≡ patch_of (own_piece ts span.now)) }
     {
-        let mut patch = Patch::new();
-        patch.set_own(span, ts);
-        patch
+        let mut patch = Patch::new(alloc);
+        patch.set_own(alloc, span, ts)?;
+        Ok(patch)
     }
 
     /// Its gap becomes the widest.
@@ -117,9 +129,9 @@ impl Patch {
         }
     }
 
-    /// Its end, where it holds one key alone.
+    /// Its end, where it holds exactly one key.
     pub(crate) fn end_of_key(&self) -> Option<&Start>
-        ensures { MatchOption result (self.now.hi ≡ Some (successor self.now.lo) → ⊥) (λ hi. (self.now.hi ≡ Some hi.now) × (hi.now ≡ successor self.now.lo)) }
+        ensures { MatchOption result (IsOneKey self.now → ⊥) (λ hi. (self.now.hi ≡ Some hi.now) × (hi.now ≡ successor self.now.lo)) }
     {
         match &self.hi {
             Some(hi) if hi.is_successor_of(&self.lo) => Some(hi),
@@ -127,7 +139,7 @@ impl Patch {
         }
     }
 
-    /// The keys up to its end, and that too, or all.
+    /// The keys up to its end and with it. Without an end, all keys.
     pub(crate) fn up_to_end(&self) -> Bound<&Start>
         ensures { bound_map (λ hi. hi.now) result ≡ end_in self.now.hi }
     {
@@ -137,7 +149,7 @@ impl Patch {
         }
     }
 
-    /// Whether the next one begins where this one ends, and does the same.
+    /// Whether the next patch begins where this one ends, and has the same gap.
     pub(crate) fn goes_on_in(&self, next: &Patch) -> bool
         ensures { IsTrue result → GoesOn self.now next.now }
     {
@@ -147,7 +159,7 @@ impl Patch {
         }
     }
 
-    // Whether another one ends where it does, or above.
+    // Whether another patch ends where this one does, or above.
     fn ends_inside(&self, other: &Patch) -> bool
         ensures { IsTrue result → (x : List ℕ) → below_high self.now.hi x ≡ true → below_high other.now.hi x ≡ true }
     {
@@ -158,7 +170,7 @@ impl Patch {
         }
     }
 
-    /// Whether another one holds all its keys.
+    /// Whether another patch holds all its keys.
     pub(crate) fn is_inside(&self, other: &Patch) -> bool
         ensures { IsTrue result → IsInside self.now other.now }
     {

@@ -9,7 +9,7 @@ use crate::extent::Extent;
 use crate::patch::Patch;
 use std::alloc::{AllocError, Global};
 use std::marker::Model;
-use timestamps::halves::Halves;
+use timestamps::binary_search::BinarySearch;
 
 /// Timestamps that rise.
 #[derive(Debug, Drop)]
@@ -28,8 +28,8 @@ impl Model for Readers {
     ghost invariant = { λ r. IsNonDecreasing r.list.items };
 }
 
-// Takes out what stands between two places. Mostly that is nothing, and a drain of nothing costs too, so
-// that its callers compare the places and go on.
+// Takes out what stands between two places. Mostly that is nothing. The places are compared first, since a
+// drain of nothing costs too.
 #[inline(always)]
 fn cut(list: &mut Vec<u64>, from: usize, to: usize)
     requires rises { from ≤ to }
@@ -51,21 +51,21 @@ impl Readers {
         }
     }
 
-    /// Whether there is none.
+    /// Whether there is no reader.
     pub(crate) fn is_empty(&self) -> bool
         ensures { IsTrue result ↔ (self.now ≡ []) }
     {
         self.list.is_empty()
     }
 
-    /// The latest.
+    /// The latest reader.
     pub(crate) fn latest(&self) -> Option<u64>
         ensures { result ≡ slice_get self.now (length self.now - 1) }
     {
         self.list.last().copied()
     }
 
-    /// Whether they are the same.
+    /// Whether both lists have the same readers.
     pub(crate) fn is_same(&self, other: &Readers) -> bool
         ensures { IsTrue result → self.now ≡ other.now }
     {
@@ -81,7 +81,7 @@ impl Readers {
         Ok(Readers { list })
     }
 
-    // The same with room for one more.
+    // A copy with room for one more reader.
     fn copy_with_room(&self) -> Result<Readers, AllocError>
         ensures { IfOk result (λ r. r ≡ self.now) }
     {
@@ -90,8 +90,8 @@ impl Readers {
         Ok(Readers { list })
     }
 
-    // How many are at or below a timestamp. Where the latest is, all are: so it is for a gap without an
-    // end.
+    // How many readers are at or below a timestamp. The latest is asked first: for a gap without an end it
+    // tells that all are.
     fn count_through(&self, ts: u64) -> usize
         ensures splits { SplitsAt self.now ts result }
         ensures bound { result ≤ length self.now }
@@ -102,15 +102,14 @@ impl Readers {
                 return self.list.len();
             }
         }
-        let mut left = Halves::of(self.list.len());
+        let mut left = BinarySearch::of(self.list.len());
         while left.size > 0 {
             left = left.after(self.list[left.middle()], ts);
         }
         left.low
     }
 
-    /// Whether one is above `above` and, where `to` is given, at most that. It is mostly the latest
-    /// that tells.
+    /// Whether a reader is above `above` and, where `to` is given, at most `to`. Mostly the latest tells.
     pub(crate) fn any_between(&self, above: u64, to: Option<u64>) -> bool
         ensures { IsTrue result ↔ IsBetween (is_reader self.now) above to }
     {
@@ -127,7 +126,7 @@ impl Readers {
         self.list[at] <= top
     }
 
-    /// An extent, and beside it those above `forgotten`.
+    /// The extent, made wide enough for the readers above `forgotten`.
     pub(crate) fn extend(&self, extent: Extent, forgotten: u64) -> Extent
         ensures has { IsWithin result (is_kept forgotten self.now) }
         ensures keeps { IsPartOf extent result }
@@ -142,7 +141,7 @@ impl Readers {
         }
     }
 
-    // Those above `above` and up to `until`, and `ts`, become their greatest one.
+    // The readers above `above` and up to `until`, and `ts`, become one: the greatest of them.
     fn merge(&mut self, above: u64, until: u64, ts: u64) -> Result<(), AllocError>
         requires low { above < ts }
         requires high { ts ≤ until }
@@ -161,7 +160,7 @@ impl Readers {
         }
     }
 
-    /// The readers as `ts` leaves them in a patch; of those that are forgotten some may stay.
+    /// The readers as `ts` leaves them in a patch. Some of those that are forgotten may stay.
     pub(crate) fn edit(&mut self, patch: &Patch, ts: u64, forgotten: u64) -> Result<(), AllocError>
         requires late { forgotten < ts }
         requires low { patch.now.above < ts }
@@ -174,7 +173,7 @@ impl Readers {
         Ok(())
     }
 
-    /// The same in a copy, less those that are forgotten.
+    /// A copy of the readers as `ts` leaves them in a patch. None that is forgotten is in it.
     pub(crate) fn edited(
         &self,
         patch: &Patch,
@@ -192,8 +191,8 @@ impl Readers {
         Ok(readers)
     }
 
-    // Those up to `through` go where they are more than half of all, which the one in the middle tells:
-    // not at each edit, since the rest moves.
+    // The readers up to `through` go where they are more than half, which the one in the middle tells. They
+    // don't go at each edit, since the others move.
     fn trim(&mut self, through: u64)
         ensures { (j : ℕ) → is_kept through self.new j ≡ is_kept through self.old j }
     {
@@ -203,7 +202,7 @@ impl Readers {
         }
     }
 
-    /// Those up to `through` go.
+    /// The readers up to `through` go.
     pub(crate) fn forget_through(&mut self, through: u64)
         ensures { self.new ≡ filter (nat_lt through) self.old }
     {

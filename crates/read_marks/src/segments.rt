@@ -4,10 +4,10 @@ ghost use Rattle.std.specs.List.{filter};
 ghost use Rattle.std.specs.BTreeMap.{get, IsOrdered};
 ghost use Rattle.timestamps.specs.Bytes.{key_cmp};
 ghost use Rattle.read_marks.specs.Readers.{is_kept};
-ghost use Rattle.read_marks.specs.Segments.{readers_at, readers_before, segment_count};
-ghost use Rattle.read_marks.specs.Patches.{AreEdited, HaveGaps, holds};
+ghost use Rattle.read_marks.specs.Segments.{AreReadersOf, KeepsReaders, readers_at, segment_count};
+ghost use Rattle.read_marks.specs.Patches.{AreReadersEdited, HaveGaps};
 ghost use Rattle.read_marks.specs.Joining.{IsExtentOf, IsPartOf, IsWithin};
-ghost use Rattle.read_marks.specs.Editing.{AreParts, AreStarts, HasEnds, IsPart, IsSegment, IsStart, puts, puts_parts};
+ghost use Rattle.read_marks.specs.Editing.{AreParts, AreStarts, HasEnds, IsPart, IsSegment, IsStart, TellsSegment, TellsSegmentAt, puts, puts_parts};
 
 mod neighbours;
 
@@ -41,10 +41,10 @@ impl Segments {
         }
     }
 
-    /// The readers of the key. One that was read by itself mostly starts a segment, and to find that
-    /// costs half of what it costs to find the last start of a range.
+    /// The readers of the key. A key that was read by itself mostly starts a segment. To find that costs half of
+    /// what it costs to find the last start of a range.
     pub(crate) fn readers(&self, key: &Start) -> Option<&Readers>
-        ensures { MatchOption result (readers_at self.now key.now ≡ []) (λ r. readers_at self.now key.now ≡ r.now) }
+        ensures { AreReadersOf self.now key.now result }
     {
         self.see_order();
         match self.starts.get(key) {
@@ -53,9 +53,9 @@ impl Segments {
         }
     }
 
-    // The same by the last start that is not above the key.
+    // The readers of the key, by the last start that is not above it.
     fn readers_below(&self, key: &Start) -> Option<&Readers>
-        ensures { MatchOption result (readers_at self.now key.now ≡ []) (λ r. readers_at self.now key.now ≡ r.now) }
+        ensures { AreReadersOf self.now key.now result }
     {
         let (_, readers) = self
             .starts
@@ -64,7 +64,34 @@ impl Segments {
         Some(readers)
     }
 
-    // An extent, and beside it the readers of a key, less those that are forgotten.
+    /// The readers of the key of these bytes. The search for a key of more than 48 bytes takes memory. Where that
+    /// is refused, a walk stands in.
+    pub(crate) fn readers_of(&self, key: &[u8]) -> Option<&Readers>
+        ensures { AreReadersOf self.now key.now result }
+    {
+        let mut start = Start::new(self.alloc);
+        match start.set(key) {
+            Ok(()) => self.readers(&start),
+            Err(_) => self.walk_to(key),
+        }
+    }
+
+    // The readers of the key of these bytes, by a walk over the starts up to it. It takes no memory.
+    #[inline(never)]
+    fn walk_to(&self, key: &[u8]) -> Option<&Readers>
+        ensures { AreReadersOf self.now key.now result }
+    {
+        let mut found = None;
+        for (start, readers) in &self.starts {
+            if start.order_of(key).is_lt() {
+                return found;
+            }
+            found = Some(readers);
+        }
+        found
+    }
+
+    // The extent, made wide enough for the readers of a key that are not forgotten.
     fn extend_at(&self, key: &Start, extent: Extent, forgotten: u64) -> Extent
         ensures has { IsWithin result (is_kept forgotten (readers_at self.now key.now)) }
         ensures keeps { IsPartOf extent result }
@@ -75,7 +102,7 @@ impl Segments {
         }
     }
 
-    /// How far the readers of a patch's keys lie apart, and `ts`, less those that are forgotten.
+    /// From the least to the greatest of `ts` and the readers of a patch's keys, less those that are forgotten.
     pub(crate) fn extent(&self, patch: &Patch, ts: u64, forgotten: u64) -> Extent
         ensures { IsExtentOf result self.now patch.now ts forgotten }
     {
@@ -93,8 +120,7 @@ impl Segments {
         extent
     }
 
-    // A copy of the readers of the key. It is asked where no segment starts at the key, so that none is
-    // looked for.
+    // A copy of the readers of the key. No segment starts there when it is asked, and so none is looked for.
     fn copy_of(&self, key: &Start) -> Result<Readers, AllocError>
         ensures { IfOk result (λ r. r ≡ readers_at self.now key.now) }
     {
@@ -106,7 +132,7 @@ impl Segments {
 
     // Sees that a segment starts at the key.
     fn split_at(&mut self, key: &Start) -> Result<(), AllocError>
-        ensures readers { (x : List ℕ) → readers_at self.new x ≡ readers_at self.old x }
+        ensures readers { KeepsReaders self.old self.new }
         ensures starts { OnOk result (IsStart self.new.starts key.now) }
         ensures keeps { (q : List ℕ) → IsStart self.old.starts q → IsStart self.new.starts q }
     {
@@ -114,13 +140,14 @@ impl Segments {
             return Ok(());
         }
         let readers = self.copy_of(key)?;
-        self.starts.insert(key.copy(), readers)?;
+        let start = key.copy()?;
+        self.starts.insert(start, readers)?;
         Ok(())
     }
 
     // Sees that segments start at both ends of a patch.
     fn split_ends(&mut self, patch: &Patch) -> Result<(), AllocError>
-        ensures readers { (x : List ℕ) → readers_at self.new x ≡ readers_at self.old x }
+        ensures readers { KeepsReaders self.old self.new }
         ensures ends { OnOk result (HasEnds self.new.starts patch.now) }
         ensures keeps { (q : List ℕ) → IsStart self.old.starts q → IsStart self.new.starts q }
     {
@@ -131,9 +158,9 @@ impl Segments {
         }
     }
 
-    // The same for each patch.
+    // Sees that segments start at both ends of each patch.
     fn split_all(&mut self, patches: &[Patch]) -> Result<(), AllocError>
-        ensures readers { (x : List ℕ) → readers_at self.new x ≡ readers_at self.old x }
+        ensures readers { KeepsReaders self.old self.new }
         ensures starts { OnOk result (AreStarts self.new.starts patches.now) }
     {
         for patch in patches {
@@ -142,7 +169,7 @@ impl Segments {
         Ok(())
     }
 
-    // Starts rise, as the keys of every map do: the call is there for its clause.
+    // Starts rise, as the keys of every map do. The call is there for its clause.
     fn see_order(&self)
         ensures { IsOrdered key_cmp self.now.starts }
     {
@@ -166,12 +193,13 @@ impl Segments {
         };
         for (start, readers) in self.starts.range((Bound::Included(&patch.lo), end)) {
             let readers = readers.edited(patch, ts, forgotten)?;
-            part.push((start.copy(), readers))?;
+            let start = start.copy()?;
+            part.push((start, readers))?;
         }
         Ok(part)
     }
 
-    // The same for each patch.
+    // New readers for the starts that lie in each patch.
     fn edited_all(
         &self,
         patches: &[Patch],
@@ -201,7 +229,7 @@ impl Segments {
         }
     }
 
-    // The same for each part, the last one first.
+    // Gives the starts of each part new readers, those of the last part first.
     fn put_all(&mut self, mut parts: Vec<Part>)
         ensures { self.new.starts.entries ≡ puts_parts self.old.starts.entries parts.items }
     {
@@ -214,8 +242,8 @@ impl Segments {
     fn edit_split(&mut self, patches: &[Patch], ts: u64, forgotten: u64) -> Result<(), AllocError>
         requires late { forgotten < ts }
         requires gaps { HaveGaps ts patches.now }
-        ensures ok { OnOk result ((x : List ℕ) → AreEdited (λ p. holds p x) ts patches.now (is_kept forgotten (readers_at self.old x)) (is_kept forgotten (readers_at self.new x))) }
-        ensures err { OnErr result ((x : List ℕ) → readers_at self.new x ≡ readers_at self.old x) }
+        ensures ok { OnOk result (AreReadersEdited forgotten ts patches.now self.old self.new) }
+        ensures err { OnErr result (KeepsReaders self.old self.new) }
     {
         self.split_all(patches)?;
         self.see_order();
@@ -224,12 +252,12 @@ impl Segments {
         Ok(())
     }
 
-    // What stands beside a patch that is one segment. A key behind which no segment starts is made one
-    // before; a refusal may leave it split.
+    // What stands beside a patch that is one segment. A key that has no segment is split off before. A refusal
+    // may leave it split.
     #[inline(always)]
     fn find_segment(&mut self, patch: &Patch) -> Result<Option<Neighbours>, AllocError>
-        ensures readers { (x : List ℕ) → readers_at self.new x ≡ readers_at self.old x }
-        ensures beside { IfOk result (λ found. MatchOption found (IsSegment self.new.starts patch.now → ⊥) (λ _. IsStart self.new.starts patch.now.lo → IsSegment self.new.starts patch.now)) }
+        ensures readers { KeepsReaders self.old self.new }
+        ensures beside { IfOk result (TellsSegmentAt self.new.starts patch.now) }
     {
         let found = self.neighbours(patch);
         if found.is_some() || patch.end_of_key().is_none() {
@@ -238,27 +266,27 @@ impl Segments {
         self.split_off(patch)
     }
 
-    // Sees that segments start at both ends of a patch, and tells what stands beside it if it is one then:
-    // a call of its own, so that an edit of what is a segment already, as most are, is short.
+    // Sees that segments start at both ends of a patch, and tells what stands beside it if it is one then. Most
+    // edits are of what is a segment already. So that they are short, this is a call of its own.
     #[inline(never)]
     fn split_off(&mut self, patch: &Patch) -> Result<Option<Neighbours>, AllocError>
-        ensures readers { (x : List ℕ) → readers_at self.new x ≡ readers_at self.old x }
+        ensures readers { KeepsReaders self.old self.new }
         ensures ends { OnOk result (HasEnds self.new.starts patch.now) }
-        ensures beside { IfOk result (λ found. MatchOption found (IsSegment self.new.starts patch.now → ⊥) (λ _. IsSegment self.new.starts patch.now)) }
+        ensures beside { IfOk result (TellsSegment self.new.starts patch.now) }
     {
         self.split_ends(patch)?;
         Ok(self.beside(patch))
     }
 
-    // The readers of a patch that is one segment, or of a key that is made one, are edited in place, and
-    // the segment joined with those beside it. It tells whether the patch is one.
+    // If a patch is one segment, or a key that can be split off, its readers are edited in place. Then the
+    // segment is joined with those beside it. It tells whether the patch is one.
     fn edit_segment(&mut self, patch: &Patch, ts: u64, forgotten: u64) -> Result<bool, AllocError>
         requires late { forgotten < ts }
         requires low { patch.now.above < ts }
         requires high { ts ≤ patch.now.until }
-        ensures edited { IfOk result (λ is_one. IsTrue is_one → (x : List ℕ) → AreEdited (λ p. holds p x) ts (patch.now ∷ []) (is_kept forgotten (readers_at self.old x)) (is_kept forgotten (readers_at self.new x))) }
-        ensures other { IfOk result (λ is_one. is_one ≡ false → ((x : List ℕ) → readers_at self.new x ≡ readers_at self.old x) × (IsSegment self.new.starts patch.now → ⊥)) }
-        ensures err { OnErr result ((x : List ℕ) → readers_at self.new x ≡ readers_at self.old x) }
+        ensures edited { IfOk result (λ is_one. IsTrue is_one → AreReadersEdited forgotten ts (patch.now ∷ []) self.old self.new) }
+        ensures other { IfOk result (λ is_one. is_one ≡ false → KeepsReaders self.old self.new × (IsSegment self.new.starts patch.now → ⊥)) }
+        ensures err { OnErr result (KeepsReaders self.old self.new) }
     {
         let Some(neighbours) = self.find_segment(patch)? else {
             return Ok(false);
@@ -272,8 +300,8 @@ impl Segments {
         Ok(true)
     }
 
-    /// The readers of the patches' keys are edited, and neighbours with the same readers joined, but for
-    /// a key that has a segment of its own, which is joined with what is before it by the next sweep.
+    /// The readers of the patches' keys are edited, and neighbours with the same readers are joined. A key with a
+    /// segment of its own is joined with what is before it only by a sweep.
     pub(crate) fn edit(
         &mut self,
         patches: &[Patch],
@@ -282,8 +310,8 @@ impl Segments {
     ) -> Result<(), AllocError>
         requires late { forgotten < ts }
         requires gaps { HaveGaps ts patches.now }
-        ensures ok { OnOk result ((x : List ℕ) → AreEdited (λ p. holds p x) ts patches.now (is_kept forgotten (readers_at self.old x)) (is_kept forgotten (readers_at self.new x))) }
-        ensures err { OnErr result ((x : List ℕ) → readers_at self.new x ≡ readers_at self.old x) }
+        ensures ok { OnOk result (AreReadersEdited forgotten ts patches.now self.old self.new) }
+        ensures err { OnErr result (KeepsReaders self.old self.new) }
     {
         if let [patch] = patches {
             match self.edit_segment(patch, ts, forgotten) {
@@ -318,13 +346,13 @@ impl Segments {
         });
     }
 
-    /// Readers up to `through` go, and neighbours with the same readers are joined. It takes no
-    /// memory, and walks all segments.
+    /// Readers up to `through` go, and neighbours with the same readers are joined. It walks all segments. Where
+    /// the copy of a long start is refused, some neighbours are not joined.
     pub(crate) fn forget_through(&mut self, through: u64)
         ensures { (x : List ℕ) → readers_at self.new x ≡ filter (nat_lt through) (readers_at self.old x) }
     {
         self.forget_each(through);
-        self.join(&Patch::of_all_keys());
+        self.join(&Patch::of_all_keys(self.alloc));
     }
 
     /// How many segments have readers. It walks all of them.

@@ -30,8 +30,8 @@ fn patches_of_scan(alloc: Global, above: u64, until: u64, forgotten: u64) -> Res
         return Err(Fail::new("no gap"));
     }
     let mut segments = Segments::new(alloc);
-    segments.edit(&[Patch::own(&span(alloc, b"b", b"b\0")?, 2)], 2, 0)?;
-    segments.edit(&[Patch::own(&span(alloc, b"", b"")?, 5)], 5, 0)?;
+    segments.edit(&[Patch::own(alloc, &span(alloc, b"b", b"b\0")?, 2)?], 2, 0)?;
+    segments.edit(&[Patch::own(alloc, &span(alloc, b"", b"")?, 5)?], 5, 0)?;
     let pieces = [
         Piece {
             span: span(alloc, b"a", b"b")?,

@@ -1,9 +1,9 @@
 //! Segments that stand beside each other, and their joining where their readers are the same.
-ghost use Rattle.std.specs.Prelude.{◌≡◌, ℕ, List, MatchOption, IsTrue, Some};
+ghost use Rattle.std.specs.Prelude.{◌≡◌, IsTrue, Some};
 ghost use Rattle.std.specs.BTreeMap.{get};
 ghost use Rattle.timestamps.specs.Bytes.{key_cmp};
-ghost use Rattle.read_marks.specs.Segments.{readers_at, readers_before};
-ghost use Rattle.read_marks.specs.Editing.{IsSegment, IsStart};
+ghost use Rattle.read_marks.specs.Segments.{KeepsReaders, readers_before};
+ghost use Rattle.read_marks.specs.Editing.{TellsSegment, TellsSegmentAt};
 
 use super::Segments;
 use crate::patch::Patch;
@@ -11,7 +11,8 @@ use crate::readers::Readers;
 use crate::start::Start;
 use std::ops::Bound;
 
-/// The latest readers of the segments before one and after it, where these have any and were asked.
+/// The latest reader of the segment before one, and of the segment after it. None stands for a segment without
+/// readers, for no segment, and for one that was not asked.
 #[derive(Debug, Clone, Copy)]
 pub(super) struct Neighbours {
     before: Option<u64>,
@@ -25,15 +26,14 @@ fn latest_of(segment: Option<(&Start, &Readers)>) -> Option<u64> {
 }
 
 impl Segments {
-    // What stands beside a patch that is one segment if a segment starts where it begins. It is `None`
-    // where the patch isn't one segment.
+    // What stands beside a patch that is one segment if a segment starts where it begins. It is `None` where the
+    // patch isn't one segment.
     //
-    // No start lies in a key, so that one that starts at a key and ends behind it is found by these two
-    // alone, which costs a third of a range of starts. What is before it isn't asked then: a key that
-    // comes to have the readers of what is before it stays apart until the next sweep, and is mostly
-    // read by itself again.
+    // No start lies inside a key. So a segment of one key is known by its start and its end, and to find these
+    // costs a third of a range of starts. What is before it isn't asked then. A key that comes to have the
+    // readers of what is before it stays apart until the next sweep. Mostly it is read by itself again.
     pub(super) fn neighbours(&self, patch: &Patch) -> Option<Neighbours>
-        ensures { MatchOption result (IsSegment self.now.starts patch.now → ⊥) (λ _. IsStart self.now.starts patch.now.lo → IsSegment self.now.starts patch.now) }
+        ensures { TellsSegmentAt self.now.starts patch.now result }
     {
         match patch.end_of_key() {
             None => self.beside(patch),
@@ -48,10 +48,10 @@ impl Segments {
         }
     }
 
-    // The same of any patch, and where it isn't `None` the patch is one segment. The starts that tell are
-    // the last ones up to its end, so that one search finds them all.
+    // What stands beside a patch that is one segment, and `None` where it isn't one. The starts that tell are the
+    // last ones up to its end, so that one search finds them all.
     pub(super) fn beside(&self, patch: &Patch) -> Option<Neighbours>
-        ensures { MatchOption result (IsSegment self.now.starts patch.now → ⊥) (λ _. IsSegment self.now.starts patch.now) }
+        ensures { TellsSegment self.now.starts patch.now result }
     {
         let mut back = self.starts.range((Bound::Unbounded, patch.up_to_end()));
         let after = match &patch.hi {
@@ -93,7 +93,7 @@ impl Segments {
 
     // Joins a segment with the one before it, where their readers are the same.
     fn join_at(&mut self, start: &Start)
-        ensures { (x : List ℕ) → readers_at self.new x ≡ readers_at self.old x }
+        ensures { KeepsReaders self.old self.new }
     {
         self.see_order();
         if self.is_repeated(start) {
@@ -101,11 +101,11 @@ impl Segments {
         }
     }
 
-    // Joins a segment with those beside it, where their readers are the same. Those that aren't mostly
-    // differ in the latest, so it is asked first. An edited segment has a reader, so that it is never
-    // joined with keys that have none.
+    // Joins a segment with those beside it, where their readers are the same. The latest readers are compared
+    // first, since they mostly differ. An edited segment has a reader, and so it is never joined with keys that
+    // have none.
     pub(super) fn join_beside(&mut self, patch: &Patch, neighbours: Neighbours, latest: Option<u64>)
-        ensures { (x : List ℕ) → readers_at self.new x ≡ readers_at self.old x }
+        ensures { KeepsReaders self.old self.new }
     {
         if let Some(hi) = &patch.hi {
             if neighbours.after == latest {
@@ -117,13 +117,14 @@ impl Segments {
         }
     }
 
-    // The greatest start from `lo` on and up to `end` whose readers are those of the segment before it.
+    // The greatest start from `lo` on and up to `end` whose readers are those of the segment before it. It finds
+    // none where the copy of a long start is refused. A later sweep joins that segment.
     fn last_repeated(&self, lo: &Start, end: Bound<&Start>) -> Option<Start> {
         let mut later: Option<(&Start, &Readers)> = None;
         for (start, readers) in self.starts.range((Bound::Unbounded, end)).rev() {
             if let Some((next, next_readers)) = later {
                 if next_readers.is_same(readers) {
-                    return Some(next.copy());
+                    return next.copy().ok();
                 }
             }
             if start < lo {
@@ -132,15 +133,15 @@ impl Segments {
             later = Some((start, readers));
         }
         match later {
-            Some((first, readers)) if readers.is_empty() => Some(first.copy()),
+            Some((first, readers)) if readers.is_empty() => first.copy().ok(),
             _ => None,
         }
     }
 
-    // Joins the segments that start in a patch or where it ends, the last of them first: what follows
-    // one that goes was compared with the same readers.
+    // Joins the segments that start in a patch or where it ends, the last of them first. What follows one that
+    // goes was compared with the same readers.
     pub(super) fn join(&mut self, patch: &Patch)
-        ensures { (x : List ℕ) → readers_at self.new x ≡ readers_at self.old x }
+        ensures { KeepsReaders self.old self.new }
     {
         let mut found = self.last_repeated(&patch.lo, patch.up_to_end());
         for _ in 0..self.starts.len() {
@@ -152,9 +153,9 @@ impl Segments {
         }
     }
 
-    // The same for each patch.
+    // Joins the segments that start in each patch or where it ends.
     pub(super) fn join_all(&mut self, patches: &[Patch])
-        ensures { (x : List ℕ) → readers_at self.new x ≡ readers_at self.old x }
+        ensures { KeepsReaders self.old self.new }
     {
         for patch in patches {
             self.join(patch);

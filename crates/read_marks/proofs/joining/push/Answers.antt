@@ -8,10 +8,10 @@ pub returns-then-not-runs_forward-clause-edits : goal.returns-then-not-runs_forw
 returns-then-not-runs_forward-clause-edits c = λ x ts m more.
     edits_after x ts m c.args.patches.now.items more _ (edits_without x ts m c.args.patch more (holds_is_picks c.args.patch x ∙ c.runs_forward.ensures.empty c.if-not-runs_forward.true x))
 
-before : (c : goal.After-patches-then-goes_on_in-1) → RunsForward c.in-Some.last.now
+before : (c : goal.After-drop-patch-then-goes_on_in) → RunsForward c.in-Some.last.now
 before c = last_forward c.args.patches.now.items (vec_len c.args.patches.now - 1) c.in-Some.last.now (omega (arith, c.in-Some.ensures.variant.0 refl)) c.in-Some.ensures.value c.requires.forward
 
-after : (c : goal.After-patches-then-goes_on_in-1) → RunsForward c.args.patch
+after : (c : goal.After-drop-patch-then-goes_on_in) → RunsForward c.args.patch
 after c = c.runs_forward.ensures.forward c.if-not-runs_forward.false
 
 pub returns-then-goes_on_in-clause-forward : goal.returns-then-goes_on_in-clause-forward

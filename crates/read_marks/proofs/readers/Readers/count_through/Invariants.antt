@@ -1,5 +1,5 @@
 use Rattle.std.proofs.Common.{ℕ, ◌+◌, ◌≤◌, length, get_or}
-use Rattle.timestamps.specs.Halves.{AreLeft}
+use Rattle.timestamps.specs.BinarySearch.{AreLeft}
 use Rattle.read_marks.proofs.readers.Readers.count_through.Given as goal
 
 abbrev pub invariant-loop-left : goal.invariant-loop-left
