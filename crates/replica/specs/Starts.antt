@@ -4,13 +4,17 @@ use Rattle.spans.specs.declared.span.Span.{Span}
 use Rattle.spans.specs.declared.calls.messages.Message.{Message}
 use Rattle.spans.specs.declared.calls.messages.Message.TheVariants as messages
 use Rattle.spans.specs.declared.kind.Kind.TheVariants.{Initial}
-use Rattle.spans.specs.Keys.{in_span, IsPairIn, KeysRise, value_among}
+use Rattle.spans.specs.Keys.{in_span, AreRows, IsPairIn, KeysRise, value_among}
 use Rattle.spans.specs.Effects.{Effect}
-use Rattle.spans.specs.Serial.{Map}
+use Rattle.spans.specs.Serial.{Map, map_at}
 use Rattle.spans.specs.Feeds.{Feed, start_at, start_of}
 use Rattle.spans.specs.Consumer.{seed_of}
 use Rattle.replica.specs.declared.fault.Fault.{Fault}
 use Rattle.replica.specs.declared.fault.Fault.TheVariants as faults
+
+-- keys, each with a value
+abbrev pub Pairs : Type 0
+Pairs = List (List ℕ × List ℕ)
 
 -- of which span a replica is, above which timestamp all that it takes lies, at which timestamp it is complete at first, and
 -- which rows it has then
@@ -56,3 +60,11 @@ pub record IsStartOf (p : List Effect) (feed : Feed) (s : Start) : Type 0 where
   pub span : s.span ≡ feed.span
   pub start : s.start ≡ start_of feed
   pub rows : (x : List ℕ) → s.rows x ≡ seed_of feed.kind p feed.span feed.cursor x
+
+-- the feed is no initial one, and the rows are what its span holds at its cursor
+abbrev pub IsSeedAt : List Effect → Feed → Pairs → Type 0
+IsSeedAt p feed pairs = (feed.kind ≡ Initial → ⊥) × AreRows feed.span (map_at p feed.cursor) pairs
+
+-- the start of a feed's replica with these rows
+abbrev pub seeded_by : Feed → Pairs → Start
+seeded_by feed pairs = seeded_start feed.span feed.cursor pairs

@@ -1,15 +1,15 @@
 //! The law of replicas: what holds of the replicas of every legal history's feeds, as the contract of one function.
-ghost use Rattle.std.specs.Prelude.{List, ℕ, ◌≡◌, Some};
+ghost use Rattle.std.specs.Prelude.{List, ℕ, ◌≡◌};
 ghost use Rattle.spans.specs.declared.calls.events.Event.{Event};
 ghost use Rattle.spans.specs.declared.span.Span.{Span};
 ghost use Rattle.spans.specs.declared.kind.Kind.TheVariants.{Initial};
 ghost use Rattle.spans.specs.Effects.{Effect, effects_of};
 ghost use Rattle.spans.specs.Legal.{IsLegal};
 ghost use Rattle.spans.specs.Keys.{AreRows};
-ghost use Rattle.spans.specs.Serial.{Map, map_at};
-ghost use Rattle.spans.specs.Feeds.{Feed, feed_of};
-ghost use Rattle.replica.specs.Starts.{Start, seeded_start, initial_start, MayBegin, IsStartOf};
-ghost use Rattle.replica.specs.Right.{ReplicaIsRight};
+ghost use Rattle.spans.specs.Serial.{Map};
+ghost use Rattle.spans.specs.Feeds.{Feed};
+ghost use Rattle.replica.specs.Starts.{Pairs, seeded_by, initial_start, MayBegin, IsSeedAt, IsStartOf};
+ghost use Rattle.replica.specs.Right.{ReplicasAreRight};
 
 /// Of a feed that was opened in a legal history, newest event first: a replica that began as its consumer is to
 /// begin refuses none of the messages that the feed told, unless memory is wanting, and after each resolved
@@ -20,10 +20,8 @@ ghost use Rattle.replica.specs.Right.{ReplicaIsRight};
 ///
 /// It does nothing. Its contract is the theorem.
 pub fn law_of_replicas()
-    ensures right { (h : List Event) → IsLegal h → (f : ℕ) (feed : Feed) → feed_of (effects_of h) f ≡ Some feed
-        → (s : Start) → IsStartOf (effects_of h) feed s → ReplicaIsRight (effects_of h) f feed s }
+    ensures right { (h : List Event) (f : ℕ) → IsLegal h → ReplicasAreRight (effects_of h) f }
     ensures initial { (p : List Effect) (feed : Feed) → feed.kind ≡ Initial → IsStartOf p feed (initial_start feed.span feed.cursor) }
-    ensures seeded { (p : List Effect) (feed : Feed) (rows : List (List ℕ × List ℕ)) → (feed.kind ≡ Initial → ⊥)
-        → AreRows feed.span (map_at p feed.cursor) rows → IsStartOf p feed (seeded_start feed.span feed.cursor rows) }
-    ensures begins { (span : Span) (m : Map) (rows : List (List ℕ × List ℕ)) → AreRows span m rows → MayBegin span rows }
+    ensures seeded { (p : List Effect) (feed : Feed) (rows : Pairs) → IsSeedAt p feed rows → IsStartOf p feed (seeded_by feed rows) }
+    ensures begins { (span : Span) (m : Map) (rows : Pairs) → AreRows span m rows → MayBegin span rows }
 {}

@@ -1,7 +1,10 @@
 -- Which lists of events, the oldest first, one database can have given, and where another list first goes wrong.
-use Rattle.std.specs.Prelude.{ℕ, List, [], ◌∷◌, ◌++◌, ◌≡◌, reverse}
+use Rattle.std.specs.Prelude.{ℕ, List, [], ◌∷◌, ◌++◌, ◌≡◌, ◌<◌, ◌↔◌, Bool, true, length, reverse}
 use Rattle.spans.specs.declared.calls.events.Event.{Event}
-use Rattle.spans.specs.Legal.{IsLegal, IsGapless}
+use Rattle.spans.specs.Effects.{effects_of}
+use Rattle.spans.specs.Legal.{IsLegal, IsGapless, IsRightEvent}
+use Rattle.plain_database.specs.declared.database.Database.{Database}
+use Rattle.plain_database.specs.Tied.{StandsFor}
 
 -- where the first event stands
 abbrev pub position_of_first : List Event → ℕ
@@ -22,3 +25,11 @@ pub record IsFirstWrong (events : List Event) (position : ℕ) : Type 0 where
   pub right : IsTrace before
   pub stops : ¬ IsTrace (before ++ event ∷ [])
   pub stands : event.position ≡ position
+
+-- whatever history the database stands for, this is whether the event is right after it
+abbrev pub Judges : Database → Event → Bool → Type 0
+Judges db e right = (h : List Event) → StandsFor db h → length h < 18446744073709551615 → (right ≡ true) ↔ IsRightEvent (effects_of h) e
+
+-- where the event is right, the database stands for the history with it
+abbrev pub TakesIn : Database → Database → Event → Bool → Type 0
+TakesIn db db' e right = right ≡ true → (h : List Event) → StandsFor db h → length h < 18446744073709551615 → StandsFor db' (e ∷ h)

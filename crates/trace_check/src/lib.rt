@@ -1,7 +1,7 @@
 //! The independent checker: whether a list of events is one that the definitions allow.
 //!
 //! [`check`] goes through the events, the oldest first. It asks the
-//! [`Database`](reference::database::Database), which is the definitions as one plain program, for the
+//! [`Database`](plain_database::database::Database), which is the definitions as one plain program, for the
 //! one right answer after the events so far, compares the reply with it exactly, and then has the
 //! database take the event in. A reply may also be want of memory, in the place of an answer that is no
 //! refusal, where the command may want memory. The first event that isn't right, or that doesn't stand
@@ -29,7 +29,7 @@ ghost use Rattle.trace_check.specs.declared.Verdict.TheVariants.{Yes, No};
 ghost use Rattle.trace_check.specs.Traces.{position_of_first, IsTrace, IsFirstWrong};
 
 use crate::taking::take_in;
-use reference::database::Database;
+use plain_database::database::Database;
 use spans::calls::Event;
 use std::alloc::{AllocError, Global};
 

@@ -1,21 +1,19 @@
 //! How the database is asked about one event, and takes it in.
-ghost use Rattle.std.specs.Prelude.{◌≡◌, ◌↔◌, ◌⊎◌, List, ◌∷◌, true, ◌<◌, length, IfOk};
-ghost use Rattle.spans.specs.declared.calls.events.Event.{Event};
+ghost use Rattle.std.specs.Prelude.{◌≡◌, ◌↔◌, true, IfOk};
 ghost use Rattle.spans.specs.declared.calls.replies.Reply.TheVariants.{Refused};
 ghost use Rattle.spans.specs.declared.calls.replies.Refusal.TheVariants.{NoMemory};
-ghost use Rattle.spans.specs.Effects.{effects_of};
-ghost use Rattle.spans.specs.Legal.{IsRightEvent, is_accepted, may_lack_memory};
-ghost use Rattle.reference.specs.Tied.{Represents};
+ghost use Rattle.spans.specs.Legal.{is_accepted, may_lack_memory};
+ghost use Rattle.trace_check.specs.Traces.{Judges, TakesIn};
 
 use crate::same::same_reply;
-use reference::database::Database;
+use plain_database::database::Database;
 use spans::calls::{Cmd, Event, Refusal, Reply};
 use std::alloc::AllocError;
 
 /// Whether an event is right after those that the database took in. Where it is, it is taken in too.
 pub(crate) fn take_in(database: &mut Database, event: &Event) -> Result<bool, AllocError>
-    ensures right { IfOk result (λ right. (h : List Event) → Represents database.old h → length h < 18446744073709551615 → (right ≡ true) ↔ IsRightEvent (effects_of h) event.now) }
-    ensures taken { IfOk result (λ right. right ≡ true → (h : List Event) → Represents database.old h → length h < 18446744073709551615 → Represents database.new (event.now ∷ h)) }
+    ensures right { IfOk result (Judges database.old event.now) }
+    ensures taken { IfOk result (TakesIn database.old database.new event.now) }
 {
     let answer = database.answer(event.seat, &event.cmd)?;
     if same_reply(&event.reply, &answer) {

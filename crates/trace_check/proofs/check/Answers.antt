@@ -1,5 +1,5 @@
 use Rattle.std.proofs.Common.{◌≡◌, ◌+◌, ◌∙◌, true, false, refl, sym, ap, subst, arith}
-use Rattle.reference.specs.Tied.{Represents}
+use Rattle.plain_database.specs.Tied.{StandsFor}
 use Rattle.trace_check.specs.Traces.{IsFirstWrong}
 use Rattle.trace_check.proofs.TraceSteps.{turned_next, gapless_next, wrong_at, wrong_is_no_trace, few_before}
 use Rattle.trace_check.proofs.check.Goals as goal
@@ -7,7 +7,7 @@ use Rattle.trace_check.proofs.check.Goals.{then-not-is_in_place-via-then-not-is_
 
 pub loop-index-preserved : goal.loop-index-preserved
 loop-index-preserved c = record {
-  stands = subst (Represents c.take_in.new.database) (sym (turned_next c.args.events.now c.loop-index.index c.index-events-index.result c.loop-index-test.true c.index-events-index.is))
+  stands = subst (StandsFor c.take_in.new.database) (sym (turned_next c.args.events.now c.loop-index.index c.index-events-index.result c.loop-index-test.true c.index-events-index.is))
       (c.in_ok-take_in.ensures.taken c.if-not-branch.false _ c.loop-index.invariant.stands (few_before c.args.events.now c.loop-index.index c.loop-index-test.true (omega arith)));
   gapless = gapless_next c.first_position-first.result c.args.events.now c.loop-index.index c.index-events-index.result c.loop-index-test.true c.index-events-index.is c.loop-index.invariant.gapless
       (c.if-not-is_in_place.ensures.0 refl);

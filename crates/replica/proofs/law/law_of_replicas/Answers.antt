@@ -8,7 +8,7 @@ use Rattle.replica.proofs.Completing.{replica_is_right, starts_initial, starts_s
 use Rattle.replica.proofs.law.law_of_replicas.Goals as goal
 
 pub returns-clause-right : goal.returns-clause-right
-returns-clause-right c = λ h legal f feed is s starts.
+returns-clause-right c = λ h f legal feed is s starts.
     let all = legal_allowed h legal in
     let right = fed (effects_of h) all f feed is in
     let so_far = feeding (effects_of h) all f feed is in
@@ -22,7 +22,7 @@ pub returns-clause-initial : goal.returns-clause-initial
 returns-clause-initial c = starts_initial
 
 pub returns-clause-seeded : goal.returns-clause-seeded
-returns-clause-seeded c = starts_seeded
+returns-clause-seeded c = λ p feed rows seed. starts_seeded p feed rows seed.0 seed.1
 
 pub returns-clause-begins : goal.returns-clause-begins
 returns-clause-begins c = λ span m rows are. record { rising = are.rising; inside = λ x v i. ((are.each x v).0 i).0 }

@@ -1,0 +1,59 @@
+-- Closed is a timestamp, or 0.
+use Rattle.std.proofs.Common.{◌≡◌, ℕ, ◌≤◌, ◌-◌, List, [], ◌∷◌, map, inl, inr, arith}
+use Rattle.std.specs.Prelude.{max, nat_lt}
+use Rattle.std.proofs.lemmas.Bool.{ltb-false}
+use Rattle.timestamps.specs.declared.ts.TheConstants.{MAX}
+use Rattle.spans.specs.declared.calls.commands.Cmd.{Cmd}
+use Rattle.spans.specs.declared.calls.commands.Cmd.TheVariants.{Begin, Get, Scan, Put, Del, Commit, Abort, Close, CloseHard, ReadAt, ScanAt, Protect, Release, Collect, Open, OpenInitial, OpenEvery, Poll, Cancel}
+use Rattle.spans.specs.declared.calls.replies.Reply.{Reply}
+use Rattle.spans.specs.declared.calls.replies.Reply.TheVariants.{Started, Found, Rows, Written, Committed, Aborted, Closed, Protected, Released, Collected, Opened, Messages, Cancelled, Refused}
+use Rattle.spans.specs.declared.calls.replies.Refusal.TheVariants.{TsRange, TooLate, NoMemory}
+use Rattle.spans.specs.declared.calls.events.Event.{Event}
+use Rattle.spans.specs.Effects.{Effect, effect, effects_of, event}
+use Rattle.spans.specs.Transactions.{closed_of, decided_through, undecided_timestamps}
+use Rattle.spans.specs.Answer.{first_refusal_or}
+use Rattle.spans.specs.Legal.{IsRightEvent, IsLegal}
+use Rattle.spans.proofs.Steps.{by_test}
+use Rattle.plain_database.proofs.Undecided.{least_low}
+
+-- what a closing through `to` answers is in range, where it isn't refused
+answered_in_range : (to at aborted at' aborted' : ℕ) → Closed at aborted ≡ first_refusal_or ((nat_lt MAX to, TsRange) ∷ []) (Closed at' aborted') → (to ≤ MAX → at' ≤ MAX) → at ≤ MAX
+answered_in_range to at aborted at' aborted' is low = by_test (nat_lt MAX to)
+    (λ above. absurd (let no : Closed at aborted ≡ Refused TsRange = rw above at is in cc))
+    (λ below. let same : Closed at aborted ≡ Closed at' aborted' = rw below at is in let e : at ≡ at' = cc in rw e (low (ltb-false MAX to below)))
+
+-- closed stays in range
+in_range_after : (p : List Effect) (n seat : ℕ) (cmd : Cmd) (reply : Reply) → IsRightEvent p (event n seat cmd reply) → closed_of p ≤ MAX → closed_of (effect seat cmd reply ∷ p) ≤ MAX
+in_range_after p n seat (Close to) (Closed at aborted) right low = elim right [
+  | inl is ↦ answered_in_range to at aborted (max (closed_of p) (decided_through p to)) 0 is (λ high. omega (arith, least_low to (map (λ t. t - 1) (undecided_timestamps p))))
+  | inr want ↦ absurd (let no : Closed at aborted ≡ Refused NoMemory = want.0 in cc)
+]
+in_range_after p n seat (CloseHard to) (Closed at aborted) right low = elim right [
+  | inl is ↦ answered_in_range to at aborted (max (closed_of p) to) _ is (λ high. omega arith)
+  | inr want ↦ absurd (let no : Closed at aborted ≡ Refused NoMemory = want.0 in cc)
+]
+in_range_after p n seat (Begin t) Started right low = low
+in_range_after p n seat (Get t x) (Found v) right low = low
+in_range_after p n seat (Scan t span) (Rows rows) right low = low
+in_range_after p n seat (Put t x v) Written right low = low
+in_range_after p n seat (Put t x v) (Refused TooLate) right low = low
+in_range_after p n seat (Del t x) Written right low = low
+in_range_after p n seat (Del t x) (Refused TooLate) right low = low
+in_range_after p n seat (Commit t) (Committed keys) right low = low
+in_range_after p n seat (Abort t) Aborted right low = low
+in_range_after p n seat (ReadAt t x) (Found v) right low = low
+in_range_after p n seat (ScanAt t span) (Rows rows) right low = low
+in_range_after p n seat (Protect t) (Protected id) right low = low
+in_range_after p n seat (Release id) Released right low = low
+in_range_after p n seat (Collect to) (Collected horizon removed) right low = low
+in_range_after p n seat (Open span cursor) (Opened f) right low = low
+in_range_after p n seat (OpenInitial span cursor) (Opened f) right low = low
+in_range_after p n seat (OpenEvery span cursor gap) (Opened f) right low = low
+in_range_after p n seat (Poll f max) (Messages ms) right low = low
+in_range_after p n seat (Cancel f) Cancelled right low = low
+in_range_after p n seat cmd reply right low = low
+
+-- closed is at most the greatest timestamp
+pub closed_in_range : (h : List Event) → IsLegal h → closed_of (effects_of h) ≤ MAX
+closed_in_range [] legal = omega arith
+closed_in_range (e ∷ h) legal = in_range_after (effects_of h) e.position e.seat e.cmd e.reply legal.0 (closed_in_range h legal.1)

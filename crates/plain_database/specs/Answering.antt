@@ -1,0 +1,60 @@
+-- What the contracts are said with: what holds after each history, the answer there, and what stands after one more event.
+use Rattle.std.specs.Prelude.{ℕ, List, ◌∷◌, ◌≡◌, ◌<◌, Some, length, true}
+use Rattle.timestamps.specs.declared.row.Row.{Row}
+use Rattle.spans.specs.declared.calls.commands.Cmd.{Cmd}
+use Rattle.spans.specs.declared.calls.events.Event.{Event}
+use Rattle.spans.specs.declared.calls.messages.Message.{Message}
+use Rattle.spans.specs.declared.calls.replies.Reply.{Reply}
+use Rattle.spans.specs.Answer.{answer_of}
+use Rattle.spans.specs.Effects.{Effect, effects_of, event}
+use Rattle.spans.specs.Feeds.{Feed, feed_of, list_of, next_messages}
+use Rattle.spans.specs.Legal.{IsRightEvent, is_accepted, may_lack_memory}
+use Rattle.plain_feeds.specs.declared.record.FeedRecord.{FeedRecord}
+use Rattle.plain_feeds.specs.Records.{feed_part}
+use Rattle.plain_database.specs.declared.database.Database.{Database}
+use Rattle.plain_database.specs.Tied.{StandsFor}
+
+-- this holds of the effects of each history that the database stands for
+abbrev pub AfterEach : Database → (List Effect → Type 0) → Type 0
+AfterEach db P = (h : List Event) → StandsFor db h → P (effects_of h)
+
+-- the same, of each history whose events a `u64` can count
+abbrev pub AfterCounted : Database → (List Effect → Type 0) → Type 0
+AfterCounted db P = (h : List Event) → StandsFor db h → length h < 18446744073709551615 → P (effects_of h)
+
+-- after each history that the database stands for, this is the answer to the seat's command
+abbrev pub Answers : Database → ℕ → Cmd → Reply → Type 0
+Answers db seat cmd reply = (h : List Event) → StandsFor db h → reply ≡ answer_of (effects_of h) seat cmd
+
+-- the same, after each history whose events a `u64` can count
+abbrev pub AnswersCounted : Database → ℕ → Cmd → Reply → Type 0
+AnswersCounted db seat cmd reply =
+    (h : List Event) → StandsFor db h → length h < 18446744073709551615 → reply ≡ answer_of (effects_of h) seat cmd
+
+-- the answer is no refusal
+abbrev pub Accepts : Database → ℕ → Cmd → Type 0
+Accepts db seat cmd = (h : List Event) → StandsFor db h → is_accepted (answer_of (effects_of h) seat cmd) ≡ true
+
+-- the answer is no refusal, and the command may lack memory
+abbrev pub MayLackMemory : Database → ℕ → Cmd → Type 0
+MayLackMemory db seat cmd =
+    (h : List Event) → StandsFor db h → (is_accepted (answer_of (effects_of h) seat cmd) ≡ true) × (may_lack_memory cmd ≡ true)
+
+-- where the database stands for a history after which the reply to the seat's command is right, the other stands for
+-- both, whatever the command's position
+abbrev pub Records : Database → ℕ → Cmd → Reply → Database → Type 0
+Records db seat cmd reply db' =
+    (h : List Event) (n : ℕ) → StandsFor db h → IsRightEvent (effects_of h) (event n seat cmd reply)
+    → StandsFor db' (event n seat cmd reply ∷ h)
+
+-- the rows are the list, through n, of each feed of which this is the record
+abbrev pub Lists : Database → FeedRecord → ℕ → List Row → Type 0
+Lists db feed n rows =
+    (h : List Event) → StandsFor db h → (f : ℕ) → feed_of (effects_of h) f ≡ Some (feed_part feed)
+    → rows ≡ list_of (effects_of h) (feed_part feed) n
+
+-- these are the next messages of the feed, at most max
+abbrev pub AreNext : Database → ℕ → ℕ → List Message → Type 0
+AreNext db f max ms =
+    (h : List Event) (feed : Feed) → StandsFor db h → feed_of (effects_of h) f ≡ Some feed
+    → ms ≡ next_messages (effects_of h) f feed max

@@ -1,0 +1,28 @@
+-- Parts of the answers: the tests of a scan, the rows that it finds, and the answer to a write.
+use Rattle.std.specs.Prelude.{ℕ, Bool, List, [], ◌∷◌, ◌++◌, filter, map}
+use Rattle.spans.specs.declared.span.Span.{Span}
+use Rattle.spans.specs.declared.calls.replies.Reply.{Reply}
+use Rattle.spans.specs.declared.calls.replies.Reply.TheVariants.{Written}
+use Rattle.spans.specs.declared.calls.replies.Refusal.{Refusal}
+use Rattle.spans.specs.declared.calls.replies.Refusal.TheVariants.{Blocked, TooLate}
+use Rattle.spans.specs.Answer.{first_refusal_or, transaction_tests}
+use Rattle.spans.specs.Effects.{Effect}
+use Rattle.spans.specs.Keys.{in_span, pairs_of}
+use Rattle.spans.specs.Reads.{too_late}
+use Rattle.spans.specs.Versions.{written_keys, visible, committed_value, is_blocked}
+
+-- the tests of a scan, key by key
+abbrev pub block_tests : List Effect → Span → ℕ → List (Bool × Refusal)
+block_tests p span t = map (λ x. (is_blocked p x t, Blocked (visible p x t).ts)) (filter (in_span span) (written_keys p))
+
+-- the rows that a transaction sees
+abbrev pub rows_seen : List Effect → Span → ℕ → List (List ℕ × List ℕ)
+rows_seen p span t = pairs_of (λ x. (visible p x t).after) (filter (in_span span) (written_keys p))
+
+-- the rows that were committed at t
+abbrev pub rows_committed : List Effect → Span → ℕ → List (List ℕ × List ℕ)
+rows_committed p span t = pairs_of (λ x. committed_value p x t) (filter (in_span span) (written_keys p))
+
+-- the answer to a write, whatever it writes
+abbrev pub write_answer : List Effect → ℕ → ℕ → List ℕ → Reply
+write_answer p seat t x = first_refusal_or (transaction_tests p seat t ++ (too_late p x t, TooLate) ∷ []) Written

@@ -1,0 +1,126 @@
+//! The database: a list for each thing that a history is asked about.
+ghost use Rattle.std.specs.Prelude.{◌≡◌, IfOk, OnErr, OnOk, [], true};
+
+use crate::reads::Reads;
+use crate::span_reads::Scans;
+use plain_feeds::{FeedBook, Protections};
+use plain_versions::{Chains, Transactions};
+use spans::calls::{Cmd, Reply};
+use spans::kind::Kind;
+use std::alloc::{AllocError, Global};
+
+/// What a history led to, list by list.
+#[derive(Debug, Drop)]
+pub struct Database {
+    pub(crate) alloc: Global,
+    pub(crate) closed: u64,
+    pub(crate) transactions: Transactions,
+    pub(crate) chains: Chains,
+    pub(crate) reads: Reads,
+    pub(crate) scans: Scans,
+    pub(crate) horizon: u64,
+    pub(crate) feeds: FeedBook,
+    pub(crate) protections: Protections,
+}
+
+impl Database {
+    ghost use Rattle.spans.specs.Legal.{is_accepted, may_lack_memory};
+    ghost use Rattle.spans.specs.Transactions.{closed_of};
+    ghost use Rattle.plain_database.specs.Answering.{AfterEach, AnswersCounted, MayLackMemory, Records};
+    ghost use Rattle.plain_database.specs.Tied.{StandsFor, closed_timestamp};
+
+    /// The database of the empty history.
+    pub fn new(alloc: Global) -> Database
+        ensures { StandsFor result [] }
+    {
+        Database {
+            alloc,
+            closed: 0,
+            transactions: Transactions::new(alloc),
+            chains: Chains::new(alloc),
+            reads: Reads::new(alloc),
+            scans: Scans::new(alloc),
+            horizon: 0,
+            feeds: FeedBook::new(alloc),
+            protections: Protections::new(alloc),
+        }
+    }
+
+    /// The closed timestamp.
+    pub fn closed(&self) -> u64
+        ensures number { result ≡ closed_timestamp self.now }
+        ensures history { AfterEach self.now (λ p. result ≡ closed_of p) }
+    {
+        self.closed
+    }
+
+    /// What a seat's command is answered, after a history whose events a `u64` can count. It changes nothing.
+    pub fn answer(&self, seat: u8, cmd: &Cmd) -> Result<Reply, AllocError>
+        ensures answer { IfOk result (λ reply. AnswersCounted self.now seat cmd.now reply) }
+        ensures memory { OnErr result (MayLackMemory self.now seat cmd.now) }
+    {
+        match cmd {
+            Cmd::Begin { ts } => Ok(self.answer_begin(*ts)),
+            Cmd::Get { ts, key } => self.answer_get(seat, *ts, key),
+            Cmd::Scan { ts, span } => self.answer_scan(seat, *ts, span),
+            Cmd::Put { ts, key, value: _ } => Ok(self.answer_write(seat, *ts, key)),
+            Cmd::Del { ts, key } => Ok(self.answer_write(seat, *ts, key)),
+            Cmd::Commit { ts } => Ok(self.answer_commit(seat, *ts)),
+            Cmd::Abort { ts } => Ok(self.answer_abort(seat, *ts)),
+            Cmd::Close { to } => Ok(self.answer_close(*to)),
+            Cmd::CloseHard { to } => Ok(self.answer_close_hard(*to)),
+            Cmd::ReadAt { t, key } => self.answer_read_at(*t, key),
+            Cmd::ScanAt { t, span } => self.answer_scan_at(*t, span),
+            Cmd::Protect { t } => Ok(self.answer_protect(*t)),
+            Cmd::Release { id } => Ok(self.answer_release(*id)),
+            Cmd::Open { span: _, cursor } => Ok(self.answer_open(*cursor)),
+            Cmd::OpenInitial { span: _, cursor } => Ok(self.answer_open_initial(*cursor)),
+            Cmd::OpenEvery {
+                span: _,
+                cursor,
+                gap,
+            } => Ok(self.answer_open_every(*cursor, *gap)),
+            Cmd::Cancel { feed } => Ok(self.answer_cancel(*feed)),
+            Cmd::Collect { to } => Ok(self.answer_collect(*to)),
+            Cmd::Poll { feed, max } => self.answer_poll(seat, *feed, *max),
+            Cmd::Stats => Ok(self.answer_stats()),
+        }
+    }
+
+    /// Takes in a command with its right reply. Where memory is lacking, nothing changes.
+    pub fn record(&mut self, seat: u8, cmd: &Cmd, reply: &Reply) -> Result<(), AllocError>
+        ensures ok { OnOk result (Records self.old seat cmd.now reply.now self.new) }
+        ensures err { OnErr result (self.new ≡ self.old) }
+        ensures memory { OnErr result ((is_accepted reply.now ≡ true) × (may_lack_memory cmd.now ≡ true)) }
+    {
+        match cmd {
+            Cmd::Begin { ts } => self.record_begin(seat, *ts, reply)?,
+            Cmd::Get { ts, key } => self.record_get(*ts, key, reply)?,
+            Cmd::Scan { ts, span } => self.record_scan(*ts, span, reply)?,
+            Cmd::Put { ts, key, value } => self.record_put(*ts, key, value, reply)?,
+            Cmd::Del { ts, key } => self.record_del(*ts, key, reply)?,
+            Cmd::Commit { ts } => self.record_commit(*ts, reply),
+            Cmd::Abort { ts } => self.record_abort(*ts, reply),
+            Cmd::Close { to } => self.record_close(*to, reply),
+            Cmd::CloseHard { to } => self.record_close_hard(*to, reply),
+            Cmd::ReadAt { t: _, key: _ } => {}
+            Cmd::ScanAt { t: _, span: _ } => {}
+            Cmd::Protect { t } => self.record_protect(*t, reply)?,
+            Cmd::Release { id } => self.record_release(*id, reply),
+            Cmd::Open { span, cursor } => {
+                self.record_open(seat, Kind::Plain, span, *cursor, reply)?
+            }
+            Cmd::OpenInitial { span, cursor } => {
+                self.record_open(seat, Kind::Initial, span, *cursor, reply)?
+            }
+            Cmd::OpenEvery { span, cursor, gap } => {
+                self.record_open(seat, Kind::Every { gap: *gap }, span, *cursor, reply)?
+            }
+            Cmd::Cancel { feed } => self.record_cancel(*feed, reply),
+            Cmd::Collect { to } => self.record_collect(*to, reply),
+            Cmd::Poll { feed, max: _ } => self.record_poll(seat, *feed, reply)?,
+            Cmd::Stats => {}
+        }
+        Ok(())
+    }
+}

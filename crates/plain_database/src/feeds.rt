@@ -1,0 +1,167 @@
+//! Feeds: openings, polls and cancels.
+ghost use Rattle.std.specs.Prelude.{◌≡◌, IfOk, OnErr, OnOk, suc, true, ℕ};
+ghost use Rattle.spans.specs.declared.calls.commands.Cmd.TheVariants.{Cancel, Open, OpenEvery, OpenInitial, Poll};
+ghost use Rattle.spans.specs.declared.calls.replies.Reply.TheVariants.{Opened};
+ghost use Rattle.spans.specs.declared.span.Span.{Span};
+ghost use Rattle.spans.specs.Effects.{open_cmd};
+ghost use Rattle.spans.specs.Feeds.{feeds_opened};
+ghost use Rattle.spans.specs.Legal.{is_accepted};
+ghost use Rattle.plain_feeds.specs.FeedTie.{IsOpened};
+ghost use Rattle.plain_database.specs.Answering.{Accepts, AfterCounted, Answers, AnswersCounted, AreNext, Records};
+
+use crate::database::Database;
+use spans::calls::{Messages, Refusal, Reply};
+use spans::kind::Kind;
+use spans::span::Span as KeySpan;
+use std::alloc::AllocError;
+use timestamps::ts::{MAX, Ts};
+
+impl Database {
+    pub(crate) fn answer_open(&self, cursor: u64) -> Reply
+        ensures { (seat : ℕ) (span : Span) → AnswersCounted self.now seat (Open span cursor) result }
+    {
+        if let Some(refusal) = self.horizon_refusal(cursor) {
+            return Reply::Refused(refusal);
+        }
+        self.opened()
+    }
+
+    pub(crate) fn answer_open_initial(&self, cursor: u64) -> Reply
+        ensures { (seat : ℕ) (span : Span) → AnswersCounted self.now seat (OpenInitial span cursor) result }
+    {
+        if let Some(refusal) = self.horizon_refusal(cursor) {
+            return Reply::Refused(refusal);
+        }
+        // what the feed tells first is read at its cursor
+        if cursor > self.closed {
+            return Reply::Refused(Refusal::NotClosed {
+                closed: self.closed,
+            });
+        }
+        self.opened()
+    }
+
+    pub(crate) fn answer_open_every(&self, cursor: u64, gap: u64) -> Reply
+        ensures { (seat : ℕ) (span : Span) → AnswersCounted self.now seat (OpenEvery span cursor gap) result }
+    {
+        if cursor > MAX {
+            return Reply::Refused(Refusal::TsRange);
+        }
+        if gap == 0 || gap > MAX {
+            return Reply::Refused(Refusal::GapRange);
+        }
+        if cursor < self.horizon {
+            return Reply::Refused(Refusal::BelowHorizon {
+                horizon: self.horizon,
+            });
+        }
+        self.opened()
+    }
+
+    /// The reply to an opening that isn't refused.
+    fn opened(&self) -> Reply
+        ensures { AfterCounted self.now (λ p. result ≡ Opened (suc (feeds_opened p))) }
+    {
+        // no more were opened than there were commands, so a number is left
+        Reply::Opened {
+            feed: self.feeds.opened().saturating_add(1),
+        }
+    }
+
+    pub(crate) fn record_open(
+        &mut self,
+        seat: u8,
+        kind: Kind,
+        span: &KeySpan,
+        cursor: u64,
+        reply: &Reply,
+    ) -> Result<(), AllocError>
+        ensures ok { OnOk result (Records self.old seat (open_cmd kind span.now cursor) reply.now self.new) }
+        ensures err { OnErr result (self.new ≡ self.old) }
+        ensures memory { OnErr result (is_accepted reply.now ≡ true) }
+    {
+        match reply {
+            Reply::Opened { feed: _ } => {
+                if self.feeds.opened() == u64::MAX {
+                    return Err(AllocError);
+                }
+                let _feed = self.feeds.open(seat, kind, span, cursor)?;
+                Ok(())
+            }
+            _ => Ok(()),
+        }
+    }
+
+    pub(crate) fn answer_poll(&self, seat: u8, feed: u64, max: u64) -> Result<Reply, AllocError>
+        ensures answer { IfOk result (λ reply. Answers self.now seat (Poll feed max) reply) }
+        ensures memory { OnErr result (Accepts self.now seat (Poll feed max)) }
+    {
+        if let Some(refusal) = self.feeds.poll_refusal(feed, seat) {
+            return Ok(Reply::Refused(refusal));
+        }
+        let messages = self.next_messages(feed, max)?;
+        Ok(Reply::Messages(messages))
+    }
+
+    /// The next messages of a feed, at most `max`.
+    fn next_messages(&self, feed: u64, max: u64) -> Result<Messages, AllocError>
+        requires { IsOpened self.now.feeds feed }
+        ensures { IfOk result (λ messages. AreNext self.now feed max messages) }
+    {
+        match Ts::new(self.closed) {
+            // nothing is closed, so nothing can be told
+            None => Ok(Messages::from_vec(Vec::new(self.alloc))),
+            Some(closed) => {
+                let record = self.feeds.feed(feed);
+                let rows = self.list(record, closed)?;
+                self.feeds
+                    .next_messages(self.alloc, feed, max, closed.get(), rows.as_slice())
+            }
+        }
+    }
+
+    /// The feed was told the messages of the reply.
+    pub(crate) fn record_poll(
+        &mut self,
+        seat: u8,
+        feed: u64,
+        reply: &Reply,
+    ) -> Result<(), AllocError>
+        ensures ok { OnOk result ((max : ℕ) → Records self.old seat (Poll feed max) reply.now self.new) }
+        ensures err { OnErr result (self.new ≡ self.old) }
+        ensures memory { OnErr result (is_accepted reply.now ≡ true) }
+    {
+        match reply {
+            Reply::Messages(messages) => {
+                // no poll that is refused has such a reply
+                if self.feeds.poll_refusal(feed, seat).is_some() {
+                    return Ok(());
+                }
+                self.feeds.tell(feed, messages)
+            }
+            _ => Ok(()),
+        }
+    }
+
+    pub(crate) fn answer_cancel(&self, feed: u64) -> Reply
+        ensures { (seat : ℕ) → Answers self.now seat (Cancel feed) result }
+    {
+        match self.feeds.cancel_refusal(feed) {
+            Some(refusal) => Reply::Refused(refusal),
+            None => Reply::Cancelled,
+        }
+    }
+
+    pub(crate) fn record_cancel(&mut self, feed: u64, reply: &Reply)
+        ensures { (seat : ℕ) → Records self.old seat (Cancel feed) reply.now self.new }
+    {
+        match reply {
+            Reply::Cancelled => {
+                if self.feeds.cancel_refusal(feed).is_none() {
+                    self.feeds.cancel(feed);
+                }
+            }
+            _ => {}
+        }
+    }
+}

@@ -1,0 +1,75 @@
+//! Protections, which hold the horizon back.
+ghost use Rattle.std.specs.Prelude.{◌≡◌, OnErr, OnOk, true, ℕ};
+ghost use Rattle.spans.specs.declared.calls.commands.Cmd.TheVariants.{Protect, Release};
+ghost use Rattle.spans.specs.Answer.{first_refusal, horizon_tests};
+ghost use Rattle.spans.specs.Legal.{is_accepted};
+ghost use Rattle.plain_database.specs.Answering.{AfterEach, Answers, AnswersCounted, Records};
+
+use crate::database::Database;
+use spans::calls::{Refusal, Reply};
+use std::alloc::AllocError;
+use timestamps::ts::MAX;
+
+impl Database {
+    pub(crate) fn answer_protect(&self, t: u64) -> Reply
+        ensures { (seat : ℕ) → AnswersCounted self.now seat (Protect t) result }
+    {
+        if let Some(refusal) = self.horizon_refusal(t) {
+            return Reply::Refused(refusal);
+        }
+        // no more were made than there were commands, so a number is left
+        Reply::Protected {
+            id: self.protections.made().saturating_add(1),
+        }
+    }
+
+    pub(crate) fn record_protect(&mut self, t: u64, reply: &Reply) -> Result<(), AllocError>
+        ensures ok { OnOk result ((seat : ℕ) → Records self.old seat (Protect t) reply.now self.new) }
+        ensures err { OnErr result (self.new ≡ self.old) }
+        ensures memory { OnErr result (is_accepted reply.now ≡ true) }
+    {
+        match reply {
+            Reply::Protected { id: _ } => {
+                if self.protections.made() == u64::MAX {
+                    return Err(AllocError);
+                }
+                let _id = self.protections.protect(t)?;
+                Ok(())
+            }
+            _ => Ok(()),
+        }
+    }
+
+    pub(crate) fn answer_release(&self, id: u64) -> Reply
+        ensures { (seat : ℕ) → Answers self.now seat (Release id) result }
+    {
+        if !self.protections.is_standing(id) {
+            return Reply::Refused(Refusal::NoProtection);
+        }
+        Reply::Released
+    }
+
+    pub(crate) fn record_release(&mut self, id: u64, reply: &Reply)
+        ensures { (seat : ℕ) → Records self.old seat (Release id) reply.now self.new }
+    {
+        match reply {
+            Reply::Released => self.protections.release(id),
+            _ => {}
+        }
+    }
+
+    /// The first of the tests of what looks back to a timestamp that applies.
+    pub(crate) fn horizon_refusal(&self, t: u64) -> Option<Refusal>
+        ensures { AfterEach self.now (λ p. result ≡ first_refusal (horizon_tests p t)) }
+    {
+        if t > MAX {
+            return Some(Refusal::TsRange);
+        }
+        if t < self.horizon {
+            return Some(Refusal::BelowHorizon {
+                horizon: self.horizon,
+            });
+        }
+        None
+    }
+}

@@ -1,0 +1,67 @@
+//! Reads at a closed timestamp, of a key and of a span. They change nothing, so there is nothing to record.
+ghost use Rattle.std.specs.Prelude.{◌≡◌, IfOk, OnErr, ℕ};
+ghost use Rattle.spans.specs.declared.calls.commands.Cmd.TheVariants.{ReadAt, ScanAt};
+ghost use Rattle.spans.specs.Answer.{first_refusal, snapshot_tests};
+ghost use Rattle.plain_database.specs.Answering.{Accepts, AfterEach, Answers};
+ghost use Rattle.plain_database.specs.Replies.{rows_committed};
+
+use crate::database::Database;
+use spans::calls::{Refusal, Reply, Rows};
+use spans::span::Span;
+use std::alloc::AllocError;
+use timestamps::key::Key;
+use timestamps::row::copy_after;
+
+impl Database {
+    pub(crate) fn answer_read_at(&self, t: u64, key: &Key) -> Result<Reply, AllocError>
+        ensures answer { IfOk result (λ reply. (seat : ℕ) → Answers self.now seat (ReadAt t key.now) reply) }
+        ensures memory { OnErr result ((seat : ℕ) → Accepts self.now seat (ReadAt t key.now)) }
+    {
+        if let Some(refusal) = self.snapshot_refusal(t) {
+            return Ok(Reply::Refused(refusal));
+        }
+        match self.chains.newest(key, t) {
+            None => Ok(Reply::Found(None)),
+            Some(version) => {
+                let after = copy_after(&version.after)?;
+                Ok(Reply::Found(after))
+            }
+        }
+    }
+
+    pub(crate) fn answer_scan_at(&self, t: u64, span: &Span) -> Result<Reply, AllocError>
+        ensures answer { IfOk result (λ reply. (seat : ℕ) → Answers self.now seat (ScanAt t span.now) reply) }
+        ensures memory { OnErr result ((seat : ℕ) → Accepts self.now seat (ScanAt t span.now)) }
+    {
+        if let Some(refusal) = self.snapshot_refusal(t) {
+            return Ok(Reply::Refused(refusal));
+        }
+        let rows = self.committed_rows(span, t)?;
+        Ok(Reply::Rows(rows))
+    }
+
+    /// The first of the tests of a read at a closed timestamp that applies.
+    pub(crate) fn snapshot_refusal(&self, t: u64) -> Option<Refusal>
+        ensures { AfterEach self.now (λ p. result ≡ first_refusal (snapshot_tests p t)) }
+    {
+        if t > self.closed {
+            return Some(Refusal::NotClosed {
+                closed: self.closed,
+            });
+        }
+        if t < self.horizon {
+            return Some(Refusal::BelowHorizon {
+                horizon: self.horizon,
+            });
+        }
+        None
+    }
+
+    /// The rows of a span that were committed at `t`.
+    pub(crate) fn committed_rows(&self, span: &Span, t: u64) -> Result<Rows, AllocError>
+        ensures { IfOk result (λ rows. AfterEach self.now (λ p. rows ≡ rows_committed p span.now t)) }
+    {
+        self.chains
+            .committed_rows(self.alloc, &self.transactions, span, t)
+    }
+}

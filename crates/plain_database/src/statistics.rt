@@ -1,0 +1,48 @@
+//! Statistics: how many transactions are undecided, and how many versions there are and are dead.
+ghost use Rattle.std.specs.Prelude.{◌-◌, ◌^◌, ◌∷◌, ◌≡◌, length, min, ℕ};
+ghost use Rattle.spans.specs.declared.calls.commands.Cmd.TheVariants.{Stats};
+ghost use Rattle.spans.specs.Collection.{dead_of, versions_of};
+ghost use Rattle.spans.specs.Effects.{Collects};
+ghost use Rattle.spans.specs.Transactions.{undecided_timestamps};
+ghost use Rattle.plain_database.specs.Answering.{AfterEach, AnswersCounted};
+
+use crate::database::Database;
+use spans::calls::Reply;
+
+impl Database {
+    /// The versions are counted without the dead ones.
+    pub(crate) fn answer_stats(&self) -> Reply
+        ensures { (seat : ℕ) → AnswersCounted self.now seat Stats result }
+    {
+        let dead = self.dead_count(self.horizon);
+        Reply::Stats {
+            versions: self.version_count().saturating_sub(dead),
+            undecided: self.undecided_count(),
+            feeds: self.feeds.live_count(),
+            closed: self.closed,
+            horizon: self.horizon,
+        }
+    }
+
+    /// How many transactions are undecided.
+    fn undecided_count(&self) -> u64
+        ensures { AfterEach self.now (λ p. result ≡ length (undecided_timestamps p)) }
+    {
+        self.transactions.undecided_count()
+    }
+
+    /// How many versions there are, with the dead ones; at most the greatest `u64`.
+    fn version_count(&self) -> u64
+        ensures { AfterEach self.now (λ p. result ≡ min (length (versions_of p)) (2 ^ 64 - 1)) }
+    {
+        self.chains.version_count()
+    }
+
+    /// How many versions are dead at a horizon; at most the greatest `u64`.
+    pub(crate) fn dead_count(&self, horizon: u64) -> u64
+        ensures { AfterEach self.now (λ p.
+            result ≡ min (length (dead_of (Collects horizon ∷ p))) (2 ^ 64 - 1)) }
+    {
+        self.chains.dead_count(&self.transactions, horizon)
+    }
+}

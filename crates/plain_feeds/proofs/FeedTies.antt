@@ -1,0 +1,120 @@
+-- The tie of a book of feeds is kept: by each call, and by every effect of no feed.
+use Rattle.std.proofs.Common.{◌≡◌, ◌≤◌, ℕ, zero, suc, ◌+◌, ◌<◌, ◌==◌, true, List, [], ◌∷◌, ◌++◌, map, length, Option, Some, None, refl, sym, ◌∙◌, ap, arith}
+use Rattle.std.specs.Prelude.{slice_get, option_map, count_by}
+use Rattle.std.proofs.lemmas.List.{length_push}
+use Rattle.std.proofs.lemmas.Bool.{eqb-true}
+use Rattle.spans.specs.declared.calls.messages.Message.{Message}
+use Rattle.spans.specs.Effects.{Effect, Opens, Polls, Cancels}
+use Rattle.spans.specs.Transactions.{closed_of}
+use Rattle.spans.specs.Feeds.{feeds_opened, Feed, feed_of, told_to, list_of, next_messages}
+use Rattle.spans.specs.FeedRight.{FeedIsRight}
+use Rattle.spans.specs.Collection.{floor_of, live_feeds}
+use Rattle.spans.proofs.Steps.{by_test}
+use Rattle.plain_feeds.specs.declared.record.FeedRecord.{FeedRecord}
+use Rattle.plain_feeds.specs.Records.{telling, cancelled, changed_at, record_at, feed_part, told_in, is_live, is_cancelled_in, floors_in, next_in}
+use Rattle.plain_feeds.specs.FeedTie.{FeedsTied, IsOfNoFeed}
+use Rattle.plain_feeds.proofs.RecordLists.{record_push, record_past, live_push, record_changed, length_changed, live_told, live_cancelled, live_count, floors_are}
+use Rattle.plain_feeds.proofs.Telling.{next_is}
+
+-- an effect of no feed leaves the tie
+pub feeds_kept : (book : List FeedRecord) (p : List Effect) (d : Effect) → IsOfNoFeed d → FeedsTied book p → FeedsTied book (d ∷ p)
+feeds_kept book p (Opens f seat kind span cursor) other tied = absurd other
+feeds_kept book p (Polls f max ms) other tied = absurd other
+feeds_kept book p (Cancels f) other tied = absurd other
+feeds_kept book p (_) other tied = record { opened = tied.opened; feeds = tied.feeds; told = tied.told; cancelled = tied.cancelled; live = tied.live }
+
+-- a feed was opened
+pub feeds_open : (book : List FeedRecord) (p : List Effect) (x : FeedRecord) (f : ℕ) → f ≡ suc (length book) → x.told ≡ [] → is_live x ≡ true → FeedsTied book p
+    → FeedsTied (book ++ x ∷ []) (Opens f x.seat x.kind x.span x.cursor ∷ p)
+feeds_open book p x f at told live tied = rw at (record {
+  opened = ap suc tied.opened ∙ (let e = length_push book x in sym (e ∙ (omega arith)));
+  feeds = λ g. rw (record_push book x g) (by_test (suc (length book) == g)
+      (λ same. rw same refl)
+      (λ other. rw other (tied.feeds g)));
+  told = λ g. rw (record_push book x g) (by_test (suc (length book) == g)
+      (λ same. rw (same, told) (tied.told g ∙ ap told_in (record_past book g (eqb-true _ _ same))))
+      (λ other. rw other (tied.told g)));
+  cancelled = λ g. rw (record_push book x g) (by_test (suc (length book) == g)
+      (λ same. rw (same, live) (tied.cancelled g ∙ ap is_cancelled_in (record_past book g (eqb-true _ _ same))))
+      (λ other. rw other (tied.cancelled g)));
+  live = rw (live_push 1 book x, live) (let e : 1 + length book ≡ suc (length book) = omega arith in rw (e, tied.live) refl);
+})
+
+opened_is : (book : List FeedRecord) (i f : ℕ) → suc i ≡ f → i < length book → (x : FeedRecord) × (record_at book f ≡ Some x)
+opened_is [] i f at low = absurd (omega arith)
+opened_is (x ∷ xs) i zero at low = absurd (omega arith)
+opened_is (x ∷ xs) zero (suc f) at low = let e : f ≡ 0 = omega arith in (x, rw e refl)
+opened_is (x ∷ xs) (suc i) (suc zero) at low = absurd (omega arith)
+opened_is (x ∷ xs) (suc i) (suc (suc f)) at low = opened_is xs i (suc f) (omega arith) (omega arith)
+
+-- a feed was cancelled
+pub feeds_cancel : (book : List FeedRecord) (p : List Effect) (i f : ℕ) → suc i ≡ f → i < length book → FeedsTied book p → FeedsTied (changed_at cancelled book i) (Cancels f ∷ p)
+feeds_cancel book p i f at low tied = rw (← at) (record {
+  opened = tied.opened ∙ sym (length_changed cancelled book i);
+  feeds = λ g. rw (record_changed cancelled book i g) (by_test (suc i == g)
+      (λ same. rw same (tied.feeds g ∙ same_feed (record_at book g)))
+      (λ other. rw other (tied.feeds g)));
+  told = λ g. rw (record_changed cancelled book i g) (by_test (suc i == g)
+      (λ same. rw same (tied.told g ∙ same_told (record_at book g)))
+      (λ other. rw other (tied.told g)));
+  cancelled = λ g. rw (record_changed cancelled book i g) (by_test (suc i == g)
+      (λ same. let is = opened_is book i g (eqb-true _ _ same) low in rw (same, is.1) refl)
+      (λ other. rw other (tied.cancelled g)));
+  live = rw tied.live (sym (live_cancelled 1 i (suc i) book (omega arith)));
+})
+  where
+    same_feed : (o : Option FeedRecord) → option_map feed_part o ≡ option_map feed_part (option_map cancelled o)
+    same_feed None = refl
+    same_feed (Some x) = refl
+
+    same_told : (o : Option FeedRecord) → told_in o ≡ told_in (option_map cancelled o)
+    same_told None = refl
+    same_told (Some x) = refl
+
+-- a feed was told messages
+pub feeds_tell : (book : List FeedRecord) (p : List Effect) (i f max : ℕ) (ms : List Message) → suc i ≡ f → i < length book → FeedsTied book p → FeedsTied (changed_at (telling ms) book i) (Polls f max ms ∷ p)
+feeds_tell book p i f max ms at low tied = rw (← at) (record {
+  opened = tied.opened ∙ sym (length_changed (telling ms) book i);
+  feeds = λ g. rw (record_changed (telling ms) book i g) (by_test (suc i == g)
+      (λ same. rw same (tied.feeds g ∙ same_feed (record_at book g)))
+      (λ other. rw other (tied.feeds g)));
+  told = λ g. rw (record_changed (telling ms) book i g) (by_test (suc i == g)
+      (λ same. let is = opened_is book i g (eqb-true _ _ same) low in rw (same, tied.told g, is.1) refl)
+      (λ other. rw other (tied.told g)));
+  cancelled = λ g. rw (record_changed (telling ms) book i g) (by_test (suc i == g)
+      (λ same. rw same (tied.cancelled g ∙ same_cancelled (record_at book g)))
+      (λ other. rw other (tied.cancelled g)));
+  live = rw tied.live (sym (live_told ms 1 book i));
+})
+  where
+    same_feed : (o : Option FeedRecord) → option_map feed_part o ≡ option_map feed_part (option_map (telling ms) o)
+    same_feed None = refl
+    same_feed (Some x) = refl
+
+    same_cancelled : (o : Option FeedRecord) → is_cancelled_in o ≡ is_cancelled_in (option_map (telling ms) o)
+    same_cancelled None = refl
+    same_cancelled (Some x) = refl
+
+-- how many feeds live
+pub feeds_count : (book : List FeedRecord) (p : List Effect) → FeedsTied book p → count_by is_live book ≡ length (live_feeds p)
+feeds_count book p tied = sym (ap length tied.live ∙ live_count 1 book)
+
+-- the floors of the feeds that live
+pub feeds_floors : (book : List FeedRecord) (p : List Effect) → FeedsTied book p → map (floor_of p) (live_feeds p) ≡ floors_in book
+feeds_floors book p tied = ap (map (floor_of p)) tied.live ∙ floors_are p 1 book (λ i x is. told_here i x is)
+  where
+    told_here : (i : ℕ) (x : FeedRecord) → slice_get book i ≡ Some x → told_to p (1 + i) ≡ x.told
+    told_here i x is = let at : 1 + i ≡ suc i = omega arith in ap (told_to p) at ∙ tied.told (suc i) ∙ ap told_in is
+
+-- what a feed is told next
+pub feeds_next : (book : List FeedRecord) (p : List Effect) (f : ℕ) (feed : Feed) (x : FeedRecord) (max : ℕ) → FeedsTied book p → feed_of p f ≡ Some (feed_part x) → record_at book f ≡ Some x → feed_of p f ≡ Some feed → FeedIsRight p f feed
+    → next_in x max (closed_of p) (list_of p feed (closed_of p)) ≡ next_messages p f feed max
+feeds_next book p f feed x max tied has at is right =
+    let e : feed ≡ feed_part x = (let both : Some feed ≡ Some (feed_part x) = sym is ∙ has in cc) in
+    next_is p f feed x max (tied.told f ∙ ap told_in at) e right
+
+-- each feed was opened by an effect of its own
+pub opened_at_most : (p : List Effect) → feeds_opened p ≤ length p
+opened_at_most [] = omega arith
+opened_at_most (Opens f seat kind span cursor ∷ p) = let before = opened_at_most p in omega arith
+opened_at_most (_ ∷ p) = let before = opened_at_most p in omega arith

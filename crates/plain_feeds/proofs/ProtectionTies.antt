@@ -1,0 +1,99 @@
+-- The tie of the protections is kept: by each call, and by every effect of no protection.
+use Rattle.std.proofs.Common.{◌≡◌, ◌≤◌, ◌<◌, ◌+◌, ℕ, suc, length, drop, get_or, ◌==◌, Bool, true, false, not, ◌||◌, List, [], ◌∷◌, ◌++◌, map, refl, sym, ◌∙◌, ap, arith}
+use Rattle.std.specs.Prelude.{filter, min}
+use Rattle.std.specs.List.{list_any}
+use Rattle.std.proofs.lemmas.List.{append-nil, map-append, at_drop_more}
+use Rattle.std.proofs.lemmas.List.Elements.{filter-append}
+use Rattle.std.proofs.lemmas.List.Folds.{list_any-append}
+use Rattle.spans.specs.Effects.{Effect, Protects, Releases}
+use Rattle.spans.specs.Transactions.{least_of}
+use Rattle.spans.specs.Collection as collection
+use Rattle.spans.specs.Collection.{protections_made, protections_of, is_protected}
+use Rattle.spans.proofs.Steps.{by_test}
+use Rattle.plain_feeds.specs.declared.protections.Protection.{Protection}
+use Rattle.plain_feeds.specs.ProtectionTie.{Standing, protection, released, newest_first, ProtectionsTied, IsOfNoProtection}
+
+-- an effect of no protection leaves the tie
+pub protections_kept : (kept : Standing) (p : List Effect) (d : Effect) → IsOfNoProtection d → ProtectionsTied kept p → ProtectionsTied kept (d ∷ p)
+protections_kept kept p (Protects id t) other tied = absurd other
+protections_kept kept p (Releases id) other tied = absurd other
+protections_kept kept p (_) other tied = record { made = tied.made; standing = tied.standing }
+
+newest_push : (xs : List Protection) (x : Protection) → newest_first (xs ++ x ∷ []) ≡ record { id = x.id; at = x.at } ∷ newest_first xs
+newest_push [] x = refl
+newest_push (y ∷ ys) x = ap (λ l. l ++ record { id = y.id; at = y.at } ∷ []) (newest_push ys x)
+
+-- a protection was made
+pub protections_protect : (kept : Standing) (p : List Effect) (id t : ℕ) → id ≡ suc kept.made → ProtectionsTied kept p
+    → ProtectionsTied (record { made = id; standing = kept.standing ++ protection id t ∷ [] }) (Protects id t ∷ p)
+protections_protect kept p id t next tied = record {
+  made = ap suc tied.made ∙ sym next;
+  standing = ap (λ l. record { id = id; at = t } ∷ l) tied.standing ∙ sym (newest_push kept.standing (protection id t));
+}
+
+newest_released : (id : ℕ) (xs : List Protection) → filter (λ (x : collection.Protection). not (x.id == id)) (newest_first xs) ≡ newest_first (released id xs)
+newest_released id [] = refl
+newest_released id (x ∷ xs) =
+    filter-append (λ (y : collection.Protection). not (y.id == id)) (newest_first xs) (record { id = x.id; at = x.at } ∷ [])
+    ∙ by_test (x.id == id)
+    (λ same. rw (same, newest_released id xs) (append-nil _))
+    (λ other. rw (other, newest_released id xs) refl)
+
+-- a protection was released
+pub protections_release : (kept : Standing) (p : List Effect) (id : ℕ) → ProtectionsTied kept p → ProtectionsTied (record kept { standing = released id kept.standing }) (Releases id ∷ p)
+protections_release kept p id tied = record {
+  made = tied.made;
+  standing = ap (filter (λ (x : collection.Protection). not (x.id == id))) tied.standing ∙ newest_released id kept.standing;
+}
+
+any_newest : (id : ℕ) (xs : List Protection) → list_any (λ (x : collection.Protection). x.id == id) (newest_first xs) ≡ list_any (λ (x : Protection). x.id == id) xs
+any_newest id [] = refl
+any_newest id (x ∷ xs) =
+    list_any-append (λ (y : collection.Protection). y.id == id) (newest_first xs) (record { id = x.id; at = x.at } ∷ [])
+    ∙ by_test (x.id == id)
+    (λ same. rw (same, any_newest id xs) (or_true (list_any (λ (y : Protection). y.id == id) xs)))
+    (λ other. rw (other, any_newest id xs) (or_false (list_any (λ (y : Protection). y.id == id) xs)))
+  where
+    or_true : (b : Bool) → (b || true) ≡ true
+    or_true true = refl
+    or_true false = refl
+
+    or_false : (b : Bool) → (b || false) ≡ b
+    or_false true = refl
+    or_false false = refl
+
+-- whether a protection of this number stands
+pub protections_any : (kept : Standing) (p : List Effect) (id : ℕ) → ProtectionsTied kept p → list_any (λ (x : Protection). x.id == id) kept.standing ≡ is_protected p id
+protections_any kept p id tied = sym (ap (list_any (λ (x : collection.Protection). x.id == id)) tied.standing ∙ any_newest id kept.standing)
+
+-- the protected timestamps
+pub protections_at : (kept : Standing) (p : List Effect) → ProtectionsTied kept p → map (λ (x : collection.Protection). x.at) (protections_of p) ≡ map (λ (x : collection.Protection). x.at) (newest_first kept.standing)
+protections_at kept p tied = ap (map (λ (x : collection.Protection). x.at)) tied.standing
+
+least_append : (n : ℕ) (ms ns : List ℕ) → least_of n (ms ++ ns) ≡ least_of (least_of n ns) ms
+least_append n [] ns = refl
+least_append n (m ∷ ms) ns = ap (min m) (least_append n ms ns)
+
+-- the next protection counts before those after it
+pub least_more : (n : ℕ) (x : Protection) (xs : List Protection)
+    → least_of n (map (λ (y : collection.Protection). y.at) (newest_first (x ∷ xs))) ≡ least_of (min n x.at) (map (λ (y : collection.Protection). y.at) (newest_first xs))
+least_more n x xs =
+    ap (least_of n) (map-append (λ (y : collection.Protection). y.at) (newest_first xs) (record { id = x.id; at = x.at } ∷ []))
+    ∙ least_append n (map (λ (y : collection.Protection). y.at) (newest_first xs)) (x.at ∷ [])
+    ∙ (let e : min x.at n ≡ min n x.at = omega arith in ap (λ m. least_of m (map (λ (y : collection.Protection). y.at) (newest_first xs))) e)
+
+-- one step of the walk that takes the least protected timestamp
+pub least_step : (n least next i : ℕ) (xs : List Protection) (d : Protection) → i < length xs → next ≡ min least (get_or xs i d).at
+    → least_of least (map (λ (y : collection.Protection). y.at) (newest_first (drop i xs))) ≡ least_of n (map (λ (y : collection.Protection). y.at) (newest_first xs))
+    → least_of next (map (λ (y : collection.Protection). y.at) (newest_first (drop (i + 1) xs))) ≡ least_of n (map (λ (y : collection.Protection). y.at) (newest_first xs))
+least_step n least next i xs d low now before =
+    ap (λ m. least_of m (map (λ (y : collection.Protection). y.at) (newest_first (drop (i + 1) xs)))) now
+    ∙ sym (least_more least (get_or xs i d) (drop (i + 1) xs))
+    ∙ sym (at_drop_more (λ l. least_of least (map (λ (y : collection.Protection). y.at) (newest_first l))) xs i d low)
+    ∙ before
+
+-- each protection was made by an effect of its own
+pub made_at_most : (p : List Effect) → protections_made p ≤ length p
+made_at_most [] = omega arith
+made_at_most (Protects id t ∷ p) = let before = made_at_most p in omega arith
+made_at_most (_ ∷ p) = let before = made_at_most p in omega arith

@@ -1,0 +1,164 @@
+-- Lists of feed records: one more at the end, and one of them changed.
+use Rattle.std.proofs.Common.{◌≡◌, ◌≢◌, ℕ, zero, suc, ◌+◌, drop, ◌<◌, ◌==◌, true, false, not, cond, List, [], ◌∷◌, ◌++◌, map, length, get_or, set, Some, None, refl, sym, ◌∙◌, ap, subst, arith, append_assoc, add-zero}
+use Rattle.std.specs.Prelude.{filter, min, count_by, slice_get, option_map}
+use Rattle.std.proofs.lemmas.List.{append-nil, map-append, length-append, at_drop_more}
+use Rattle.std.proofs.lemmas.List.Elements.{filter-append}
+use Rattle.std.proofs.lemmas.List.Recursion.{is_count_by}
+use Rattle.std.proofs.lemmas.Option.{slice_get_past}
+use Rattle.std.proofs.lemmas.Bool.{eq-eqb, eqb-true, ne_eqb, eqb-false}
+use Rattle.spans.specs.declared.calls.messages.Message.{Message}
+use Rattle.spans.specs.Effects.{Effect}
+use Rattle.spans.specs.Transactions.{least_of}
+use Rattle.spans.specs.Feeds.{told_to}
+use Rattle.spans.specs.Collection.{LiveFeed, floor_of}
+use Rattle.spans.proofs.Steps.{by_test}
+use Rattle.plain_feeds.specs.declared.record.FeedRecord.{FeedRecord}
+use Rattle.plain_feeds.specs.Records.{telling, cancelled, changed_at, record_at, is_live, live_one, live_in, floor_in, floor_one, floors_in}
+
+-- one more record
+
+get_push_same : (xs : List FeedRecord) (x : FeedRecord) (i : ℕ) → i ≡ length xs → slice_get (xs ++ x ∷ []) i ≡ Some x
+get_push_same [] x i at = rw at refl
+get_push_same (y ∷ ys) x zero at = absurd (omega arith)
+get_push_same (y ∷ ys) x (suc i) at = get_push_same ys x i (omega arith)
+
+get_push_other : (xs : List FeedRecord) (x : FeedRecord) (i : ℕ) → i ≢ length xs → slice_get (xs ++ x ∷ []) i ≡ slice_get xs i
+get_push_other [] x zero other = absurd (other refl)
+get_push_other [] x (suc i) other = refl
+get_push_other (y ∷ ys) x zero other = refl
+get_push_other (y ∷ ys) x (suc i) other = get_push_other ys x i (λ e. other (ap suc e))
+
+-- the new record is that of the next number
+pub record_push : (xs : List FeedRecord) (x : FeedRecord) (f : ℕ) → record_at (xs ++ x ∷ []) f ≡ cond (suc (length xs) == f) (Some x) (record_at xs f)
+record_push xs x zero = rw (ne_eqb (suc (length xs)) 0 (λ e. absurd (omega arith))) refl
+record_push xs x (suc i) = by_test (suc (length xs) == suc i)
+    (λ same. let e : suc (length xs) ≡ suc i = eqb-true _ _ same in rw same (get_push_same xs x i (omega arith)))
+    (λ other. rw other (get_push_other xs x i (λ e. eqb-false (suc (length xs)) (suc i) other (ap suc (sym e)))))
+
+pub record_past : (xs : List FeedRecord) (f : ℕ) → suc (length xs) ≡ f → record_at xs f ≡ None
+record_past xs zero at = absurd (omega arith)
+record_past xs (suc i) at = slice_get_past xs i (omega arith)
+
+pub live_push : (n : ℕ) (xs : List FeedRecord) (x : FeedRecord) → live_in n (xs ++ x ∷ []) ≡ live_one (n + length xs) x ++ live_in n xs
+live_push n [] x = rw (append-nil (live_one (n + 0) x)) (ap (λ m. live_one m x) (sym (add-zero n)))
+live_push n (y ∷ ys) x =
+    ap (λ l. l ++ live_one n y) (live_push (suc n) ys x)
+    ∙ append_assoc (live_one (suc n + length ys) x) (live_in (suc n) ys) (live_one n y)
+    ∙ (let at : suc n + length ys ≡ n + suc (length ys) = omega arith in ap (λ m. live_one m x ++ (live_in (suc n) ys ++ live_one n y)) at)
+
+-- one record changed
+
+get_changed_same : (g : FeedRecord → FeedRecord) (xs : List FeedRecord) (i : ℕ) → slice_get (changed_at g xs i) i ≡ option_map g (slice_get xs i)
+get_changed_same g [] i = refl
+get_changed_same g (x ∷ xs) zero = refl
+get_changed_same g (x ∷ xs) (suc i) = get_changed_same g xs i
+
+get_changed_other : (g : FeedRecord → FeedRecord) (xs : List FeedRecord) (i j : ℕ) → i ≢ j → slice_get (changed_at g xs i) j ≡ slice_get xs j
+get_changed_other g [] i j other = refl
+get_changed_other g (x ∷ xs) zero zero other = absurd (other refl)
+get_changed_other g (x ∷ xs) zero (suc j) other = refl
+get_changed_other g (x ∷ xs) (suc i) zero other = refl
+get_changed_other g (x ∷ xs) (suc i) (suc j) other = get_changed_other g xs i j (λ e. other (ap suc e))
+
+pub record_changed : (g : FeedRecord → FeedRecord) (xs : List FeedRecord) (i f : ℕ) → record_at (changed_at g xs i) f ≡ cond (suc i == f) (option_map g (record_at xs f)) (record_at xs f)
+record_changed g xs i zero = rw (ne_eqb (suc i) 0 (λ e. absurd (omega arith))) refl
+record_changed g xs i (suc j) = by_test (suc i == suc j)
+    (λ same. let e : suc i ≡ suc j = eqb-true _ _ same in let e' : i ≡ j = omega arith in rw same (subst (λ n. slice_get (changed_at g xs n) j ≡ option_map g (slice_get xs j)) (sym e') (get_changed_same g xs j)))
+    (λ other. rw other (get_changed_other g xs i j (λ e. eqb-false (suc i) (suc j) other (ap suc e))))
+
+pub length_changed : (g : FeedRecord → FeedRecord) (xs : List FeedRecord) (i : ℕ) → length (changed_at g xs i) ≡ length xs
+length_changed g [] i = refl
+length_changed g (x ∷ xs) zero = refl
+length_changed g (x ∷ xs) (suc i) = ap suc (length_changed g xs i)
+
+-- a write at a place is a change there
+pub set_is_changed : (g : FeedRecord → FeedRecord) (xs : List FeedRecord) (i : ℕ) (x : FeedRecord) → i < length xs → x ≡ get_or xs i x → set xs i (g x) ≡ changed_at g xs i
+set_is_changed g [] i x low is = absurd (omega arith)
+set_is_changed g (y ∷ ys) zero x low is = ap (λ z. g z ∷ ys) is
+set_is_changed g (y ∷ ys) (suc i) x low is = ap (λ l. y ∷ l) (set_is_changed g ys i x (omega arith) is)
+
+-- a feed that was told more lives as before
+pub live_told : (ms : List Message) (n : ℕ) (xs : List FeedRecord) (i : ℕ) → live_in n (changed_at (telling ms) xs i) ≡ live_in n xs
+live_told ms n [] i = refl
+live_told ms n (x ∷ xs) zero = refl
+live_told ms n (x ∷ xs) (suc i) = ap (λ l. l ++ live_one n x) (live_told ms (suc n) xs i)
+
+one_other : (n m : ℕ) (x : FeedRecord) → (n == m) ≡ false → filter (λ (y : LiveFeed). not (y.number == m)) (live_one n x) ≡ live_one n x
+one_other n m x other = by_test (is_live x) (λ is. rw (is, other) refl) (λ isnt. rw isnt refl)
+
+one_same : (n m : ℕ) (x : FeedRecord) → (n == m) ≡ true → filter (λ (y : LiveFeed). not (y.number == m)) (live_one n x) ≡ []
+one_same n m x same = by_test (is_live x) (λ is. rw (is, same) refl) (λ isnt. rw isnt refl)
+
+above_stay : (n m : ℕ) (xs : List FeedRecord) → m < n → filter (λ (y : LiveFeed). not (y.number == m)) (live_in n xs) ≡ live_in n xs
+above_stay n m [] low = refl
+above_stay n m (x ∷ xs) low =
+    filter-append (λ (y : LiveFeed). not (y.number == m)) (live_in (suc n) xs) (live_one n x)
+    ∙ ap (λ l. l ++ filter (λ (y : LiveFeed). not (y.number == m)) (live_one n x)) (above_stay (suc n) m xs (omega arith))
+    ∙ ap (λ l. live_in (suc n) xs ++ l) (one_other n m x (ne_eqb n m (λ e. absurd (omega arith))))
+
+-- a feed that was cancelled lives no more, and the others do
+pub live_cancelled : (n i m : ℕ) (xs : List FeedRecord) → n + i ≡ m → live_in n (changed_at cancelled xs i) ≡ filter (λ (y : LiveFeed). not (y.number == m)) (live_in n xs)
+live_cancelled n i m [] at = refl
+live_cancelled n zero m (x ∷ xs) at =
+    let low : m < suc n = omega arith in
+    sym (filter-append (λ (y : LiveFeed). not (y.number == m)) (live_in (suc n) xs) (live_one n x)
+    ∙ ap (λ l. l ++ filter (λ (y : LiveFeed). not (y.number == m)) (live_one n x)) (above_stay (suc n) m xs low)
+    ∙ ap (λ l. live_in (suc n) xs ++ l) (one_same n m x (eq-eqb n m (omega arith))))
+live_cancelled n (suc i) m (x ∷ xs) at =
+    ap (λ l. l ++ live_one n x) (live_cancelled (suc n) i m xs (omega arith))
+    ∙ sym (filter-append (λ (y : LiveFeed). not (y.number == m)) (live_in (suc n) xs) (live_one n x)
+    ∙ ap (λ l. filter (λ (y : LiveFeed). not (y.number == m)) (live_in (suc n) xs) ++ l) (one_other n m x (ne_eqb n m (λ e. absurd (omega arith)))))
+
+-- counts and floors
+
+-- how many of the records live
+abbrev live_number : List FeedRecord → ℕ
+live_number [] = 0
+live_number (x ∷ xs) = cond (is_live x) (1 + live_number xs) (live_number xs)
+
+live_numbered : (n : ℕ) (xs : List FeedRecord) → length (live_in n xs) ≡ live_number xs
+live_numbered n [] = refl
+live_numbered n (x ∷ xs) = length-append (live_in (suc n) xs) (live_one n x) ∙ by_test (is_live x)
+    (λ is. rw (is, live_numbered (suc n) xs) (omega arith))
+    (λ isnt. rw (isnt, live_numbered (suc n) xs) (omega arith))
+
+pub live_count : (n : ℕ) (xs : List FeedRecord) → length (live_in n xs) ≡ count_by is_live xs
+live_count n xs = live_numbered n xs ∙ is_count_by live_number is_live refl (λ x xs. refl) xs
+
+pub least_append : (n : ℕ) (ms ns : List ℕ) → least_of n (ms ++ ns) ≡ least_of (least_of n ns) ms
+least_append n [] ns = refl
+least_append n (m ∷ ms) ns = ap (min m) (least_append n ms ns)
+
+-- the next record's floor counts before those of the records after it
+pub least_more : (n : ℕ) (x : FeedRecord) (xs : List FeedRecord) → least_of n (floors_in (x ∷ xs)) ≡ least_of (least_of n (floor_one x)) (floors_in xs)
+least_more n x xs = least_append n (floors_in xs) (floor_one x)
+
+-- one step of the walk that takes the least floor
+pub floors_step : (n least next i : ℕ) (xs : List FeedRecord) (x : FeedRecord) → i < length xs → x ≡ get_or xs i x → next ≡ least_of least (floor_one x)
+    → least_of least (floors_in (drop i xs)) ≡ least_of n (floors_in xs) → least_of next (floors_in (drop (i + 1) xs)) ≡ least_of n (floors_in xs)
+floors_step n least next i xs x low is now before =
+    ap (λ m. least_of m (floors_in (drop (i + 1) xs))) now
+    ∙ sym (least_more least x (drop (i + 1) xs))
+    ∙ ap (λ y. least_of least (floors_in (y ∷ drop (i + 1) xs))) is
+    ∙ sym (at_drop_more (λ l. least_of least (floors_in l)) xs i x low)
+    ∙ before
+
+pub least_live : (n : ℕ) (x : FeedRecord) → is_live x ≡ true → min n (floor_in x) ≡ least_of n (floor_one x)
+least_live n x is = rw is (omega arith)
+
+pub least_cancelled : (n : ℕ) (x : FeedRecord) → is_live x ≡ false → n ≡ least_of n (floor_one x)
+least_cancelled n x isnt = rw isnt refl
+
+-- the floors of the records are those of the feeds that live
+pub floors_are : (p : List Effect) (n : ℕ) (xs : List FeedRecord) → ((i : ℕ) (x : FeedRecord) → slice_get xs i ≡ Some x → told_to p (n + i) ≡ x.told) → map (floor_of p) (live_in n xs) ≡ floors_in xs
+floors_are p n [] told = refl
+floors_are p n (x ∷ xs) told =
+    map-append (floor_of p) (live_in (suc n) xs) (live_one n x)
+    ∙ ap (λ l. l ++ map (floor_of p) (live_one n x)) (floors_are p (suc n) xs (λ i y is. let at : suc n + i ≡ n + suc i = omega arith in ap (told_to p) at ∙ told (suc i) y is))
+    ∙ ap (λ l. floors_in xs ++ l) one
+  where
+    here : told_to p n ≡ x.told
+    here = ap (told_to p) (sym (add-zero n)) ∙ told 0 x refl
+
+    one : map (floor_of p) (live_one n x) ≡ floor_one x
+    one = by_test (is_live x) (λ is. rw (is, here) refl) (λ isnt. rw isnt refl)

@@ -1,0 +1,14 @@
+-- The horizon that a collection reaches, as the feeds and the protections say it.
+use Rattle.std.specs.Prelude.{ℕ, List, ◌≡◌}
+use Rattle.spans.specs.Effects.{Effect}
+use Rattle.spans.specs.Transactions.{closed_of}
+use Rattle.spans.specs.Collection.{horizon_of, collection_horizon}
+use Rattle.plain_feeds.specs.declared.record.FeedRecord.{FeedRecord}
+use Rattle.plain_feeds.specs.FeedTie.{FeedsTied}
+use Rattle.plain_feeds.specs.ProtectionTie.{ProtectionsTied, Standing}
+
+-- a collection through to takes the horizon to n, where all that is given is tied to the same effects
+abbrev pub IsReached : List FeedRecord → Standing → ℕ → ℕ → ℕ → ℕ → Type 0
+IsReached book kept to closed horizon n =
+    (p : List Effect) → FeedsTied book p → ProtectionsTied kept p
+    → closed ≡ closed_of p → horizon ≡ horizon_of p → n ≡ collection_horizon p to

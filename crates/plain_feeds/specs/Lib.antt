@@ -1,0 +1,4 @@
+pub mod Records
+pub mod FeedTie
+pub mod ProtectionTie
+pub mod Horizon

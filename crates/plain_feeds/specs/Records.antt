@@ -1,0 +1,88 @@
+-- What a list of feed records says: feed n is the record at place n - 1.
+use Rattle.std.specs.Prelude.{ℕ, zero, suc, List, [], ◌∷◌, ◌++◌, map, take, drop, length, max, Bool, true, false, if◌then◌else◌, Option, Some, None, slice_get}
+use Rattle.timestamps.specs.declared.row.Row.{Row}
+use Rattle.spans.specs.declared.kind.Kind.{Kind}
+use Rattle.spans.specs.declared.span.Span.{Span}
+use Rattle.spans.specs.declared.calls.messages.Message.{Message}
+use Rattle.spans.specs.declared.calls.messages.Message.TheVariants as messages
+use Rattle.spans.specs.Feeds.{Feed, rows_in, last_resolved, start_at, is_due}
+use Rattle.spans.specs.Collection.{LiveFeed, floor_after}
+use Rattle.plain_feeds.specs.declared.record.FeedRecord.{FeedRecord}
+use Rattle.plain_feeds.specs.declared.record.FeedState.{FeedState}
+use Rattle.plain_feeds.specs.declared.record.FeedState.TheVariants.{Live, Cancelled}
+
+-- a feed that has just been opened
+abbrev pub new_record : ℕ → Kind → Span → ℕ → FeedRecord
+new_record seat kind span cursor = record { seat = seat; kind = kind; span = span; cursor = cursor; told = []; state = Live }
+
+-- a feed that was told more
+abbrev pub telling : List Message → FeedRecord → FeedRecord
+telling ms x = record x { told = x.told ++ ms }
+
+-- a feed that was cancelled
+abbrev pub cancelled : FeedRecord → FeedRecord
+cancelled x = record x { state = Cancelled }
+
+-- the records, with one of them changed
+abbrev pub changed_at : (FeedRecord → FeedRecord) → List FeedRecord → ℕ → List FeedRecord
+changed_at f [] i = []
+changed_at f (x ∷ xs) zero = f x ∷ xs
+changed_at f (x ∷ xs) (suc i) = x ∷ changed_at f xs i
+
+-- the record of a feed
+abbrev pub record_at : List FeedRecord → ℕ → Option FeedRecord
+record_at book zero = None
+record_at book (suc i) = slice_get book i
+
+-- whose the feed is, of which kind, what it watches, and from where on
+abbrev pub feed_part : FeedRecord → Feed
+feed_part x = record { seat = x.seat; kind = x.kind; span = x.span; cursor = x.cursor }
+
+abbrev pub told_in : Option FeedRecord → List Message
+told_in None = []
+told_in (Some x) = x.told
+
+abbrev pub is_live_state : FeedState → Bool
+is_live_state Live = true
+is_live_state Cancelled = false
+
+abbrev pub is_live : FeedRecord → Bool
+is_live x = is_live_state x.state
+
+-- cancelled, where there is such a feed
+abbrev pub is_cancelled_in : Option FeedRecord → Bool
+is_cancelled_in None = false
+is_cancelled_in (Some x) = if is_live x then false else true
+
+-- the feed with its number, if it lives
+abbrev pub live_one : ℕ → FeedRecord → List LiveFeed
+live_one n x = if is_live x then record { number = n; cursor = x.cursor } ∷ [] else []
+
+-- the feeds that live, the newest first, where the first record has the number n
+abbrev pub live_in : ℕ → List FeedRecord → List LiveFeed
+live_in n [] = []
+live_in n (x ∷ xs) = live_in (suc n) xs ++ live_one n x
+
+-- up to where all is told to the feed
+abbrev pub floor_in : FeedRecord → ℕ
+floor_in x = max x.cursor (floor_after x.cursor x.told)
+
+abbrev pub floor_one : FeedRecord → List ℕ
+floor_one x = if is_live x then floor_in x ∷ [] else []
+
+-- the floors of the feeds that live, the newest first
+abbrev pub floors_in : List FeedRecord → List ℕ
+floors_in [] = []
+floors_in (x ∷ xs) = floors_in xs ++ floor_one x
+
+-- the resolved message that is due
+abbrev pub due_in : FeedRecord → ℕ → List Message
+due_in x closed = if is_due x.kind (last_resolved (start_at x.kind x.cursor) x.told) closed then messages.Resolved closed ∷ [] else []
+
+abbrev pub due_at : Option ℕ → List Message
+due_at None = []
+due_at (Some t) = messages.Resolved t ∷ []
+
+-- the rows of the list without as many as were told, then what is due: the first n of these
+abbrev pub next_in : FeedRecord → ℕ → ℕ → List Row → List Message
+next_in x n closed list = take n (map messages.Row (drop (length (rows_in x.told)) list) ++ due_in x closed)

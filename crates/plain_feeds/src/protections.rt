@@ -1,0 +1,102 @@
+//! The protections that stand.
+ghost use Rattle.std.specs.Prelude.{◌≡◌, ◌==◌, ◌<◌, [], suc, IfOk, OnErr};
+ghost use Rattle.std.specs.List.{list_any};
+ghost use Rattle.spans.specs.Effects.{Protects, Releases};
+ghost use Rattle.spans.specs.Transactions.{least_of};
+ghost use Rattle.spans.specs.Collection.{protections_made, protections_of, is_protected};
+ghost use Rattle.plain_feeds.specs.declared.protections.Protection.{Protection};
+ghost use Rattle.plain_feeds.specs.ProtectionTie.{ProtectionsTied, Says, LeadsTo, newest_first, timestamps_of};
+
+use std::alloc::{AllocError, Global};
+use std::marker::Model;
+
+/// A protected timestamp: what a read there wants is kept from being collected.
+#[derive(Clone, Copy, Debug, PartialEq, Eq)]
+pub struct Protection {
+    pub id: u64,
+    pub at: u64,
+}
+
+/// The protections that stand, and how many were made.
+#[derive(Debug, Drop)]
+pub struct Protections {
+    made: u64,
+    standing: Vec<Protection>,
+}
+
+impl Model for Protections {
+    ghost use Rattle.plain_feeds.specs.ProtectionTie.{Standing};
+
+    ghost Value = { Standing };
+
+    ghost view = { λ p. record { made = p.made; standing = p.standing.items } };
+}
+
+impl Protections {
+    /// No protection.
+    pub fn new(alloc: Global) -> Protections
+        ensures { ProtectionsTied result [] }
+    {
+        Protections {
+            made: 0,
+            standing: Vec::new(alloc),
+        }
+    }
+
+    /// How many protections were made.
+    pub fn made(&self) -> u64
+        ensures { result ≡ self.now.made }
+    {
+        self.made
+    }
+
+    /// Protects a timestamp, and answers the protection's number.
+    pub fn protect(&mut self, t: u64) -> Result<u64, AllocError>
+        requires room { self.old.made < u64.MAX }
+        ensures number { IfOk result (λ id. Says self.old (λ p. id ≡ suc (protections_made p))) }
+        ensures protected { IfOk result (λ id. LeadsTo self.old (Protects id t) self.new) }
+        ensures err { OnErr result (self.new ≡ self.old) }
+    {
+        let id = self.made + 1;
+        self.standing.push(Protection { id, at: t })?;
+        self.made = id;
+        Ok(id)
+    }
+
+    /// Ends a protection. It takes no memory, and does nothing where none of this number stands.
+    pub fn release(&mut self, id: u64)
+        ensures { LeadsTo self.old (Releases id) self.new }
+    {
+        self.standing.retain(|protection| protection.id != id);
+    }
+
+    /// Whether a protection of this number stands.
+    pub fn is_standing(&self, id: u64) -> bool
+        ensures { Says self.now (λ p. result ≡ is_protected p id) }
+    {
+        has_id(self.standing.as_slice(), id)
+    }
+
+    /// The least of `n` and the protected timestamps.
+    pub fn least(&self, n: u64) -> u64
+        ensures { Says self.now (λ p. result ≡ least_of n (timestamps_of (protections_of p))) }
+    {
+        least_protected(self.standing.as_slice(), n)
+    }
+}
+
+fn has_id(standing: &[Protection], id: u64) -> bool
+    ensures { result ≡ list_any (λ (x : Protection). x.id == id) standing.now }
+{
+    standing.iter().any(|protection| protection.id == id)
+}
+
+fn least_protected(standing: &[Protection], n: u64) -> u64
+    ensures { result ≡ least_of n (timestamps_of (newest_first standing.now)) }
+{
+    let mut least = n;
+    for protection in standing {
+        least = least.min(protection.at);
+    }
+    least
+}

@@ -1,0 +1,14 @@
+use Rattle.std.proofs.Common.{arith, refl}
+use Rattle.std.proofs.lemmas.Grind.{common_steps}
+use Rattle.std.proofs.lemmas.List.Edits.{map_over_more}
+use Rattle.plain_versions.specs.Transactions.{aborted_through}
+use Rattle.plain_versions.proofs.Rising.{rising_rewritten}
+use Rattle.plain_versions.proofs.transactions.Transactions.abort_through.Goals as goal
+
+pub loop-transaction-preserved : goal.loop-transaction-preserved
+loop-transaction-preserved c = grind (arith, common_steps, map_over_more (aborted_through c.args.to))
+
+pub invariant_of-self : goal.invariant_of-self
+invariant_of-self c =
+    rising_rewritten (aborted_through c.args.to) (λ x. refl) c.self.inside.list.items c.deref_mut-transaction-items.result.now c.loop-transaction.transaction-items _ c.loop-transaction.transaction-index
+    c.self.invariant c.deref_mut-transaction-items.ensures.value c.deref_mut-transaction-items.ensures.len c.loop-transaction.auto.transaction-items c.loop-transaction.invariant (omega arith)

@@ -1,8 +1,0 @@
-use Rattle.std.proofs.Common.{◌≡◌, drop}
-use Rattle.std.specs.List.{list_any}
-use Rattle.reference.specs.SpanReads.{scan_goes_across}
-use Rattle.reference.proofs.span_reads.Scans.any_across.Given as goal
-
--- none is before
-abbrev pub invariant-loop-scan : goal.invariant-loop-scan
-invariant-loop-scan l = list_any (scan_goes_across l.key l.ts) (drop l.scan-index l.scan-items) ≡ list_any (scan_goes_across l.key l.ts) l.scan-items

@@ -1,6 +1,0 @@
-pub mod Reads
-pub mod SpanReads
-pub mod Tied
-pub mod Late
-pub mod Once
-pub mod Streams

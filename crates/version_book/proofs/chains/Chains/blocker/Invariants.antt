@@ -1,7 +1,0 @@
-use Rattle.std.proofs.Common.{◌≡◌, drop}
-use Rattle.version_book.specs.Scans.{first_blocker}
-use Rattle.version_book.proofs.chains.Chains.blocker.Given as goal
-
--- none is before
-abbrev pub invariant-loop-chain : goal.invariant-loop-chain
-invariant-loop-chain l = first_blocker l.transactions l.span l.ts (drop l.chain-index l.chain-items) ≡ first_blocker l.transactions l.span l.ts l.chain-items

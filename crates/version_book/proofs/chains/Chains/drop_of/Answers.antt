@@ -1,8 +1,0 @@
-use Rattle.std.proofs.Common.{arith}
-use Rattle.std.proofs.lemmas.Grind.{common_steps}
-use Rattle.std.proofs.lemmas.List.Edits.{map_over_more}
-use Rattle.version_book.specs.Chains.{dropped}
-use Rattle.version_book.proofs.chains.Chains.drop_of.Goals as goal
-
-pub loop-chain-preserved : goal.loop-chain-preserved
-loop-chain-preserved c = grind (arith, common_steps, map_over_more (dropped c.args.ts))
