@@ -15,6 +15,8 @@ use Rattle.json_lines.specs.Messages.{base64, AreBytes, IsTimestamp, IsKey, IsAf
 use Rattle.json_lines.specs.Texts.{texts_of}
 use Rattle.json_lines.specs.Steps.{◌>>=◌}
 use Rattle.json_lines.specs.Meaning.{timestamp_of, bytes_of, after_of, key_of, value_of, row_of, message_of}
+use Rattle.text_format.specs.declared.Format.{Format}
+use Rattle.text_format.specs.Limits.{key_limit, value_limit}
 use Rattle.json_lines.proofs.NumberWords.{number_only}
 
 -- ---- bytes by place and by recursion
@@ -54,23 +56,23 @@ timestamp_again ts h =
     ap (λ (o : Option ℕ). ok_or o Number >>= λ n. cond (nat_le 1 n && nat_le n 9223372036854775807) (Ok n) (Err Number)) (number_only ts (omega arith))
     ∙ within (nat_le 1 ts) (nat_le ts 9223372036854775807) (Ok ts) (Err Number) (le-leb _ _ h.0) (le-leb _ _ h.1)
 
-key_again : (key : List ℕ) → IsKey key → key_of key ≡ Ok key
+key_again : (format : Format) (key : List ℕ) → IsKey format key → key_of format key ≡ Ok key
 unfolding key_of
-key_again key h = within (nat_le 1 (length key)) (nat_le (length key) 64) (Ok key) (Err Length) (le-leb _ _ h.0) (le-leb _ _ h.1)
+key_again format key h = within (nat_le 1 (length key)) (nat_le (length key) (key_limit format)) (Ok key) (Err Length) (le-leb _ _ h.0) (le-leb _ _ h.1)
 
-value_again : (after : Option (List ℕ)) → IsAfter after → value_of after ≡ Ok after
+value_again : (format : Format) (after : Option (List ℕ)) → IsAfter format after → value_of format after ≡ Ok after
 unfolding value_of
-value_again None h = refl
-value_again (Some value) h = ap (λ (b : Bool). cond b (Ok (Some value)) (Err Length)) (le-leb _ _ h.0)
+value_again format None h = refl
+value_again format (Some value) h = ap (λ (b : Bool). cond b (Ok (Some value)) (Err Length)) (le-leb _ _ h.0)
 
-after_again : (after : Option (List ℕ)) → IsAfter after → after_of (option_map base64 after) ≡ Ok after
+after_again : (format : Format) (after : Option (List ℕ)) → IsAfter format after → after_of (option_map base64 after) ≡ Ok after
 unfolding after_of
-after_again None h = refl
-after_again (Some value) h = ap (λ (r : Result (List ℕ) MessageFault). r >>= λ bytes. Ok (Some bytes)) (bytes_again value h.1)
+after_again format None h = refl
+after_again format (Some value) h = ap (λ (r : Result (List ℕ) MessageFault). r >>= λ bytes. Ok (Some bytes)) (bytes_again value h.1)
 
 -- what a message's texts mean is the message
-pub message_again : (m : Message) → IsMessage m → message_of (texts_of m) ≡ Ok m
+pub message_again : (format : Format) (m : Message) → IsMessage format m → message_of format (texts_of m) ≡ Ok m
 unfolding message_of row_of
-message_again (message.Resolved ts) h = rw (timestamp_again ts h) refl
-message_again (message.Row r) h =
-    rw (timestamp_again r.ts h.0, bytes_again r.key h.1.2, after_again r.after h.2, key_again r.key h.1, value_again r.after h.2) refl
+message_again format (message.Resolved ts) h = rw (timestamp_again ts h) refl
+message_again format (message.Row r) h =
+    rw (timestamp_again r.ts h.0, bytes_again r.key h.1.2, after_again format r.after h.2, key_again format r.key h.1, value_again format r.after h.2) refl

@@ -9,6 +9,7 @@ use Rattle.json_lines.specs.Texts.{Texts, texts_of}
 use Rattle.json_lines.specs.Written.{texts_written}
 use Rattle.json_lines.specs.Meaning.{message_of}
 use Rattle.json_lines.specs.Steps.{Gives}
+use Rattle.text_format.specs.declared.Format.{Format}
 use Rattle.json_lines.proofs.Steps.{ok_is}
 use Rattle.json_lines.proofs.Meanings.{message_again}
 use Rattle.json_lines.proofs.WrittenLines.{texts_line, line_of_texts, written_found, written_again}
@@ -22,20 +23,20 @@ only_memory fault.Length h = absurd (h (λ e. absurd cc))
 only_memory fault.NoMemory h = refl
 
 -- what is read is the line of the message
-pub read_found : (line : List ℕ) (t : Texts) (r : Result Message MessageFault) → texts_written line ≡ Ok t → IfOk r (λ m. IsMessage m) → IfOk r (λ m. t ≡ texts_of m)
-    → IfOk r (λ m. (line ≡ message_line m) × IsMessage m)
-read_found line t (Ok m) e lawful same = (written_found line t e ∙ ap texts_line same ∙ sym (line_of_texts m), lawful)
-read_found line t (Err f) e lawful same = tt
+pub read_found : (format : Format) (line : List ℕ) (t : Texts) (r : Result Message MessageFault) → texts_written line ≡ Ok t → IfOk r (λ m. IsMessage format m) → IfOk r (λ m. t ≡ texts_of m)
+    → IfOk r (λ m. (line ≡ message_line m) × IsMessage format m)
+read_found format line t (Ok m) e lawful same = (written_found line t e ∙ ap texts_line same ∙ sym (line_of_texts m), lawful)
+read_found format line t (Err f) e lawful same = tt
 
 -- a message's line isn't refused but for want of memory
-pub read_whole : (line : List ℕ) (t : Texts) (r : Result Message MessageFault) → texts_written line ≡ Ok t → Gives (λ m. m) r (message_of t)
-    → IfErr r (λ e. (m : Message) → IsMessage m → line ≡ message_line m → e ≡ fault.NoMemory)
-read_whole line t (Ok x) e gives = tt
-read_whole line t (Err f) e gives = λ m lawful is.
-    let same : t ≡ texts_of m = ok_is t (texts_of m) (sym e ∙ ap texts_written is ∙ written_again m lawful) in
-    let read : message_of t ≡ Ok m = ap message_of same ∙ message_again m lawful in
+pub read_whole : (format : Format) (line : List ℕ) (t : Texts) (r : Result Message MessageFault) → texts_written line ≡ Ok t → Gives (λ m. m) r (message_of format t)
+    → IfErr r (λ e. (m : Message) → IsMessage format m → line ≡ message_line m → e ≡ fault.NoMemory)
+read_whole format line t (Ok x) e gives = tt
+read_whole format line t (Err f) e gives = λ m lawful is.
+    let same : t ≡ texts_of m = ok_is t (texts_of m) (sym e ∙ ap texts_written is ∙ written_again format m lawful) in
+    let read : message_of format t ≡ Ok m = ap (message_of format) same ∙ message_again format m lawful in
     only_memory f (λ other. let refused = gives other in absurd (cc (refused, read)))
 
 -- what can't be taken apart is no message's line
-pub unwritten : (line : List ℕ) (f : MessageFault) → texts_written line ≡ Err f → (m : Message) → IsMessage m → line ≡ message_line m → f ≡ fault.NoMemory
-unwritten line f e m lawful is = let again = sym e ∙ ap texts_written is ∙ written_again m lawful in absurd cc
+pub unwritten : (format : Format) (line : List ℕ) (f : MessageFault) → texts_written line ≡ Err f → (m : Message) → IsMessage format m → line ≡ message_line m → f ≡ fault.NoMemory
+unwritten format line f e m lawful is = let again = sym e ∙ ap texts_written is ∙ written_again format m lawful in absurd cc

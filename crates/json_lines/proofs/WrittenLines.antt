@@ -11,6 +11,7 @@ use Rattle.spans.specs.declared.calls.messages.Message.{Message}
 use Rattle.spans.specs.declared.calls.messages.Message.TheVariants as message
 use Rattle.json_lines.specs.declared.fault.MessageFault.{MessageFault}
 use Rattle.json_lines.specs.declared.fault.MessageFault.TheVariants.{Shape}
+use Rattle.text_format.specs.declared.Format.{Format}
 use Rattle.json_lines.specs.Messages.{base64, symbols, after_text, message_line, IsMessage}
 use Rattle.json_lines.specs.Texts.{Texts, resolved, row, texts_of}
 use Rattle.json_lines.specs.Steps.{◌>>=◌}
@@ -182,8 +183,8 @@ row_again after key updated a k u =
     ∙ ap (λ (r : Result (List ℕ) MessageFault). r >>= λ z. Ok (row after key z)) (last_again updated u)
 
 -- a message's line is taken apart into its texts
-pub written_again : (m : Message) → IsMessage m → texts_written (message_line m) ≡ Ok (texts_of m)
-written_again (message.Resolved ts) lawful =
+pub written_again : (format : Format) (m : Message) → IsMessage format m → texts_written (message_line m) ≡ Ok (texts_of m)
+written_again format (message.Resolved ts) lawful =
     ap texts_written (line_of_texts (message.Resolved ts)) ∙ resolved_again (decimal ts) (digits_no_quote (decimal ts) (decimal_digits ts (omega arith)))
-written_again (message.Row r) lawful =
+written_again format (message.Row r) lawful =
     ap texts_written (line_of_texts (message.Row r)) ∙ row_again (option_map base64 r.after) (base64 r.key) (decimal r.ts) (value_no_quote r.after) (base64_no_quote r.key) (digits_no_quote (decimal r.ts) (decimal_digits r.ts (omega arith)))

@@ -2,6 +2,8 @@
 use Rattle.std.specs.Prelude.{ℕ, nat_le, ◌&&◌, if◌then◌else◌, List, length, Option, Some, None, Result, Ok, Err, ok_or}
 use Rattle.base64.specs.Engines.{standard}
 use Rattle.base64.specs.GeneralPurpose.{decoded_of}
+use Rattle.text_format.specs.declared.Format.{Format}
+use Rattle.text_format.specs.Limits.{key_limit, value_limit}
 use Rattle.timestamps.specs.declared.row.Row.{Row}
 use Rattle.spans.specs.declared.calls.messages.Message.{Message}
 use Rattle.spans.specs.declared.calls.messages.Message.TheVariants as message
@@ -27,28 +29,28 @@ after_of (Some text) = do
   bytes ← bytes_of text
   Ok (Some bytes)
 
--- a key has 1 to 64 bytes
-unfoldable pub key_of : List ℕ → Result (List ℕ) MessageFault
-key_of bytes = if nat_le 1 (length bytes) && nat_le (length bytes) 64 then Ok bytes else Err Length
+-- a key has a byte at least, and no more than the format lets it have
+unfoldable pub key_of : Format → List ℕ → Result (List ℕ) MessageFault
+key_of format bytes = if nat_le 1 (length bytes) && nat_le (length bytes) (key_limit format) then Ok bytes else Err Length
 
--- a value has at most 1024
-unfoldable pub value_of : Option (List ℕ) → Result (Option (List ℕ)) MessageFault
-value_of None = Ok None
-value_of (Some bytes) = if nat_le (length bytes) 1024 then Ok (Some bytes) else Err Length
+-- a value has no more than the format lets it have
+unfoldable pub value_of : Format → Option (List ℕ) → Result (Option (List ℕ)) MessageFault
+value_of format None = Ok None
+value_of format (Some bytes) = if nat_le (length bytes) (value_limit format) then Ok (Some bytes) else Err Length
 
-unfoldable pub row_of : Option (List ℕ) → List ℕ → List ℕ → Result Row MessageFault
-row_of after_text key_text updated = do
+unfoldable pub row_of : Format → Option (List ℕ) → List ℕ → List ℕ → Result Row MessageFault
+row_of format after_text key_text updated = do
   ts ← timestamp_of updated
   key_bytes ← bytes_of key_text
   after_bytes ← after_of after_text
-  key ← key_of key_bytes
-  after ← value_of after_bytes
+  key ← key_of format key_bytes
+  after ← value_of format after_bytes
   Ok (record { ts = ts; key = key; after = after })
 
-unfoldable pub message_of : Texts → Result Message MessageFault
-message_of (resolved text) = do
+unfoldable pub message_of : Format → Texts → Result Message MessageFault
+message_of format (resolved text) = do
   ts ← timestamp_of text
   Ok (message.Resolved ts)
-message_of (row after key updated) = do
-  r ← row_of after key updated
+message_of format (row after key updated) = do
+  r ← row_of format after key updated
   Ok (message.Row r)

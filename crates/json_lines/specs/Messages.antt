@@ -3,6 +3,8 @@ use Rattle.std.specs.Prelude.{ℕ, ◌<◌, ◌≤◌, List, ◌++◌, length, c
 use Rattle.std.specs.List.{AllByRecursion}
 use Rattle.base64.specs.Engines.{standard}
 use Rattle.base64.specs.GeneralPurpose.{encode_of, engine_symbols}
+use Rattle.text_format.specs.declared.Format.{Format}
+use Rattle.text_format.specs.Limits.{key_limit, value_limit}
 use Rattle.spans.specs.declared.calls.messages.Message.{Message}
 use Rattle.spans.specs.declared.calls.messages.Message.TheVariants as message
 
@@ -30,15 +32,16 @@ AreBytes bytes = AllByRecursion (λ b. b < 256) bytes
 abbrev pub IsTimestamp : ℕ → Type 0
 IsTimestamp ts = (1 ≤ ts) × (ts ≤ 9223372036854775807)
 
-abbrev pub IsKey : List ℕ → Type 0
-IsKey key = (1 ≤ length key) × (length key ≤ 64) × AreBytes key
+-- a key of the format
+abbrev pub IsKey : Format → List ℕ → Type 0
+IsKey format key = (1 ≤ length key) × (length key ≤ key_limit format) × AreBytes key
 
--- a value, or none for a delete
-abbrev pub IsAfter : Option (List ℕ) → Type 0
-IsAfter None = Unit {0}
-IsAfter (Some value) = (length value ≤ 1024) × AreBytes value
+-- a value of the format, or none for a delete
+abbrev pub IsAfter : Format → Option (List ℕ) → Type 0
+IsAfter format None = Unit {0}
+IsAfter format (Some value) = (length value ≤ value_limit format) × AreBytes value
 
--- the messages that have a line
-abbrev pub IsMessage : Message → Type 0
-IsMessage (message.Row row) = IsTimestamp row.ts × IsKey row.key × IsAfter row.after
-IsMessage (message.Resolved ts) = IsTimestamp ts
+-- the messages that have a line of the format
+abbrev pub IsMessage : Format → Message → Type 0
+IsMessage format (message.Row row) = IsTimestamp row.ts × IsKey format row.key × IsAfter format row.after
+IsMessage format (message.Resolved ts) = IsTimestamp ts

@@ -5,6 +5,7 @@ use Rattle.serde_json.specs.Data.{Data}
 use Rattle.serde_json.specs.Read.{read}
 use Rattle.serde_json.specs.Find.{get, as_null, as_str, as_object}
 use Rattle.serde_json.specs.Events.{members_len}
+use Rattle.text_format.specs.declared.Format.{Format}
 use Rattle.spans.specs.declared.calls.messages.Message.{Message}
 use Rattle.json_lines.specs.declared.fault.MessageFault.{MessageFault}
 use Rattle.json_lines.specs.declared.fault.MessageFault.TheVariants.{NotJson, Shape}
@@ -47,15 +48,15 @@ texts_in tree = do
 unfoldable pub tree_of : List ℕ → Result Data MessageFault
 tree_of line = if is_utf8 line then ok_or (read line) NotJson else Err NotJson
 
--- the message that the line has, however it is written
-unfoldable pub meant_by : List ℕ → Result Message MessageFault
-meant_by line = do
+-- the message of the format that the line has, however it is written
+unfoldable pub meant_by : Format → List ℕ → Result Message MessageFault
+meant_by format line = do
   tree ← tree_of line
   texts ← texts_in tree
-  message_of texts
+  message_of format texts
 
 -- the message of the line, which has to be written as a message's line is
-unfoldable pub message_at : List ℕ → Result Message MessageFault
-message_at line = do
-  m ← meant_by line
+unfoldable pub message_at : Format → List ℕ → Result Message MessageFault
+message_at format line = do
+  m ← meant_by format line
   if bytes_eq line (message_line m) then Ok m else Err Shape

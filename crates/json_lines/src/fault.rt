@@ -16,7 +16,7 @@ pub enum MessageFault {
     /// A key or a value isn't the base64 of any bytes.
     #[error("base64")]
     Base64 = 4,
-    /// A key has no byte or over 64, or a value has over 1024.
+    /// A key has no byte, or a key or a value is longer than the format lets it be.
     #[error("length")]
     Length = 5,
     /// A growth of memory was refused.

@@ -1,4 +1,4 @@
-//! A line of JSON as a message.
+//! A line of JSON as a message of a format.
 ghost use Rattle.std.specs.Prelude.{◌≡◌, ◌≢◌, IfOk, IfErr, Err};
 ghost use Rattle.spans.specs.declared.calls.messages.Message.{Message};
 ghost use Rattle.json_lines.specs.declared.fault.MessageFault.TheVariants.{NoMemory};
@@ -11,39 +11,40 @@ use crate::tree::meant_by;
 use crate::written::texts_written;
 use spans::calls::Message;
 use std::alloc::Global;
+use text_format::Format;
 
-/// The message whose line it is, with its newline.
-pub fn read_message(alloc: Global, line: &[u8]) -> Result<Message, MessageFault>
+/// The message whose line it is, with its newline. Its key and its value are as long as the format lets them be.
+pub fn read_message(alloc: Global, line: &[u8], format: Format) -> Result<Message, MessageFault>
     // What is read is the line of this message, byte for byte.
-    ensures found { IfOk result (λ m. (line.now ≡ message_line m) × IsMessage m) }
+    ensures found { IfOk result (λ m. (line.now ≡ message_line m) × IsMessage format m) }
     // A message's line is read, unless memory runs out.
-    ensures whole { IfErr result (λ e. (m : Message) → IsMessage m → line.now ≡ message_line m → e ≡ NoMemory) }
+    ensures whole { IfErr result (λ e. (m : Message) → IsMessage format m → line.now ≡ message_line m → e ≡ NoMemory) }
     // Another line doesn't pass one of the tests, and this is the first.
-    ensures first { IfErr result (λ e. e ≢ NoMemory → message_at line.now ≡ Err e) }
+    ensures first { IfErr result (λ e. e ≢ NoMemory → message_at format line.now ≡ Err e) }
 {
-    match read_written(alloc, line) {
+    match read_written(alloc, line, format) {
         Ok(message) => Ok(message),
         Err(MessageFault::NoMemory) => Err(MessageFault::NoMemory),
-        Err(_) => Err(first_fault(alloc, line)),
+        Err(_) => Err(first_fault(alloc, line, format)),
     }
 }
 
 /// The message of a line that is spelled as a message's line is. No tree is built for it.
-fn read_written(alloc: Global, line: &[u8]) -> Result<Message, MessageFault>
-    ensures found { IfOk result (λ m. (line.now ≡ message_line m) × IsMessage m) }
-    ensures whole { IfErr result (λ e. (m : Message) → IsMessage m → line.now ≡ message_line m → e ≡ NoMemory) }
+fn read_written(alloc: Global, line: &[u8], format: Format) -> Result<Message, MessageFault>
+    ensures found { IfOk result (λ m. (line.now ≡ message_line m) × IsMessage format m) }
+    ensures whole { IfErr result (λ e. (m : Message) → IsMessage format m → line.now ≡ message_line m → e ≡ NoMemory) }
 {
     let texts = texts_written(line)?;
-    message_of(alloc, texts)
+    message_of(alloc, texts, format)
 }
 
 /// The first test that a line doesn't pass which no message has.
 #[tactic(auto, unfolding(crate::specs::Tests::message_at))]
-fn first_fault(alloc: Global, line: &[u8]) -> MessageFault
-    requires { (m : Message) → IsMessage m → line.now ≢ message_line m }
-    ensures { result ≢ NoMemory → message_at line.now ≡ Err result }
+fn first_fault(alloc: Global, line: &[u8], format: Format) -> MessageFault
+    requires { (m : Message) → IsMessage format m → line.now ≢ message_line m }
+    ensures { result ≢ NoMemory → message_at format line.now ≡ Err result }
 {
-    match meant_by(alloc, line) {
+    match meant_by(alloc, line, format) {
         // it says what a message says, in another spelling
         Ok(_) => MessageFault::Shape,
         Err(fault) => fault,

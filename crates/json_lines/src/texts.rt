@@ -1,5 +1,6 @@
 //! The texts of a message's members, and the message that they mean.
 ghost use Rattle.std.specs.Prelude.{◌≡◌, ◌≤◌, length, decimal, option_map, IfSome, IfOk};
+ghost use Rattle.text_format.specs.Limits.{key_limit, value_limit};
 ghost use Rattle.json_lines.specs.Messages.{AreBytes, IsMessage, base64};
 ghost use Rattle.json_lines.specs.Texts.{row, texts_of};
 ghost use Rattle.json_lines.specs.TextsView.{texts_view};
@@ -12,6 +13,7 @@ use base64::DecodeAllocError;
 use base64::engine::general_purpose::STANDARD;
 use spans::calls::Message;
 use std::alloc::Global;
+use text_format::Format;
 use timestamps::key::{Key, KeyError};
 use timestamps::row::Row;
 use timestamps::ts::Ts;
@@ -30,11 +32,15 @@ pub(crate) enum Texts<'a> {
     },
 }
 
-/// The message that the texts mean.
+/// The message of a format that the texts mean.
 #[tactic(auto, unfolding(crate::specs::Meaning::message_of))]
-pub(crate) fn message_of(alloc: Global, texts: Texts) -> Result<Message, MessageFault>
-    ensures exact { Gives (λ m. m) result (message_of (texts_view texts.entry)) }
-    ensures lawful { IfOk result (λ m. IsMessage m) }
+pub(crate) fn message_of(
+    alloc: Global,
+    texts: Texts,
+    format: Format,
+) -> Result<Message, MessageFault>
+    ensures exact { Gives (λ m. m) result (message_of format (texts_view texts.entry)) }
+    ensures lawful { IfOk result (λ m. IsMessage format m) }
     // They are the texts of that message.
     ensures found { IfOk result (λ m. texts_view texts.entry ≡ texts_of m) }
 {
@@ -48,7 +54,7 @@ pub(crate) fn message_of(alloc: Global, texts: Texts) -> Result<Message, Message
             key,
             updated,
         } => {
-            let row = row_of(alloc, after, key, updated)?;
+            let row = row_of(alloc, after, key, updated, format)?;
             Ok(Message::Row(row))
         }
     }
@@ -60,16 +66,17 @@ fn row_of(
     after: Option<&[u8]>,
     key: &[u8],
     updated: &[u8],
+    format: Format,
 ) -> Result<Row, MessageFault>
-    ensures exact { Gives (λ r. r) result (row_of (option_map (λ t. t.now) after.entry) key.now updated.now) }
-    ensures lawful { IfOk result (λ r. IsMessage (Message.Row r)) }
+    ensures exact { Gives (λ r. r) result (row_of format (option_map (λ t. t.now) after.entry) key.now updated.now) }
+    ensures lawful { IfOk result (λ r. IsMessage format (Message.Row r)) }
     ensures found { IfOk result (λ r. row (option_map (λ t. t.now) after.entry) key.now updated.now ≡ texts_of (Message.Row r)) }
 {
     let ts = timestamp_of(updated)?;
     let key = bytes_of(alloc, key)?;
     let after = after_of(alloc, after)?;
-    let key = key_of(alloc, &key)?;
-    let after = value_of(alloc, &after)?;
+    let key = key_of(alloc, &key, format)?;
+    let after = value_of(alloc, &after, format)?;
     Ok(Row { ts, key, after })
 }
 
@@ -120,11 +127,14 @@ fn after_of(alloc: Global, text: Option<&[u8]>) -> Result<Option<Vec<u8>>, Messa
 
 /// The key of bytes, which may be too few or too many.
 #[tactic(auto, unfolding(crate::specs::Meaning::key_of))]
-fn key_of(alloc: Global, bytes: &[u8]) -> Result<Key, MessageFault>
-    ensures exact { Gives (λ k. k) result (key_of bytes.now) }
+fn key_of(alloc: Global, bytes: &[u8], format: Format) -> Result<Key, MessageFault>
+    ensures exact { Gives (λ k. k) result (key_of format bytes.now) }
     ensures found { IfOk result (λ k. k ≡ bytes.now) }
-    ensures in_range { IfOk result (λ k. (1 ≤ length k) × (length k ≤ 64)) }
+    ensures in_range { IfOk result (λ k. (1 ≤ length k) × (length k ≤ key_limit format)) }
 {
+    if bytes.len() > format.key_limit() {
+        return Err(MessageFault::Length);
+    }
     match Key::new(alloc, bytes) {
         Ok(key) => Ok(key),
         Err(KeyError::KeyLength) => Err(MessageFault::Length),
@@ -134,14 +144,21 @@ fn key_of(alloc: Global, bytes: &[u8]) -> Result<Key, MessageFault>
 
 /// The value of bytes, which may be too many.
 #[tactic(auto, unfolding(crate::specs::Meaning::value_of))]
-fn value_of(alloc: Global, bytes: &Option<Vec<u8>>) -> Result<Option<Value>, MessageFault>
-    ensures exact { Gives (λ v. v) result (value_of (option_map (λ b. b.items) bytes.now)) }
+fn value_of(
+    alloc: Global,
+    bytes: &Option<Vec<u8>>,
+    format: Format,
+) -> Result<Option<Value>, MessageFault>
+    ensures exact { Gives (λ v. v) result (value_of format (option_map (λ b. b.items) bytes.now)) }
     ensures found { IfOk result (λ v. v ≡ option_map (λ b. b.items) bytes.now) }
-    ensures in_range { IfOk result (λ o. IfSome o (λ v. length v ≤ 1024)) }
+    ensures in_range { IfOk result (λ o. IfSome o (λ v. length v ≤ value_limit format)) }
 {
     let Some(bytes) = bytes else {
         return Ok(None);
     };
+    if bytes.len() > format.value_limit() {
+        return Err(MessageFault::Length);
+    }
     match Value::new(alloc, bytes.as_slice()) {
         Ok(value) => Ok(Some(value)),
         Err(ValueError::ValueLength) => Err(MessageFault::Length),

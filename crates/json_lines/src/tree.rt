@@ -11,16 +11,17 @@ use crate::texts::{Texts, message_of};
 use serde_json::Value;
 use spans::calls::Message;
 use std::alloc::Global;
+use text_format::Format;
 
-/// The message that a line has, however it is written, or the first test that it doesn't pass.
+/// The message of a format that a line has, however it is written, or the first test that it doesn't pass.
 #[tactic(auto, unfolding(crate::specs::Tests::meant_by))]
-pub(crate) fn meant_by(alloc: Global, line: &[u8]) -> Result<Message, MessageFault>
-    ensures exact { Gives (λ m. m) result (meant_by line.now) }
-    ensures lawful { IfOk result (λ m. IsMessage m) }
+pub(crate) fn meant_by(alloc: Global, line: &[u8], format: Format) -> Result<Message, MessageFault>
+    ensures exact { Gives (λ m. m) result (meant_by format line.now) }
+    ensures lawful { IfOk result (λ m. IsMessage format m) }
 {
     let tree = tree_of(alloc, line)?;
     let texts = texts_in(&tree)?;
-    message_of(alloc, texts)
+    message_of(alloc, texts, format)
 }
 
 #[tactic(auto, unfolding(crate::specs::Tests::tree_of))]

@@ -1,11 +1,13 @@
 -- What is written of an event is read so.
-use Rattle.std.proofs.Common.{◌≡◌, ℕ, zero, suc, ◌+◌, ◌≤◌, false, List, [], ◌∷◌, ◌++◌, length, drop, Option, Some, None, Result, Ok, refl, sym, ap, ◌∙◌, append_assoc, arith}
+use Rattle.std.proofs.Common.{◌≡◌, ℕ, zero, suc, ◌+◌, ◌*◌, ◌≤◌, false, List, [], ◌∷◌, ◌++◌, length, drop, Option, Some, None, Result, Ok, refl, sym, ap, ◌∙◌, append_assoc, arith}
 use Rattle.std.specs.Prelude.{codes, decimal, not, ◌==◌}
 use Rattle.std.specs.List.{All, AllByRecursion, flat_map}
 use Rattle.std.proofs.lemmas.Bool.{ne_eqb, le-ltb}
 use Rattle.std.proofs.lemmas.List.{length-append, drop_at, get_or_at}
 use Rattle.std.proofs.lemmas.List.Elements.{recursion_from_All}
 use Rattle.std.proofs.lemmas.List.Folds.{list_all-append}
+use Rattle.text_format.specs.declared.Format.{Format}
+use Rattle.text_format.specs.Limits.{key_limit, value_limit, line_limit, header, header_lines}
 use Rattle.base64.proofs.RoundTrip.{length-encode_symbols}
 use Rattle.base64.specs.Rfc4648.{encode_symbols, padding_len}
 use Rattle.std.specs.Prelude.{replicate}
@@ -31,15 +33,16 @@ use Rattle.word_lines.specs.Replies.{row_line, refusal_words, reply_words, follo
 use Rattle.word_lines.specs.Events.{heading_text, event_text}
 use Rattle.script.specs.ReplyReading.{refusal_at, stats_at, shape_at, named_at, reply_at}
 use Rattle.script.specs.EventLines.{behind_arrow, heading_of, heading_at, pair_at, pair_of, row_line_at, message_line_at}
-use Rattle.script.specs.Transcripts.{Fault, next_at, many_at, following_at, event_at, events_at, transcript_at, transcript_text}
+use Rattle.script.specs.Transcripts.{Fault, next_at, many_at, following_at, event_at, events_at, body_at, transcript_at, events_text, transcript_text}
 use Rattle.word_lines.proofs.JoinedParts.{Lacks, IsWord, text_again, words_again, decimal_all}
-use Rattle.word_lines.proofs.WrittenWords.{number_word, number_length, bytes_word, bytes_few, words_then, joined_few, command_words}
+use Rattle.word_lines.proofs.WrittenWords.{room, number_word, number_length, bytes_word, bytes_few, words_then, joined_few, command_words}
 use Rattle.script.proofs.WrittenReplies.{reply_are_words}
 use Rattle.word_lines.proofs.CommandsAgain.{number_again, session_again, key_again, value_again, read_again}
 use Rattle.script.proofs.MessageLines.{message_only, base64_all}
 use Rattle.word_lines.proofs.Joining.{some_words}
 use Rattle.script.proofs.CutLines.{lines_again, words_line_again}
 use Rattle.script.proofs.TakeLines.{event_fewer}
+use Rattle.script.proofs.Headers.{header_again}
 
 -- ---- replies
 
@@ -49,51 +52,52 @@ shape_of (reply.Rows rows) = shape.Rows (length rows)
 shape_of (reply.Messages messages) = shape.Messages (length messages)
 shape_of r = shape.Alone r
 
--- a refusal is read from its words
-refusal_again : (r : Refusal) → IsRefusal r → reply_at (refusal_words r) ≡ Ok (shape.Alone (reply.Refused r))
-unfolding named_at shape_at refusal_at
-refusal_again (refusal.BelowClosed closed) is = rw (number_again closed [] is) refl
-refusal_again refusal.TsUsed is = refl
-refusal_again refusal.TsRange is = refl
-refusal_again (refusal.Blocked by) is = rw (number_again by [] is) refl
-refusal_again refusal.NoTxn is = refl
-refusal_again refusal.NotOwner is = refl
-refusal_again refusal.Ended is = refl
-refusal_again refusal.TooLate is = refl
-refusal_again (refusal.NotClosed closed) is = rw (number_again closed [] is) refl
-refusal_again (refusal.BelowHorizon horizon) is = rw (number_again horizon [] is) refl
-refusal_again refusal.NoProtection is = refl
-refusal_again refusal.NoFeed is = refl
-refusal_again refusal.FeedCancelled is = refl
-refusal_again refusal.NoMemory is = refl
-refusal_again refusal.GapRange is = refl
+module _ (format : Format) where
+  -- a refusal is read from its words
+  refusal_again : (r : Refusal) → IsRefusal r → reply_at format (refusal_words r) ≡ Ok (shape.Alone (reply.Refused r))
+  unfolding named_at shape_at refusal_at
+  refusal_again (refusal.BelowClosed closed) is = rw (number_again closed [] is) refl
+  refusal_again refusal.TsUsed is = refl
+  refusal_again refusal.TsRange is = refl
+  refusal_again (refusal.Blocked by) is = rw (number_again by [] is) refl
+  refusal_again refusal.NoTxn is = refl
+  refusal_again refusal.NotOwner is = refl
+  refusal_again refusal.Ended is = refl
+  refusal_again refusal.TooLate is = refl
+  refusal_again (refusal.NotClosed closed) is = rw (number_again closed [] is) refl
+  refusal_again (refusal.BelowHorizon horizon) is = rw (number_again horizon [] is) refl
+  refusal_again refusal.NoProtection is = refl
+  refusal_again refusal.NoFeed is = refl
+  refusal_again refusal.FeedCancelled is = refl
+  refusal_again refusal.NoMemory is = refl
+  refusal_again refusal.GapRange is = refl
 
--- a reply is read from its words
-reply_again : (r : Reply) → IsReply r → reply_at (reply_words r) ≡ Ok (shape_of r)
-unfolding named_at shape_at stats_at reply_words IsReply
-reply_again reply.Started is = refl
-reply_again (reply.Found None) is = refl
-reply_again (reply.Found (Some value)) is = rw (value_again value [] is) refl
-reply_again (reply.Rows rows) is = rw (number_again (length rows) [] is.0) refl
-reply_again reply.Written is = refl
-reply_again (reply.Committed keys) is = rw (number_again keys [] is) refl
-reply_again reply.Aborted is = refl
-reply_again (reply.Closed at aborted) is = rw (number_again at (decimal aborted ∷ []) is.0, number_again aborted [] is.1) refl
-reply_again (reply.Protected id) is = rw (number_again id [] is) refl
-reply_again reply.Released is = refl
-reply_again (reply.Collected horizon removed) is = rw (number_again horizon (decimal removed ∷ []) is.0, number_again removed [] is.1) refl
-reply_again (reply.Opened feed) is = rw (number_again feed [] is) refl
-reply_again (reply.Messages messages) is = rw (number_again (length messages) [] is.0) refl
-reply_again reply.Cancelled is = refl
-reply_again (reply.Stats versions undecided feeds closed horizon) is =
-    rw (
-      number_again versions (decimal undecided ∷ decimal feeds ∷ decimal closed ∷ decimal horizon ∷ []) is.0,
-      number_again undecided (decimal feeds ∷ decimal closed ∷ decimal horizon ∷ []) is.1,
-      number_again feeds (decimal closed ∷ decimal horizon ∷ []) is.2,
-      number_again closed (decimal horizon ∷ []) is.3,
-      number_again horizon [] is.4,
-    ) refl
-reply_again (reply.Refused r) is = refusal_again r is
+  -- a reply is read from its words
+  reply_again : (r : Reply) → IsReply format r → reply_at format (reply_words r) ≡ Ok (shape_of r)
+  unfolding named_at shape_at stats_at reply_words IsReply
+  reply_again reply.Started is = refl
+  reply_again (reply.Found None) is = refl
+  reply_again (reply.Found (Some value)) is = rw (value_again format value [] is) refl
+  reply_again (reply.Rows rows) is = rw (number_again (length rows) [] is.0) refl
+  reply_again reply.Written is = refl
+  reply_again (reply.Committed keys) is = rw (number_again keys [] is) refl
+  reply_again reply.Aborted is = refl
+  reply_again (reply.Closed at aborted) is = rw (number_again at (decimal aborted ∷ []) is.0, number_again aborted [] is.1) refl
+  reply_again (reply.Protected id) is = rw (number_again id [] is) refl
+  reply_again reply.Released is = refl
+  reply_again (reply.Collected horizon removed) is = rw (number_again horizon (decimal removed ∷ []) is.0, number_again removed [] is.1) refl
+  reply_again (reply.Opened feed) is = rw (number_again feed [] is) refl
+  reply_again (reply.Messages messages) is = rw (number_again (length messages) [] is.0) refl
+  reply_again reply.Cancelled is = refl
+  reply_again (reply.Stats versions undecided feeds closed horizon) is =
+      rw (
+        number_again versions (decimal undecided ∷ decimal feeds ∷ decimal closed ∷ decimal horizon ∷ []) is.0,
+        number_again undecided (decimal feeds ∷ decimal closed ∷ decimal horizon ∷ []) is.1,
+        number_again feeds (decimal closed ∷ decimal horizon ∷ []) is.2,
+        number_again closed (decimal horizon ∷ []) is.3,
+        number_again horizon [] is.4,
+      ) refl
+  reply_again (reply.Refused r) is = refusal_again r is
 
 -- ---- the first line
 
@@ -108,32 +112,33 @@ behind_again n front answer e =
 abbrev words_in : Event → List (List ℕ)
 words_in e = decimal e.position ∷ decimal e.seat ∷ (words_of e.cmd ++ codes "=>" ∷ reply_words e.reply)
 
-heading_words_again : (e : Event) → IsEvent e → heading_of (words_in e) ≡ Ok (record { position = e.position; seat = e.seat; cmd = e.cmd; shape = shape_of e.reply })
-unfolding heading_of
-heading_words_again e is =
-    let rest = codes "=>" ∷ reply_words e.reply in
-    let small : IsNumber e.seat = omega (arith, is.1) in
-    let again = read_again e.cmd rest is.2 in
-    rw (
-      number_again e.position (decimal e.seat ∷ (words_of e.cmd ++ rest)) is.0,
-      session_again 64 e.seat (words_of e.cmd ++ rest) is.1 small,
-      again.named,
-      behind_again again.row.arguments again.front (reply_words e.reply) again.count,
-      again.read,
-      reply_again e.reply is.3,
-    ) refl
+module _ (format : Format) where
+  heading_words_again : (e : Event) → IsEvent format e → heading_of format (words_in e) ≡ Ok (record { position = e.position; seat = e.seat; cmd = e.cmd; shape = shape_of e.reply })
+  unfolding heading_of
+  heading_words_again e is =
+      let rest = codes "=>" ∷ reply_words e.reply in
+      let small : IsNumber e.seat = omega (arith, is.1) in
+      let again = read_again format e.cmd rest is.2 in
+      rw (
+        number_again e.position (decimal e.seat ∷ (words_of e.cmd ++ rest)) is.0,
+        session_again 64 e.seat (words_of e.cmd ++ rest) is.1 small,
+        again.named,
+        behind_again again.row.arguments again.front (reply_words e.reply) again.count,
+        again.read,
+        reply_again format e.reply is.3,
+      ) refl
 
-words_in_are : (e : Event) → IsEvent e → AllByRecursion IsWord (words_in e)
-words_in_are e is =
-    let small : IsNumber e.seat = omega (arith, is.1) in
-    (number_word e.position is.0, (number_word e.seat small, words_then (words_of e.cmd) (codes "=>" ∷ reply_words e.reply) (command_words e.cmd is.2) ((omega arith, refl), reply_are_words e.reply is.3)))
+  words_in_are : (e : Event) → IsEvent format e → AllByRecursion IsWord (words_in e)
+  words_in_are e is =
+      let small : IsNumber e.seat = omega (arith, is.1) in
+      (number_word e.position is.0, (number_word e.seat small, words_then (words_of e.cmd) (codes "=>" ∷ reply_words e.reply) (command_words format e.cmd is.2) ((omega arith, refl), reply_are_words format e.reply is.3)))
 
--- a first line that keeps the limit is read so
-heading_again : (e : Event) → IsEvent e → KeepsLimit e → heading_at (heading_text e ++ 10 ∷ []) ≡ Ok (record { position = e.position; seat = e.seat; cmd = e.cmd; shape = shape_of e.reply })
-unfolding heading_at
-heading_again e is short =
-    let long : 3 ≤ length (words_in e) = omega (arith, length-append (words_of e.cmd) (codes "=>" ∷ reply_words e.reply), some_words e.cmd) in
-    rw (text_again (heading_text e) short, words_again (words_in e) (omega (arith, long)) (words_in_are e is), le-ltb (length (words_in e)) 3 long) (heading_words_again e is)
+  -- a first line that keeps the limit is read so
+  heading_again : (e : Event) → IsEvent format e → KeepsLimit format e → heading_at format (heading_text e ++ 10 ∷ []) ≡ Ok (record { position = e.position; seat = e.seat; cmd = e.cmd; shape = shape_of e.reply })
+  unfolding heading_at
+  heading_again e is short =
+      let long : 3 ≤ length (words_in e) = omega (arith, length-append (words_of e.cmd) (codes "=>" ∷ reply_words e.reply), some_words e.cmd) in
+      rw (text_again format (heading_text e) short, words_again (words_in e) (omega (arith, long)) (words_in_are e is), le-ltb (length (words_in e)) 3 long) (heading_words_again e is)
 
 -- ---- the lines that follow
 
@@ -141,19 +146,20 @@ heading_again e is short =
 abbrev IsLineOf : {A : Type 0} → (List ℕ → Result A LineFault) → (A → List ℕ) → A → Type 0
 IsLineOf read show x = ((rest : List ℕ) → lines_of (show x ++ rest) ≡ show x ∷ lines_of rest) × (read (show x) ≡ Ok x)
 
-row_words_are : (row : List ℕ × List ℕ) → IsPair row → AllByRecursion IsWord (codes "row" ∷ spelling row.0 ∷ spelling row.1 ∷ [])
-row_words_are row is = ((omega arith, refl), (bytes_word row.0 is.0.2, (bytes_word row.1 is.1.1, tt)))
+module _ (format : Format) where
+  row_words_are : (row : List ℕ × List ℕ) → IsPair format row → AllByRecursion IsWord (codes "row" ∷ spelling row.0 ∷ spelling row.1 ∷ [])
+  row_words_are row is = ((omega arith, refl), (bytes_word row.0 is.0.2, (bytes_word row.1 is.1.1, tt)))
 
--- the line of a row
-row_again : (row : List ℕ × List ℕ) → IsPair row → IsLineOf row_line_at row_line row
-unfolding row_line_at pair_of pair_at
-row_again row is =
-    let ws = codes "row" ∷ spelling row.0 ∷ spelling row.1 ∷ [] in
-    let are = row_words_are row is in
-    let short : length (joined ws) ≤ 4096 = omega (arith, joined_few ws, bytes_few row.0 64 is.0.2 is.0.1, bytes_few row.1 1024 is.1.1 is.1.0) in (
-      λ rest. ap lines_of (append_assoc (joined ws) (10 ∷ []) rest) ∙ words_line_again ws rest are,
-      rw (text_again (joined ws) short, words_again ws (omega arith) are, key_again row.0 (spelling row.1 ∷ []) is.0, value_again row.1 [] is.1) refl,
-    )
+  -- the line of a row
+  row_again : (row : List ℕ × List ℕ) → IsPair format row → IsLineOf (row_line_at format) row_line row
+  unfolding row_line_at pair_of pair_at
+  row_again row is =
+      let ws = codes "row" ∷ spelling row.0 ∷ spelling row.1 ∷ [] in
+      let are = row_words_are row is in
+      let short : length (joined ws) ≤ line_limit format = omega (arith, (room format).0, joined_few ws, bytes_few row.0 (key_limit format) is.0.2 is.0.1, bytes_few row.1 (value_limit format) is.1.1 is.1.0) in (
+        λ rest. ap lines_of (append_assoc (joined ws) (10 ∷ []) rest) ∙ words_line_again ws rest are,
+        rw (text_again format (joined ws) short, words_again ws (omega arith) are, key_again format row.0 (spelling row.1 ∷ []) is.0, value_again format row.1 [] is.1) refl,
+      )
 
 -- a message's line without its newline
 abbrev message_text : Message → List ℕ
@@ -176,44 +182,48 @@ in_line a b m n p q = record { clean = list_all-append (λ c. not (c == 10)) a b
 number_in_line : (n : ℕ) → IsNumber n → IsInLine (decimal n) 20
 number_in_line n is = record { clean = decimal_all (λ c. not (c == 10)) (λ d small. ap not (ne_eqb (48 + d) 10 (λ e. absurd (omega (arith, e))))) n is; few = number_length n is }
 
-base64_few : (bytes : List ℕ) → length bytes ≤ 1024 → length (base64 bytes) ≤ 1368
-base64_few bytes le =
+base64_few : (bytes : List ℕ) (most : ℕ) → length bytes ≤ most → length (base64 bytes) ≤ 2 * most + 4
+base64_few bytes most le =
     omega (arith, length-append (encode_symbols symbols bytes) (replicate (padding_len (length bytes)) 61), length-encode_symbols symbols bytes, length-replicate {A = ℕ} (padding_len (length bytes)) 61)
 
-base64_in_line : (bytes : List ℕ) → length bytes ≤ 1024 → IsInLine (base64 bytes) 1368
-base64_in_line bytes le = record { clean = base64_all (λ c. not (c == 10)) refl refl refl bytes; few = base64_few bytes le }
+base64_in_line : (bytes : List ℕ) (most : ℕ) → length bytes ≤ most → IsInLine (base64 bytes) (2 * most + 4)
+base64_in_line bytes most le = record { clean = base64_all (λ c. not (c == 10)) refl refl refl bytes; few = base64_few bytes most le }
 
-after_in_line : (after : Option (List ℕ)) → IsAfter after → IsInLine (after_text after) 1370
-after_in_line None is = record { clean = refl; few = omega arith }
-after_in_line (Some value) is =
-    let s = in_line (codes "\"" ++ base64 value) (codes "\"") 1369 1 (in_line (codes "\"") (base64 value) 1 1368 (record { clean = refl; few = omega arith }) (base64_in_line value is.0)) (record { clean = refl; few = omega arith }) in
-    record { clean = s.clean; few = omega (arith, s.few) }
+module _ (format : Format) where
+  after_in_line : (after : Option (List ℕ)) → IsAfter format after → IsInLine (after_text after) (2 * value_limit format + 6)
+  after_in_line None is = record { clean = refl; few = omega arith }
+  after_in_line (Some value) is =
+      let v = 2 * value_limit format + 4 in
+      let s = in_line (codes "\"" ++ base64 value) (codes "\"") (1 + v) 1 (in_line (codes "\"") (base64 value) 1 v (record { clean = refl; few = omega arith }) (base64_in_line value (value_limit format) is.0)) (record { clean = refl; few = omega arith }) in
+      record { clean = s.clean; few = omega (arith, s.few) }
 
-message_in_line : (m : Message) → IsMessage m → IsInLine (message_text m) 4000
-message_in_line (message.Row row) is =
-    let small : IsNumber row.ts = omega (arith, is.0.1) in
-    let a = in_line (codes "{\"after\":") (after_text row.after) 9 1370 (record { clean = refl; few = omega arith }) (after_in_line row.after is.2) in
-    let b = in_line (codes "{\"after\":" ++ after_text row.after) (codes ",\"key\":\"") 1379 8 a (record { clean = refl; few = omega arith }) in
-    let c = in_line (codes "{\"after\":" ++ after_text row.after ++ codes ",\"key\":\"") (base64 row.key) 1387 1368 b (base64_in_line row.key (omega (arith, is.1.1))) in
-    let d = in_line (codes "{\"after\":" ++ after_text row.after ++ codes ",\"key\":\"" ++ base64 row.key) (codes "\",\"updated\":\"") 2755 13 c (record { clean = refl; few = omega arith }) in
-    let f = in_line (codes "{\"after\":" ++ after_text row.after ++ codes ",\"key\":\"" ++ base64 row.key ++ codes "\",\"updated\":\"") (decimal row.ts) 2768 20 d (number_in_line row.ts small) in
-    let g = in_line (codes "{\"after\":" ++ after_text row.after ++ codes ",\"key\":\"" ++ base64 row.key ++ codes "\",\"updated\":\"" ++ decimal row.ts) (codes "\"}") 2788 2 f (record { clean = refl; few = omega arith }) in
-    record { clean = g.clean; few = omega (arith, g.few) }
-message_in_line (message.Resolved ts) is =
-    let small : IsNumber ts = omega (arith, is.1) in
-    let a = in_line (codes "{\"resolved\":\"") (decimal ts) 13 20 (record { clean = refl; few = omega arith }) (number_in_line ts small) in
-    let b = in_line (codes "{\"resolved\":\"" ++ decimal ts) (codes "\"}") 33 2 a (record { clean = refl; few = omega arith }) in
-    record { clean = b.clean; few = omega (arith, b.few) }
+  message_in_line : (m : Message) → IsMessage format m → IsInLine (message_text m) (2 * key_limit format + 2 * value_limit format + 90)
+  message_in_line (message.Row row) is =
+      let v = 2 * value_limit format + 6 in
+      let k = 2 * key_limit format + 4 in
+      let small : IsNumber row.ts = omega (arith, is.0.1) in
+      let a = in_line (codes "{\"after\":") (after_text row.after) 9 v (record { clean = refl; few = omega arith }) (after_in_line row.after is.2) in
+      let b = in_line (codes "{\"after\":" ++ after_text row.after) (codes ",\"key\":\"") (9 + v) 8 a (record { clean = refl; few = omega arith }) in
+      let c = in_line (codes "{\"after\":" ++ after_text row.after ++ codes ",\"key\":\"") (base64 row.key) (9 + v + 8) k b (base64_in_line row.key (key_limit format) is.1.1) in
+      let d = in_line (codes "{\"after\":" ++ after_text row.after ++ codes ",\"key\":\"" ++ base64 row.key) (codes "\",\"updated\":\"") (9 + v + 8 + k) 13 c (record { clean = refl; few = omega arith }) in
+      let f = in_line (codes "{\"after\":" ++ after_text row.after ++ codes ",\"key\":\"" ++ base64 row.key ++ codes "\",\"updated\":\"") (decimal row.ts) (9 + v + 8 + k + 13) 20 d (number_in_line row.ts small) in
+      let g = in_line (codes "{\"after\":" ++ after_text row.after ++ codes ",\"key\":\"" ++ base64 row.key ++ codes "\",\"updated\":\"" ++ decimal row.ts) (codes "\"}") (9 + v + 8 + k + 13 + 20) 2 f (record { clean = refl; few = omega arith }) in
+      record { clean = g.clean; few = omega (arith, g.few) }
+  message_in_line (message.Resolved ts) is =
+      let small : IsNumber ts = omega (arith, is.1) in
+      let a = in_line (codes "{\"resolved\":\"") (decimal ts) 13 20 (record { clean = refl; few = omega arith }) (number_in_line ts small) in
+      let b = in_line (codes "{\"resolved\":\"" ++ decimal ts) (codes "\"}") 33 2 a (record { clean = refl; few = omega arith }) in
+      record { clean = b.clean; few = omega (arith, b.few) }
 
--- the line of a message
-message_again : (m : Message) → IsMessage m → IsLineOf message_line_at message_line m
-unfolding message_line_at
-message_again m is =
-    let fits = message_in_line m is in
-    let text : text_at (message_line m) ≡ Ok (message_text m) = ap text_at (message_ends m) ∙ text_again (message_text m) (omega (arith, fits.few)) in (
-      λ rest. ap (λ (x : List ℕ). lines_of (x ++ rest)) (message_ends m) ∙ ap lines_of (append_assoc (message_text m) (10 ∷ []) rest) ∙ lines_again (message_text m) rest fits.clean ∙ ap (λ (x : List ℕ). x ∷ lines_of rest) (sym (message_ends m)),
-      rw (text, message_only m is) refl,
-    )
+  -- the line of a message
+  message_again : (m : Message) → IsMessage format m → IsLineOf (message_line_at format) message_line m
+  unfolding message_line_at
+  message_again m is =
+      let fits = message_in_line m is in
+      let text : text_at format (message_line m) ≡ Ok (message_text m) = ap (text_at format) (message_ends m) ∙ text_again format (message_text m) (omega (arith, (room format).0, fits.few)) in (
+        λ rest. ap (λ (x : List ℕ). lines_of (x ++ rest)) (message_ends m) ∙ ap lines_of (append_assoc (message_text m) (10 ∷ []) rest) ∙ lines_again (message_text m) rest fits.clean ∙ ap (λ (x : List ℕ). x ∷ lines_of rest) (sym (message_ends m)),
+        rw (text, message_only format m is) refl,
+      )
 
 -- what is read at a place, and where the text behind it is
 record IsReadBy {A : Type 0} (read : Result (A × Place) Fault) (x : A) (rest : List ℕ) : Type 0 where
@@ -237,55 +247,59 @@ many_again read show Is each (x ∷ xs) number rest are =
     ap (λ (text : List ℕ). next_at read (place number text)) (append_assoc (show x) (flat_map show xs) rest) ∙ next_again read show x number (flat_map show xs ++ rest) (each x are.0) in
     record { number = others.number; is = rw (one, others.is) refl }
 
--- the lines that follow a reply
-following_again : (r : Reply) (number : ℕ) (rest : List ℕ) → IsReply r → IsReadBy (following_at (shape_of r) (place number (following_lines r ++ rest))) r rest
-unfolding following_at following_lines IsReply
-following_again (reply.Rows rows) number rest is = let f = many_again row_line_at row_line IsPair row_again rows number rest is.1 in record { number = f.number; is = rw (f.is) refl }
-following_again (reply.Messages messages) number rest is = let f = many_again message_line_at message_line IsMessage message_again messages number rest is.1 in record { number = f.number; is = rw (f.is) refl }
-following_again reply.Started number rest is = record { number = number; is = refl }
-following_again (reply.Found found) number rest is = record { number = number; is = refl }
-following_again reply.Written number rest is = record { number = number; is = refl }
-following_again (reply.Committed keys) number rest is = record { number = number; is = refl }
-following_again reply.Aborted number rest is = record { number = number; is = refl }
-following_again (reply.Closed at aborted) number rest is = record { number = number; is = refl }
-following_again (reply.Protected id) number rest is = record { number = number; is = refl }
-following_again reply.Released number rest is = record { number = number; is = refl }
-following_again (reply.Collected horizon removed) number rest is = record { number = number; is = refl }
-following_again (reply.Opened feed) number rest is = record { number = number; is = refl }
-following_again reply.Cancelled number rest is = record { number = number; is = refl }
-following_again (reply.Stats versions undecided feeds closed horizon) number rest is = record { number = number; is = refl }
-following_again (reply.Refused r) number rest is = record { number = number; is = refl }
+module _ (format : Format) where
+  -- the lines that follow a reply
+  following_again : (r : Reply) (number : ℕ) (rest : List ℕ) → IsReply format r → IsReadBy (following_at format (shape_of r) (place number (following_lines r ++ rest))) r rest
+  unfolding following_at following_lines IsReply
+  following_again (reply.Rows rows) number rest is = let f = many_again (row_line_at format) row_line (IsPair format) (row_again format) rows number rest is.1 in record { number = f.number; is = rw (f.is) refl }
+  following_again (reply.Messages messages) number rest is = let f = many_again (message_line_at format) message_line (IsMessage format) (message_again format) messages number rest is.1 in record { number = f.number; is = rw (f.is) refl }
+  following_again reply.Started number rest is = record { number = number; is = refl }
+  following_again (reply.Found found) number rest is = record { number = number; is = refl }
+  following_again reply.Written number rest is = record { number = number; is = refl }
+  following_again (reply.Committed keys) number rest is = record { number = number; is = refl }
+  following_again reply.Aborted number rest is = record { number = number; is = refl }
+  following_again (reply.Closed at aborted) number rest is = record { number = number; is = refl }
+  following_again (reply.Protected id) number rest is = record { number = number; is = refl }
+  following_again reply.Released number rest is = record { number = number; is = refl }
+  following_again (reply.Collected horizon removed) number rest is = record { number = number; is = refl }
+  following_again (reply.Opened feed) number rest is = record { number = number; is = refl }
+  following_again reply.Cancelled number rest is = record { number = number; is = refl }
+  following_again (reply.Stats versions undecided feeds closed horizon) number rest is = record { number = number; is = refl }
+  following_again (reply.Refused r) number rest is = record { number = number; is = refl }
 
 -- ---- events
 
--- the lines of an event
-event_again : (e : Event) (number : ℕ) (rest : List ℕ) → IsEvent e → KeepsLimit e → IsReadBy (event_at (place number (event_text e ++ rest))) e rest
-unfolding event_at
-event_again e number rest is short =
-    let follows = following_again e.reply (number + 1) rest is.3 in
-    let cut : lines_of (event_text e ++ rest) ≡ (heading_text e ++ 10 ∷ []) ∷ lines_of (following_lines e.reply ++ rest) = ap lines_of (append_assoc (heading_text e) (10 ∷ following_lines e.reply) rest) ∙ words_line_again (words_in e) (following_lines e.reply ++ rest) (words_in_are e is) in
-    record { number = follows.number; is = rw (cut, heading_again e is short, follows.is) refl }
+module _ (format : Format) where
+  -- the lines of an event
+  event_again : (e : Event) (number : ℕ) (rest : List ℕ) → IsEvent format e → KeepsLimit format e → IsReadBy (event_at format (place number (event_text e ++ rest))) e rest
+  unfolding event_at
+  event_again e number rest is short =
+      let follows = following_again format e.reply (number + 1) rest is.3 in
+      let cut : lines_of (event_text e ++ rest) ≡ (heading_text e ++ 10 ∷ []) ∷ lines_of (following_lines e.reply ++ rest) = ap lines_of (append_assoc (heading_text e) (10 ∷ following_lines e.reply) rest) ∙ words_line_again (words_in e) (following_lines e.reply ++ rest) (words_in_are format e is) in
+      record { number = follows.number; is = rw (cut, heading_again format e is short, follows.is) refl }
 
--- there are lines where an event is read
-some_lines : (e : Event) (rest : List ℕ) (p : Place) → IsReadBy (event_at p) e rest → (length p.lines == 0) ≡ false
-some_lines e rest p by = ne_eqb (length p.lines) 0 (λ none. absurd (omega (arith, none, event_fewer p (e, place by.number rest) by.is)))
+  -- there are lines where an event is read
+  some_lines : (e : Event) (rest : List ℕ) (p : Place) → IsReadBy (event_at format p) e rest → (length p.lines == 0) ≡ false
+  some_lines e rest p by = ne_eqb (length p.lines) 0 (λ none. absurd (omega (arith, none, event_fewer format p (e, place by.number rest) by.is)))
 
--- the lines of events, where enough events are allowed
-events_again : (es : List Event) (number n : ℕ) → AllByRecursion IsEvent es → AllByRecursion KeepsLimit es → length (lines_of (transcript_text es)) ≤ n → events_at n (place number (transcript_text es)) ≡ Ok es
-unfolding events_at lines_of
-events_again [] number zero are short enough = refl
-events_again [] number (suc n) are short enough = refl
-events_again (e ∷ es) number zero are short enough =
-    let one = event_again e number (transcript_text es) are.0 short.0 in
-    absurd (omega (arith, enough, event_fewer (place number (transcript_text (e ∷ es))) (e, place one.number (transcript_text es)) one.is))
-events_again (e ∷ es) number (suc n) are short enough =
-    let p = place number (transcript_text (e ∷ es)) in
-    let one = event_again e number (transcript_text es) are.0 short.0 in
-    let fewer = event_fewer p (e, place one.number (transcript_text es)) one.is in
-    let others = events_again es one.number n are.1 short.1 (omega (arith, enough, fewer)) in
-    rw (some_lines e (transcript_text es) p one, one.is, others) refl
+  -- the lines of events, where enough events are allowed
+  events_again : (es : List Event) (number n : ℕ) → AllByRecursion (IsEvent format) es → AllByRecursion (KeepsLimit format) es → length (lines_of (events_text es)) ≤ n → events_at format n (place number (events_text es)) ≡ Ok es
+  unfolding events_at lines_of
+  events_again [] number zero are short enough = refl
+  events_again [] number (suc n) are short enough = refl
+  events_again (e ∷ es) number zero are short enough =
+      let one = event_again e number (events_text es) are.0 short.0 in
+      absurd (omega (arith, enough, event_fewer format (place number (events_text (e ∷ es))) (e, place one.number (events_text es)) one.is))
+  events_again (e ∷ es) number (suc n) are short enough =
+      let p = place number (events_text (e ∷ es)) in
+      let one = event_again e number (events_text es) are.0 short.0 in
+      let fewer = event_fewer format p (e, place one.number (events_text es)) one.is in
+      let others = events_again es one.number n are.1 short.1 (omega (arith, enough, fewer)) in
+      rw (some_lines e (events_text es) p one, one.is, others) refl
 
--- the text of events is read as these events
-pub transcript_again : (es : List Event) → All IsEvent es → All KeepsLimit es → transcript_at (transcript_text es) ≡ Ok es
-unfolding transcript_at
-transcript_again es are short = events_again es 1 (length (lines_of (transcript_text es))) (recursion_from_All IsEvent es are) (recursion_from_All KeepsLimit es short) (omega arith)
+  -- the transcript of events is read as these events
+  pub transcript_again : (es : List Event) → All (IsEvent format) es → All (KeepsLimit format) es → transcript_at format (transcript_text format es) ≡ Ok es
+  unfolding body_at
+  transcript_again es are short =
+      header_again format (events_text es)
+      ∙ events_again es (1 + header_lines format) (length (lines_of (events_text es))) (recursion_from_All (IsEvent format) es are) (recursion_from_All (KeepsLimit format) es short) (omega arith)

@@ -1,5 +1,6 @@
 pub mod CutLines
 pub mod TakeLines
+pub mod Headers
 pub mod MessageLines
 pub mod Arrows
 pub mod ReadReplies

@@ -7,6 +7,8 @@ use Rattle.std.proofs.lemmas.Bool.{leb-true, ltb-true, le-leb, lt-ltb}
 use Rattle.std.proofs.lemmas.Bool.{ne_eqb}
 use Rattle.std.proofs.lemmas.List.Folds.{list_all-append}
 use Rattle.std.proofs.lemmas.Slice.Eq.{bytes_eq-Decides}
+use Rattle.text_format.specs.declared.Format.{Format}
+use Rattle.text_format.specs.Limits.{key_limit, value_limit}
 use Rattle.base64.specs.Rfc4648.{encode_symbols, padding_len}
 use Rattle.base64.specs.Engines.{standard}
 use Rattle.base64.specs.GeneralPurpose.{decoded_of}
@@ -41,51 +43,53 @@ fitting (b ∷ bytes) fits = rw (lt-ltb b 256 fits.0) (fitting bytes fits.1)
 timestamp_is : (ts : ℕ) → (nat_le 1 ts && nat_le ts 9223372036854775807) ≡ true → IsTimestamp ts
 timestamp_is ts e = let h = both (nat_le 1 ts) (nat_le ts 9223372036854775807) e in (leb-true _ _ h.0, leb-true _ _ h.1)
 
-key_is : (key : List ℕ) → ((nat_le 1 (length key) && nat_le (length key) 64) && list_all (λ b. nat_lt b 256) key) ≡ true → IsKey key
-key_is key e =
-    let h = both (nat_le 1 (length key) && nat_le (length key) 64) (list_all (λ b. nat_lt b 256) key) e in
-    let k = both (nat_le 1 (length key)) (nat_le (length key) 64) h.0 in
-    (leb-true _ _ k.0, leb-true _ _ k.1, bytes_fit key h.1)
+module _ (format : Format) where
+  key_is : (key : List ℕ) → ((nat_le 1 (length key) && nat_le (length key) (key_limit format)) && list_all (λ b. nat_lt b 256) key) ≡ true → IsKey format key
+  key_is key e =
+      let h = both (nat_le 1 (length key) && nat_le (length key) (key_limit format)) (list_all (λ b. nat_lt b 256) key) e in
+      let k = both (nat_le 1 (length key)) (nat_le (length key) (key_limit format)) h.0 in
+      (leb-true _ _ k.0, leb-true _ _ k.1, bytes_fit key h.1)
 
-lawful_row : (ts : ℕ) (key : List ℕ) (after : Option (List ℕ)) → is_lawful (message.Row (record { ts = ts; key = key; after = after })) ≡ true → IsMessage (message.Row (record { ts = ts; key = key; after = after }))
-lawful_row ts key None e =
-    let h = both ((nat_le 1 ts && nat_le ts 9223372036854775807) && ((nat_le 1 (length key) && nat_le (length key) 64) && list_all (λ b. nat_lt b 256) key)) true e in
-    let k = both (nat_le 1 ts && nat_le ts 9223372036854775807) ((nat_le 1 (length key) && nat_le (length key) 64) && list_all (λ b. nat_lt b 256) key) h.0 in
-    (timestamp_is ts k.0, key_is key k.1, tt)
-lawful_row ts key (Some value) e =
-    let h = both ((nat_le 1 ts && nat_le ts 9223372036854775807) && ((nat_le 1 (length key) && nat_le (length key) 64) && list_all (λ b. nat_lt b 256) key)) (nat_le (length value) 1024 && list_all (λ b. nat_lt b 256) value) e in
-    let k = both (nat_le 1 ts && nat_le ts 9223372036854775807) ((nat_le 1 (length key) && nat_le (length key) 64) && list_all (λ b. nat_lt b 256) key) h.0 in
-    let v = both (nat_le (length value) 1024) (list_all (λ b. nat_lt b 256) value) h.1 in
-    (timestamp_is ts k.0, key_is key k.1, (leb-true _ _ v.0, bytes_fit value v.1))
+  lawful_row : (ts : ℕ) (key : List ℕ) (after : Option (List ℕ)) → is_lawful format (message.Row (record { ts = ts; key = key; after = after })) ≡ true → IsMessage format (message.Row (record { ts = ts; key = key; after = after }))
+  lawful_row ts key None e =
+      let h = both ((nat_le 1 ts && nat_le ts 9223372036854775807) && ((nat_le 1 (length key) && nat_le (length key) (key_limit format)) && list_all (λ b. nat_lt b 256) key)) true e in
+      let k = both (nat_le 1 ts && nat_le ts 9223372036854775807) ((nat_le 1 (length key) && nat_le (length key) (key_limit format)) && list_all (λ b. nat_lt b 256) key) h.0 in
+      (timestamp_is ts k.0, key_is key k.1, tt)
+  lawful_row ts key (Some value) e =
+      let h = both ((nat_le 1 ts && nat_le ts 9223372036854775807) && ((nat_le 1 (length key) && nat_le (length key) (key_limit format)) && list_all (λ b. nat_lt b 256) key)) (nat_le (length value) (value_limit format) && list_all (λ b. nat_lt b 256) value) e in
+      let k = both (nat_le 1 ts && nat_le ts 9223372036854775807) ((nat_le 1 (length key) && nat_le (length key) (key_limit format)) && list_all (λ b. nat_lt b 256) key) h.0 in
+      let v = both (nat_le (length value) (value_limit format)) (list_all (λ b. nat_lt b 256) value) h.1 in
+      (timestamp_is ts k.0, key_is key k.1, (leb-true _ _ v.0, bytes_fit value v.1))
 
--- what passes the tests is in range
-lawful_is : (m : Message) → is_lawful m ≡ true → IsMessage m
-lawful_is (message.Row row) e = lawful_row row.ts row.key row.after e
-lawful_is (message.Resolved ts) e = timestamp_is ts e
+  -- what passes the tests is in range
+  lawful_is : (m : Message) → is_lawful format m ≡ true → IsMessage format m
+  lawful_is (message.Row row) e = lawful_row row.ts row.key row.after e
+  lawful_is (message.Resolved ts) e = timestamp_is ts e
 
-row_lawful : (ts : ℕ) (key : List ℕ) (after : Option (List ℕ)) → IsMessage (message.Row (record { ts = ts; key = key; after = after })) → is_lawful (message.Row (record { ts = ts; key = key; after = after })) ≡ true
-row_lawful ts key None is = rw (le-leb 1 ts is.0.0, le-leb ts 9223372036854775807 is.0.1, le-leb 1 (length key) is.1.0, le-leb (length key) 64 is.1.1, fitting key is.1.2) refl
-row_lawful ts key (Some value) is =
-    rw (le-leb 1 ts is.0.0, le-leb ts 9223372036854775807 is.0.1, le-leb 1 (length key) is.1.0, le-leb (length key) 64 is.1.1, fitting key is.1.2, le-leb (length value) 1024 is.2.0, fitting value is.2.1) refl
+  row_lawful : (ts : ℕ) (key : List ℕ) (after : Option (List ℕ)) → IsMessage format (message.Row (record { ts = ts; key = key; after = after })) → is_lawful format (message.Row (record { ts = ts; key = key; after = after })) ≡ true
+  row_lawful ts key None is = rw (le-leb 1 ts is.0.0, le-leb ts 9223372036854775807 is.0.1, le-leb 1 (length key) is.1.0, le-leb (length key) (key_limit format) is.1.1, fitting key is.1.2) refl
+  row_lawful ts key (Some value) is =
+      rw (le-leb 1 ts is.0.0, le-leb ts 9223372036854775807 is.0.1, le-leb 1 (length key) is.1.0, le-leb (length key) (key_limit format) is.1.1, fitting key is.1.2, le-leb (length value) (value_limit format) is.2.0, fitting value is.2.1) refl
 
--- what is in range passes the tests
-is_told : (m : Message) → IsMessage m → is_lawful m ≡ true
-is_told (message.Row row) is = row_lawful row.ts row.key row.after is
-is_told (message.Resolved ts) is = rw (le-leb 1 ts is.0, le-leb ts 9223372036854775807 is.1) refl
+  -- what is in range passes the tests
+  is_told : (m : Message) → IsMessage format m → is_lawful format m ≡ true
+  is_told (message.Row row) is = row_lawful row.ts row.key row.after is
+  is_told (message.Resolved ts) is = rw (le-leb 1 ts is.0, le-leb ts 9223372036854775807 is.1) refl
 
 -- ---- what is read is written so
 
-found_by : (o : Option Message) (line : List ℕ) (m : Message) → option_and_then (λ x. cond (is_lawful x && bytes_eq (message_line x) line) (some_of x) None) o ≡ some_of m → (line ≡ message_line m) × IsMessage m
-found_by None line m e = absurd cc
-found_by (Some x) line m e =
-    let h = chosen (is_lawful x && bytes_eq (message_line x) line) x m e in
-    let k = both (is_lawful x) (bytes_eq (message_line x) line) h.0 in
-    subst (λ (y : Message). (line ≡ message_line y) × IsMessage y) h.1 (sym ((bytes_eq-Decides (message_line x) line).0 k.1), lawful_is x k.0)
+module _ (format : Format) where
+  found_by : (o : Option Message) (line : List ℕ) (m : Message) → option_and_then (λ x. cond (is_lawful format x && bytes_eq (message_line x) line) (some_of x) None) o ≡ some_of m → (line ≡ message_line m) × IsMessage format m
+  found_by None line m e = absurd cc
+  found_by (Some x) line m e =
+      let h = chosen (is_lawful format x && bytes_eq (message_line x) line) x m e in
+      let k = both (is_lawful format x) (bytes_eq (message_line x) line) h.0 in
+      subst (λ (y : Message). (line ≡ message_line y) × IsMessage format y) h.1 (sym ((bytes_eq-Decides (message_line x) line).0 k.1), lawful_is format x k.0)
 
--- what is read as a message is in range, and written so
-pub message_found : (line : List ℕ) (m : Message) → message_of line ≡ Some m → (line ≡ message_line m) × IsMessage m
-unfolding message_of
-message_found line m e = found_by (between (slice_split (λ b. b == 34) line)) line m e
+  -- what is read as a message is in range, and written so
+  pub message_found : (line : List ℕ) (m : Message) → message_of format line ≡ Some m → (line ≡ message_line m) × IsMessage format m
+  unfolding message_of
+  message_found line m e = found_by (between (slice_split (λ b. b == 34) line)) line m e
 
 -- ---- what is written is read so
 
@@ -151,30 +155,31 @@ write_line : (ts : ℕ) (key value : List ℕ) → message_line (message.Row (re
 unfolding message_line
 write_line ts key value = simp append_assoc
 
-between_row : (ts : ℕ) (key : List ℕ) (after : Option (List ℕ)) → IsMessage (message.Row (record { ts = ts; key = key; after = after }))
-    → between (slice_split (λ b. b == 34) (message_line (message.Row (record { ts = ts; key = key; after = after })))) ≡ Some (message.Row (record { ts = ts; key = key; after = after }))
-between_row ts key None is =
-    let small : ts < 2 ^ 64 = omega (arith, is.0.1) in
-    let parts = codes "{" ∷ codes "after" ∷ codes ":null," ∷ tail_of ts key in
-    ap (λ (x : List ℕ). between (slice_split (λ b. b == 34) x)) (delete_line ts key) ∙ ap between (split_joined 34 parts (omega arith) (refl, (refl, (refl, tail_clean ts key small))))
-    ∙ rw (decoded_again key is.1.2, number_only ts small) refl
-between_row ts key (Some value) is =
-    let small : ts < 2 ^ 64 = omega (arith, is.0.1) in
-    let parts = codes "{" ∷ codes "after" ∷ codes ":" ∷ base64 value ∷ codes "," ∷ tail_of ts key in
-    ap (λ (x : List ℕ). between (slice_split (λ b. b == 34) x)) (write_line ts key value) ∙ ap between (split_joined 34 parts (omega arith) (refl, (refl, (refl, (base64_clean value, (refl, tail_clean ts key small))))))
-    ∙ rw (decoded_again value is.2.1, decoded_again key is.1.2, number_only ts small) refl
+module _ (format : Format) where
+  between_row : (ts : ℕ) (key : List ℕ) (after : Option (List ℕ)) → IsMessage format (message.Row (record { ts = ts; key = key; after = after }))
+      → between (slice_split (λ b. b == 34) (message_line (message.Row (record { ts = ts; key = key; after = after })))) ≡ Some (message.Row (record { ts = ts; key = key; after = after }))
+  between_row ts key None is =
+      let small : ts < 2 ^ 64 = omega (arith, is.0.1) in
+      let parts = codes "{" ∷ codes "after" ∷ codes ":null," ∷ tail_of ts key in
+      ap (λ (x : List ℕ). between (slice_split (λ b. b == 34) x)) (delete_line ts key) ∙ ap between (split_joined 34 parts (omega arith) (refl, (refl, (refl, tail_clean ts key small))))
+      ∙ rw (decoded_again key is.1.2, number_only ts small) refl
+  between_row ts key (Some value) is =
+      let small : ts < 2 ^ 64 = omega (arith, is.0.1) in
+      let parts = codes "{" ∷ codes "after" ∷ codes ":" ∷ base64 value ∷ codes "," ∷ tail_of ts key in
+      ap (λ (x : List ℕ). between (slice_split (λ b. b == 34) x)) (write_line ts key value) ∙ ap between (split_joined 34 parts (omega arith) (refl, (refl, (refl, (base64_clean value, (refl, tail_clean ts key small))))))
+      ∙ rw (decoded_again value is.2.1, decoded_again key is.1.2, number_only ts small) refl
 
--- what stands between the quotes is the message
-between_line : (m : Message) → IsMessage m → between (slice_split (λ b. b == 34) (message_line m)) ≡ Some m
-between_line (message.Row row) is = between_row row.ts row.key row.after is
-between_line (message.Resolved ts) is =
-    let small : ts < 2 ^ 64 = omega (arith, is.1) in
-    ap between (resolved_pieces ts small) ∙ rw (number_only ts small) refl
+  -- what stands between the quotes is the message
+  between_line : (m : Message) → IsMessage format m → between (slice_split (λ b. b == 34) (message_line m)) ≡ Some m
+  between_line (message.Row row) is = between_row row.ts row.key row.after is
+  between_line (message.Resolved ts) is =
+      let small : ts < 2 ^ 64 = omega (arith, is.1) in
+      ap between (resolved_pieces ts small) ∙ rw (number_only ts small) refl
 
--- what is written of a message in range is read so
-pub message_only : (m : Message) → IsMessage m → message_of (message_line m) ≡ Some m
-unfolding message_of
-message_only m is = rw (between_line m is, is_told m is, (bytes_eq-Decides (message_line m) (message_line m)).1 refl) refl
+  -- what is written of a message in range is read so
+  pub message_only : (m : Message) → IsMessage format m → message_of format (message_line m) ≡ Some m
+  unfolding message_of
+  message_only m is = rw (between_line m is, is_told format m is, (bytes_eq-Decides (message_line m) (message_line m)).1 refl) refl
 
 -- ---- lines of messages
 
@@ -182,21 +187,22 @@ option_none : (o : Option Message) → ((m : Message) → o ≡ Some m → ⊥) 
 option_none None never = refl
 option_none (Some m) never = absurd (never m refl)
 
--- a line that is a message's is read so
-pub message_told : (line text : List ℕ) (m : Message) → text_at line ≡ Ok text → (line ≡ message_line m) × IsMessage m → message_line_at line ≡ Ok m
-unfolding message_line_at
-message_told line text m e is = rw (e, ap message_of is.0 ∙ message_only m is.1) refl
+module _ (format : Format) where
+  -- a line that is a message's is read so
+  pub message_told : (line text : List ℕ) (m : Message) → text_at format line ≡ Ok text → (line ≡ message_line m) × IsMessage format m → message_line_at format line ≡ Ok m
+  unfolding message_line_at
+  message_told line text m e is = rw (e, ap (message_of format) is.0 ∙ message_only format m is.1) refl
 
--- a line of which no message has that line
-no_message : (line text : List ℕ) → text_at line ≡ Ok text → ((m : Message) → IsMessage m → line ≡ message_line m → ⊥) → message_line_at line ≡ Err Follow
-unfolding message_line_at
-no_message line text e never = rw (e, option_none (message_of line) (λ m is. let f = message_found line m is in never m f.1 f.0)) refl
+  -- a line of which no message has that line
+  no_message : (line text : List ℕ) → text_at format line ≡ Ok text → ((m : Message) → IsMessage format m → line ≡ message_line m → ⊥) → message_line_at format line ≡ Err Follow
+  unfolding message_line_at
+  no_message line text e never = rw (e, option_none (message_of format line) (λ m is. let f = message_found format line m is in never m f.1 f.0)) refl
 
--- a line that is no message's is faulty
-pub message_refused : (fault : MessageFault) (line text : List ℕ) → text_at line ≡ Ok text → ((m : Message) → IsMessage m → line ≡ message_line m → fault ≡ NoMemory) → Fails (read_error_of fault) (message_line_at line)
-message_refused NoMemory line text e whole = tt
-message_refused NotJson line text e whole = no_message line text e (λ m is same. let out : NotJson ≡ NoMemory = whole m is same in cc)
-message_refused Shape line text e whole = no_message line text e (λ m is same. let out : Shape ≡ NoMemory = whole m is same in cc)
-message_refused Number line text e whole = no_message line text e (λ m is same. let out : Number ≡ NoMemory = whole m is same in cc)
-message_refused Base64 line text e whole = no_message line text e (λ m is same. let out : Base64 ≡ NoMemory = whole m is same in cc)
-message_refused Length line text e whole = no_message line text e (λ m is same. let out : Length ≡ NoMemory = whole m is same in cc)
+  -- a line that is no message's is faulty
+  pub message_refused : (fault : MessageFault) (line text : List ℕ) → text_at format line ≡ Ok text → ((m : Message) → IsMessage format m → line ≡ message_line m → fault ≡ NoMemory) → Fails (read_error_of fault) (message_line_at format line)
+  message_refused NoMemory line text e whole = tt
+  message_refused NotJson line text e whole = no_message line text e (λ m is same. let out : NotJson ≡ NoMemory = whole m is same in cc)
+  message_refused Shape line text e whole = no_message line text e (λ m is same. let out : Shape ≡ NoMemory = whole m is same in cc)
+  message_refused Number line text e whole = no_message line text e (λ m is same. let out : Number ≡ NoMemory = whole m is same in cc)
+  message_refused Base64 line text e whole = no_message line text e (λ m is same. let out : Base64 ≡ NoMemory = whole m is same in cc)
+  message_refused Length line text e whole = no_message line text e (λ m is same. let out : Length ≡ NoMemory = whole m is same in cc)

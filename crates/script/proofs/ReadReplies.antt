@@ -5,6 +5,7 @@ use Rattle.std.specs.List.{AllByRecursion}
 use Rattle.std.proofs.lemmas.Bool.{eqb-true}
 use Rattle.std.proofs.lemmas.List.{append-nil, nil_from_length}
 use Rattle.std.proofs.lemmas.Slice.Eq.{bytes_eq-Decides}
+use Rattle.text_format.specs.declared.Format.{Format}
 use Rattle.spans.specs.declared.calls.replies.Reply.{Reply}
 use Rattle.spans.specs.declared.calls.replies.Reply.TheVariants as reply
 use Rattle.spans.specs.declared.calls.replies.Refusal.{Refusal}
@@ -30,11 +31,12 @@ shape_words (shape.Alone r) = reply_words r
 shape_words (shape.Rows n) = codes "rows" ∷ decimal n ∷ []
 shape_words (shape.Messages n) = codes "messages" ∷ decimal n ∷ []
 
--- its numbers and its value are in range, and nothing follows where it is whole
-unfoldable pub IsShape : Shape → Type 0
-IsShape (shape.Alone r) = IsReply r × (following_lines r ≡ [])
-IsShape (shape.Rows n) = IsNumber n
-IsShape (shape.Messages n) = IsNumber n
+module _ (format : Format) where
+  -- its numbers and its value are in range, and nothing follows where it is whole
+  unfoldable pub IsShape : Shape → Type 0
+  IsShape (shape.Alone r) = IsReply format r × (following_lines r ≡ [])
+  IsShape (shape.Rows n) = IsNumber n
+  IsShape (shape.Messages n) = IsNumber n
 
 -- the name of a refusal
 abbrev reason_name : Reason → List ℕ
@@ -120,52 +122,53 @@ refusal_found reason.FeedCancelled ws x e = says_alone refusal_words IsRefusal (
 refusal_found reason.NoMemory ws x e = says_alone refusal_words IsRefusal (codes "nomemory") refusal.NoMemory ws x refl tt e
 refusal_found reason.GapRange ws x e = says_alone refusal_words IsRefusal (codes "gaprange") refusal.GapRange ws x refl tt e
 
-stats_found : (ws : List (List ℕ)) (x : Reply × List (List ℕ)) → stats_at ws ≡ Ok x → Says reply_words (λ r. IsReply r × (following_lines r ≡ [])) (codes "stats") ws x
-unfolding stats_at reply_words IsReply following_lines
-stats_found ws x e =
-    let a = bind_ok (number_at ws) (λ a. number_at a.1 >>= λ b. number_at b.1 >>= λ c. number_at c.1 >>= λ d. number_at d.1 >>= λ h. Ok (reply.Stats a.0 b.0 c.0 d.0 h.0, h.1)) x e in
-    let b = bind_ok (number_at a.0.1) (λ b. number_at b.1 >>= λ c. number_at c.1 >>= λ d. number_at d.1 >>= λ h. Ok (reply.Stats a.0.0 b.0 c.0 d.0 h.0, h.1)) x a.2 in
-    let c = bind_ok (number_at b.0.1) (λ c. number_at c.1 >>= λ d. number_at d.1 >>= λ h. Ok (reply.Stats a.0.0 b.0.0 c.0 d.0 h.0, h.1)) x b.2 in
-    let d = bind_ok (number_at c.0.1) (λ d. number_at d.1 >>= λ h. Ok (reply.Stats a.0.0 b.0.0 c.0.0 d.0 h.0, h.1)) x c.2 in
-    let h = bind_ok (number_at d.0.1) (λ h. Ok (reply.Stats a.0.0 b.0.0 c.0.0 d.0.0 h.0, h.1)) x d.2 in
-    let p = number_word ws a.0 a.1 in
-    let q = number_word a.0.1 b.0 b.1 in
-    let r = number_word b.0.1 c.0 c.1 in
-    let s = number_word c.0.1 d.0 d.1 in
-    let t = number_word d.0.1 h.0 h.1 in
-    subst (λ (y : Reply × List (List ℕ)). Says reply_words (λ r. IsReply r × (following_lines r ≡ [])) (codes "stats") ws y) (ok_is (reply.Stats a.0.0 b.0.0 c.0.0 d.0.0 h.0.0, h.0.1) x h.2)
-    (record {
-      text = ap (λ (z : List (List ℕ)). codes "stats" ∷ z) (p.0 ∙ ap (λ (z : List (List ℕ)). decimal a.0.0 ∷ z) (q.0 ∙ ap (λ (z : List (List ℕ)). decimal b.0.0 ∷ z) (r.0 ∙ ap (λ (z : List (List ℕ)). decimal c.0.0 ∷ z) (s.0 ∙ ap (λ (z : List (List ℕ)). decimal d.0.0 ∷ z) t.0))));
-      lawful = ((p.1, q.1, r.1, s.1, t.1), refl);
-    })
+module _ (format : Format) where
+  stats_found : (ws : List (List ℕ)) (x : Reply × List (List ℕ)) → stats_at ws ≡ Ok x → Says reply_words (λ r. IsReply format r × (following_lines r ≡ [])) (codes "stats") ws x
+  unfolding stats_at reply_words IsReply following_lines
+  stats_found ws x e =
+      let a = bind_ok (number_at ws) (λ a. number_at a.1 >>= λ b. number_at b.1 >>= λ c. number_at c.1 >>= λ d. number_at d.1 >>= λ h. Ok (reply.Stats a.0 b.0 c.0 d.0 h.0, h.1)) x e in
+      let b = bind_ok (number_at a.0.1) (λ b. number_at b.1 >>= λ c. number_at c.1 >>= λ d. number_at d.1 >>= λ h. Ok (reply.Stats a.0.0 b.0 c.0 d.0 h.0, h.1)) x a.2 in
+      let c = bind_ok (number_at b.0.1) (λ c. number_at c.1 >>= λ d. number_at d.1 >>= λ h. Ok (reply.Stats a.0.0 b.0.0 c.0 d.0 h.0, h.1)) x b.2 in
+      let d = bind_ok (number_at c.0.1) (λ d. number_at d.1 >>= λ h. Ok (reply.Stats a.0.0 b.0.0 c.0.0 d.0 h.0, h.1)) x c.2 in
+      let h = bind_ok (number_at d.0.1) (λ h. Ok (reply.Stats a.0.0 b.0.0 c.0.0 d.0.0 h.0, h.1)) x d.2 in
+      let p = number_word ws a.0 a.1 in
+      let q = number_word a.0.1 b.0 b.1 in
+      let r = number_word b.0.1 c.0 c.1 in
+      let s = number_word c.0.1 d.0 d.1 in
+      let t = number_word d.0.1 h.0 h.1 in
+      subst (λ (y : Reply × List (List ℕ)). Says reply_words (λ r. IsReply format r × (following_lines r ≡ [])) (codes "stats") ws y) (ok_is (reply.Stats a.0.0 b.0.0 c.0.0 d.0.0 h.0.0, h.0.1) x h.2)
+      (record {
+        text = ap (λ (z : List (List ℕ)). codes "stats" ∷ z) (p.0 ∙ ap (λ (z : List (List ℕ)). decimal a.0.0 ∷ z) (q.0 ∙ ap (λ (z : List (List ℕ)). decimal b.0.0 ∷ z) (r.0 ∙ ap (λ (z : List (List ℕ)). decimal c.0.0 ∷ z) (s.0 ∙ ap (λ (z : List (List ℕ)). decimal d.0.0 ∷ z) t.0))));
+        lawful = ((p.1, q.1, r.1, s.1, t.1), refl);
+      })
 
-shape_found : (k : Kind) (ws : List (List ℕ)) (x : Shape × List (List ℕ)) → shape_at k ws ≡ Ok x → Says shape_words IsShape (kind_name k) ws x
-unfolding shape_at shape_words IsShape reply_words IsReply following_lines
-shape_found kind.Started ws x e = says_alone shape_words IsShape (codes "started") (shape.Alone reply.Started) ws x refl (tt, refl) e
-shape_found kind.Absent ws x e = says_alone shape_words IsShape (codes "none") (shape.Alone (reply.Found None)) ws x refl (tt, refl) e
-shape_found kind.Value ws x e =
-    let v = bind_ok (value_at ws) (λ v. Ok (shape.Alone (reply.Found (Some v.0)), v.1)) x e in
-    let w = value_word ws v.0 v.1 in
-    subst (λ (y : Shape × List (List ℕ)). Says shape_words IsShape (codes "value") ws y) (ok_is (shape.Alone (reply.Found (Some v.0.0)), v.0.1) x v.2) (record { text = ap (λ (z : List (List ℕ)). codes "value" ∷ z) w.0; lawful = (w.1, refl) })
-shape_found kind.Rows ws x e = says_number shape_words IsShape (codes "rows") shape.Rows ws x (λ n. refl) (λ n h. h) e
-shape_found kind.Written ws x e = says_alone shape_words IsShape (codes "written") (shape.Alone reply.Written) ws x refl (tt, refl) e
-shape_found kind.Committed ws x e = says_number shape_words IsShape (codes "committed") (λ n. shape.Alone (reply.Committed n)) ws x (λ n. refl) (λ n h. (h, refl)) e
-shape_found kind.Aborted ws x e = says_alone shape_words IsShape (codes "aborted") (shape.Alone reply.Aborted) ws x refl (tt, refl) e
-shape_found kind.Closed ws x e = says_two shape_words IsShape (codes "closed") (λ n m. shape.Alone (reply.Closed n m)) ws x (λ n m. refl) (λ n m h i. ((h, i), refl)) e
-shape_found kind.Messages ws x e = says_number shape_words IsShape (codes "messages") shape.Messages ws x (λ n. refl) (λ n h. h) e
-shape_found kind.Protected ws x e = says_number shape_words IsShape (codes "protected") (λ n. shape.Alone (reply.Protected n)) ws x (λ n. refl) (λ n h. (h, refl)) e
-shape_found kind.Released ws x e = says_alone shape_words IsShape (codes "released") (shape.Alone reply.Released) ws x refl (tt, refl) e
-shape_found kind.Collected ws x e = says_two shape_words IsShape (codes "collected") (λ n m. shape.Alone (reply.Collected n m)) ws x (λ n m. refl) (λ n m h i. ((h, i), refl)) e
-shape_found kind.Opened ws x e = says_number shape_words IsShape (codes "opened") (λ n. shape.Alone (reply.Opened n)) ws x (λ n. refl) (λ n h. (h, refl)) e
-shape_found kind.Cancelled ws x e = says_alone shape_words IsShape (codes "cancelled") (shape.Alone reply.Cancelled) ws x refl (tt, refl) e
-shape_found kind.Stats ws x e =
-    let r = bind_ok (stats_at ws) (λ r. Ok (shape.Alone r.0, r.1)) x e in
-    let says = stats_found ws r.0 r.1 in
-    subst (λ (y : Shape × List (List ℕ)). Says shape_words IsShape (codes "stats") ws y) (ok_is (shape.Alone r.0.0, r.0.1) x r.2) (record { text = says.text; lawful = says.lawful })
-shape_found (kind.Refused why) ws x e =
-    let r = bind_ok (refusal_at why ws) (λ r. Ok (shape.Alone (reply.Refused r.0), r.1)) x e in
-    let says = refusal_found why ws r.0 r.1 in
-    subst (λ (y : Shape × List (List ℕ)). Says shape_words IsShape (reason_name why) ws y) (ok_is (shape.Alone (reply.Refused r.0.0), r.0.1) x r.2) (record { text = says.text; lawful = (says.lawful, refl) })
+  shape_found : (k : Kind) (ws : List (List ℕ)) (x : Shape × List (List ℕ)) → shape_at format k ws ≡ Ok x → Says shape_words (IsShape format) (kind_name k) ws x
+  unfolding shape_at shape_words IsShape reply_words IsReply following_lines
+  shape_found kind.Started ws x e = says_alone shape_words (IsShape format) (codes "started") (shape.Alone reply.Started) ws x refl (tt, refl) e
+  shape_found kind.Absent ws x e = says_alone shape_words (IsShape format) (codes "none") (shape.Alone (reply.Found None)) ws x refl (tt, refl) e
+  shape_found kind.Value ws x e =
+      let v = bind_ok (value_at format ws) (λ v. Ok (shape.Alone (reply.Found (Some v.0)), v.1)) x e in
+      let w = value_word format ws v.0 v.1 in
+      subst (λ (y : Shape × List (List ℕ)). Says shape_words (IsShape format) (codes "value") ws y) (ok_is (shape.Alone (reply.Found (Some v.0.0)), v.0.1) x v.2) (record { text = ap (λ (z : List (List ℕ)). codes "value" ∷ z) w.0; lawful = (w.1, refl) })
+  shape_found kind.Rows ws x e = says_number shape_words (IsShape format) (codes "rows") shape.Rows ws x (λ n. refl) (λ n h. h) e
+  shape_found kind.Written ws x e = says_alone shape_words (IsShape format) (codes "written") (shape.Alone reply.Written) ws x refl (tt, refl) e
+  shape_found kind.Committed ws x e = says_number shape_words (IsShape format) (codes "committed") (λ n. shape.Alone (reply.Committed n)) ws x (λ n. refl) (λ n h. (h, refl)) e
+  shape_found kind.Aborted ws x e = says_alone shape_words (IsShape format) (codes "aborted") (shape.Alone reply.Aborted) ws x refl (tt, refl) e
+  shape_found kind.Closed ws x e = says_two shape_words (IsShape format) (codes "closed") (λ n m. shape.Alone (reply.Closed n m)) ws x (λ n m. refl) (λ n m h i. ((h, i), refl)) e
+  shape_found kind.Messages ws x e = says_number shape_words (IsShape format) (codes "messages") shape.Messages ws x (λ n. refl) (λ n h. h) e
+  shape_found kind.Protected ws x e = says_number shape_words (IsShape format) (codes "protected") (λ n. shape.Alone (reply.Protected n)) ws x (λ n. refl) (λ n h. (h, refl)) e
+  shape_found kind.Released ws x e = says_alone shape_words (IsShape format) (codes "released") (shape.Alone reply.Released) ws x refl (tt, refl) e
+  shape_found kind.Collected ws x e = says_two shape_words (IsShape format) (codes "collected") (λ n m. shape.Alone (reply.Collected n m)) ws x (λ n m. refl) (λ n m h i. ((h, i), refl)) e
+  shape_found kind.Opened ws x e = says_number shape_words (IsShape format) (codes "opened") (λ n. shape.Alone (reply.Opened n)) ws x (λ n. refl) (λ n h. (h, refl)) e
+  shape_found kind.Cancelled ws x e = says_alone shape_words (IsShape format) (codes "cancelled") (shape.Alone reply.Cancelled) ws x refl (tt, refl) e
+  shape_found kind.Stats ws x e =
+      let r = bind_ok (stats_at ws) (λ r. Ok (shape.Alone r.0, r.1)) x e in
+      let says = stats_found ws r.0 r.1 in
+      subst (λ (y : Shape × List (List ℕ)). Says shape_words (IsShape format) (codes "stats") ws y) (ok_is (shape.Alone r.0.0, r.0.1) x r.2) (record { text = says.text; lawful = says.lawful })
+  shape_found (kind.Refused why) ws x e =
+      let r = bind_ok (refusal_at why ws) (λ r. Ok (shape.Alone (reply.Refused r.0), r.1)) x e in
+      let says = refusal_found why ws r.0 r.1 in
+      subst (λ (y : Shape × List (List ℕ)). Says shape_words (IsShape format) (reason_name why) ws y) (ok_is (shape.Alone (reply.Refused r.0.0), r.0.1) x r.2) (record { text = says.text; lawful = (says.lawful, refl) })
 
 -- a row that says what its kind is
 abbrev Names : List ℕ × Kind → Type 0
@@ -196,16 +199,17 @@ pub told : {A : Type 0} (f : LineFault) (read : Result A LineFault) (x : A) → 
 told f (Ok y) x e = e
 told f (Err d) x e = absurd cc
 
--- a name, and what stands behind it
-named_found : (ws : List (List ℕ)) (s : Shape) → named_at ws ≡ Ok s → (ws ≡ shape_words s) × IsShape s
-unfolding named_at
-named_found ws s e =
-    let w = bind_ok (word_at ws) (λ w. ok_or (kind_of replies w.0) fault.Reply >>= λ k. to_the_end (shape_at k w.1)) s e in
-    let k = bind_ok (ok_or (kind_of replies w.0.0) fault.Reply) (λ k. to_the_end (shape_at k w.0.1)) s w.2 in
-    let name = kind_found replies w.0.0 k.0 replies_right (some_ok (kind_of replies w.0.0) fault.Reply k.0 k.1) in
-    let says = shape_found k.0 w.0.1 (s, []) (ended (shape_at k.0 w.0.1) s k.2) in
-    (word_found ws w.0 w.1 ∙ ap (λ (v : List ℕ). v ∷ w.0.1) name ∙ says.text ∙ append-nil (shape_words s), says.lawful)
+module _ (format : Format) where
+  -- a name, and what stands behind it
+  named_found : (ws : List (List ℕ)) (s : Shape) → named_at format ws ≡ Ok s → (ws ≡ shape_words s) × IsShape format s
+  unfolding named_at
+  named_found ws s e =
+      let w = bind_ok (word_at ws) (λ w. ok_or (kind_of replies w.0) fault.Reply >>= λ k. to_the_end (shape_at format k w.1)) s e in
+      let k = bind_ok (ok_or (kind_of replies w.0.0) fault.Reply) (λ k. to_the_end (shape_at format k w.0.1)) s w.2 in
+      let name = kind_found replies w.0.0 k.0 replies_right (some_ok (kind_of replies w.0.0) fault.Reply k.0 k.1) in
+      let says = shape_found format k.0 w.0.1 (s, []) (ended (shape_at format k.0 w.0.1) s k.2) in
+      (word_found ws w.0 w.1 ∙ ap (λ (v : List ℕ). v ∷ w.0.1) name ∙ says.text ∙ append-nil (shape_words s), says.lawful)
 
--- all words of a reply
-pub reply_found : (ws : List (List ℕ)) (s : Shape) → reply_at ws ≡ Ok s → (ws ≡ shape_words s) × IsShape s
-reply_found ws s e = named_found ws s (told fault.Reply (named_at ws) s e)
+  -- all words of a reply
+  pub reply_found : (ws : List (List ℕ)) (s : Shape) → reply_at format ws ≡ Ok s → (ws ≡ shape_words s) × IsShape format s
+  reply_found ws s e = named_found ws s (told fault.Reply (named_at format ws) s e)

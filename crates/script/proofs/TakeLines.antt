@@ -3,6 +3,8 @@ use Rattle.std.proofs.Common.{◌≡◌, ℕ, zero, suc, ◌-◌, ◌+◌, ◌<�
 use Rattle.std.specs.Prelude.{◌==◌}
 use Rattle.std.proofs.lemmas.Bool.{eqb-false}
 use Rattle.std.proofs.lemmas.List.{append-nil}
+use Rattle.text_format.specs.declared.Format.{Format}
+use Rattle.text_format.specs.Limits.{header_lines}
 use Rattle.spans.specs.declared.calls.events.Event.{Event}
 use Rattle.spans.specs.declared.calls.replies.Reply.{Reply}
 use Rattle.spans.specs.declared.calls.replies.Reply.TheVariants as reply
@@ -16,7 +18,7 @@ use Rattle.script.specs.declared.fault.TranscriptError.TheVariants as errors
 use Rattle.word_lines.proofs.ReadWords.{bind_ok, ok_is}
 use Rattle.script.specs.Lines.{Place, lines_of}
 use Rattle.word_lines.specs.Reading.{◌>>=◌}
-use Rattle.script.specs.Transcripts.{Fault, Fails, at_line, first_of, next_at, many_at, following_at, event_at, events_at, transcript_at}
+use Rattle.script.specs.Transcripts.{Fault, Fails, at_line, first_of, next_at, many_at, following_at, event_at, events_at, body_at}
 
 -- what was read before, and what is still read
 abbrev pub with_front : {A : Type 0} → List A → Result (List A × Place) Fault → Result (List A × Place) Fault
@@ -81,38 +83,41 @@ many_fewer read (suc n) p x e =
     let line = next_found read p first.0 first.1 in
     subst (λ y. length y.1.lines ≤ length p.lines) (ok_is (first.0.0 ∷ others.0.0, others.0.1) x others.2) (omega (arith, ap length line.1, many_fewer read n first.0.1 others.0 others.1))
 
--- nor by a reply
-following_fewer : (s : Shape) (p : Place) (x : Reply × Place) → following_at s p ≡ Ok x → length x.1.lines ≤ length p.lines
-unfolding following_at
-following_fewer (shape.Alone r) p x e = subst (λ (y : Reply × Place). length y.1.lines ≤ length p.lines) (ok_is (r, p) x e) (omega arith)
-following_fewer (shape.Rows n) p x e =
-    let rows = bind_ok (many_at row_line_at n p) (λ rows. Ok (reply.Rows rows.0, rows.1)) x e in
-    subst (λ (y : Reply × Place). length y.1.lines ≤ length p.lines) (ok_is (reply.Rows rows.0.0, rows.0.1) x rows.2) (many_fewer row_line_at n p rows.0 rows.1)
-following_fewer (shape.Messages n) p x e =
-    let messages = bind_ok (many_at message_line_at n p) (λ messages. Ok (reply.Messages messages.0, messages.1)) x e in
-    subst (λ (y : Reply × Place). length y.1.lines ≤ length p.lines) (ok_is (reply.Messages messages.0.0, messages.0.1) x messages.2) (many_fewer message_line_at n p messages.0 messages.1)
+module _ (format : Format) where
+  -- nor by a reply
+  following_fewer : (s : Shape) (p : Place) (x : Reply × Place) → following_at format s p ≡ Ok x → length x.1.lines ≤ length p.lines
+  unfolding following_at
+  following_fewer (shape.Alone r) p x e = subst (λ (y : Reply × Place). length y.1.lines ≤ length p.lines) (ok_is (r, p) x e) (omega arith)
+  following_fewer (shape.Rows n) p x e =
+      let rows = bind_ok (many_at (row_line_at format) n p) (λ rows. Ok (reply.Rows rows.0, rows.1)) x e in
+      subst (λ (y : Reply × Place). length y.1.lines ≤ length p.lines) (ok_is (reply.Rows rows.0.0, rows.0.1) x rows.2) (many_fewer (row_line_at format) n p rows.0 rows.1)
+  following_fewer (shape.Messages n) p x e =
+      let messages = bind_ok (many_at (message_line_at format) n p) (λ messages. Ok (reply.Messages messages.0, messages.1)) x e in
+      subst (λ (y : Reply × Place). length y.1.lines ≤ length p.lines) (ok_is (reply.Messages messages.0.0, messages.0.1) x messages.2) (many_fewer (message_line_at format) n p messages.0 messages.1)
 
 -- ---- events
 
--- an event takes a line at least
-pub event_fewer : (p : Place) (x : Event × Place) → event_at p ≡ Ok x → length x.1.lines < length p.lines
-unfolding event_at
-event_fewer p x e =
-    let made : Heading → Reply → Event = λ h r. record { position = h.position; seat = h.seat; cmd = h.cmd; reply = r } in
-    let h = bind_ok (next_at heading_at p) (λ h. following_at h.0.shape h.1 >>= λ r. Ok (made h.0 r.0, r.1)) x e in
-    let r = bind_ok (following_at h.0.0.shape h.0.1) (λ r. Ok (made h.0.0 r.0, r.1)) x h.2 in
-    let line = next_found heading_at p h.0 h.1 in
-    subst (λ (y : Event × Place). length y.1.lines < length p.lines) (ok_is (made h.0.0 r.0.0, r.0.1) x r.2) (omega (arith, ap length line.1, following_fewer h.0.0.shape h.0.1 r.0 r.1))
+module _ (format : Format) where
+  -- an event takes a line at least
+  pub event_fewer : (p : Place) (x : Event × Place) → event_at format p ≡ Ok x → length x.1.lines < length p.lines
+  unfolding event_at
+  event_fewer p x e =
+      let made : Heading → Reply → Event = λ h r. record { position = h.position; seat = h.seat; cmd = h.cmd; reply = r } in
+      let h = bind_ok (next_at (heading_at format) p) (λ h. following_at format h.0.shape h.1 >>= λ r. Ok (made h.0 r.0, r.1)) x e in
+      let r = bind_ok (following_at format h.0.0.shape h.0.1) (λ r. Ok (made h.0.0 r.0, r.1)) x h.2 in
+      let line = next_found (heading_at format) p h.0 h.1 in
+      subst (λ (y : Event × Place). length y.1.lines < length p.lines) (ok_is (made h.0.0 r.0.0, r.0.1) x r.2) (omega (arith, ap length line.1, following_fewer format h.0.0.shape h.0.1 r.0 r.1))
 
 -- the events before, and those that are still read
 abbrev pub onto : List Event → Result (List Event) Fault → Result (List Event) Fault
 onto front read = read >>= λ es. Ok (front ++ es)
 
--- what a loop over events keeps: enough events are still allowed to take all lines
-pub record Reads (front : List Event) (p : Place) (total : Result (List Event) Fault) : Type 0 where
-  pub most : ℕ
-  pub enough : length p.lines ≤ most
-  pub so_far : onto front (events_at most p) ≡ total
+module _ (format : Format) where
+  -- what a loop over events keeps: enough events are still allowed to take all lines
+  pub record Reads (front : List Event) (p : Place) (total : Result (List Event) Fault) : Type 0 where
+    pub most : ℕ
+    pub enough : length p.lines ≤ most
+    pub so_far : onto front (events_at format most p) ≡ total
 
 -- one event more was read
 regroup_events : (front : List Event) (e : Event) (read : Result (List Event) Fault) → onto front (read >>= λ others. Ok (e ∷ others)) ≡ onto (front ++ e ∷ []) read
@@ -123,45 +128,46 @@ onto_none : (read : Result (List Event) Fault) → onto [] read ≡ read
 onto_none (Ok es) = refl
 onto_none (Err f) = refl
 
--- nothing was read yet
-pub reads_all : (text : List ℕ) (p : Place) → p ≡ record { number = 1; lines = lines_of text } → Reads [] p (transcript_at text)
-unfolding transcript_at
-reads_all text p e =
-    subst (λ (q : Place). Reads [] q (transcript_at text)) (sym e)
-    (record { most = length (lines_of text); enough = omega arith; so_far = onto_none (events_at (length (lines_of text)) (record { number = 1; lines = lines_of text })) })
+module _ (format : Format) where
+  -- nothing was read yet
+  pub reads_all : (text : List ℕ) (p : Place) → p ≡ record { number = 1 + header_lines format; lines = lines_of text } → Reads format [] p (body_at format text)
+  unfolding body_at
+  reads_all text p e =
+      subst (λ (q : Place). Reads format [] q (body_at format text)) (sym e)
+      (record { most = length (lines_of text); enough = omega arith; so_far = onto_none (events_at format (length (lines_of text)) (record { number = 1 + header_lines format; lines = lines_of text })) })
 
-reads_on : (most : ℕ) (front : List Event) (p : Place) (e : Event) (after : Place) (total : Result (List Event) Fault) → (length p.lines == 0) ≡ false → event_at p ≡ Ok (e, after)
-    → length p.lines ≤ most → onto front (events_at most p) ≡ total → Reads (front ++ e ∷ []) after total
-unfolding events_at
-reads_on zero front p e after total some h enough so_far = absurd (omega (arith, event_fewer p (e, after) h))
-reads_on (suc n) front p e after total some h enough so_far =
-    let one : onto front (events_at (suc n) p) ≡ onto (front ++ e ∷ []) (events_at n after) = rw (some, h) (regroup_events front e (events_at n after)) in
-    record { most = n; enough = omega (arith, event_fewer p (e, after) h); so_far = sym one ∙ so_far }
+  reads_on : (most : ℕ) (front : List Event) (p : Place) (e : Event) (after : Place) (total : Result (List Event) Fault) → (length p.lines == 0) ≡ false → event_at format p ≡ Ok (e, after)
+      → length p.lines ≤ most → onto front (events_at format most p) ≡ total → Reads format (front ++ e ∷ []) after total
+  unfolding events_at
+  reads_on zero front p e after total some h enough so_far = absurd (omega (arith, event_fewer format p (e, after) h))
+  reads_on (suc n) front p e after total some h enough so_far =
+      let one : onto front (events_at format (suc n) p) ≡ onto (front ++ e ∷ []) (events_at format n after) = rw (some, h) (regroup_events front e (events_at format n after)) in
+      record { most = n; enough = omega (arith, event_fewer format p (e, after) h); so_far = sym one ∙ so_far }
 
--- one event more is read
-pub reads_more : (front : List Event) (p : Place) (e : Event) (after : Place) (total : Result (List Event) Fault) → (length p.lines == 0) ≡ false → event_at p ≡ Ok (e, after) → Reads front p total → Reads (front ++ e ∷ []) after total
-reads_more front p e after total some h reads = reads_on reads.most front p e after total some h reads.enough reads.so_far
+  -- one event more is read
+  pub reads_more : (front : List Event) (p : Place) (e : Event) (after : Place) (total : Result (List Event) Fault) → (length p.lines == 0) ≡ false → event_at format p ≡ Ok (e, after) → Reads format front p total → Reads format (front ++ e ∷ []) after total
+  reads_more front p e after total some h reads = reads_on reads.most front p e after total some h reads.enough reads.so_far
 
-fails_at : (most : ℕ) (line : ℕ) (fault : LineFault) (front : List Event) (p : Place) (total : Result (List Event) Fault) → (length p.lines == 0) ≡ false → event_at p ≡ Err (record { line = line; fault = fault })
-    → length p.lines ≤ most → onto front (events_at most p) ≡ total → total ≡ Err (record { line = line; fault = fault })
-unfolding events_at
-fails_at zero line fault front p total some h enough so_far = absurd (eqb-false (length p.lines) 0 some (omega arith))
-fails_at (suc n) line fault front p total some h enough so_far =
-    let one : onto front (events_at (suc n) p) ≡ Err (record { line = line; fault = fault }) = rw (some, h) refl in
-    sym so_far ∙ one
+  fails_at : (most : ℕ) (line : ℕ) (fault : LineFault) (front : List Event) (p : Place) (total : Result (List Event) Fault) → (length p.lines == 0) ≡ false → event_at format p ≡ Err (record { line = line; fault = fault })
+      → length p.lines ≤ most → onto front (events_at format most p) ≡ total → total ≡ Err (record { line = line; fault = fault })
+  unfolding events_at
+  fails_at zero line fault front p total some h enough so_far = absurd (eqb-false (length p.lines) 0 some (omega arith))
+  fails_at (suc n) line fault front p total some h enough so_far =
+      let one : onto front (events_at format (suc n) p) ≡ Err (record { line = line; fault = fault }) = rw (some, h) refl in
+      sym so_far ∙ one
 
--- an event is faulty
-pub reads_fail : (error : TranscriptError) (front : List Event) (p : Place) (total : Result (List Event) Fault) → (length p.lines == 0) ≡ false → Fails error (event_at p) → Reads front p total → Fails error total
-reads_fail errors.NoMemory front p total some h reads = tt
-reads_fail (errors.Fault line fault) front p total some h reads = fails_at reads.most line fault front p total some h reads.enough reads.so_far
+  -- an event is faulty
+  pub reads_fail : (error : TranscriptError) (front : List Event) (p : Place) (total : Result (List Event) Fault) → (length p.lines == 0) ≡ false → Fails error (event_at format p) → Reads format front p total → Fails error total
+  reads_fail errors.NoMemory front p total some h reads = tt
+  reads_fail (errors.Fault line fault) front p total some h reads = fails_at reads.most line fault front p total some h reads.enough reads.so_far
 
-ends_at : (most : ℕ) (front : List Event) (p : Place) (total : Result (List Event) Fault) → (length p.lines == 0) ≡ true → onto front (events_at most p) ≡ total → total ≡ Ok front
-unfolding events_at
-ends_at zero front p total none so_far = sym so_far ∙ ap (λ (es : List Event). Ok es) (append-nil front)
-ends_at (suc n) front p total none so_far =
-    let one : onto front (events_at (suc n) p) ≡ Ok front = rw none (ap (λ (es : List Event). Ok es) (append-nil front)) in
-    sym so_far ∙ one
+  ends_at : (most : ℕ) (front : List Event) (p : Place) (total : Result (List Event) Fault) → (length p.lines == 0) ≡ true → onto front (events_at format most p) ≡ total → total ≡ Ok front
+  unfolding events_at
+  ends_at zero front p total none so_far = sym so_far ∙ ap (λ (es : List Event). Ok es) (append-nil front)
+  ends_at (suc n) front p total none so_far =
+      let one : onto front (events_at format (suc n) p) ≡ Ok front = rw none (ap (λ (es : List Event). Ok es) (append-nil front)) in
+      sym so_far ∙ one
 
--- no line is left
-pub reads_end : (front : List Event) (p : Place) (total : Result (List Event) Fault) → (length p.lines == 0) ≡ true → Reads front p total → total ≡ Ok front
-reads_end front p total none reads = ends_at reads.most front p total none reads.so_far
+  -- no line is left
+  pub reads_end : (front : List Event) (p : Place) (total : Result (List Event) Fault) → (length p.lines == 0) ≡ true → Reads format front p total → total ≡ Ok front
+  reads_end front p total none reads = ends_at reads.most front p total none reads.so_far

@@ -1,6 +1,7 @@
 -- What is written of a reply's first line is words.
 use Rattle.std.proofs.Common.{length, Some, None, refl, arith}
 use Rattle.std.specs.List.{AllByRecursion}
+use Rattle.text_format.specs.declared.Format.{Format}
 use Rattle.spans.specs.declared.calls.replies.Reply.{Reply}
 use Rattle.spans.specs.declared.calls.replies.Reply.TheVariants as reply
 use Rattle.spans.specs.declared.calls.replies.Refusal.{Refusal}
@@ -27,22 +28,23 @@ refusal_are_words refusal.FeedCancelled is = ((omega arith, refl), tt)
 refusal_are_words refusal.NoMemory is = ((omega arith, refl), tt)
 refusal_are_words refusal.GapRange is = ((omega arith, refl), tt)
 
-pub reply_are_words : (r : Reply) → IsReply r → AllByRecursion IsWord (reply_words r)
-unfolding reply_words IsReply
-reply_are_words reply.Started is = ((omega arith, refl), tt)
-reply_are_words (reply.Found None) is = ((omega arith, refl), tt)
-reply_are_words (reply.Found (Some value)) is = ((omega arith, refl), (bytes_word value is.1, tt))
-reply_are_words (reply.Rows rows) is = ((omega arith, refl), (number_word (length rows) is.0, tt))
-reply_are_words reply.Written is = ((omega arith, refl), tt)
-reply_are_words (reply.Committed keys) is = ((omega arith, refl), (number_word keys is, tt))
-reply_are_words reply.Aborted is = ((omega arith, refl), tt)
-reply_are_words (reply.Closed at aborted) is = ((omega arith, refl), (number_word at is.0, (number_word aborted is.1, tt)))
-reply_are_words (reply.Protected id) is = ((omega arith, refl), (number_word id is, tt))
-reply_are_words reply.Released is = ((omega arith, refl), tt)
-reply_are_words (reply.Collected horizon removed) is = ((omega arith, refl), (number_word horizon is.0, (number_word removed is.1, tt)))
-reply_are_words (reply.Opened feed) is = ((omega arith, refl), (number_word feed is, tt))
-reply_are_words (reply.Messages messages) is = ((omega arith, refl), (number_word (length messages) is.0, tt))
-reply_are_words reply.Cancelled is = ((omega arith, refl), tt)
-reply_are_words (reply.Stats versions undecided feeds closed horizon) is =
-    ((omega arith, refl), (number_word versions is.0, (number_word undecided is.1, (number_word feeds is.2, (number_word closed is.3, (number_word horizon is.4, tt))))))
-reply_are_words (reply.Refused r) is = refusal_are_words r is
+module _ (format : Format) where
+  pub reply_are_words : (r : Reply) → IsReply format r → AllByRecursion IsWord (reply_words r)
+  unfolding reply_words IsReply
+  reply_are_words reply.Started is = ((omega arith, refl), tt)
+  reply_are_words (reply.Found None) is = ((omega arith, refl), tt)
+  reply_are_words (reply.Found (Some value)) is = ((omega arith, refl), (bytes_word value is.1, tt))
+  reply_are_words (reply.Rows rows) is = ((omega arith, refl), (number_word (length rows) is.0, tt))
+  reply_are_words reply.Written is = ((omega arith, refl), tt)
+  reply_are_words (reply.Committed keys) is = ((omega arith, refl), (number_word keys is, tt))
+  reply_are_words reply.Aborted is = ((omega arith, refl), tt)
+  reply_are_words (reply.Closed at aborted) is = ((omega arith, refl), (number_word at is.0, (number_word aborted is.1, tt)))
+  reply_are_words (reply.Protected id) is = ((omega arith, refl), (number_word id is, tt))
+  reply_are_words reply.Released is = ((omega arith, refl), tt)
+  reply_are_words (reply.Collected horizon removed) is = ((omega arith, refl), (number_word horizon is.0, (number_word removed is.1, tt)))
+  reply_are_words (reply.Opened feed) is = ((omega arith, refl), (number_word feed is, tt))
+  reply_are_words (reply.Messages messages) is = ((omega arith, refl), (number_word (length messages) is.0, tt))
+  reply_are_words reply.Cancelled is = ((omega arith, refl), tt)
+  reply_are_words (reply.Stats versions undecided feeds closed horizon) is =
+      ((omega arith, refl), (number_word versions is.0, (number_word undecided is.1, (number_word feeds is.2, (number_word closed is.3, (number_word horizon is.4, tt))))))
+  reply_are_words (reply.Refused r) is = refusal_are_words r is

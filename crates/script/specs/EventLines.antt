@@ -1,5 +1,6 @@
 -- Reading the lines of an event, each alone.
 use Rattle.std.specs.Prelude.{ℕ, ◌+◌, nat_lt, if◌then◌else◌, List, [], length, drop, slice_index_or, codes, Result, Ok, Err, ok_or, bytes_eq}
+use Rattle.text_format.specs.declared.Format.{Format}
 use Rattle.spans.specs.declared.calls.messages.Message.{Message}
 use Rattle.word_lines.specs.declared.fault.LineFault.{LineFault}
 use Rattle.word_lines.specs.declared.fault.LineFault.TheVariants.{WordCount, Follow}
@@ -19,48 +20,48 @@ unfoldable pub behind_arrow : ℕ → List (List ℕ) → Result (List (List ℕ
 behind_arrow arguments words = if bytes_eq (slice_index_or words arguments []) (codes "=>") then Ok (drop (arguments + 1) words) else Err WordCount
 
 -- the position, the session, the command and the reply, from the words of a line
-unfoldable pub heading_of : List (List ℕ) → Result Heading LineFault
-heading_of words = do
+unfoldable pub heading_of : Format → List (List ℕ) → Result Heading LineFault
+heading_of format words = do
   position ← number_at words
   session ← session_at 64 position.1
   row ← row_at table session.1
   answer ← behind_arrow row.0.arguments row.1
-  c ← arguments_at row.0.verb row.1
-  shape ← reply_at answer
+  c ← arguments_at format row.0.verb row.1
+  shape ← reply_at format answer
   Ok (record { position = position.0; seat = session.0; cmd = c.0; shape = shape })
 
 -- the first line of an event: the tests in the order in which they count
-unfoldable pub heading_at : List ℕ → Result Heading LineFault
-heading_at line = do
-  text ← text_at line
+unfoldable pub heading_at : Format → List ℕ → Result Heading LineFault
+heading_at format line = do
+  text ← text_at format line
   words ← words_at text
-  if nat_lt (length words) 3 then Err WordCount else heading_of words
+  if nat_lt (length words) 3 then Err WordCount else heading_of format words
 
 -- `row KEY VALUE`
-unfoldable pub pair_at : List (List ℕ) → Result ((List ℕ × List ℕ) × List (List ℕ)) LineFault
-pair_at words = do
+unfoldable pub pair_at : Format → List (List ℕ) → Result ((List ℕ × List ℕ) × List (List ℕ)) LineFault
+pair_at format words = do
   name ← word_at words
   if bytes_eq name.0 (codes "row") then (do
-    key ← key_at name.1
-    value ← value_at key.1
+    key ← key_at format name.1
+    value ← value_at format key.1
     Ok ((key.0, value.0), value.1)) else Err Follow
 
-unfoldable pub pair_of : List ℕ → Result (List ℕ × List ℕ) LineFault
-pair_of text = do
+unfoldable pub pair_of : Format → List ℕ → Result (List ℕ × List ℕ) LineFault
+pair_of format text = do
   words ← words_at text
-  to_the_end (pair_at words)
+  to_the_end (pair_at format words)
 
 -- the row of a line
-unfoldable pub row_line_at : List ℕ → Result (List ℕ × List ℕ) LineFault
-row_line_at line = do
-  text ← text_at line
-  told_as Follow (pair_of text)
+unfoldable pub row_line_at : Format → List ℕ → Result (List ℕ × List ℕ) LineFault
+row_line_at format line = do
+  text ← text_at format line
+  told_as Follow (pair_of format text)
 
 -- the message of a line
-unfoldable pub message_line_at : List ℕ → Result Message LineFault
-message_line_at line = do
-  text ← text_at line
-  ok_or (message_of line) Follow
+unfoldable pub message_line_at : Format → List ℕ → Result Message LineFault
+message_line_at format line = do
+  text ← text_at format line
+  ok_or (message_of format line) Follow
 
 -- why a line is no message, as the fault of a line that follows
 abbrev pub read_error_of : MessageFault → ReadError

@@ -1,5 +1,5 @@
 -- A text cut into lines, and a place among them.
-use Rattle.std.specs.Prelude.{ℕ, Bool, ◌==◌, if◌then◌else◌, List, [], ◌∷◌}
+use Rattle.std.specs.Prelude.{ℕ, ◌+◌, ◌≡◌, Bool, ◌==◌, if◌then◌else◌, List, [], ◌∷◌}
 use Rattle.std.specs.List.{onto_first}
 
 abbrev pub is_newline : ℕ → Bool
@@ -14,3 +14,11 @@ lines_of (b ∷ text) = if is_newline b then (b ∷ []) ∷ lines_of text else o
 pub record Place : Type 0 where
   pub number : ℕ
   pub lines : List (List ℕ)
+
+-- no line was left
+abbrev pub IsAtEnd : Place → Place → Type 0
+IsAtEnd p p' = (p.lines ≡ []) × (p' ≡ p)
+
+-- the line was taken
+abbrev pub IsPast : List ℕ → Place → Place → Type 0
+IsPast line p p' = (p.lines ≡ line ∷ p'.lines) × (p'.number ≡ p.number + 1)

@@ -1,6 +1,8 @@
 -- The message of a JSON line: what stands between the quotes, where the line is that of this message.
 use Rattle.std.specs.Prelude.{ℕ, ◌==◌, nat_le, nat_lt, Bool, true, ◌&&◌, if◌then◌else◌, List, [], ◌∷◌, length, Option, Some, None, option_and_then, bytes_eq}
 use Rattle.std.specs.List.{list_all, slice_split}
+use Rattle.text_format.specs.declared.Format.{Format}
+use Rattle.text_format.specs.Limits.{key_limit, value_limit}
 use Rattle.base64.specs.Engines.{standard}
 use Rattle.base64.specs.GeneralPurpose.{decoded_of}
 use Rattle.spans.specs.declared.calls.messages.Message.{Message}
@@ -27,17 +29,17 @@ are_bytes bytes = list_all (λ b. nat_lt b 256) bytes
 abbrev is_timestamp : ℕ → Bool
 is_timestamp ts = nat_le 1 ts && nat_le ts 9223372036854775807
 
-abbrev is_key : List ℕ → Bool
-is_key key = nat_le 1 (length key) && nat_le (length key) 64 && are_bytes key
+abbrev is_key : Format → List ℕ → Bool
+is_key format key = nat_le 1 (length key) && nat_le (length key) (key_limit format) && are_bytes key
 
-abbrev is_after : Option (List ℕ) → Bool
-is_after None = true
-is_after (Some value) = nat_le (length value) 1024 && are_bytes value
+abbrev is_after : Format → Option (List ℕ) → Bool
+is_after format None = true
+is_after format (Some value) = nat_le (length value) (value_limit format) && are_bytes value
 
 -- its timestamp, key and value are in range
-abbrev pub is_lawful : Message → Bool
-is_lawful (message.Row row) = is_timestamp row.ts && is_key row.key && is_after row.after
-is_lawful (message.Resolved ts) = is_timestamp ts
+abbrev pub is_lawful : Format → Message → Bool
+is_lawful format (message.Row row) = is_timestamp row.ts && is_key format row.key && is_after format row.after
+is_lawful format (message.Resolved ts) = is_timestamp ts
 
-unfoldable pub message_of : List ℕ → Option Message
-message_of line = option_and_then (λ m. if is_lawful m && bytes_eq (message_line m) line then Some m else None) (between (slice_split (λ b. b == 34) line))
+unfoldable pub message_of : Format → List ℕ → Option Message
+message_of format line = option_and_then (λ m. if is_lawful format m && bytes_eq (message_line m) line then Some m else None) (between (slice_split (λ b. b == 34) line))

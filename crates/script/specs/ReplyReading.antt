@@ -1,5 +1,6 @@
 -- Reading the words of a reply.
 use Rattle.std.specs.Prelude.{ℕ, ◌==◌, if◌then◌else◌, List, length, Some, None, Result, Ok, Err, ok_or}
+use Rattle.text_format.specs.declared.Format.{Format}
 use Rattle.spans.specs.declared.calls.replies.Reply.{Reply}
 use Rattle.spans.specs.declared.calls.replies.Reply.TheVariants as reply
 use Rattle.spans.specs.declared.calls.replies.Refusal.{Refusal}
@@ -64,37 +65,37 @@ stats_at words = do
   Ok (reply.Stats versions.0 undecided.0 feeds.0 closed.0 horizon.0, horizon.1)
 
 -- a reply of a kind, or how many lines follow, from the words behind its name
-unfoldable pub shape_at : Kind → List (List ℕ) → Result (Shape × List (List ℕ)) LineFault
-shape_at kind.Started words = Ok (shape.Alone reply.Started, words)
-shape_at kind.Absent words = Ok (shape.Alone (reply.Found None), words)
-shape_at kind.Value words = do
-  value ← value_at words
+unfoldable pub shape_at : Format → Kind → List (List ℕ) → Result (Shape × List (List ℕ)) LineFault
+shape_at format kind.Started words = Ok (shape.Alone reply.Started, words)
+shape_at format kind.Absent words = Ok (shape.Alone (reply.Found None), words)
+shape_at format kind.Value words = do
+  value ← value_at format words
   Ok (shape.Alone (reply.Found (Some value.0)), value.1)
-shape_at kind.Rows words = of_number shape.Rows words
-shape_at kind.Written words = Ok (shape.Alone reply.Written, words)
-shape_at kind.Committed words = of_number (λ n. shape.Alone (reply.Committed n)) words
-shape_at kind.Aborted words = Ok (shape.Alone reply.Aborted, words)
-shape_at kind.Closed words = of_two (λ n m. shape.Alone (reply.Closed n m)) words
-shape_at kind.Messages words = of_number shape.Messages words
-shape_at kind.Protected words = of_number (λ n. shape.Alone (reply.Protected n)) words
-shape_at kind.Released words = Ok (shape.Alone reply.Released, words)
-shape_at kind.Collected words = of_two (λ n m. shape.Alone (reply.Collected n m)) words
-shape_at kind.Opened words = of_number (λ n. shape.Alone (reply.Opened n)) words
-shape_at kind.Cancelled words = Ok (shape.Alone reply.Cancelled, words)
-shape_at kind.Stats words = do
+shape_at format kind.Rows words = of_number shape.Rows words
+shape_at format kind.Written words = Ok (shape.Alone reply.Written, words)
+shape_at format kind.Committed words = of_number (λ n. shape.Alone (reply.Committed n)) words
+shape_at format kind.Aborted words = Ok (shape.Alone reply.Aborted, words)
+shape_at format kind.Closed words = of_two (λ n m. shape.Alone (reply.Closed n m)) words
+shape_at format kind.Messages words = of_number shape.Messages words
+shape_at format kind.Protected words = of_number (λ n. shape.Alone (reply.Protected n)) words
+shape_at format kind.Released words = Ok (shape.Alone reply.Released, words)
+shape_at format kind.Collected words = of_two (λ n m. shape.Alone (reply.Collected n m)) words
+shape_at format kind.Opened words = of_number (λ n. shape.Alone (reply.Opened n)) words
+shape_at format kind.Cancelled words = Ok (shape.Alone reply.Cancelled, words)
+shape_at format kind.Stats words = do
   r ← stats_at words
   Ok (shape.Alone r.0, r.1)
-shape_at (kind.Refused why) words = do
+shape_at format (kind.Refused why) words = do
   r ← refusal_at why words
   Ok (shape.Alone (reply.Refused r.0), r.1)
 
 -- the name, and what stands behind it up to the end
-unfoldable pub named_at : List (List ℕ) → Result Shape LineFault
-named_at words = do
+unfoldable pub named_at : Format → List (List ℕ) → Result Shape LineFault
+named_at format words = do
   w ← word_at words
   k ← ok_or (kind_of replies w.0) fault.Reply
-  to_the_end (shape_at k w.1)
+  to_the_end (shape_at format k w.1)
 
 -- the words of a reply: where they are none, that is the one fault
-abbrev pub reply_at : List (List ℕ) → Result Shape LineFault
-reply_at words = told_as fault.Reply (named_at words)
+abbrev pub reply_at : Format → List (List ℕ) → Result Shape LineFault
+reply_at format words = told_as fault.Reply (named_at format words)

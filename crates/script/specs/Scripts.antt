@@ -1,6 +1,7 @@
 -- The commands of a whole script, up to its first faulty line.
-use Rattle.std.specs.Prelude.{◌≡◌, ℕ, ◌+◌, ◌<◌, List, [], ◌∷◌, ◌++◌, Option, Some, None, Result, Ok, Err}
+use Rattle.std.specs.Prelude.{◌≡◌, ℕ, ◌+◌, ◌<◌, length, List, [], ◌∷◌, ◌++◌, Option, Some, None, Result, Ok, Err}
 use Rattle.std.specs.List.{flat_map}
+use Rattle.text_format.specs.declared.Format.{Format}
 use Rattle.spans.specs.declared.calls.commands.Cmd.{Cmd}
 use Rattle.word_lines.specs.declared.fault.LineFault.{LineFault}
 use Rattle.script.specs.declared.fault.TranscriptError.{TranscriptError}
@@ -11,6 +12,10 @@ use Rattle.script.specs.Lines.{lines_of}
 use Rattle.word_lines.specs.Reading.{command_at}
 use Rattle.word_lines.specs.Table.{table}
 use Rattle.script.specs.Transcripts.{Fault}
+
+-- sessions, each with a command
+abbrev pub Calls : Type 0
+Calls = List (ℕ × Cmd)
 
 -- the sessions and the commands of an input's lines up to the first faulty one, and that one's number and fault
 pub record Script : Type 0 where
@@ -23,21 +28,29 @@ onto_script number (Ok call) below = record { calls = call ∷ below.calls; faul
 onto_script number (Err f) below = record { calls = []; fault = Some (record { line = number; fault = f }) }
 
 -- the script of lines for so many seats, where the first line has this number
-unfoldable pub script_of_lines : ℕ → ℕ → List (List ℕ) → Script
-script_of_lines seats number [] = record { calls = []; fault = None }
-script_of_lines seats number (line ∷ lines) = onto_script number (command_at table seats line) (script_of_lines seats (number + 1) lines)
+unfoldable pub script_of_lines : Format → ℕ → ℕ → List (List ℕ) → Script
+script_of_lines format seats number [] = record { calls = []; fault = None }
+script_of_lines format seats number (line ∷ lines) = onto_script number (command_at format table seats line) (script_of_lines format seats (number + 1) lines)
 
 -- the script of a text for so many seats, its lines counted from 1
-unfoldable pub script_at : ℕ → List ℕ → Script
-script_at seats text = script_of_lines seats 1 (lines_of text)
+unfoldable pub script_at : Format → ℕ → List ℕ → Script
+script_at format seats text = script_of_lines format seats 1 (lines_of text)
+
+-- a script of these calls without a fault
+abbrev pub faultless : List (ℕ × Cmd) → Script
+faultless calls = record { calls = calls; fault = None }
+
+-- the script of a text that stands below so many calls
+abbrev pub script_below : Format → ℕ → List (ℕ × Cmd) → List ℕ → Script
+script_below format seats calls text = script_of_lines format seats (1 + length calls) (lines_of text)
 
 -- calls, and below them those of a script, with its fault
 abbrev pub above : List (ℕ × Cmd) → Script → Script
 above calls below = record { calls = calls ++ below.calls; fault = below.fault }
 
 -- a call that has a line: its seat is one of so many
-abbrev pub IsCall : ℕ → ℕ × Cmd → Type 0
-IsCall seats call = (call.0 < seats) × IsCommand call.1
+abbrev pub IsCall : Format → ℕ → ℕ × Cmd → Type 0
+IsCall format seats call = (call.0 < seats) × IsCommand format call.1
 
 -- the line of a call
 abbrev pub call_line : ℕ × Cmd → List ℕ
@@ -49,6 +62,10 @@ script_text calls = flat_map call_line calls
 
 -- what a function returned, seen by view, is a script without a fault, or the script's fault, unless memory ran out
 abbrev pub TellsScript : {X : Type 0} → (X → List (ℕ × Cmd)) → Result X TranscriptError → Script → Type 0
-TellsScript view (Ok calls) script = script ≡ record { calls = view calls; fault = None }
+TellsScript view (Ok calls) script = script ≡ faultless (view calls)
 TellsScript view (Err errors.NoMemory) script = Unit {0}
 TellsScript view (Err (errors.Fault line fault)) script = script.fault ≡ Some (record { line = line; fault = fault })
+
+-- the lines of calls are read as these calls, and what stands below them as its own lines say
+abbrev pub ReadsOn : Format → ℕ → Calls → List ℕ → Type 0
+ReadsOn format seats calls rest = script_at format seats (script_text calls ++ rest) ≡ above calls (script_below format seats calls rest)

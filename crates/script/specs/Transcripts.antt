@@ -1,11 +1,13 @@
 -- Reading transcripts from the first line to the last: the events, or the first fault with the number of its line.
-use Rattle.std.specs.Prelude.{◌≡◌, ℕ, zero, suc, ◌+◌, ◌==◌, if◌then◌else◌, List, [], ◌∷◌, length, Result, Ok, Err}
+use Rattle.std.specs.Prelude.{◌≡◌, ℕ, zero, suc, ◌+◌, ◌==◌, if◌then◌else◌, List, [], ◌∷◌, ◌++◌, length, take, drop, bytes_eq, Result, Ok, Err}
 use Rattle.std.specs.List.{flat_map}
+use Rattle.text_format.specs.declared.Format.{Format}
+use Rattle.text_format.specs.Limits.{header, header_lines}
 use Rattle.spans.specs.declared.calls.events.Event.{Event}
 use Rattle.spans.specs.declared.calls.replies.Reply.{Reply}
 use Rattle.spans.specs.declared.calls.replies.Reply.TheVariants as reply
 use Rattle.word_lines.specs.declared.fault.LineFault.{LineFault}
-use Rattle.word_lines.specs.declared.fault.LineFault.TheVariants.{Follow}
+use Rattle.word_lines.specs.declared.fault.LineFault.TheVariants.{WordCount, Follow}
 use Rattle.word_lines.specs.declared.fault.ReadError.{ReadError}
 use Rattle.word_lines.specs.declared.fault.ReadError.TheVariants as read_error
 use Rattle.script.specs.declared.fault.TranscriptError.{TranscriptError}
@@ -18,8 +20,12 @@ use Rattle.word_lines.specs.Reading.{◌>>=◌}
 use Rattle.script.specs.EventLines.{heading_at, row_line_at, message_line_at}
 
 -- the texts of events, one after the other
-abbrev pub transcript_text : List Event → List ℕ
-transcript_text events = flat_map event_text events
+abbrev pub events_text : List Event → List ℕ
+events_text events = flat_map event_text events
+
+-- a transcript of a format: its header, and the texts of events
+abbrev pub transcript_text : Format → List Event → List ℕ
+transcript_text format events = header format ++ events_text events
 
 -- a fault, and the number of its line
 pub record Fault : Type 0 where
@@ -68,29 +74,35 @@ many_at read (suc n) p = do
   Ok (first.0 ∷ others.0, others.1)
 
 -- the reply with the lines that follow
-unfoldable pub following_at : Shape → Place → Result (Reply × Place) Fault
-following_at (shape.Alone r) p = Ok (r, p)
-following_at (shape.Rows n) p = do
-  rows ← many_at row_line_at n p
+unfoldable pub following_at : Format → Shape → Place → Result (Reply × Place) Fault
+following_at format (shape.Alone r) p = Ok (r, p)
+following_at format (shape.Rows n) p = do
+  rows ← many_at (row_line_at format) n p
   Ok (reply.Rows rows.0, rows.1)
-following_at (shape.Messages n) p = do
-  messages ← many_at message_line_at n p
+following_at format (shape.Messages n) p = do
+  messages ← many_at (message_line_at format) n p
   Ok (reply.Messages messages.0, messages.1)
 
-unfoldable pub event_at : Place → Result (Event × Place) Fault
-event_at p = do
-  h ← next_at heading_at p
-  r ← following_at h.0.shape h.1
+unfoldable pub event_at : Format → Place → Result (Event × Place) Fault
+event_at format p = do
+  h ← next_at (heading_at format) p
+  r ← following_at format h.0.shape h.1
   Ok (record { position = h.0.position; seat = h.0.seat; cmd = h.0.cmd; reply = r.0 }, r.1)
 
 -- the events of all lines, of which there are at most so many
-unfoldable pub events_at : ℕ → Place → Result (List Event) Fault
-events_at zero p = Ok []
-events_at (suc n) p = if length p.lines == 0 then Ok [] else (do
-  first ← event_at p
-  others ← events_at n first.1
+unfoldable pub events_at : Format → ℕ → Place → Result (List Event) Fault
+events_at format zero p = Ok []
+events_at format (suc n) p = if length p.lines == 0 then Ok [] else (do
+  first ← event_at format p
+  others ← events_at format n first.1
   Ok (first.0 ∷ others))
 
--- an event has a line at least, so there are no more events than lines
-unfoldable pub transcript_at : List ℕ → Result (List Event) Fault
-transcript_at text = events_at (length (lines_of text)) (record { number = 1; lines = lines_of text })
+-- what stands behind the header: an event has a line at least, so there are no more events than lines
+unfoldable pub body_at : Format → List ℕ → Result (List Event) Fault
+body_at format body = events_at format (length (lines_of body)) (record { number = 1 + header_lines format; lines = lines_of body })
+
+-- a text that doesn't begin with the format's header is faulty in its first line
+unfoldable pub transcript_at : Format → List ℕ → Result (List Event) Fault
+transcript_at format text =
+    if bytes_eq (take (length (header format)) text) (header format) then body_at format (drop (length (header format)) text)
+    else Err (record { line = 1; fault = WordCount })

@@ -10,6 +10,7 @@ use crate::reply_reading::Shape;
 use json_lines::{MessageFault, read_message};
 use spans::calls::{Message, Messages, Reply, Rows};
 use std::alloc::Global;
+use text_format::Format;
 use timestamps::key::Key;
 use timestamps::value::Value;
 use word_lines::arguments::{take_key, take_value};
@@ -22,17 +23,18 @@ pub(crate) fn take_following(
     alloc: Global,
     shape: Shape,
     lines: &mut Lines,
+    format: Format,
 ) -> Result<Reply, TranscriptError>
-    ensures { TakesLines (λ x. x) result lines.new (following_at shape lines.old) }
+    ensures { TakesLines (λ x. x) result lines.new (following_at format shape lines.old) }
 {
     match shape {
         Shape::Alone(reply) => Ok(reply),
         Shape::Rows(count) => {
-            let rows = take_rows(alloc, count, lines)?;
+            let rows = take_rows(alloc, count, lines, format)?;
             Ok(Reply::Rows(Rows::from_vec(rows)))
         }
         Shape::Messages(count) => {
-            let messages = take_messages(alloc, count, lines)?;
+            let messages = take_messages(alloc, count, lines, format)?;
             Ok(Reply::Messages(Messages::from_vec(messages)))
         }
     }
@@ -43,12 +45,13 @@ fn take_rows(
     alloc: Global,
     count: u64,
     lines: &mut Lines,
+    format: Format,
 ) -> Result<Vec<(Key, Value)>, TranscriptError>
-    ensures { TakesLines (λ rows. rows.items) result lines.new (many_at row_line_at count lines.old) }
+    ensures { TakesLines (λ rows. rows.items) result lines.new (many_at (row_line_at format) count lines.old) }
 {
     let mut rows = Vec::new(alloc);
     for _ in 0..count {
-        let row = take_row(alloc, lines)?;
+        let row = take_row(alloc, lines, format)?;
         rows.push(row)?;
     }
     Ok(rows)
@@ -59,38 +62,47 @@ fn take_messages(
     alloc: Global,
     count: u64,
     lines: &mut Lines,
+    format: Format,
 ) -> Result<Vec<Message>, TranscriptError>
-    ensures { TakesLines (λ messages. messages.items) result lines.new (many_at message_line_at count lines.old) }
+    ensures { TakesLines (λ messages. messages.items) result lines.new (many_at (message_line_at format) count lines.old) }
 {
     let mut messages = Vec::new(alloc);
     for _ in 0..count {
-        let message = take_message(alloc, lines)?;
+        let message = take_message(alloc, lines, format)?;
         messages.push(message)?;
     }
     Ok(messages)
 }
 
-fn take_row(alloc: Global, lines: &mut Lines) -> Result<(Key, Value), TranscriptError>
-    ensures { TakesLines (λ x. x) result lines.new (next_at row_line_at lines.old) }
+fn take_row(
+    alloc: Global,
+    lines: &mut Lines,
+    format: Format,
+) -> Result<(Key, Value), TranscriptError>
+    ensures { TakesLines (λ x. x) result lines.new (next_at (row_line_at format) lines.old) }
 {
     let number = lines.number();
     let Some(line) = lines.take_line() else {
         return Err(TranscriptError::at_line(number, ReadError::Fault(LineFault::Follow)));
     };
-    match read_row(alloc, line) {
+    match read_row(alloc, line, format) {
         Ok(row) => Ok(row),
         Err(e) => Err(TranscriptError::at_line(number, e)),
     }
 }
 
-fn take_message(alloc: Global, lines: &mut Lines) -> Result<Message, TranscriptError>
-    ensures { TakesLines (λ x. x) result lines.new (next_at message_line_at lines.old) }
+fn take_message(
+    alloc: Global,
+    lines: &mut Lines,
+    format: Format,
+) -> Result<Message, TranscriptError>
+    ensures { TakesLines (λ x. x) result lines.new (next_at (message_line_at format) lines.old) }
 {
     let number = lines.number();
     let Some(line) = lines.take_line() else {
         return Err(TranscriptError::at_line(number, ReadError::Fault(LineFault::Follow)));
     };
-    match read_message_line(alloc, line) {
+    match read_message_line(alloc, line, format) {
         Ok(message) => Ok(message),
         Err(e) => Err(TranscriptError::at_line(number, e)),
     }
@@ -98,22 +110,22 @@ fn take_message(alloc: Global, lines: &mut Lines) -> Result<Message, TranscriptE
 
 /// Reads the line of a row, with its newline.
 #[tactic(auto, unfolding(crate::specs::EventLines::row_line_at))]
-fn read_row(alloc: Global, line: &[u8]) -> Result<(Key, Value), ReadError>
-    ensures { Gives (λ x. x) result (row_line_at line.now) }
+fn read_row(alloc: Global, line: &[u8], format: Format) -> Result<(Key, Value), ReadError>
+    ensures { Gives (λ x. x) result (row_line_at format line.now) }
 {
-    let text = text_of(line)?;
-    match pair_of(alloc, text) {
+    let text = text_of(line, format)?;
+    match pair_of(alloc, text, format) {
         Err(ReadError::Fault(_)) => Err(ReadError::Fault(LineFault::Follow)),
         read => read,
     }
 }
 
 #[tactic(auto, unfolding(crate::specs::EventLines::pair_of))]
-fn pair_of(alloc: Global, text: &[u8]) -> Result<(Key, Value), ReadError>
-    ensures { Gives (λ x. x) result (pair_of text.now) }
+fn pair_of(alloc: Global, text: &[u8], format: Format) -> Result<(Key, Value), ReadError>
+    ensures { Gives (λ x. x) result (pair_of format text.now) }
 {
     let mut words = words_of(text)?;
-    let pair = take_pair(alloc, &mut words)?;
+    let pair = take_pair(alloc, &mut words, format)?;
     if !words.is_empty() {
         return Err(ReadError::Fault(LineFault::WordCount));
     }
@@ -122,25 +134,25 @@ fn pair_of(alloc: Global, text: &[u8]) -> Result<(Key, Value), ReadError>
 
 /// `row KEY VALUE`.
 #[tactic(auto, unfolding(crate::specs::EventLines::pair_at))]
-fn take_pair(alloc: Global, words: &mut Words) -> Result<(Key, Value), ReadError>
-    ensures { Gives (λ x. (x, words.new)) result (pair_at words.old) }
+fn take_pair(alloc: Global, words: &mut Words, format: Format) -> Result<(Key, Value), ReadError>
+    ensures { Gives (λ x. (x, words.new)) result (pair_at format words.old) }
 {
     let name = words.take_word().ok_or(LineFault::WordCount)?;
     if name != b"row".as_slice() {
         return Err(ReadError::Fault(LineFault::Follow));
     }
-    let key = take_key(alloc, words)?;
-    let value = take_value(alloc, words)?;
+    let key = take_key(alloc, words, format)?;
+    let value = take_value(alloc, words, format)?;
     Ok((key, value))
 }
 
 /// Reads the line of a message, with its newline.
 #[tactic(auto, unfolding(crate::specs::EventLines::message_line_at))]
-fn read_message_line(alloc: Global, line: &[u8]) -> Result<Message, ReadError>
-    ensures { Gives (λ x. x) result (message_line_at line.now) }
+fn read_message_line(alloc: Global, line: &[u8], format: Format) -> Result<Message, ReadError>
+    ensures { Gives (λ x. x) result (message_line_at format line.now) }
 {
-    text_of(line)?;
-    match read_message(alloc, line) {
+    text_of(line, format)?;
+    match read_message(alloc, line, format) {
         Ok(message) => Ok(message),
         Err(fault) => Err(read_error_of(fault)),
     }

@@ -6,6 +6,7 @@ ghost use Rattle.script.specs.EventLines.{behind_arrow, heading_of, heading_at};
 use crate::reply_reading::{Shape, read_reply};
 use spans::calls::Cmd;
 use std::alloc::Global;
+use text_format::Format;
 use word_lines::arguments::take_number;
 use word_lines::commands::{take_arguments, take_form, take_seat};
 use word_lines::fault::{LineFault, ReadError};
@@ -25,28 +26,28 @@ pub(crate) struct Heading {
 
 /// Reads the first line of an event, with its newline. All commands are known here.
 #[tactic(auto, unfolding(crate::specs::EventLines::heading_at))]
-pub(crate) fn read_heading(alloc: Global, line: &[u8]) -> Result<Heading, ReadError>
-    ensures { Gives (λ x. x) result (heading_at line.now) }
+pub(crate) fn read_heading(alloc: Global, line: &[u8], format: Format) -> Result<Heading, ReadError>
+    ensures { Gives (λ x. x) result (heading_at format line.now) }
 {
-    let text = text_of(line)?;
+    let text = text_of(line, format)?;
     let mut words = words_of(text)?;
     if words.len() < 3 {
         return Err(ReadError::Fault(LineFault::WordCount));
     }
-    take_heading(alloc, &mut words)
+    take_heading(alloc, &mut words, format)
 }
 
 /// What the words of an event's first line say.
 #[tactic(auto, unfolding(crate::specs::EventLines::heading_of))]
-fn take_heading(alloc: Global, words: &mut Words) -> Result<Heading, ReadError>
-    ensures { Gives (λ x. x) result (heading_of words.old) }
+fn take_heading(alloc: Global, words: &mut Words, format: Format) -> Result<Heading, ReadError>
+    ensures { Gives (λ x. x) result (heading_of format words.old) }
 {
     let position = take_number(words)?;
     let seat = take_seat(words, SEATS)?;
     let form = take_form(words)?;
     let mut answer = words_behind_arrow(words, form.arguments)?;
-    let cmd = take_arguments(alloc, form.verb, words)?;
-    let shape = read_reply(alloc, &mut answer)?;
+    let cmd = take_arguments(alloc, form.verb, words, format)?;
+    let shape = read_reply(alloc, &mut answer, format)?;
     Ok(Heading {
         position,
         seat,

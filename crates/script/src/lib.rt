@@ -1,6 +1,6 @@
 //! Whole scripts and transcripts, read line by line.
 //!
-//! A script is lines of commands. A transcript is the texts of events: a first line with the position,
+//! A script is lines of commands. A transcript is its format's header and the texts of events: a first line with the position,
 //! the command and its reply, and then the rows or messages that the reply counts, a line each. What
 //! is read is all of the text, byte for byte, or its first fault with the number of its line.
 //!

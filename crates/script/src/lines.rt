@@ -1,6 +1,6 @@
 //! A text taken line by line, with the lines counted.
-ghost use Rattle.std.specs.Prelude.{◌≡◌, ◌+◌, ◌==◌, ◌<◌, ◌∷◌, [], length, position, IfSome, MatchOption};
-ghost use Rattle.script.specs.Lines.{is_newline, lines_of};
+ghost use Rattle.std.specs.Prelude.{◌≡◌, ◌≤◌, ◌+◌, ◌==◌, ◌<◌, ◌∷◌, [], length, position, IfSome, MatchOption};
+ghost use Rattle.script.specs.Lines.{is_newline, lines_of, IsAtEnd, IsPast};
 
 use std::marker::Model;
 
@@ -28,9 +28,17 @@ impl<'a> Lines<'a> {
     pub(crate) fn of(text: &'a [u8]) -> Lines<'a>
         ensures { result ≡ record { number = 1; lines = lines_of text.now } }
     {
+        Lines::below(text, 0)
+    }
+
+    /// The lines of a text that stands below so many others.
+    pub(crate) fn below(text: &'a [u8], above: u64) -> Lines<'a>
+        requires few { above ≤ 1 }
+        ensures { result ≡ record { number = 1 + above; lines = lines_of text.now } }
+    {
         Lines {
             rest: text,
-            number: 1,
+            number: 1 + above,
         }
     }
 
@@ -50,7 +58,7 @@ impl<'a> Lines<'a> {
 
     /// Takes the next line, with its newline, if there is one.
     pub(crate) fn take_line(&mut self) -> Option<&'a [u8]>
-        ensures { MatchOption result ((self.old.lines ≡ []) × (self.new ≡ self.old)) (λ line. (self.old.lines ≡ line.now ∷ self.new.lines) × (self.new.number ≡ self.old.number + 1)) }
+        ensures { MatchOption result (IsAtEnd self.old self.new) (λ line. IsPast line.now self.old self.new) }
     {
         if self.rest.is_empty() {
             return None;

@@ -5,6 +5,7 @@ ghost use Rattle.script.specs.ReplyReading.{stats_at, refusal_at, shape_at, name
 use crate::reply_table::{Kind, REPLIES, Reason, kind_of};
 use spans::calls::{Refusal, Reply};
 use std::alloc::Global;
+use text_format::Format;
 use word_lines::arguments::{take_number, take_value};
 use word_lines::fault::{LineFault, ReadError};
 use word_lines::words::Words;
@@ -21,22 +22,26 @@ pub(crate) enum Shape {
 }
 
 /// The reply that all of the words are. Where they are none, the fault is `Reply`.
-pub(crate) fn read_reply(alloc: Global, words: &mut Words) -> Result<Shape, ReadError>
-    ensures { Gives (λ x. x) result (reply_at words.old) }
+pub(crate) fn read_reply(
+    alloc: Global,
+    words: &mut Words,
+    format: Format,
+) -> Result<Shape, ReadError>
+    ensures { Gives (λ x. x) result (reply_at format words.old) }
 {
-    match read_named(alloc, words) {
+    match read_named(alloc, words, format) {
         Err(ReadError::Fault(_)) => Err(ReadError::Fault(LineFault::Reply)),
         read => read,
     }
 }
 
 #[tactic(auto, unfolding(crate::specs::ReplyReading::named_at))]
-fn read_named(alloc: Global, words: &mut Words) -> Result<Shape, ReadError>
-    ensures { Gives (λ x. x) result (named_at words.old) }
+fn read_named(alloc: Global, words: &mut Words, format: Format) -> Result<Shape, ReadError>
+    ensures { Gives (λ x. x) result (named_at format words.old) }
 {
     let name = words.take_word().ok_or(LineFault::WordCount)?;
     let kind = kind_of(&REPLIES, name).ok_or(LineFault::Reply)?;
-    let shape = take_shape(alloc, kind, words)?;
+    let shape = take_shape(alloc, kind, words, format)?;
     if !words.is_empty() {
         return Err(ReadError::Fault(LineFault::WordCount));
     }
@@ -45,15 +50,20 @@ fn read_named(alloc: Global, words: &mut Words) -> Result<Shape, ReadError>
 
 /// What a kind of reply says, from the words behind its name.
 #[tactic(auto, unfolding(crate::specs::ReplyReading::shape_at))]
-fn take_shape(alloc: Global, kind: Kind, words: &mut Words) -> Result<Shape, ReadError>
-    ensures { Takes result words.new (shape_at kind words.old) }
+fn take_shape(
+    alloc: Global,
+    kind: Kind,
+    words: &mut Words,
+    format: Format,
+) -> Result<Shape, ReadError>
+    ensures { Takes result words.new (shape_at format kind words.old) }
 {
     let reply = match kind {
         Kind::Rows => return Ok(Shape::Rows(take_number(words)?)),
         Kind::Messages => return Ok(Shape::Messages(take_number(words)?)),
         Kind::Started => Reply::Started,
         Kind::Absent => Reply::Found(None),
-        Kind::Value => Reply::Found(Some(take_value(alloc, words)?)),
+        Kind::Value => Reply::Found(Some(take_value(alloc, words, format)?)),
         Kind::Written => Reply::Written,
         Kind::Committed => Reply::Committed {
             keys: take_number(words)?,

@@ -12,7 +12,6 @@
 //! twice where bytes are escaped.
 ghost use Rattle.std.specs.Prelude.{◌≡◌, IfOk};
 ghost use Rattle.std.specs.List.{All};
-ghost use Rattle.word_lines.specs.declared.words.TheConstants.{MAX_LINE_BYTES};
 ghost use Rattle.word_lines.specs.Reading.{command_at};
 ghost use Rattle.script.specs.Scripts.{IsCall, TellsScript, script_text, script_at};
 ghost use Rattle.word_lines.specs.Table.{table};
@@ -22,22 +21,32 @@ use crate::fault::TranscriptError;
 use crate::lines::Lines;
 use spans::calls::Cmd;
 use std::alloc::Global;
+use text_format::Format;
 use word_lines::commands::read_command;
 
-/// Reads a script: the session, below `seats`, and the command of each line, or the first line that
+/// Reads a script of a format, which has no header: the session, below `seats`, and the command of each line, or the first line that
 /// is faulty. Lines are counted from 1, and the last one has to end in a newline too.
-pub fn read_script(alloc: Global, text: &[u8], seats: u8) -> Result<Vec<(u8, Cmd)>, TranscriptError>
+pub fn read_script(
+    alloc: Global,
+    text: &[u8],
+    seats: u8,
+    format: Format,
+) -> Result<Vec<(u8, Cmd)>, TranscriptError>
     // What is read is the text of these commands, byte for byte.
-    ensures found { IfOk result (λ calls. (text.now ≡ script_text calls.items) × All (IsCall seats) calls.items) }
+    ensures found { IfOk result (λ calls. (text.now ≡ script_text calls.items) × All (IsCall format seats) calls.items) }
     // Which fault it is, and in which line: the first from the top and from the left.
-    ensures exact { TellsScript (λ calls. calls.items) result (script_at seats text.now) }
-    ensures limit { MAX_LINE_BYTES ≡ 4096 }
+    ensures exact { TellsScript (λ calls. calls.items) result (script_at format seats text.now) }
 {
-    calls_of(alloc, text, seats)
+    calls_of(alloc, text, seats, format)
 }
 
-fn calls_of(alloc: Global, text: &[u8], seats: u8) -> Result<Vec<(u8, Cmd)>, TranscriptError>
-    ensures { TellsScript (λ calls. calls.items) result (script_at seats text.now) }
+fn calls_of(
+    alloc: Global,
+    text: &[u8],
+    seats: u8,
+    format: Format,
+) -> Result<Vec<(u8, Cmd)>, TranscriptError>
+    ensures { TellsScript (λ calls. calls.items) result (script_at format seats text.now) }
 {
     let mut lines = Lines::of(text);
     let mut calls = Vec::new(alloc);
@@ -46,7 +55,7 @@ fn calls_of(alloc: Global, text: &[u8], seats: u8) -> Result<Vec<(u8, Cmd)>, Tra
         let Some(line) = lines.take_line() else {
             return Ok(calls);
         };
-        let call = read_call(alloc, number, line, seats)?;
+        let call = read_call(alloc, number, line, seats, format)?;
         calls.push(call)?;
     }
 }
@@ -57,10 +66,11 @@ fn read_call(
     number: u64,
     line: &[u8],
     seats: u8,
+    format: Format,
 ) -> Result<(u8, Cmd), TranscriptError>
-    ensures { Tells (λ x. x) result (at_line number (command_at table seats line.now)) }
+    ensures { Tells (λ x. x) result (at_line number (command_at format table seats line.now)) }
 {
-    match read_command(alloc, line, seats) {
+    match read_command(alloc, line, seats, format) {
         Ok(call) => Ok(call),
         Err(e) => Err(TranscriptError::at_line(number, e)),
     }

@@ -1,4 +1,4 @@
-//! Transcripts: the texts of events, one after the other.
+//! Transcripts: a format's header, and the texts of events, one after the other.
 //!
 //! ```text
 //! 1  0 0 begin 10 => started
@@ -16,8 +16,7 @@ ghost use Rattle.std.specs.Prelude.{◌≡◌, IfOk};
 ghost use Rattle.std.specs.List.{All};
 ghost use Rattle.word_lines.specs.Limits.{IsEvent};
 ghost use Rattle.script.specs.EventLines.{heading_at};
-ghost use Rattle.word_lines.specs.declared.words.TheConstants.{MAX_LINE_BYTES};
-ghost use Rattle.script.specs.Transcripts.{Tells, TakesLines, next_at, event_at, transcript_at, transcript_text};
+ghost use Rattle.script.specs.Transcripts.{Tells, TakesLines, next_at, event_at, body_at, transcript_at, transcript_text};
 
 use crate::fault::TranscriptError;
 use crate::following::take_following;
@@ -25,26 +24,38 @@ use crate::headings::{Heading, read_heading};
 use crate::lines::Lines;
 use spans::calls::Event;
 use std::alloc::Global;
+use text_format::Format;
 use word_lines::fault::{LineFault, ReadError};
 
-/// Reads a transcript: its events, or the first line that is faulty.
-pub fn read_transcript(alloc: Global, text: &[u8]) -> Result<Vec<Event>, TranscriptError>
+/// Reads a transcript of a format: its events, or the first line that is faulty. A text that doesn't begin with the
+/// format's header is faulty in its first line, by `WordCount`.
+pub fn read_transcript(
+    alloc: Global,
+    text: &[u8],
+    format: Format,
+) -> Result<Vec<Event>, TranscriptError>
     // What is read is the text of these events, byte for byte.
-    ensures found { IfOk result (λ events. (text.now ≡ transcript_text events.items) × All IsEvent events.items) }
+    ensures found { IfOk result (λ events. (text.now ≡ transcript_text format events.items) × All (IsEvent format) events.items) }
     // Which fault it is, and in which line: the first from the top and from the left.
-    ensures exact { Tells (λ events. events.items) result (transcript_at text.now) }
-    ensures limit { MAX_LINE_BYTES ≡ 4096 }
+    ensures exact { Tells (λ events. events.items) result (transcript_at format text.now) }
 {
-    events_of(alloc, text)
+    match text.strip_prefix(format.header()) {
+        Some(body) => events_of(alloc, body, format),
+        None => Err(TranscriptError::Fault {
+            line: 1,
+            fault: LineFault::WordCount,
+        }),
+    }
 }
 
-fn events_of(alloc: Global, text: &[u8]) -> Result<Vec<Event>, TranscriptError>
-    ensures { Tells (λ events. events.items) result (transcript_at text.now) }
+/// Reads what stands behind the header.
+fn events_of(alloc: Global, body: &[u8], format: Format) -> Result<Vec<Event>, TranscriptError>
+    ensures { Tells (λ events. events.items) result (body_at format body.now) }
 {
-    let mut lines = Lines::of(text);
+    let mut lines = Lines::below(body, format.header_lines());
     let mut events = Vec::new(alloc);
     while !lines.is_empty() {
-        let event = take_event(alloc, &mut lines)?;
+        let event = take_event(alloc, &mut lines, format)?;
         events.push(event)?;
     }
     Ok(events)
@@ -52,11 +63,11 @@ fn events_of(alloc: Global, text: &[u8]) -> Result<Vec<Event>, TranscriptError>
 
 /// Takes the lines of one event.
 #[tactic(auto, unfolding(crate::specs::Transcripts::event_at))]
-fn take_event(alloc: Global, lines: &mut Lines) -> Result<Event, TranscriptError>
-    ensures { TakesLines (λ x. x) result lines.new (event_at lines.old) }
+fn take_event(alloc: Global, lines: &mut Lines, format: Format) -> Result<Event, TranscriptError>
+    ensures { TakesLines (λ x. x) result lines.new (event_at format lines.old) }
 {
-    let heading = take_heading(alloc, lines)?;
-    let reply = take_following(alloc, heading.shape, lines)?;
+    let heading = take_heading(alloc, lines, format)?;
+    let reply = take_following(alloc, heading.shape, lines, format)?;
     Ok(Event {
         position: heading.position,
         seat: heading.seat,
@@ -65,14 +76,18 @@ fn take_event(alloc: Global, lines: &mut Lines) -> Result<Event, TranscriptError
     })
 }
 
-fn take_heading(alloc: Global, lines: &mut Lines) -> Result<Heading, TranscriptError>
-    ensures { TakesLines (λ x. x) result lines.new (next_at heading_at lines.old) }
+fn take_heading(
+    alloc: Global,
+    lines: &mut Lines,
+    format: Format,
+) -> Result<Heading, TranscriptError>
+    ensures { TakesLines (λ x. x) result lines.new (next_at (heading_at format) lines.old) }
 {
     let number = lines.number();
     let Some(line) = lines.take_line() else {
         return Err(TranscriptError::at_line(number, ReadError::Fault(LineFault::Follow)));
     };
-    match read_heading(alloc, line) {
+    match read_heading(alloc, line, format) {
         Ok(heading) => Ok(heading),
         Err(e) => Err(TranscriptError::at_line(number, e)),
     }

@@ -8,7 +8,8 @@ use Rattle.std.proofs.lemmas.List.{get_or_at, take_at, length-append}
 use Rattle.std.proofs.lemmas.List.Elements.{All-from_recursion}
 use Rattle.std.proofs.lemmas.List.Folds.{list_all-append}
 use Rattle.std.proofs.lemmas.List.Splits.{slice_split_at, slice_split_none}
-use Rattle.word_lines.specs.declared.words.TheConstants.{MAX_LINE_BYTES}
+use Rattle.text_format.specs.declared.Format.{Format}
+use Rattle.text_format.specs.Limits.{line_limit}
 use Rattle.word_lines.specs.Commands.{joined}
 use Rattle.word_lines.specs.Words.{is_printable, is_empty, has_newline, without_newline, text_at, words, words_at}
 use Rattle.word_lines.proofs.Spellings.{both}
@@ -96,12 +97,12 @@ words_again ws some is =
 -- ---- a line
 
 -- a text that was ended by a newline
-pub text_again : (text : List ℕ) → length text ≤ 4096 → text_at (text ++ 10 ∷ []) ≡ Ok text
+pub text_again : (format : Format) (text : List ℕ) → length text ≤ line_limit format → text_at format (text ++ 10 ∷ []) ≡ Ok text
 unfolding text_at
-text_again text short =
+text_again format text short =
     let long : length (text ++ 10 ∷ []) ≡ length text + 1 = length-append text (10 ∷ []) in
     let before : length (text ++ 10 ∷ []) - 1 ≡ length text = omega (arith, long) in
     let newline : has_newline (text ++ 10 ∷ []) ≡ true = eq-eqb _ _ (get_or_at text 10 [] 0 (length (text ++ 10 ∷ []) - 1) (sym before)) in
     let front : take (length (text ++ 10 ∷ []) - 1) (text ++ 10 ∷ []) ≡ text = take_at text (10 ∷ []) (length (text ++ 10 ∷ []) - 1) (sym before) in
     let text-is : without_newline (text ++ 10 ∷ []) ≡ text = ap (λ (b : Bool). cond b (take (length (text ++ 10 ∷ []) - 1) (text ++ 10 ∷ [])) (text ++ 10 ∷ [])) newline ∙ front in
-    rw (text-is, le-ltb MAX_LINE_BYTES (length text) short, newline) refl
+    rw (text-is, le-ltb (line_limit format) (length text) short, newline) refl

@@ -6,6 +6,7 @@ use Rattle.std.proofs.lemmas.Bool.{eqb-true, cases_lt}
 use Rattle.std.proofs.lemmas.List.{take_more, take_all, append-nil, nil_from_length, length-append, get_or_past}
 use Rattle.std.proofs.lemmas.List.Splits.{join_with_byte-slice_split}
 use Rattle.std.proofs.lemmas.Slice.Eq.{bytes_eq-Decides}
+use Rattle.text_format.specs.declared.Format.{Format}
 use Rattle.spans.specs.declared.calls.commands.Cmd.{Cmd}
 use Rattle.spans.specs.declared.calls.commands.Cmd.TheVariants as cmd
 use Rattle.spans.specs.declared.span.Span.{Span}
@@ -13,7 +14,7 @@ use Rattle.word_lines.specs.declared.fault.LineFault.{LineFault}
 use Rattle.word_lines.specs.declared.fault.LineFault.TheVariants.{WordCount, UnknownCommand, LineTooLong, NoNewline, BadByte}
 use Rattle.word_lines.specs.declared.table.Verb.{Verb}
 use Rattle.word_lines.specs.declared.table.Verb.TheVariants as verb
-use Rattle.word_lines.specs.declared.words.TheConstants.{MAX_LINE_BYTES}
+use Rattle.text_format.specs.Limits.{line_limit}
 use Rattle.word_lines.specs.Spelling.{spelling}
 use Rattle.word_lines.specs.Words.{has_newline, without_newline, text_at, is_printable, is_empty, words, words_at}
 use Rattle.word_lines.specs.Table.{Row, row_of, table}
@@ -69,96 +70,97 @@ arity_of verb.Poll = 2
 arity_of verb.Cancel = 1
 arity_of verb.Stats = 0
 
--- behind this name these words begin with this command's arguments
-pub record Begins (name : List ℕ) (arity : ℕ) (words : List (List ℕ)) (x : Cmd × List (List ℕ)) : Type 0 where
-  pub text : name ∷ words ≡ words_of x.0 ++ x.1
-  pub count : length (words_of x.0) ≡ arity + 1
-  pub lawful : IsCommand x.0
+module _ (format : Format) where
+  -- behind this name these words begin with this command's arguments
+  pub record Begins (name : List ℕ) (arity : ℕ) (words : List (List ℕ)) (x : Cmd × List (List ℕ)) : Type 0 where
+    pub text : name ∷ words ≡ words_of x.0 ++ x.1
+    pub count : length (words_of x.0) ≡ arity + 1
+    pub lawful : IsCommand format x.0
 
-with_number : (name : List ℕ) (make : ℕ → Cmd) (words : List (List ℕ)) (x : Cmd × List (List ℕ)) → ((n : ℕ) → words_of (make n) ≡ name ∷ decimal n ∷ []) → ((n : ℕ) → IsNumber n → IsCommand (make n))
-    → (number_at words >>= λ n. Ok (make n.0, n.1)) ≡ Ok x → Begins name 1 words x
-with_number name make words x text lawful e =
-    let n = bind_ok (number_at words) (λ n. Ok (make n.0, n.1)) x e in
-    let w = number_word words n.0 n.1 in
-    subst (λ (y : Cmd × List (List ℕ)). Begins name 1 words y) (ok_is (make n.0.0, n.0.1) x n.2)
-    (record { text = ap (λ (v : List (List ℕ)). name ∷ v) w.0 ∙ ap (λ (v : List (List ℕ)). v ++ n.0.1) (sym (text n.0.0)); count = ap length (text n.0.0) ∙ omega arith; lawful = lawful n.0.0 w.1 })
+  with_number : (name : List ℕ) (make : ℕ → Cmd) (words : List (List ℕ)) (x : Cmd × List (List ℕ)) → ((n : ℕ) → words_of (make n) ≡ name ∷ decimal n ∷ []) → ((n : ℕ) → IsNumber n → IsCommand format (make n))
+      → (number_at words >>= λ n. Ok (make n.0, n.1)) ≡ Ok x → Begins name 1 words x
+  with_number name make words x text lawful e =
+      let n = bind_ok (number_at words) (λ n. Ok (make n.0, n.1)) x e in
+      let w = number_word words n.0 n.1 in
+      subst (λ (y : Cmd × List (List ℕ)). Begins name 1 words y) (ok_is (make n.0.0, n.0.1) x n.2)
+      (record { text = ap (λ (v : List (List ℕ)). name ∷ v) w.0 ∙ ap (λ (v : List (List ℕ)). v ++ n.0.1) (sym (text n.0.0)); count = ap length (text n.0.0) ∙ omega arith; lawful = lawful n.0.0 w.1 })
 
-with_key : (name : List ℕ) (make : ℕ → List ℕ → Cmd) (words : List (List ℕ)) (x : Cmd × List (List ℕ)) → ((n : ℕ) (k : List ℕ) → words_of (make n k) ≡ name ∷ decimal n ∷ spelling k ∷ []) → ((n : ℕ) (k : List ℕ) → IsNumber n → IsKey k → IsCommand (make n k))
-    → (number_at words >>= λ n. key_at n.1 >>= λ key. Ok (make n.0 key.0, key.1)) ≡ Ok x → Begins name 2 words x
-with_key name make words x text lawful e =
-    let n = bind_ok (number_at words) (λ n. key_at n.1 >>= λ key. Ok (make n.0 key.0, key.1)) x e in
-    let k = bind_ok (key_at n.0.1) (λ key. Ok (make n.0.0 key.0, key.1)) x n.2 in
-    let w = number_word words n.0 n.1 in
-    let v = key_word n.0.1 k.0 k.1 in
-    subst (λ (y : Cmd × List (List ℕ)). Begins name 2 words y) (ok_is (make n.0.0 k.0.0, k.0.1) x k.2)
-    (record { text = ap (λ (z : List (List ℕ)). name ∷ z) (w.0 ∙ ap (λ (z : List (List ℕ)). decimal n.0.0 ∷ z) v.0) ∙ ap (λ (z : List (List ℕ)). z ++ k.0.1) (sym (text n.0.0 k.0.0)); count = ap length (text n.0.0 k.0.0) ∙ omega arith; lawful = lawful n.0.0 k.0.0 w.1 v.1 })
+  with_key : (name : List ℕ) (make : ℕ → List ℕ → Cmd) (words : List (List ℕ)) (x : Cmd × List (List ℕ)) → ((n : ℕ) (k : List ℕ) → words_of (make n k) ≡ name ∷ decimal n ∷ spelling k ∷ []) → ((n : ℕ) (k : List ℕ) → IsNumber n → IsKey format k → IsCommand format (make n k))
+      → (number_at words >>= λ n. key_at format n.1 >>= λ key. Ok (make n.0 key.0, key.1)) ≡ Ok x → Begins name 2 words x
+  with_key name make words x text lawful e =
+      let n = bind_ok (number_at words) (λ n. key_at format n.1 >>= λ key. Ok (make n.0 key.0, key.1)) x e in
+      let k = bind_ok (key_at format n.0.1) (λ key. Ok (make n.0.0 key.0, key.1)) x n.2 in
+      let w = number_word words n.0 n.1 in
+      let v = key_word format n.0.1 k.0 k.1 in
+      subst (λ (y : Cmd × List (List ℕ)). Begins name 2 words y) (ok_is (make n.0.0 k.0.0, k.0.1) x k.2)
+      (record { text = ap (λ (z : List (List ℕ)). name ∷ z) (w.0 ∙ ap (λ (z : List (List ℕ)). decimal n.0.0 ∷ z) v.0) ∙ ap (λ (z : List (List ℕ)). z ++ k.0.1) (sym (text n.0.0 k.0.0)); count = ap length (text n.0.0 k.0.0) ∙ omega arith; lawful = lawful n.0.0 k.0.0 w.1 v.1 })
 
-with_span : (name : List ℕ) (make : ℕ → Span → Cmd) (words : List (List ℕ)) (x : Cmd × List (List ℕ)) → ((n : ℕ) (s : Span) → words_of (make n s) ≡ name ∷ decimal n ∷ bound_word s.lo ∷ bound_word s.hi ∷ []) → ((n : ℕ) (s : Span) → IsNumber n → IsSpan s → IsCommand (make n s))
-    → (number_at words >>= λ n. span_at n.1 >>= λ span. Ok (make n.0 span.0, span.1)) ≡ Ok x → Begins name 3 words x
-with_span name make words x text lawful e =
-    let n = bind_ok (number_at words) (λ n. span_at n.1 >>= λ span. Ok (make n.0 span.0, span.1)) x e in
-    let k = bind_ok (span_at n.0.1) (λ span. Ok (make n.0.0 span.0, span.1)) x n.2 in
-    let w = number_word words n.0 n.1 in
-    let v = span_words n.0.1 k.0 k.1 in
-    subst (λ (y : Cmd × List (List ℕ)). Begins name 3 words y) (ok_is (make n.0.0 k.0.0, k.0.1) x k.2)
-    (record { text = ap (λ (z : List (List ℕ)). name ∷ z) (w.0 ∙ ap (λ (z : List (List ℕ)). decimal n.0.0 ∷ z) v.0) ∙ ap (λ (z : List (List ℕ)). z ++ k.0.1) (sym (text n.0.0 k.0.0)); count = ap length (text n.0.0 k.0.0) ∙ omega arith; lawful = lawful n.0.0 k.0.0 w.1 v.1 })
+  with_span : (name : List ℕ) (make : ℕ → Span → Cmd) (words : List (List ℕ)) (x : Cmd × List (List ℕ)) → ((n : ℕ) (s : Span) → words_of (make n s) ≡ name ∷ decimal n ∷ bound_word s.lo ∷ bound_word s.hi ∷ []) → ((n : ℕ) (s : Span) → IsNumber n → IsSpan format s → IsCommand format (make n s))
+      → (number_at words >>= λ n. span_at format n.1 >>= λ span. Ok (make n.0 span.0, span.1)) ≡ Ok x → Begins name 3 words x
+  with_span name make words x text lawful e =
+      let n = bind_ok (number_at words) (λ n. span_at format n.1 >>= λ span. Ok (make n.0 span.0, span.1)) x e in
+      let k = bind_ok (span_at format n.0.1) (λ span. Ok (make n.0.0 span.0, span.1)) x n.2 in
+      let w = number_word words n.0 n.1 in
+      let v = span_words format n.0.1 k.0 k.1 in
+      subst (λ (y : Cmd × List (List ℕ)). Begins name 3 words y) (ok_is (make n.0.0 k.0.0, k.0.1) x k.2)
+      (record { text = ap (λ (z : List (List ℕ)). name ∷ z) (w.0 ∙ ap (λ (z : List (List ℕ)). decimal n.0.0 ∷ z) v.0) ∙ ap (λ (z : List (List ℕ)). z ++ k.0.1) (sym (text n.0.0 k.0.0)); count = ap length (text n.0.0 k.0.0) ∙ omega arith; lawful = lawful n.0.0 k.0.0 w.1 v.1 })
 
-pub arguments_found : (v : Verb) (ws : List (List ℕ)) (x : Cmd × List (List ℕ)) → arguments_at v ws ≡ Ok x → Begins (name_of v) (arity_of v) ws x
-unfolding arguments_at words_of IsCommand
-arguments_found verb.Begin ws x e = with_number (codes "begin") cmd.Begin ws x (λ n. refl) (λ n h. h) e
-arguments_found verb.Get ws x e = with_key (codes "get") cmd.Get ws x (λ n k. refl) (λ n k h i. (h, i)) e
-arguments_found verb.Put ws x e =
-    let n = bind_ok (number_at ws) (λ n. key_at n.1 >>= λ key. value_at key.1 >>= λ value. Ok (cmd.Put n.0 key.0 value.0, value.1)) x e in
-    let k = bind_ok (key_at n.0.1) (λ key. value_at key.1 >>= λ value. Ok (cmd.Put n.0.0 key.0 value.0, value.1)) x n.2 in
-    let v = bind_ok (value_at k.0.1) (λ value. Ok (cmd.Put n.0.0 k.0.0 value.0, value.1)) x k.2 in
-    let a = number_word ws n.0 n.1 in
-    let b = key_word n.0.1 k.0 k.1 in
-    let c = value_word k.0.1 v.0 v.1 in
-    subst (λ (y : Cmd × List (List ℕ)). Begins (codes "put") 3 ws y) (ok_is (cmd.Put n.0.0 k.0.0 v.0.0, v.0.1) x v.2)
-    (record { text = ap (λ (z : List (List ℕ)). codes "put" ∷ z) (a.0 ∙ ap (λ (z : List (List ℕ)). decimal n.0.0 ∷ z) (b.0 ∙ ap (λ (z : List (List ℕ)). spelling k.0.0 ∷ z) c.0)); count = omega arith; lawful = (a.1, b.1, c.1) })
-arguments_found verb.Del ws x e = with_key (codes "del") cmd.Del ws x (λ n k. refl) (λ n k h i. (h, i)) e
-arguments_found verb.Commit ws x e = with_number (codes "commit") cmd.Commit ws x (λ n. refl) (λ n h. h) e
-arguments_found verb.Abort ws x e = with_number (codes "abort") cmd.Abort ws x (λ n. refl) (λ n h. h) e
-arguments_found verb.Close ws x e = with_number (codes "close") cmd.Close ws x (λ n. refl) (λ n h. h) e
-arguments_found verb.Scan ws x e = with_span (codes "scan") cmd.Scan ws x (λ n s. refl) (λ n s h i. (h, i)) e
-arguments_found verb.CloseHard ws x e = with_number (codes "closehard") cmd.CloseHard ws x (λ n. refl) (λ n h. h) e
-arguments_found verb.ReadAt ws x e = with_key (codes "readat") cmd.ReadAt ws x (λ n k. refl) (λ n k h i. (h, i)) e
-arguments_found verb.ScanAt ws x e = with_span (codes "scanat") cmd.ScanAt ws x (λ n s. refl) (λ n s h i. (h, i)) e
-arguments_found verb.Protect ws x e = with_number (codes "protect") cmd.Protect ws x (λ n. refl) (λ n h. h) e
-arguments_found verb.Release ws x e = with_number (codes "release") cmd.Release ws x (λ n. refl) (λ n h. h) e
-arguments_found verb.Collect ws x e = with_number (codes "collect") cmd.Collect ws x (λ n. refl) (λ n h. h) e
-arguments_found verb.Open ws x e =
-    let s = bind_ok (span_at ws) (λ span. number_at span.1 >>= λ n. Ok (cmd.Open span.0 n.0, n.1)) x e in
-    let n = bind_ok (number_at s.0.1) (λ n. Ok (cmd.Open s.0.0 n.0, n.1)) x s.2 in
-    let a = span_words ws s.0 s.1 in
-    let b = number_word s.0.1 n.0 n.1 in
-    subst (λ (y : Cmd × List (List ℕ)). Begins (codes "open") 3 ws y) (ok_is (cmd.Open s.0.0 n.0.0, n.0.1) x n.2)
-    (record { text = ap (λ (z : List (List ℕ)). codes "open" ∷ z) (a.0 ∙ ap (λ (z : List (List ℕ)). bound_word s.0.0.lo ∷ bound_word s.0.0.hi ∷ z) b.0); count = omega arith; lawful = (a.1, b.1) })
-arguments_found verb.OpenInitial ws x e =
-    let s = bind_ok (span_at ws) (λ span. number_at span.1 >>= λ n. Ok (cmd.OpenInitial span.0 n.0, n.1)) x e in
-    let n = bind_ok (number_at s.0.1) (λ n. Ok (cmd.OpenInitial s.0.0 n.0, n.1)) x s.2 in
-    let a = span_words ws s.0 s.1 in
-    let b = number_word s.0.1 n.0 n.1 in
-    subst (λ (y : Cmd × List (List ℕ)). Begins (codes "openinitial") 3 ws y) (ok_is (cmd.OpenInitial s.0.0 n.0.0, n.0.1) x n.2)
-    (record { text = ap (λ (z : List (List ℕ)). codes "openinitial" ∷ z) (a.0 ∙ ap (λ (z : List (List ℕ)). bound_word s.0.0.lo ∷ bound_word s.0.0.hi ∷ z) b.0); count = omega arith; lawful = (a.1, b.1) })
-arguments_found verb.OpenEvery ws x e =
-    let s = bind_ok (span_at ws) (λ span. number_at span.1 >>= λ n. number_at n.1 >>= λ gap. Ok (cmd.OpenEvery span.0 n.0 gap.0, gap.1)) x e in
-    let n = bind_ok (number_at s.0.1) (λ n. number_at n.1 >>= λ gap. Ok (cmd.OpenEvery s.0.0 n.0 gap.0, gap.1)) x s.2 in
-    let g = bind_ok (number_at n.0.1) (λ gap. Ok (cmd.OpenEvery s.0.0 n.0.0 gap.0, gap.1)) x n.2 in
-    let a = span_words ws s.0 s.1 in
-    let b = number_word s.0.1 n.0 n.1 in
-    let d = number_word n.0.1 g.0 g.1 in
-    subst (λ (y : Cmd × List (List ℕ)). Begins (codes "openevery") 4 ws y) (ok_is (cmd.OpenEvery s.0.0 n.0.0 g.0.0, g.0.1) x g.2)
-    (record { text = ap (λ (z : List (List ℕ)). codes "openevery" ∷ z) (a.0 ∙ ap (λ (z : List (List ℕ)). bound_word s.0.0.lo ∷ bound_word s.0.0.hi ∷ z) (b.0 ∙ ap (λ (z : List (List ℕ)). decimal n.0.0 ∷ z) d.0)); count = omega arith; lawful = (a.1, b.1, d.1) })
-arguments_found verb.Poll ws x e =
-    let n = bind_ok (number_at ws) (λ n. number_at n.1 >>= λ most. Ok (cmd.Poll n.0 most.0, most.1)) x e in
-    let m = bind_ok (number_at n.0.1) (λ most. Ok (cmd.Poll n.0.0 most.0, most.1)) x n.2 in
-    let a = number_word ws n.0 n.1 in
-    let b = number_word n.0.1 m.0 m.1 in
-    subst (λ (y : Cmd × List (List ℕ)). Begins (codes "poll") 2 ws y) (ok_is (cmd.Poll n.0.0 m.0.0, m.0.1) x m.2)
-    (record { text = ap (λ (z : List (List ℕ)). codes "poll" ∷ z) (a.0 ∙ ap (λ (z : List (List ℕ)). decimal n.0.0 ∷ z) b.0); count = omega arith; lawful = (a.1, b.1) })
-arguments_found verb.Cancel ws x e = with_number (codes "cancel") cmd.Cancel ws x (λ n. refl) (λ n h. h) e
-arguments_found verb.Stats ws x e = subst (λ (y : Cmd × List (List ℕ)). Begins (codes "stats") 0 ws y) (ok_is (cmd.Stats, ws) x e) (record { text = refl; count = omega arith; lawful = tt })
+  pub arguments_found : (v : Verb) (ws : List (List ℕ)) (x : Cmd × List (List ℕ)) → arguments_at format v ws ≡ Ok x → Begins (name_of v) (arity_of v) ws x
+  unfolding arguments_at words_of IsCommand
+  arguments_found verb.Begin ws x e = with_number (codes "begin") cmd.Begin ws x (λ n. refl) (λ n h. h) e
+  arguments_found verb.Get ws x e = with_key (codes "get") cmd.Get ws x (λ n k. refl) (λ n k h i. (h, i)) e
+  arguments_found verb.Put ws x e =
+      let n = bind_ok (number_at ws) (λ n. key_at format n.1 >>= λ key. value_at format key.1 >>= λ value. Ok (cmd.Put n.0 key.0 value.0, value.1)) x e in
+      let k = bind_ok (key_at format n.0.1) (λ key. value_at format key.1 >>= λ value. Ok (cmd.Put n.0.0 key.0 value.0, value.1)) x n.2 in
+      let v = bind_ok (value_at format k.0.1) (λ value. Ok (cmd.Put n.0.0 k.0.0 value.0, value.1)) x k.2 in
+      let a = number_word ws n.0 n.1 in
+      let b = key_word format n.0.1 k.0 k.1 in
+      let c = value_word format k.0.1 v.0 v.1 in
+      subst (λ (y : Cmd × List (List ℕ)). Begins (codes "put") 3 ws y) (ok_is (cmd.Put n.0.0 k.0.0 v.0.0, v.0.1) x v.2)
+      (record { text = ap (λ (z : List (List ℕ)). codes "put" ∷ z) (a.0 ∙ ap (λ (z : List (List ℕ)). decimal n.0.0 ∷ z) (b.0 ∙ ap (λ (z : List (List ℕ)). spelling k.0.0 ∷ z) c.0)); count = omega arith; lawful = (a.1, b.1, c.1) })
+  arguments_found verb.Del ws x e = with_key (codes "del") cmd.Del ws x (λ n k. refl) (λ n k h i. (h, i)) e
+  arguments_found verb.Commit ws x e = with_number (codes "commit") cmd.Commit ws x (λ n. refl) (λ n h. h) e
+  arguments_found verb.Abort ws x e = with_number (codes "abort") cmd.Abort ws x (λ n. refl) (λ n h. h) e
+  arguments_found verb.Close ws x e = with_number (codes "close") cmd.Close ws x (λ n. refl) (λ n h. h) e
+  arguments_found verb.Scan ws x e = with_span (codes "scan") cmd.Scan ws x (λ n s. refl) (λ n s h i. (h, i)) e
+  arguments_found verb.CloseHard ws x e = with_number (codes "closehard") cmd.CloseHard ws x (λ n. refl) (λ n h. h) e
+  arguments_found verb.ReadAt ws x e = with_key (codes "readat") cmd.ReadAt ws x (λ n k. refl) (λ n k h i. (h, i)) e
+  arguments_found verb.ScanAt ws x e = with_span (codes "scanat") cmd.ScanAt ws x (λ n s. refl) (λ n s h i. (h, i)) e
+  arguments_found verb.Protect ws x e = with_number (codes "protect") cmd.Protect ws x (λ n. refl) (λ n h. h) e
+  arguments_found verb.Release ws x e = with_number (codes "release") cmd.Release ws x (λ n. refl) (λ n h. h) e
+  arguments_found verb.Collect ws x e = with_number (codes "collect") cmd.Collect ws x (λ n. refl) (λ n h. h) e
+  arguments_found verb.Open ws x e =
+      let s = bind_ok (span_at format ws) (λ span. number_at span.1 >>= λ n. Ok (cmd.Open span.0 n.0, n.1)) x e in
+      let n = bind_ok (number_at s.0.1) (λ n. Ok (cmd.Open s.0.0 n.0, n.1)) x s.2 in
+      let a = span_words format ws s.0 s.1 in
+      let b = number_word s.0.1 n.0 n.1 in
+      subst (λ (y : Cmd × List (List ℕ)). Begins (codes "open") 3 ws y) (ok_is (cmd.Open s.0.0 n.0.0, n.0.1) x n.2)
+      (record { text = ap (λ (z : List (List ℕ)). codes "open" ∷ z) (a.0 ∙ ap (λ (z : List (List ℕ)). bound_word s.0.0.lo ∷ bound_word s.0.0.hi ∷ z) b.0); count = omega arith; lawful = (a.1, b.1) })
+  arguments_found verb.OpenInitial ws x e =
+      let s = bind_ok (span_at format ws) (λ span. number_at span.1 >>= λ n. Ok (cmd.OpenInitial span.0 n.0, n.1)) x e in
+      let n = bind_ok (number_at s.0.1) (λ n. Ok (cmd.OpenInitial s.0.0 n.0, n.1)) x s.2 in
+      let a = span_words format ws s.0 s.1 in
+      let b = number_word s.0.1 n.0 n.1 in
+      subst (λ (y : Cmd × List (List ℕ)). Begins (codes "openinitial") 3 ws y) (ok_is (cmd.OpenInitial s.0.0 n.0.0, n.0.1) x n.2)
+      (record { text = ap (λ (z : List (List ℕ)). codes "openinitial" ∷ z) (a.0 ∙ ap (λ (z : List (List ℕ)). bound_word s.0.0.lo ∷ bound_word s.0.0.hi ∷ z) b.0); count = omega arith; lawful = (a.1, b.1) })
+  arguments_found verb.OpenEvery ws x e =
+      let s = bind_ok (span_at format ws) (λ span. number_at span.1 >>= λ n. number_at n.1 >>= λ gap. Ok (cmd.OpenEvery span.0 n.0 gap.0, gap.1)) x e in
+      let n = bind_ok (number_at s.0.1) (λ n. number_at n.1 >>= λ gap. Ok (cmd.OpenEvery s.0.0 n.0 gap.0, gap.1)) x s.2 in
+      let g = bind_ok (number_at n.0.1) (λ gap. Ok (cmd.OpenEvery s.0.0 n.0.0 gap.0, gap.1)) x n.2 in
+      let a = span_words format ws s.0 s.1 in
+      let b = number_word s.0.1 n.0 n.1 in
+      let d = number_word n.0.1 g.0 g.1 in
+      subst (λ (y : Cmd × List (List ℕ)). Begins (codes "openevery") 4 ws y) (ok_is (cmd.OpenEvery s.0.0 n.0.0 g.0.0, g.0.1) x g.2)
+      (record { text = ap (λ (z : List (List ℕ)). codes "openevery" ∷ z) (a.0 ∙ ap (λ (z : List (List ℕ)). bound_word s.0.0.lo ∷ bound_word s.0.0.hi ∷ z) (b.0 ∙ ap (λ (z : List (List ℕ)). decimal n.0.0 ∷ z) d.0)); count = omega arith; lawful = (a.1, b.1, d.1) })
+  arguments_found verb.Poll ws x e =
+      let n = bind_ok (number_at ws) (λ n. number_at n.1 >>= λ most. Ok (cmd.Poll n.0 most.0, most.1)) x e in
+      let m = bind_ok (number_at n.0.1) (λ most. Ok (cmd.Poll n.0.0 most.0, most.1)) x n.2 in
+      let a = number_word ws n.0 n.1 in
+      let b = number_word n.0.1 m.0 m.1 in
+      subst (λ (y : Cmd × List (List ℕ)). Begins (codes "poll") 2 ws y) (ok_is (cmd.Poll n.0.0 m.0.0, m.0.1) x m.2)
+      (record { text = ap (λ (z : List (List ℕ)). codes "poll" ∷ z) (a.0 ∙ ap (λ (z : List (List ℕ)). decimal n.0.0 ∷ z) b.0); count = omega arith; lawful = (a.1, b.1) })
+  arguments_found verb.Cancel ws x e = with_number (codes "cancel") cmd.Cancel ws x (λ n. refl) (λ n h. h) e
+  arguments_found verb.Stats ws x e = subst (λ (y : Cmd × List (List ℕ)). Begins (codes "stats") 0 ws y) (ok_is (cmd.Stats, ws) x e) (record { text = refl; count = omega arith; lawful = tt })
 
 -- a row that says what its verb is
 pub record IsRight (r : Row) : Type 0 where
@@ -199,14 +201,15 @@ not_false : (b : Bool) → not b ≡ false → b ≡ true
 not_false true e = refl
 not_false false e = absurd cc
 
-pub text_found : (line text : List ℕ) → text_at line ≡ Ok text → line ≡ text ++ 10 ∷ []
-unfolding text_at
-text_found line text e =
-    let long = refused (nat_lt MAX_LINE_BYTES (length (without_newline line))) LineTooLong (cond (not (has_newline line)) (Err NoNewline) (Ok (without_newline line))) text e in
-    let ends = refused (not (has_newline line)) NoNewline (pure (without_newline line)) text long.1 in
-    let newline : has_newline line ≡ true = not_false (has_newline line) ends.0 in
-    let is : without_newline line ≡ take (length line - 1) line = ap (λ (b : Bool). cond b (take (length line - 1) line) line) newline in
-    with_newline line newline ∙ ap (λ (x : List ℕ). x ++ 10 ∷ []) (sym is ∙ ok_is (without_newline line) text ends.1)
+module _ (format : Format) where
+  pub text_found : (line text : List ℕ) → text_at format line ≡ Ok text → line ≡ text ++ 10 ∷ []
+  unfolding text_at
+  text_found line text e =
+      let long = refused (nat_lt (line_limit format) (length (without_newline line))) LineTooLong (cond (not (has_newline line)) (Err NoNewline) (Ok (without_newline line))) text e in
+      let ends = refused (not (has_newline line)) NoNewline (pure (without_newline line)) text long.1 in
+      let newline : has_newline line ≡ true = not_false (has_newline line) ends.0 in
+      let is : without_newline line ≡ take (length line - 1) line = ap (λ (b : Bool). cond b (take (length line - 1) line) line) newline in
+      with_newline line newline ∙ ap (λ (x : List ℕ). x ++ 10 ∷ []) (sym is ∙ ok_is (without_newline line) text ends.1)
 
 pub words_found : (text : List ℕ) (ws : List (List ℕ)) → words_at text ≡ Ok ws → text ≡ joined ws
 unfolding words_at
@@ -223,37 +226,39 @@ row_word rows ws x right e =
     let f = row_found rows w.0.0 r.0 right (some_ok (row_of rows w.0.0) UnknownCommand r.0 r.1) in
     subst (λ (y : Row × List (List ℕ)). (ws ≡ name_of y.0.verb ∷ y.1) × (y.0.arguments ≡ arity_of y.0.verb)) (ok_is (r.0, w.0.1) x r.2) (word_found ws w.0 w.1 ∙ ap (λ (v : List ℕ). v ∷ w.0.1) f.0, f.1)
 
--- nothing stands behind the arguments where there are as many words
-nothing_left : (name : List ℕ) (arity : ℕ) (ws : List (List ℕ)) (x : Cmd × List (List ℕ)) → Begins name arity ws x → length ws ≡ arity → name ∷ ws ≡ words_of x.0
-nothing_left name arity ws x begins many =
-    let both_long : length ws + 1 ≡ length (words_of x.0 ++ x.1) = omega (arith, ap length begins.text) in
-    let none : length x.1 ≡ 0 = omega (arith, both_long, length-append (words_of x.0) x.1, begins.count, many) in
-    begins.text ∙ ap (λ (v : List (List ℕ)). words_of x.0 ++ v) (nil_from_length x.1 none) ∙ append-nil (words_of x.0)
+module _ (format : Format) where
+  -- nothing stands behind the arguments where there are as many words
+  nothing_left : (name : List ℕ) (arity : ℕ) (ws : List (List ℕ)) (x : Cmd × List (List ℕ)) → Begins format name arity ws x → length ws ≡ arity → name ∷ ws ≡ words_of x.0
+  nothing_left name arity ws x begins many =
+      let both_long : length ws + 1 ≡ length (words_of x.0 ++ x.1) = omega (arith, ap length begins.text) in
+      let none : length x.1 ≡ 0 = omega (arith, both_long, length-append (words_of x.0) x.1, begins.count, many) in
+      begins.text ∙ ap (λ (v : List (List ℕ)). words_of x.0 ++ v) (nil_from_length x.1 none) ∙ append-nil (words_of x.0)
 
 counted : {B : Type 0} (b : Bool) (r : Result B LineFault) (y : B) → cond b r (Err WordCount) ≡ Ok y → (b ≡ true) × (r ≡ Ok y)
 counted true r y e = (refl, e)
 counted false r y e = absurd cc
 
-pub command_words_found : (seats : ℕ) (ws : List (List ℕ)) (x : ℕ × Cmd) → command_of table seats ws ≡ Ok x → (ws ≡ decimal x.0 ∷ words_of x.1) × (x.0 < seats) × IsCommand x.1
-unfolding command_of
-command_words_found seats ws x e =
-    let g = refused (nat_lt (length ws) 2) WordCount (session_at seats ws >>= λ s. row_at table s.1 >>= λ r. cond (length r.1 == r.0.arguments) (arguments_at r.0.verb r.1 >>= λ c. Ok (s.0, c.0)) (Err WordCount)) x e in
-    let s = bind_ok (session_at seats ws) (λ s. row_at table s.1 >>= λ r. cond (length r.1 == r.0.arguments) (arguments_at r.0.verb r.1 >>= λ c. Ok (s.0, c.0)) (Err WordCount)) x g.1 in
-    let r = bind_ok (row_at table s.0.1) (λ r. cond (length r.1 == r.0.arguments) (arguments_at r.0.verb r.1 >>= λ c. Ok (s.0.0, c.0)) (Err WordCount)) x s.2 in
-    let n = counted (length r.0.1 == r.0.0.arguments) (arguments_at r.0.0.verb r.0.1 >>= λ c. Ok (s.0.0, c.0)) x r.2 in
-    let c = bind_ok (arguments_at r.0.0.verb r.0.1) (λ c. Ok (s.0.0, c.0)) x n.1 in
-    let session = session_word seats ws s.0 s.1 in
-    let row = row_word table s.0.1 r.0 table_right r.1 in
-    let begins = arguments_found r.0.0.verb r.0.1 c.0 c.1 in
-    let many : length r.0.1 ≡ arity_of r.0.0.verb = eqb-true _ _ n.0 ∙ row.1 in
-    let all : ws ≡ decimal s.0.0 ∷ words_of c.0.0 = session.0 ∙ ap (λ (v : List (List ℕ)). decimal s.0.0 ∷ v) (row.0 ∙ nothing_left (name_of r.0.0.verb) (arity_of r.0.0.verb) r.0.1 c.0 begins many) in
-    subst (λ (y : ℕ × Cmd). (ws ≡ decimal y.0 ∷ words_of y.1) × (y.0 < seats) × IsCommand y.1) (ok_is (s.0.0, c.0.0) x c.2)
-    (all, session.1, begins.lawful)
+module _ (format : Format) where
+  pub command_words_found : (seats : ℕ) (ws : List (List ℕ)) (x : ℕ × Cmd) → command_of format table seats ws ≡ Ok x → (ws ≡ decimal x.0 ∷ words_of x.1) × (x.0 < seats) × IsCommand format x.1
+  unfolding command_of
+  command_words_found seats ws x e =
+      let g = refused (nat_lt (length ws) 2) WordCount (session_at seats ws >>= λ s. row_at table s.1 >>= λ r. cond (length r.1 == r.0.arguments) (arguments_at format r.0.verb r.1 >>= λ c. Ok (s.0, c.0)) (Err WordCount)) x e in
+      let s = bind_ok (session_at seats ws) (λ s. row_at table s.1 >>= λ r. cond (length r.1 == r.0.arguments) (arguments_at format r.0.verb r.1 >>= λ c. Ok (s.0, c.0)) (Err WordCount)) x g.1 in
+      let r = bind_ok (row_at table s.0.1) (λ r. cond (length r.1 == r.0.arguments) (arguments_at format r.0.verb r.1 >>= λ c. Ok (s.0.0, c.0)) (Err WordCount)) x s.2 in
+      let n = counted (length r.0.1 == r.0.0.arguments) (arguments_at format r.0.0.verb r.0.1 >>= λ c. Ok (s.0.0, c.0)) x r.2 in
+      let c = bind_ok (arguments_at format r.0.0.verb r.0.1) (λ c. Ok (s.0.0, c.0)) x n.1 in
+      let session = session_word seats ws s.0 s.1 in
+      let row = row_word table s.0.1 r.0 table_right r.1 in
+      let begins = arguments_found format r.0.0.verb r.0.1 c.0 c.1 in
+      let many : length r.0.1 ≡ arity_of r.0.0.verb = eqb-true _ _ n.0 ∙ row.1 in
+      let all : ws ≡ decimal s.0.0 ∷ words_of c.0.0 = session.0 ∙ ap (λ (v : List (List ℕ)). decimal s.0.0 ∷ v) (row.0 ∙ nothing_left format (name_of r.0.0.verb) (arity_of r.0.0.verb) r.0.1 c.0 begins many) in
+      subst (λ (y : ℕ × Cmd). (ws ≡ decimal y.0 ∷ words_of y.1) × (y.0 < seats) × IsCommand format y.1) (ok_is (s.0.0, c.0.0) x c.2)
+      (all, session.1, begins.lawful)
 
-pub command_found : (seats : ℕ) (line : List ℕ) (x : ℕ × Cmd) → command_at table seats line ≡ Ok x → (line ≡ command_line x.0 x.1) × (x.0 < seats) × IsCommand x.1
-unfolding command_at
-command_found seats line x e =
-    let t = bind_ok (text_at line) (λ text. words_at text >>= λ ws. command_of table seats ws) x e in
-    let w = bind_ok (words_at t.0) (λ ws. command_of table seats ws) x t.2 in
-    let c = command_words_found seats w.0 x w.2 in
-    (text_found line t.0 t.1 ∙ ap (λ (v : List ℕ). v ++ 10 ∷ []) (words_found t.0 w.0 w.1 ∙ ap joined c.0), c.1, c.2)
+  pub command_found : (seats : ℕ) (line : List ℕ) (x : ℕ × Cmd) → command_at format table seats line ≡ Ok x → (line ≡ command_line x.0 x.1) × (x.0 < seats) × IsCommand format x.1
+  unfolding command_at
+  command_found seats line x e =
+      let t = bind_ok (text_at format line) (λ text. words_at text >>= λ ws. command_of format table seats ws) x e in
+      let w = bind_ok (words_at t.0) (λ ws. command_of format table seats ws) x t.2 in
+      let c = command_words_found seats w.0 x w.2 in
+      (text_found format line t.0 t.1 ∙ ap (λ (v : List ℕ). v ++ 10 ∷ []) (words_found t.0 w.0 w.1 ∙ ap joined c.0), c.1, c.2)

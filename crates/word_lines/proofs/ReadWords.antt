@@ -3,6 +3,8 @@ use Rattle.std.proofs.Common.{◌≡◌, ℕ, ◌<◌, ◌≤◌, Bool, true, fa
 use Rattle.std.specs.Prelude.{codes, decimal, bytes_eq, ok_or, ◌&&◌, nat_le, nat_lt}
 use Rattle.std.proofs.lemmas.Bool.{leb-true, ltb-true}
 use Rattle.std.proofs.lemmas.Slice.Eq.{bytes_eq-Decides}
+use Rattle.text_format.specs.Limits.{key_limit, value_limit, bound_limit}
+use Rattle.text_format.specs.declared.Format.{Format}
 use Rattle.spans.specs.declared.span.Span.{Span}
 use Rattle.word_lines.specs.declared.fault.LineFault.{LineFault}
 use Rattle.word_lines.specs.declared.fault.LineFault.TheVariants.{Number, KeyLength, ValueLength, Session, BadByte}
@@ -72,35 +74,36 @@ bytes_word least most fault words x e =
     subst (λ (y : List ℕ × List (List ℕ)). (words ≡ spelling y.0 ∷ y.1) × (least ≤ length y.0) × (length y.0 ≤ most) × AreBytes y.0) g.1
     (word_found words w.0 w.1 ∙ ap (λ (v : List ℕ). v ∷ w.0.1) f.0, leb-true _ _ h.0, leb-true _ _ h.1, f.1)
 
-pub key_word : (words : List (List ℕ)) (x : List ℕ × List (List ℕ)) → key_at words ≡ Ok x → (words ≡ spelling x.0 ∷ x.1) × IsKey x.0
-unfolding key_at
-key_word words x e = let h = bytes_word 1 64 KeyLength words x e in (h.0, (h.1, h.2, h.3))
+module _ (format : Format) where
+  pub key_word : (words : List (List ℕ)) (x : List ℕ × List (List ℕ)) → key_at format words ≡ Ok x → (words ≡ spelling x.0 ∷ x.1) × IsKey format x.0
+  unfolding key_at
+  key_word words x e = let h = bytes_word 1 (key_limit format) KeyLength words x e in (h.0, (h.1, h.2, h.3))
 
-pub value_word : (words : List (List ℕ)) (x : List ℕ × List (List ℕ)) → value_at words ≡ Ok x → (words ≡ spelling x.0 ∷ x.1) × IsValue x.0
-unfolding value_at
-value_word words x e = let h = bytes_word 0 1024 ValueLength words x e in (h.0, (h.2, h.3))
+  pub value_word : (words : List (List ℕ)) (x : List ℕ × List (List ℕ)) → value_at format words ≡ Ok x → (words ≡ spelling x.0 ∷ x.1) × IsValue format x.0
+  unfolding value_at
+  value_word words x e = let h = bytes_word 0 (value_limit format) ValueLength words x e in (h.0, (h.2, h.3))
 
-bound_by : (d : Bool) (words : List (List ℕ)) (w : List ℕ × List (List ℕ)) (x : Option (List ℕ) × List (List ℕ)) → bytes_eq w.0 (codes "-") ≡ d → words ≡ w.0 ∷ w.1
-    → cond d (Ok (None, w.1)) (bytes_at 1 65 KeyLength words >>= λ b. Ok (Some b.0, b.1)) ≡ Ok x → (words ≡ bound_word x.0 ∷ x.1) × IsBound x.0
-bound_by true words w x ed is e =
-    subst (λ (y : Option (List ℕ) × List (List ℕ)). (words ≡ bound_word y.0 ∷ y.1) × IsBound y.0) (ok_is (None, w.1) x e) (is ∙ ap (λ (v : List ℕ). v ∷ w.1) ((bytes_eq-Decides w.0 (codes "-")).0 ed), tt)
-bound_by false words w x ed is e =
-    let b = bind_ok (bytes_at 1 65 KeyLength words) (λ b. Ok (Some b.0, b.1)) x e in
-    let h = bytes_word 1 65 KeyLength words b.0 b.1 in
-    subst (λ (y : Option (List ℕ) × List (List ℕ)). (words ≡ bound_word y.0 ∷ y.1) × IsBound y.0) (ok_is (Some b.0.0, b.0.1) x b.2) (h.0, (h.1, h.2, h.3))
+  bound_by : (d : Bool) (words : List (List ℕ)) (w : List ℕ × List (List ℕ)) (x : Option (List ℕ) × List (List ℕ)) → bytes_eq w.0 (codes "-") ≡ d → words ≡ w.0 ∷ w.1
+      → cond d (Ok (None, w.1)) (bytes_at 1 (bound_limit format) KeyLength words >>= λ b. Ok (Some b.0, b.1)) ≡ Ok x → (words ≡ bound_word x.0 ∷ x.1) × IsBound format x.0
+  bound_by true words w x ed is e =
+      subst (λ (y : Option (List ℕ) × List (List ℕ)). (words ≡ bound_word y.0 ∷ y.1) × IsBound format y.0) (ok_is (None, w.1) x e) (is ∙ ap (λ (v : List ℕ). v ∷ w.1) ((bytes_eq-Decides w.0 (codes "-")).0 ed), tt)
+  bound_by false words w x ed is e =
+      let b = bind_ok (bytes_at 1 (bound_limit format) KeyLength words) (λ b. Ok (Some b.0, b.1)) x e in
+      let h = bytes_word 1 (bound_limit format) KeyLength words b.0 b.1 in
+      subst (λ (y : Option (List ℕ) × List (List ℕ)). (words ≡ bound_word y.0 ∷ y.1) × IsBound format y.0) (ok_is (Some b.0.0, b.0.1) x b.2) (h.0, (h.1, h.2, h.3))
 
-pub bound_found : (words : List (List ℕ)) (x : Option (List ℕ) × List (List ℕ)) → bound_at words ≡ Ok x → (words ≡ bound_word x.0 ∷ x.1) × IsBound x.0
-unfolding bound_at
-bound_found words x e =
-    let w = bind_ok (word_at words) (λ w. cond (bytes_eq w.0 (codes "-")) (Ok (None, w.1)) (bytes_at 1 65 KeyLength words >>= λ b. Ok (Some b.0, b.1))) x e in
-    bound_by (bytes_eq w.0.0 (codes "-")) words w.0 x refl (word_found words w.0 w.1) w.2
+  pub bound_found : (words : List (List ℕ)) (x : Option (List ℕ) × List (List ℕ)) → bound_at format words ≡ Ok x → (words ≡ bound_word x.0 ∷ x.1) × IsBound format x.0
+  unfolding bound_at
+  bound_found words x e =
+      let w = bind_ok (word_at words) (λ w. cond (bytes_eq w.0 (codes "-")) (Ok (None, w.1)) (bytes_at 1 (bound_limit format) KeyLength words >>= λ b. Ok (Some b.0, b.1))) x e in
+      bound_by (bytes_eq w.0.0 (codes "-")) words w.0 x refl (word_found words w.0 w.1) w.2
 
-pub span_words : (words : List (List ℕ)) (x : Span × List (List ℕ)) → span_at words ≡ Ok x → (words ≡ bound_word x.0.lo ∷ bound_word x.0.hi ∷ x.1) × IsSpan x.0
-unfolding span_at
-span_words words x e =
-    let lo = bind_ok (bound_at words) (λ lo. bound_at lo.1 >>= λ hi. Ok (record { lo = lo.0; hi = hi.0 }, hi.1)) x e in
-    let hi = bind_ok (bound_at lo.0.1) (λ hi. Ok (record { lo = lo.0.0; hi = hi.0 }, hi.1)) x lo.2 in
-    let l = bound_found words lo.0 lo.1 in
-    let h = bound_found lo.0.1 hi.0 hi.1 in
-    let made : Span × List (List ℕ) = (record { lo = lo.0.0; hi = hi.0.0 }, hi.0.1) in
-    subst (λ (y : Span × List (List ℕ)). (words ≡ bound_word y.0.lo ∷ bound_word y.0.hi ∷ y.1) × IsSpan y.0) (ok_is made x hi.2) (l.0 ∙ ap (λ (v : List (List ℕ)). bound_word lo.0.0 ∷ v) h.0, (l.1, h.1))
+  pub span_words : (words : List (List ℕ)) (x : Span × List (List ℕ)) → span_at format words ≡ Ok x → (words ≡ bound_word x.0.lo ∷ bound_word x.0.hi ∷ x.1) × IsSpan format x.0
+  unfolding span_at
+  span_words words x e =
+      let lo = bind_ok (bound_at format words) (λ lo. bound_at format lo.1 >>= λ hi. Ok (record { lo = lo.0; hi = hi.0 }, hi.1)) x e in
+      let hi = bind_ok (bound_at format lo.0.1) (λ hi. Ok (record { lo = lo.0.0; hi = hi.0 }, hi.1)) x lo.2 in
+      let l = bound_found words lo.0 lo.1 in
+      let h = bound_found lo.0.1 hi.0 hi.1 in
+      let made : Span × List (List ℕ) = (record { lo = lo.0.0; hi = hi.0.0 }, hi.0.1) in
+      subst (λ (y : Span × List (List ℕ)). (words ≡ bound_word y.0.lo ∷ bound_word y.0.hi ∷ y.1) × IsSpan format y.0) (ok_is made x hi.2) (l.0 ∙ ap (λ (v : List (List ℕ)). bound_word lo.0.0 ∷ v) h.0, (l.1, h.1))

@@ -6,6 +6,9 @@ use Rattle.std.proofs.lemmas.Bool.{le-leb, lt-ltb, le-ltb, cases_lt}
 use Rattle.std.proofs.lemmas.Fmt.{decimal_nonempty, length-decimal-le}
 use Rattle.std.proofs.lemmas.List.{length-append}
 use Rattle.std.proofs.lemmas.List.Folds.{list_all-append}
+use Rattle.text_format.specs.Limits.{key_limit, value_limit, bound_limit, line_limit}
+use Rattle.text_format.specs.declared.Format.TheVariants.{One, Two}
+use Rattle.text_format.specs.declared.Format.{Format}
 use Rattle.spans.specs.declared.calls.commands.Cmd.{Cmd}
 use Rattle.spans.specs.declared.calls.commands.Cmd.TheVariants as cmd
 use Rattle.word_lines.specs.Spelling.{is_plain, hex_digit, escape, spelled, spelling, AreBytes}
@@ -82,14 +85,15 @@ bytes_word bytes fits = let s = spelling_spelled bytes fits in (omega (arith, s.
 pub bytes_few : (bytes : List ℕ) (most : ℕ) → AreBytes bytes → length bytes ≤ most → length (spelling bytes) ≤ 3 * most + 1
 bytes_few bytes most fits le = let s = spelling_spelled bytes fits in omega (arith, s.few)
 
--- a bound is a word
-bound_is_word : (bound : Option (List ℕ)) → IsBound bound → IsWord (bound_word bound)
-bound_is_word None is = (omega arith, refl)
-bound_is_word (Some bytes) is = bytes_word bytes is.2
+module _ (format : Format) where
+  -- a bound is a word
+  bound_is_word : (bound : Option (List ℕ)) → IsBound format bound → IsWord (bound_word bound)
+  bound_is_word None is = (omega arith, refl)
+  bound_is_word (Some bytes) is = bytes_word bytes is.2
 
-bound_few : (bound : Option (List ℕ)) → IsBound bound → length (bound_word bound) ≤ 196
-bound_few None is = omega arith
-bound_few (Some bytes) is = bytes_few bytes 65 is.2 is.1
+  bound_few : (bound : Option (List ℕ)) → IsBound format bound → length (bound_word bound) ≤ 3 * bound_limit format + 1
+  bound_few None is = omega arith
+  bound_few (Some bytes) is = bytes_few bytes (bound_limit format) is.2 is.1
 
 -- ---- words in a row
 
@@ -109,50 +113,56 @@ joined_few [] = omega arith
 joined_few (w ∷ []) = omega arith
 joined_few (w ∷ next ∷ ws) = omega (arith, length-append w (32 ∷ joined (next ∷ ws)), joined_few (next ∷ ws))
 
--- what is written of a command is words
-pub command_words : (c : Cmd) → IsCommand c → AllByRecursion IsWord (words_of c)
-unfolding words_of IsCommand
-command_words (cmd.Begin ts) is = ((omega arith, refl), (number_word ts is, tt))
-command_words (cmd.Get ts key) is = ((omega arith, refl), (number_word ts is.0, (bytes_word key is.1.2, tt)))
-command_words (cmd.Scan ts span) is = ((omega arith, refl), (number_word ts is.0, (bound_is_word span.lo is.1.0, (bound_is_word span.hi is.1.1, tt))))
-command_words (cmd.Put ts key value) is = ((omega arith, refl), (number_word ts is.0, (bytes_word key is.1.2, (bytes_word value is.2.1, tt))))
-command_words (cmd.Del ts key) is = ((omega arith, refl), (number_word ts is.0, (bytes_word key is.1.2, tt)))
-command_words (cmd.Commit ts) is = ((omega arith, refl), (number_word ts is, tt))
-command_words (cmd.Abort ts) is = ((omega arith, refl), (number_word ts is, tt))
-command_words (cmd.Close to) is = ((omega arith, refl), (number_word to is, tt))
-command_words (cmd.CloseHard to) is = ((omega arith, refl), (number_word to is, tt))
-command_words (cmd.ReadAt t key) is = ((omega arith, refl), (number_word t is.0, (bytes_word key is.1.2, tt)))
-command_words (cmd.ScanAt t span) is = ((omega arith, refl), (number_word t is.0, (bound_is_word span.lo is.1.0, (bound_is_word span.hi is.1.1, tt))))
-command_words (cmd.Protect t) is = ((omega arith, refl), (number_word t is, tt))
-command_words (cmd.Release id) is = ((omega arith, refl), (number_word id is, tt))
-command_words (cmd.Collect to) is = ((omega arith, refl), (number_word to is, tt))
-command_words (cmd.Open span cursor) is = ((omega arith, refl), (bound_is_word span.lo is.0.0, (bound_is_word span.hi is.0.1, (number_word cursor is.1, tt))))
-command_words (cmd.OpenInitial span cursor) is = ((omega arith, refl), (bound_is_word span.lo is.0.0, (bound_is_word span.hi is.0.1, (number_word cursor is.1, tt))))
-command_words (cmd.OpenEvery span cursor gap) is = ((omega arith, refl), (bound_is_word span.lo is.0.0, (bound_is_word span.hi is.0.1, (number_word cursor is.1, (number_word gap is.2, tt)))))
-command_words (cmd.Poll feed max) is = ((omega arith, refl), (number_word feed is.0, (number_word max is.1, tt)))
-command_words (cmd.Cancel feed) is = ((omega arith, refl), (number_word feed is, tt))
-command_words cmd.Stats is = ((omega arith, refl), tt)
+-- a line has room for a key and a value of escaped bytes, and for two bounds
+pub room : (format : Format) → (3 * key_limit format + 3 * value_limit format + 200 ≤ line_limit format) × (6 * bound_limit format + 200 ≤ line_limit format)
+room One = (omega arith, omega arith)
+room Two = (omega arith, omega arith)
 
--- the longest command is a `put` with a key and a value of escaped bytes
-pub command_few : (c : Cmd) → IsCommand c → letters (words_of c) ≤ 4000
-unfolding words_of IsCommand
-command_few (cmd.Begin ts) is = omega (arith, number_length ts is)
-command_few (cmd.Get ts key) is = omega (arith, number_length ts is.0, bytes_few key 64 is.1.2 is.1.1)
-command_few (cmd.Scan ts span) is = omega (arith, number_length ts is.0, bound_few span.lo is.1.0, bound_few span.hi is.1.1)
-command_few (cmd.Put ts key value) is = omega (arith, number_length ts is.0, bytes_few key 64 is.1.2 is.1.1, bytes_few value 1024 is.2.1 is.2.0)
-command_few (cmd.Del ts key) is = omega (arith, number_length ts is.0, bytes_few key 64 is.1.2 is.1.1)
-command_few (cmd.Commit ts) is = omega (arith, number_length ts is)
-command_few (cmd.Abort ts) is = omega (arith, number_length ts is)
-command_few (cmd.Close to) is = omega (arith, number_length to is)
-command_few (cmd.CloseHard to) is = omega (arith, number_length to is)
-command_few (cmd.ReadAt t key) is = omega (arith, number_length t is.0, bytes_few key 64 is.1.2 is.1.1)
-command_few (cmd.ScanAt t span) is = omega (arith, number_length t is.0, bound_few span.lo is.1.0, bound_few span.hi is.1.1)
-command_few (cmd.Protect t) is = omega (arith, number_length t is)
-command_few (cmd.Release id) is = omega (arith, number_length id is)
-command_few (cmd.Collect to) is = omega (arith, number_length to is)
-command_few (cmd.Open span cursor) is = omega (arith, bound_few span.lo is.0.0, bound_few span.hi is.0.1, number_length cursor is.1)
-command_few (cmd.OpenInitial span cursor) is = omega (arith, bound_few span.lo is.0.0, bound_few span.hi is.0.1, number_length cursor is.1)
-command_few (cmd.OpenEvery span cursor gap) is = omega (arith, bound_few span.lo is.0.0, bound_few span.hi is.0.1, number_length cursor is.1, number_length gap is.2)
-command_few (cmd.Poll feed max) is = omega (arith, number_length feed is.0, number_length max is.1)
-command_few (cmd.Cancel feed) is = omega (arith, number_length feed is)
-command_few cmd.Stats is = omega arith
+module _ (format : Format) where
+  -- what is written of a command is words
+  pub command_words : (c : Cmd) → IsCommand format c → AllByRecursion IsWord (words_of c)
+  unfolding words_of IsCommand
+  command_words (cmd.Begin ts) is = ((omega arith, refl), (number_word ts is, tt))
+  command_words (cmd.Get ts key) is = ((omega arith, refl), (number_word ts is.0, (bytes_word key is.1.2, tt)))
+  command_words (cmd.Scan ts span) is = ((omega arith, refl), (number_word ts is.0, (bound_is_word format span.lo is.1.0, (bound_is_word format span.hi is.1.1, tt))))
+  command_words (cmd.Put ts key value) is = ((omega arith, refl), (number_word ts is.0, (bytes_word key is.1.2, (bytes_word value is.2.1, tt))))
+  command_words (cmd.Del ts key) is = ((omega arith, refl), (number_word ts is.0, (bytes_word key is.1.2, tt)))
+  command_words (cmd.Commit ts) is = ((omega arith, refl), (number_word ts is, tt))
+  command_words (cmd.Abort ts) is = ((omega arith, refl), (number_word ts is, tt))
+  command_words (cmd.Close to) is = ((omega arith, refl), (number_word to is, tt))
+  command_words (cmd.CloseHard to) is = ((omega arith, refl), (number_word to is, tt))
+  command_words (cmd.ReadAt t key) is = ((omega arith, refl), (number_word t is.0, (bytes_word key is.1.2, tt)))
+  command_words (cmd.ScanAt t span) is = ((omega arith, refl), (number_word t is.0, (bound_is_word format span.lo is.1.0, (bound_is_word format span.hi is.1.1, tt))))
+  command_words (cmd.Protect t) is = ((omega arith, refl), (number_word t is, tt))
+  command_words (cmd.Release id) is = ((omega arith, refl), (number_word id is, tt))
+  command_words (cmd.Collect to) is = ((omega arith, refl), (number_word to is, tt))
+  command_words (cmd.Open span cursor) is = ((omega arith, refl), (bound_is_word format span.lo is.0.0, (bound_is_word format span.hi is.0.1, (number_word cursor is.1, tt))))
+  command_words (cmd.OpenInitial span cursor) is = ((omega arith, refl), (bound_is_word format span.lo is.0.0, (bound_is_word format span.hi is.0.1, (number_word cursor is.1, tt))))
+  command_words (cmd.OpenEvery span cursor gap) is = ((omega arith, refl), (bound_is_word format span.lo is.0.0, (bound_is_word format span.hi is.0.1, (number_word cursor is.1, (number_word gap is.2, tt)))))
+  command_words (cmd.Poll feed max) is = ((omega arith, refl), (number_word feed is.0, (number_word max is.1, tt)))
+  command_words (cmd.Cancel feed) is = ((omega arith, refl), (number_word feed is, tt))
+  command_words cmd.Stats is = ((omega arith, refl), tt)
+
+  -- the longest command is a `put` with a key and a value of escaped bytes
+  pub command_few : (c : Cmd) → IsCommand format c → letters (words_of c) + 96 ≤ line_limit format
+  unfolding words_of IsCommand
+  command_few (cmd.Begin ts) is = let r = room format in omega (arith, r.0, r.1, number_length ts is)
+  command_few (cmd.Get ts key) is = let r = room format in omega (arith, r.0, r.1, number_length ts is.0, bytes_few key (key_limit format) is.1.2 is.1.1)
+  command_few (cmd.Scan ts span) is = let r = room format in omega (arith, r.0, r.1, number_length ts is.0, bound_few format span.lo is.1.0, bound_few format span.hi is.1.1)
+  command_few (cmd.Put ts key value) is = let r = room format in omega (arith, r.0, r.1, number_length ts is.0, bytes_few key (key_limit format) is.1.2 is.1.1, bytes_few value (value_limit format) is.2.1 is.2.0)
+  command_few (cmd.Del ts key) is = let r = room format in omega (arith, r.0, r.1, number_length ts is.0, bytes_few key (key_limit format) is.1.2 is.1.1)
+  command_few (cmd.Commit ts) is = let r = room format in omega (arith, r.0, r.1, number_length ts is)
+  command_few (cmd.Abort ts) is = let r = room format in omega (arith, r.0, r.1, number_length ts is)
+  command_few (cmd.Close to) is = let r = room format in omega (arith, r.0, r.1, number_length to is)
+  command_few (cmd.CloseHard to) is = let r = room format in omega (arith, r.0, r.1, number_length to is)
+  command_few (cmd.ReadAt t key) is = let r = room format in omega (arith, r.0, r.1, number_length t is.0, bytes_few key (key_limit format) is.1.2 is.1.1)
+  command_few (cmd.ScanAt t span) is = let r = room format in omega (arith, r.0, r.1, number_length t is.0, bound_few format span.lo is.1.0, bound_few format span.hi is.1.1)
+  command_few (cmd.Protect t) is = let r = room format in omega (arith, r.0, r.1, number_length t is)
+  command_few (cmd.Release id) is = let r = room format in omega (arith, r.0, r.1, number_length id is)
+  command_few (cmd.Collect to) is = let r = room format in omega (arith, r.0, r.1, number_length to is)
+  command_few (cmd.Open span cursor) is = let r = room format in omega (arith, r.0, r.1, bound_few format span.lo is.0.0, bound_few format span.hi is.0.1, number_length cursor is.1)
+  command_few (cmd.OpenInitial span cursor) is = let r = room format in omega (arith, r.0, r.1, bound_few format span.lo is.0.0, bound_few format span.hi is.0.1, number_length cursor is.1)
+  command_few (cmd.OpenEvery span cursor gap) is = let r = room format in omega (arith, r.0, r.1, bound_few format span.lo is.0.0, bound_few format span.hi is.0.1, number_length cursor is.1, number_length gap is.2)
+  command_few (cmd.Poll feed max) is = let r = room format in omega (arith, r.0, r.1, number_length feed is.0, number_length max is.1)
+  command_few (cmd.Cancel feed) is = let r = room format in omega (arith, r.0, r.1, number_length feed is)
+  command_few cmd.Stats is = let r = room format in omega (arith, r.0)

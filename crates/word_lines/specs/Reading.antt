@@ -1,5 +1,7 @@
 -- Reading from left to right: the value, or the first fault that is met.
 use Rattle.std.specs.Prelude.{◌≡◌, ℕ, ◌==◌, nat_lt, nat_le, ◌&&◌, if◌then◌else◌, List, [], ◌∷◌, length, codes, Option, Some, None, Result, Ok, Err, ok_or, bytes_eq}
+use Rattle.text_format.specs.declared.Format.{Format}
+use Rattle.text_format.specs.Limits.{key_limit, value_limit, bound_limit}
 use Rattle.spans.specs.declared.calls.commands.Cmd.{Cmd}
 use Rattle.spans.specs.declared.calls.commands.Cmd.TheVariants as cmd
 use Rattle.spans.specs.declared.span.Span.{Span}
@@ -68,22 +70,22 @@ bytes_at least most fault words = do
   bytes ← ok_or (bytes_of w.0) BadByte
   if nat_le least (length bytes) && nat_le (length bytes) most then Ok (bytes, w.1) else Err fault
 
-unfoldable pub key_at : List (List ℕ) → Result (List ℕ × List (List ℕ)) LineFault
-key_at words = bytes_at 1 64 KeyLength words
+unfoldable pub key_at : Format → List (List ℕ) → Result (List ℕ × List (List ℕ)) LineFault
+key_at format words = bytes_at 1 (key_limit format) KeyLength words
 
-unfoldable pub value_at : List (List ℕ) → Result (List ℕ × List (List ℕ)) LineFault
-value_at words = bytes_at 0 1024 ValueLength words
+unfoldable pub value_at : Format → List (List ℕ) → Result (List ℕ × List (List ℕ)) LineFault
+value_at format words = bytes_at 0 (value_limit format) ValueLength words
 
 -- a bound, or `-` for none
-unfoldable pub bound_at : List (List ℕ) → Result (Option (List ℕ) × List (List ℕ)) LineFault
-bound_at words = do
+unfoldable pub bound_at : Format → List (List ℕ) → Result (Option (List ℕ) × List (List ℕ)) LineFault
+bound_at format words = do
   w ← word_at words
-  if bytes_eq w.0 (codes "-") then Ok (None, w.1) else (bytes_at 1 65 KeyLength words >>= λ b. Ok (Some b.0, b.1))
+  if bytes_eq w.0 (codes "-") then Ok (None, w.1) else (bytes_at 1 (bound_limit format) KeyLength words >>= λ b. Ok (Some b.0, b.1))
 
-unfoldable pub span_at : List (List ℕ) → Result (Span × List (List ℕ)) LineFault
-span_at words = do
-  lo ← bound_at words
-  hi ← bound_at lo.1
+unfoldable pub span_at : Format → List (List ℕ) → Result (Span × List (List ℕ)) LineFault
+span_at format words = do
+  lo ← bound_at format words
+  hi ← bound_at format lo.1
   Ok (record { lo = lo.0; hi = hi.0 }, hi.1)
 
 unfoldable pub row_at : List Row → List (List ℕ) → Result (Row × List (List ℕ)) LineFault
@@ -98,66 +100,66 @@ with_number make words = do
   n ← number_at words
   Ok (make n.0, n.1)
 
-abbrev with_key : (ℕ → List ℕ → Cmd) → List (List ℕ) → Result (Cmd × List (List ℕ)) LineFault
-with_key make words = do
+abbrev with_key : Format → (ℕ → List ℕ → Cmd) → List (List ℕ) → Result (Cmd × List (List ℕ)) LineFault
+with_key format make words = do
   n ← number_at words
-  key ← key_at n.1
+  key ← key_at format n.1
   Ok (make n.0 key.0, key.1)
 
-abbrev with_span : (ℕ → Span → Cmd) → List (List ℕ) → Result (Cmd × List (List ℕ)) LineFault
-with_span make words = do
+abbrev with_span : Format → (ℕ → Span → Cmd) → List (List ℕ) → Result (Cmd × List (List ℕ)) LineFault
+with_span format make words = do
   n ← number_at words
-  span ← span_at n.1
+  span ← span_at format n.1
   Ok (make n.0 span.0, span.1)
 
 -- the command of a verb, from the words of its arguments
-unfoldable pub arguments_at : Verb → List (List ℕ) → Result (Cmd × List (List ℕ)) LineFault
-arguments_at verb.Begin words = with_number cmd.Begin words
-arguments_at verb.Get words = with_key cmd.Get words
-arguments_at verb.Put words = do
+unfoldable pub arguments_at : Format → Verb → List (List ℕ) → Result (Cmd × List (List ℕ)) LineFault
+arguments_at format verb.Begin words = with_number cmd.Begin words
+arguments_at format verb.Get words = with_key format cmd.Get words
+arguments_at format verb.Put words = do
   n ← number_at words
-  key ← key_at n.1
-  value ← value_at key.1
+  key ← key_at format n.1
+  value ← value_at format key.1
   Ok (cmd.Put n.0 key.0 value.0, value.1)
-arguments_at verb.Del words = with_key cmd.Del words
-arguments_at verb.Commit words = with_number cmd.Commit words
-arguments_at verb.Abort words = with_number cmd.Abort words
-arguments_at verb.Close words = with_number cmd.Close words
-arguments_at verb.Scan words = with_span cmd.Scan words
-arguments_at verb.CloseHard words = with_number cmd.CloseHard words
-arguments_at verb.ReadAt words = with_key cmd.ReadAt words
-arguments_at verb.ScanAt words = with_span cmd.ScanAt words
-arguments_at verb.Protect words = with_number cmd.Protect words
-arguments_at verb.Release words = with_number cmd.Release words
-arguments_at verb.Collect words = with_number cmd.Collect words
-arguments_at verb.Open words = do
-  span ← span_at words
+arguments_at format verb.Del words = with_key format cmd.Del words
+arguments_at format verb.Commit words = with_number cmd.Commit words
+arguments_at format verb.Abort words = with_number cmd.Abort words
+arguments_at format verb.Close words = with_number cmd.Close words
+arguments_at format verb.Scan words = with_span format cmd.Scan words
+arguments_at format verb.CloseHard words = with_number cmd.CloseHard words
+arguments_at format verb.ReadAt words = with_key format cmd.ReadAt words
+arguments_at format verb.ScanAt words = with_span format cmd.ScanAt words
+arguments_at format verb.Protect words = with_number cmd.Protect words
+arguments_at format verb.Release words = with_number cmd.Release words
+arguments_at format verb.Collect words = with_number cmd.Collect words
+arguments_at format verb.Open words = do
+  span ← span_at format words
   n ← number_at span.1
   Ok (cmd.Open span.0 n.0, n.1)
-arguments_at verb.OpenInitial words = do
-  span ← span_at words
+arguments_at format verb.OpenInitial words = do
+  span ← span_at format words
   n ← number_at span.1
   Ok (cmd.OpenInitial span.0 n.0, n.1)
-arguments_at verb.OpenEvery words = do
-  span ← span_at words
+arguments_at format verb.OpenEvery words = do
+  span ← span_at format words
   n ← number_at span.1
   gap ← number_at n.1
   Ok (cmd.OpenEvery span.0 n.0 gap.0, gap.1)
-arguments_at verb.Poll words = do
+arguments_at format verb.Poll words = do
   n ← number_at words
   most ← number_at n.1
   Ok (cmd.Poll n.0 most.0, most.1)
-arguments_at verb.Cancel words = with_number cmd.Cancel words
-arguments_at verb.Stats words = Ok (cmd.Stats, words)
+arguments_at format verb.Cancel words = with_number cmd.Cancel words
+arguments_at format verb.Stats words = Ok (cmd.Stats, words)
 
 -- the session and the command, from the words of a line
-unfoldable pub command_of : List Row → ℕ → List (List ℕ) → Result (ℕ × Cmd) LineFault
-command_of rows seats words =
+unfoldable pub command_of : Format → List Row → ℕ → List (List ℕ) → Result (ℕ × Cmd) LineFault
+command_of format rows seats words =
     if nat_lt (length words) 2 then Err WordCount else (do
       session ← session_at seats words
       row ← row_at rows session.1
       if length row.1 == row.0.arguments then (do
-        c ← arguments_at row.0.verb row.1
+        c ← arguments_at format row.0.verb row.1
         Ok (session.0, c.0)) else Err WordCount)
 
 -- the same tests but those of the arguments
@@ -169,16 +171,16 @@ counted_at rows seats words =
       if length row.1 == row.0.arguments then Ok tt else Err WordCount)
 
 -- the same with no word counted before the last argument was read
-unfoldable pub taken_of : List Row → ℕ → List (List ℕ) → Result (ℕ × Cmd) LineFault
-taken_of rows seats words = do
+unfoldable pub taken_of : Format → List Row → ℕ → List (List ℕ) → Result (ℕ × Cmd) LineFault
+taken_of format rows seats words = do
   session ← session_at seats words
   row ← row_at rows session.1
-  c ← arguments_at row.0.verb row.1
+  c ← arguments_at format row.0.verb row.1
   if length c.1 == 0 then Ok (session.0, c.0) else Err WordCount
 
 -- the session and the command of a line: the tests in the order in which they count
-unfoldable pub command_at : List Row → ℕ → List ℕ → Result (ℕ × Cmd) LineFault
-command_at rows seats line = do
-  text ← text_at line
+unfoldable pub command_at : Format → List Row → ℕ → List ℕ → Result (ℕ × Cmd) LineFault
+command_at format rows seats line = do
+  text ← text_at format line
   words ← words_at text
-  command_of rows seats words
+  command_of format rows seats words

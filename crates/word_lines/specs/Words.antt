@@ -4,7 +4,8 @@ use Rattle.std.specs.Borrow.{Bor}
 use Rattle.std.specs.List.{list_all, list_any, slice_split}
 use Rattle.word_lines.specs.declared.fault.LineFault.{LineFault}
 use Rattle.word_lines.specs.declared.fault.LineFault.TheVariants.{WordCount, NoNewline, LineTooLong, BadByte}
-use Rattle.word_lines.specs.declared.words.TheConstants.{MAX_LINE_BYTES}
+use Rattle.text_format.specs.declared.Format.{Format}
+use Rattle.text_format.specs.Limits.{line_limit}
 
 -- only the last byte counts as the newline
 abbrev pub has_newline : List ℕ → Bool
@@ -14,9 +15,9 @@ abbrev pub without_newline : List ℕ → List ℕ
 without_newline line = if has_newline line then take (length line - 1) line else line
 
 -- a line's length is tested before its bytes
-unfoldable pub text_at : List ℕ → Result (List ℕ) LineFault
-text_at line =
-    if nat_lt MAX_LINE_BYTES (length (without_newline line)) then Err LineTooLong
+unfoldable pub text_at : Format → List ℕ → Result (List ℕ) LineFault
+text_at format line =
+    if nat_lt (line_limit format) (length (without_newline line)) then Err LineTooLong
     else if not (has_newline line) then Err NoNewline
     else Ok (without_newline line)
 

@@ -8,6 +8,7 @@ use crate::words::Words;
 use spans::bound::{Bound, BoundError};
 use spans::span::Span;
 use std::alloc::Global;
+use text_format::Format;
 use timestamps::key::{Key, KeyError};
 use timestamps::value::{Value, ValueError};
 
@@ -22,46 +23,58 @@ pub fn take_number(words: &mut Words) -> Result<u64, ReadError>
     Ok(number)
 }
 
-/// A key. Its bytes are copied once where each stands for itself, and else at most twice.
+/// A key of the format. Its bytes are copied once where each stands for itself, and else at most twice.
 #[inline(always)]
 #[tactic(auto, unfolding(crate::specs::Reading::key_at))]
-pub fn take_key(alloc: Global, words: &mut Words) -> Result<Key, ReadError>
-    ensures { Takes result words.new (key_at words.old) }
+pub fn take_key(alloc: Global, words: &mut Words, format: Format) -> Result<Key, ReadError>
+    ensures { Takes result words.new (key_at format words.old) }
 {
     let word = words.take_word().ok_or(LineFault::WordCount)?;
     let spelled = bytes_of(alloc, word)?;
-    match Key::new(alloc, spelled.bytes()) {
+    let bytes = spelled.bytes();
+    if bytes.len() > format.key_limit() {
+        return Err(ReadError::Fault(LineFault::KeyLength));
+    }
+    match Key::new(alloc, bytes) {
         Ok(key) => Ok(key),
         Err(KeyError::KeyLength) => Err(ReadError::Fault(LineFault::KeyLength)),
         Err(KeyError::NoMemory) => Err(ReadError::NoMemory),
     }
 }
 
-/// A value. Its bytes are copied as a key's are.
+/// A value of the format. Its bytes are copied as a key's are.
 #[tactic(auto, unfolding(crate::specs::Reading::value_at))]
-pub fn take_value(alloc: Global, words: &mut Words) -> Result<Value, ReadError>
-    ensures { Takes result words.new (value_at words.old) }
+pub fn take_value(alloc: Global, words: &mut Words, format: Format) -> Result<Value, ReadError>
+    ensures { Takes result words.new (value_at format words.old) }
 {
     let word = words.take_word().ok_or(LineFault::WordCount)?;
     let spelled = bytes_of(alloc, word)?;
-    match Value::new(alloc, spelled.bytes()) {
+    let bytes = spelled.bytes();
+    if bytes.len() > format.value_limit() {
+        return Err(ReadError::Fault(LineFault::ValueLength));
+    }
+    match Value::new(alloc, bytes) {
         Ok(value) => Ok(value),
         Err(ValueError::ValueLength) => Err(ReadError::Fault(LineFault::ValueLength)),
         Err(ValueError::NoMemory) => Err(ReadError::NoMemory),
     }
 }
 
-/// A bound, or `-` for none.
+/// A bound of the format, or `-` for none.
 #[tactic(auto, unfolding(crate::specs::Reading::bound_at))]
-fn take_bound(alloc: Global, words: &mut Words) -> Result<Option<Bound>, ReadError>
-    ensures { Takes result words.new (bound_at words.old) }
+fn take_bound(alloc: Global, words: &mut Words, format: Format) -> Result<Option<Bound>, ReadError>
+    ensures { Takes result words.new (bound_at format words.old) }
 {
     let word = words.take_word().ok_or(LineFault::WordCount)?;
     if word == b"-".as_slice() {
         return Ok(None);
     }
     let spelled = bytes_of(alloc, word)?;
-    match Bound::new(alloc, spelled.bytes()) {
+    let bytes = spelled.bytes();
+    if bytes.len() > format.bound_limit() {
+        return Err(ReadError::Fault(LineFault::KeyLength));
+    }
+    match Bound::new(alloc, bytes) {
         Ok(bound) => Ok(Some(bound)),
         Err(BoundError::BoundLength) => Err(ReadError::Fault(LineFault::KeyLength)),
         Err(BoundError::NoMemory) => Err(ReadError::NoMemory),
@@ -70,10 +83,10 @@ fn take_bound(alloc: Global, words: &mut Words) -> Result<Option<Bound>, ReadErr
 
 /// A span: its lower and its upper bound.
 #[tactic(auto, unfolding(crate::specs::Reading::span_at))]
-pub(crate) fn take_span(alloc: Global, words: &mut Words) -> Result<Span, ReadError>
-    ensures { Takes result words.new (span_at words.old) }
+pub(crate) fn take_span(alloc: Global, words: &mut Words, format: Format) -> Result<Span, ReadError>
+    ensures { Takes result words.new (span_at format words.old) }
 {
-    let lo = take_bound(alloc, words)?;
-    let hi = take_bound(alloc, words)?;
+    let lo = take_bound(alloc, words, format)?;
+    let hi = take_bound(alloc, words, format)?;
     Ok(Span { lo, hi })
 }

@@ -3,7 +3,6 @@
 ghost use Rattle.std.specs.Prelude.{◌≡◌, ◌++◌, ◌∷◌, [], ◌<◌, decimal, IfOk, OnOk, OnErr};
 ghost use Rattle.word_lines.specs.Reading.{Gives, Takes, TakesFree, TakesForm, session_at, row_at, arguments_at, counted_at, taken_of, command_at};
 ghost use Rattle.word_lines.specs.Table.{table};
-ghost use Rattle.word_lines.specs.declared.words.TheConstants.{MAX_LINE_BYTES};
 ghost use Rattle.word_lines.specs.Words.{words};
 ghost use Rattle.word_lines.specs.Spelling.{spelling};
 ghost use Rattle.word_lines.specs.Limits.{IsCommand};
@@ -21,23 +20,28 @@ use spans::bound::Bound;
 use spans::calls::Cmd;
 use spans::span::Span;
 use std::alloc::{AllocError, Global};
+use text_format::Format;
 
-/// Reads a command's line, with its newline: the session, below `seats`, and the command. It
+/// Reads a command's line of a format, with its newline: the session, below `seats`, and the command. It
 /// allocates for the command's keys, values and bounds alone.
 ///
 /// A line that is read has only printable bytes, no empty word and as many words as its command
 /// takes, since every command's text has: so they are looked at and counted only where there is a
 /// fault, before which they may count.
 #[tactic(auto, using(crate::proofs::Counting::counted_right, crate::proofs::Counting::counted_fault), unfolding(crate::specs::Reading::command_at))]
-pub fn read_command(alloc: Global, line: &[u8], seats: u8) -> Result<(u8, Cmd), ReadError>
+pub fn read_command(
+    alloc: Global,
+    line: &[u8],
+    seats: u8,
+    format: Format,
+) -> Result<(u8, Cmd), ReadError>
     // What is read is the text of this command, byte for byte.
-    ensures found { IfOk result (λ x. (line.now ≡ command_line x.0 x.1) × (x.0 < seats) × IsCommand x.1) }
+    ensures found { IfOk result (λ x. (line.now ≡ command_line x.0 x.1) × (x.0 < seats) × IsCommand format x.1) }
     // Which fault it is: the first from the left.
-    ensures exact { Gives (λ x. x) result (command_at table seats line.now) }
-    ensures limit { MAX_LINE_BYTES ≡ 4096 }
+    ensures exact { Gives (λ x. x) result (command_at format table seats line.now) }
 {
-    let text = text_of(line)?;
-    match take_command(alloc, text, seats) {
+    let text = text_of(line, format)?;
+    match take_command(alloc, text, seats, format) {
         Ok(read) => Ok(read),
         Err(ReadError::NoMemory) => Err(ReadError::NoMemory),
         Err(ReadError::Fault(fault)) => {
@@ -50,13 +54,18 @@ pub fn read_command(alloc: Global, line: &[u8], seats: u8) -> Result<(u8, Cmd), 
 
 /// Reads a command from the words of a text, which aren't counted before the last was read.
 #[tactic(auto, unfolding(crate::specs::Reading::taken_of))]
-fn take_command(alloc: Global, text: &[u8], seats: u8) -> Result<(u8, Cmd), ReadError>
-    ensures { Gives (λ x. x) result (taken_of table seats (words text.now)) }
+fn take_command(
+    alloc: Global,
+    text: &[u8],
+    seats: u8,
+    format: Format,
+) -> Result<(u8, Cmd), ReadError>
+    ensures { Gives (λ x. x) result (taken_of format table seats (words text.now)) }
 {
     let mut words = words_in(text);
     let seat = take_seat(&mut words, seats)?;
     let form = take_form(&mut words)?;
-    let cmd = take_arguments(alloc, form.verb, &mut words)?;
+    let cmd = take_arguments(alloc, form.verb, &mut words, format)?;
     if !words.is_empty() {
         return Err(ReadError::Fault(LineFault::WordCount));
     }
@@ -106,8 +115,13 @@ pub fn take_form(words: &mut Words) -> Result<Form, LineFault>
 /// The command, from the words of its arguments.
 #[inline(always)]
 #[tactic(auto, unfolding(crate::specs::Reading::arguments_at))]
-pub fn take_arguments(alloc: Global, verb: Verb, words: &mut Words) -> Result<Cmd, ReadError>
-    ensures { Takes result words.new (arguments_at verb words.old) }
+pub fn take_arguments(
+    alloc: Global,
+    verb: Verb,
+    words: &mut Words,
+    format: Format,
+) -> Result<Cmd, ReadError>
+    ensures { Takes result words.new (arguments_at format verb words.old) }
 {
     let cmd = match verb {
         Verb::Begin => Cmd::Begin {
@@ -115,16 +129,16 @@ pub fn take_arguments(alloc: Global, verb: Verb, words: &mut Words) -> Result<Cm
         },
         Verb::Get => Cmd::Get {
             ts: take_number(words)?,
-            key: take_key(alloc, words)?,
+            key: take_key(alloc, words, format)?,
         },
         Verb::Put => Cmd::Put {
             ts: take_number(words)?,
-            key: take_key(alloc, words)?,
-            value: take_value(alloc, words)?,
+            key: take_key(alloc, words, format)?,
+            value: take_value(alloc, words, format)?,
         },
         Verb::Del => Cmd::Del {
             ts: take_number(words)?,
-            key: take_key(alloc, words)?,
+            key: take_key(alloc, words, format)?,
         },
         Verb::Commit => Cmd::Commit {
             ts: take_number(words)?,
@@ -137,18 +151,18 @@ pub fn take_arguments(alloc: Global, verb: Verb, words: &mut Words) -> Result<Cm
         },
         Verb::Scan => Cmd::Scan {
             ts: take_number(words)?,
-            span: take_span(alloc, words)?,
+            span: take_span(alloc, words, format)?,
         },
         Verb::CloseHard => Cmd::CloseHard {
             to: take_number(words)?,
         },
         Verb::ReadAt => Cmd::ReadAt {
             t: take_number(words)?,
-            key: take_key(alloc, words)?,
+            key: take_key(alloc, words, format)?,
         },
         Verb::ScanAt => Cmd::ScanAt {
             t: take_number(words)?,
-            span: take_span(alloc, words)?,
+            span: take_span(alloc, words, format)?,
         },
         Verb::Protect => Cmd::Protect {
             t: take_number(words)?,
@@ -160,15 +174,15 @@ pub fn take_arguments(alloc: Global, verb: Verb, words: &mut Words) -> Result<Cm
             to: take_number(words)?,
         },
         Verb::Open => Cmd::Open {
-            span: take_span(alloc, words)?,
+            span: take_span(alloc, words, format)?,
             cursor: take_number(words)?,
         },
         Verb::OpenInitial => Cmd::OpenInitial {
-            span: take_span(alloc, words)?,
+            span: take_span(alloc, words, format)?,
             cursor: take_number(words)?,
         },
         Verb::OpenEvery => Cmd::OpenEvery {
-            span: take_span(alloc, words)?,
+            span: take_span(alloc, words, format)?,
             cursor: take_number(words)?,
             gap: take_number(words)?,
         },

@@ -17,10 +17,10 @@ pub enum LineFault {
     /// No number word stands where a number belongs.
     #[error("number")]
     Number = 3,
-    /// A key has no byte or over 64, or a bound has over 65.
+    /// A key has no byte, or a key or a bound is longer than the format lets it be.
     #[error("keylength")]
     KeyLength = 4,
-    /// A value has over 1024 bytes.
+    /// A value is longer than the format lets it be.
     #[error("valuelength")]
     ValueLength = 5,
     /// The session is no number word below the number of seats.
@@ -29,7 +29,7 @@ pub enum LineFault {
     /// The line doesn't end in a newline.
     #[error("nonewline")]
     NoNewline = 7,
-    /// Over 4096 bytes stand before the newline.
+    /// More bytes than the format lets a line have stand before the newline.
     #[error("linetoolong")]
     LineTooLong = 8,
     /// A byte is no printable ASCII, or a word isn't the spelling of any bytes.

@@ -1,5 +1,6 @@
 //! What holds of all words and of all commands, as the contracts of functions that do nothing.
 ghost use Rattle.std.specs.Prelude.{◌≡◌, ℕ, ◌<◌, ◌^◌, List, Some, Ok, decimal};
+ghost use Rattle.text_format.specs.declared.Format.{Format};
 ghost use Rattle.spans.specs.declared.calls.commands.Cmd.{Cmd};
 ghost use Rattle.word_lines.specs.Commands.{command_line};
 ghost use Rattle.word_lines.specs.Limits.{IsCommand};
@@ -20,7 +21,7 @@ pub fn spellings()
     ensures written { (bytes : List ℕ) → AreBytes bytes → bytes_of (spelling bytes) ≡ Some bytes }
 {}
 
-/// What was written of a command is read as this command, for whatever number of seats.
+/// What was written of a command is read as this command in a format whose limits it keeps, for whatever number of seats.
 pub fn commands()
-    ensures { (seats seat : ℕ) (c : Cmd) → seats < 2 ^ 8 → seat < seats → IsCommand c → command_at table seats (command_line seat c) ≡ Ok (seat, c) }
+    ensures { (f : Format) (n seat : ℕ) (c : Cmd) → n < 2 ^ 8 → seat < n → IsCommand f c → command_at f table n (command_line seat c) ≡ Ok (seat, c) }
 {}

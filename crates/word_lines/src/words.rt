@@ -4,21 +4,19 @@ ghost use Rattle.word_lines.specs.Words.{text_at, words, words_at, words_left, i
 
 use crate::fault::LineFault;
 use std::marker::Model;
+use text_format::Format;
 
-/// The most bytes that a line has before its newline.
-pub const MAX_LINE_BYTES: usize = 4096;
-
-/// A line without its newline. It may not be too long, and the newline may not be missing.
+/// A line of a format without its newline. It may not be too long, and the newline may not be missing.
 #[tactic(auto, unfolding(crate::specs::Words::text_at))]
-pub fn text_of(line: &[u8]) -> Result<&[u8], LineFault>
-    ensures { MatchResult result (λ text. text_at line.now ≡ Ok text.now) (λ fault. text_at line.now ≡ Err fault) }
+pub fn text_of(line: &[u8], format: Format) -> Result<&[u8], LineFault>
+    ensures { MatchResult result (λ text. text_at format line.now ≡ Ok text.now) (λ fault. text_at format line.now ≡ Err fault) }
 {
     let mut text = line;
     let has_newline = !line.is_empty() && line[line.len() - 1] == b'\n';
     if has_newline {
         text = &line[..line.len() - 1];
     }
-    if text.len() > MAX_LINE_BYTES {
+    if text.len() > format.line_limit() {
         return Err(LineFault::LineTooLong);
     }
     if !has_newline {

@@ -4,7 +4,7 @@ use Rattle.script.proofs.ScriptLines.{script_from}
 use Rattle.script.proofs.scripts.calls_of.Given as goal
 
 abbrev pub invariant-loop-line : goal.invariant-loop-line
-invariant-loop-line l = above l.calls.items (script_from l.seats l.lines) ≡ script_at l.seats l.text
+invariant-loop-line l = above l.calls.items (script_from l.format l.seats l.lines) ≡ script_at l.format l.seats l.text
 
 abbrev pub decreases-loop-line : goal.decreases-loop-line
 decreases-loop-line l = length l.lines.lines
