@@ -5,6 +5,7 @@
 use sessions::{Config, End, Reading, Writing, serve};
 use std::io;
 use std::process::ExitCode;
+use text_format::Format;
 
 fn main(rt: HostRuntime) -> ExitCode {
     let config = Config {
@@ -14,7 +15,14 @@ fn main(rt: HostRuntime) -> ExitCode {
     };
     let mut input = Reading::new(rt.reader());
     let mut output = Writing::new(io::writer(&rt));
-    match serve(&rt, rt.alloc(), config, &mut input, &mut output) {
+    match serve(
+        &rt,
+        rt.alloc(),
+        config,
+        Format::One,
+        &mut input,
+        &mut output,
+    ) {
         End::Done => ExitCode::SUCCESS,
         _ => ExitCode::FAILURE,
     }

@@ -1,5 +1,6 @@
 -- How a job of the program ends, and what is known then of its input and output.
 use Rattle.std.specs.Prelude.{◌≡◌, ℕ, ◌+◌, ◌≤◌, Bool, List}
+use Rattle.text_format.specs.declared.Format.{Format}
 use Rattle.shared_db.specs.declared.config.Config.{Config}
 use Rattle.sessions.specs.Runs.{IsServed}
 use Rattle.sessions.specs.declared.ending.End.{End as RunEnd}
@@ -18,9 +19,9 @@ end_of_run run.Output = ends.Output
 end_of_run run.Memory = ends.Memory
 
 -- the script was served, and this is the end without its line
-pub record IsRun (config : Config) (given given' : List ℕ) (ended : Bool) (taken taken' : List ℕ) (e : End) : Type 0 where
+pub record IsRun (format : Format) (config : Config) (given given' : List ℕ) (ended : Bool) (taken taken' : List ℕ) (e : End) : Type 0 where
   pub run_end : RunEnd
-  pub served : IsServed config given given' ended taken taken' run_end
+  pub served : IsServed format config given given' ended taken taken' run_end
   pub end : e ≡ end_of_run run_end
 
 -- how often reads and writes had failed before a job, and after it

@@ -1,5 +1,6 @@
 -- What a follower takes, and what is told of a feed that is followed.
 use Rattle.std.specs.Prelude.{◌≡◌, ◌≢◌, ◌⊎◌, ℕ, ◌&&◌, Bool, true, false, List, [], ◌∷◌, ◌++◌, Option, None, Ok, Err, codes, decimal}
+use Rattle.text_format.specs.declared.Format.{Format}
 use Rattle.spans.specs.declared.calls.messages.Message.{Message}
 use Rattle.spans.specs.declared.span.Span.{Span}
 use Rattle.json_lines.specs.declared.fault.MessageFault.{MessageFault}
@@ -30,9 +31,9 @@ start_of span (starts.Cursor cursor) = seeded_start span cursor []
 start_of span (starts.Initial cursor) = initial_start span cursor
 
 -- the line is that of a message, which the replica has taken; then it is complete at the timestamp, if at any
-pub record HasTakenMessage (old new : Replica) (line : List ℕ) (at : Option ℕ) : Type 0 where
+pub record HasTakenMessage (format : Format) (old new : Replica) (line : List ℕ) (at : Option ℕ) : Type 0 where
   pub message : Message
-  pub lawful : IsMessage message
+  pub lawful : IsMessage format message
   pub is : line ≡ message_line message
   pub taken : Takes old new message
   pub complete : at ≡ complete_in new
@@ -42,10 +43,10 @@ abbrev pub is_chosen : Choice → List ℕ → Bool
 is_chosen choice text = begins_message text && choice.taking
 
 -- the line has its newline and isn't too long; it was passed over, or its message was taken, as is chosen
-pub record IsTaken (choice choice' : Choice) (old new : Replica) (line : List ℕ) (at : Option ℕ) : Type 0 where
+pub record IsTaken (format : Format) (choice choice' : Choice) (old new : Replica) (line : List ℕ) (at : Option ℕ) : Type 0 where
   pub text : List ℕ
-  pub whole : text_at line ≡ Ok text
-  pub done : ((is_chosen choice text ≡ false) × (at ≡ None) × (new ≡ old)) ⊎ ((is_chosen choice text ≡ true) × HasTakenMessage old new line at)
+  pub whole : text_at format line ≡ Ok text
+  pub done : ((is_chosen choice text ≡ false) × (at ≡ None) × (new ≡ old)) ⊎ ((is_chosen choice text ≡ true) × HasTakenMessage format old new line at)
   pub feed : choice'.feed ≡ choice.feed
   pub taking : choice'.taking ≡ is_taking_after choice.feed choice.taking text
 
@@ -69,20 +70,20 @@ error_of_replica replica_faults.ResolvedBack = errors.Fault faults.ResolvedBack
 error_of_replica replica_faults.NoMemory = errors.NoMemory
 
 -- the line is that of a message, which the replica is to refuse
-pub record HasRefusedMessage (old : Replica) (line : List ℕ) (e : FollowError) : Type 0 where
+pub record HasRefusedMessage (format : Format) (old : Replica) (line : List ℕ) (e : FollowError) : Type 0 where
   pub message : Message
-  pub lawful : IsMessage message
+  pub lawful : IsMessage format message
   pub is : line ≡ message_line message
   pub fault : Fault
   pub test : IsFaultAt old message (test_of fault)
   pub error : e ≡ error_of_replica fault
 
 -- why a line is not taken: its length or its end, or else what is wrong with it as a message, or else what the replica refuses
-abbrev pub IsRefused : Replica → List ℕ → FollowError → Type 0
-IsRefused old line e =
-    ((fault : LineFault) × (text_at line ≡ Err fault) × (e ≡ error_of_line fault))
-    ⊎ ((fault : MessageFault) × (fault ≢ message.NoMemory → message_at line ≡ Err fault) × (e ≡ error_of_message fault))
-    ⊎ HasRefusedMessage old line e
+abbrev pub IsRefused : Format → Replica → List ℕ → FollowError → Type 0
+IsRefused format old line e =
+    ((fault : LineFault) × (text_at format line ≡ Err fault) × (e ≡ error_of_line fault))
+    ⊎ ((fault : MessageFault) × (fault ≢ message.NoMemory → message_at format line ≡ Err fault) × (e ≡ error_of_message fault))
+    ⊎ HasRefusedMessage format old line e
 
 -- that the rows are complete at a timestamp, and how many there are
 abbrev pub resolved_line : ℕ → ℕ → List ℕ

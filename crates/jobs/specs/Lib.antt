@@ -4,3 +4,4 @@ pub mod Answers
 pub mod Races
 pub mod Followed
 pub mod Chosen
+pub mod Taking

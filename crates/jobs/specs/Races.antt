@@ -1,5 +1,7 @@
 -- What a race of a script's sessions answers.
-use Rattle.std.specs.Prelude.{◌≡◌, ℕ, List, [], Some, None}
+use Rattle.std.specs.Prelude.{◌≡◌, ℕ, List, [], ◌++◌, Some, None}
+use Rattle.text_format.specs.declared.Format.{Format}
+use Rattle.text_format.specs.Limits.{header}
 use Rattle.spans.specs.declared.calls.commands.Cmd.{Cmd}
 use Rattle.spans.specs.declared.calls.events.Event.{Event}
 use Rattle.word_lines.specs.Events.{fault_line}
@@ -22,18 +24,18 @@ abbrev pub config_of : RaceOptions → Config
 config_of options = record { seats = options.sessions; ring = options.ring; first = 0 }
 
 -- the script has no fault, and the output is the text of one right history of its calls
-pub record IsRaced (sessions : ℕ) (text out : List ℕ) : Type 0 where
+pub record IsRaced (format : Format) (sessions : ℕ) (text out : List ℕ) : Type 0 where
   pub calls : List (ℕ × Cmd)
-  pub script : script_at sessions text ≡ record { calls = calls; fault = None }
+  pub script : script_at format sessions text ≡ record { calls = calls; fault = None }
   pub events : List Event
   pub raced : IsRaceOf sessions calls events
-  pub told : out ≡ transcript_text events
+  pub told : out ≡ transcript_text format events
 
--- how a race ends by itself, and what it writes: the history of all calls, or the script's first fault. Nothing is written where
--- the database was not opened, or a thread was not started
+-- how a race ends by itself, and what it writes: the history of all calls, or the script's first fault, behind the format's header. Nothing is written where
+-- a database could not be opened, or a thread not started
 abbrev pub IsRace : RaceOptions → List ℕ → End → List ℕ → Type 0
-IsRace options text ends.Done out = IsRaced options.sessions text out
-IsRace options text ends.Faulty out = (f : Fault) × ((script_at options.sessions text).fault ≡ Some f) × (out ≡ fault_line f.line f.fault)
+IsRace options text ends.Done out = IsRaced options.format options.sessions text out
+IsRace options text ends.Faulty out = (f : Fault) × ((script_at options.format options.sessions text).fault ≡ Some f) × (out ≡ header options.format ++ fault_line f.line f.fault)
 IsRace options text (ends.Open reason) out = IsReason (config_of options) reason × (out ≡ [])
 IsRace options text ends.Thread out = out ≡ []
 IsRace options text _ out = ⊥
@@ -58,6 +60,6 @@ end_of_answer (answer.Fault text) = ends.Faulty
 end_of_answer (answer.Events events) = ends.Done
 
 -- the text of an answer
-abbrev pub text_of_answer : Answer → List ℕ
-text_of_answer (answer.Fault text) = text.items
-text_of_answer (answer.Events events) = transcript_text events.items
+abbrev pub text_of_answer : Format → Answer → List ℕ
+text_of_answer format (answer.Fault text) = text.items
+text_of_answer format (answer.Events events) = transcript_text format events.items

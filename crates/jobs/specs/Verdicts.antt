@@ -1,5 +1,6 @@
 -- What the check of a text says.
 use Rattle.std.specs.Prelude.{ℕ, List, ◌++◌, ◌≡◌, Ok, Err, decimal, codes}
+use Rattle.text_format.specs.Limits.{format_of}
 use Rattle.spans.specs.declared.calls.events.Event.{Event}
 use Rattle.word_lines.specs.Events.{fault_line}
 use Rattle.script.specs.Transcripts.{Fault, transcript_at}
@@ -7,10 +8,10 @@ use Rattle.trace_check.specs.Traces.{IsTrace, IsFirstWrong}
 use Rattle.jobs.specs.declared.ending.End.{End}
 use Rattle.jobs.specs.declared.ending.End.TheVariants as ends
 
--- how the check of the text ends, and what it writes: `yes` where the text is that of a trace, `no` with the position of
+-- how the check of the text ends, and what it writes. The text is read in the format that it is in: `yes` where the text is that of a trace, `no` with the position of
 -- the first wrong event where it is that of other events, and else its first fault. It ends in no other way by itself
 abbrev pub IsVerdict : List ℕ → End → List ℕ → Type 0
-IsVerdict text ends.Done out = (events : List Event) × (transcript_at text ≡ Ok events) × IsTrace events × (out ≡ codes "yes\n")
-IsVerdict text ends.No out = (events : List Event) × (transcript_at text ≡ Ok events) × (position : ℕ) × IsFirstWrong events position × (out ≡ codes "no " ++ (decimal position ++ codes "\n"))
-IsVerdict text ends.Faulty out = (f : Fault) × (transcript_at text ≡ Err f) × (out ≡ fault_line f.line f.fault)
+IsVerdict text ends.Done out = (events : List Event) × (transcript_at (format_of text) text ≡ Ok events) × IsTrace events × (out ≡ codes "yes\n")
+IsVerdict text ends.No out = (events : List Event) × (transcript_at (format_of text) text ≡ Ok events) × (position : ℕ) × IsFirstWrong events position × (out ≡ codes "no " ++ (decimal position ++ codes "\n"))
+IsVerdict text ends.Faulty out = (f : Fault) × (transcript_at (format_of text) text ≡ Err f) × (out ≡ fault_line f.line f.fault)
 IsVerdict text _ out = ⊥

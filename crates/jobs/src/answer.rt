@@ -7,11 +7,12 @@ use crate::ending::End;
 use sessions::{Sink, write_transcript, write_whole};
 use spans::calls::Event;
 use std::alloc::Global;
+use text_format::Format;
 
 /// What a race answers.
 #[derive(Drop)]
 pub(crate) enum Answer {
-    /// The line that tells the script's first fault.
+    /// The format's header, and the line that tells the script's first fault.
     Fault(Vec<u8>),
     /// The history of all calls.
     Events(Vec<Event>),
@@ -29,15 +30,20 @@ impl Answer {
     }
 
     /// Writes the answer's text.
-    pub(crate) fn write<K: Sink>(&self, alloc: Global, output: &mut K) -> Result<(), sessions::End>
-        ensures ok { OnOk result (HasTaken (K.taken output.old) (K.taken output.new) (text_of_answer self.now) []) }
+    pub(crate) fn write<K: Sink>(
+        &self,
+        alloc: Global,
+        format: Format,
+        output: &mut K,
+    ) -> Result<(), sessions::End>
+        ensures ok { OnOk result (HasTaken (K.taken output.old) (K.taken output.new) (text_of_answer format self.now) []) }
         ensures worked { OnOk result (K.failures output.new ≡ K.failures output.old) }
-        ensures err { OnErr result (HasBegun (K.taken output.old) (K.taken output.new) (text_of_answer self.now)) }
+        ensures err { OnErr result (HasBegun (K.taken output.old) (K.taken output.new) (text_of_answer format self.now)) }
         ensures failed { IfErr result (λ end. StopsWriting end (K.failures output.old) (K.failures output.new)) }
     {
         match self {
             Answer::Fault(text) => write_whole(output, text.as_slice()),
-            Answer::Events(events) => write_transcript(alloc, output, events.as_slice()),
+            Answer::Events(events) => write_transcript(alloc, output, format, events.as_slice()),
         }
     }
 }

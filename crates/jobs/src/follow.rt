@@ -25,6 +25,7 @@ use sessions::{Sink, Source};
 pub use span_words::span_of;
 use spans::span::Span;
 use std::alloc::Global;
+use text_format::Format;
 
 /// What is followed, and what is told of it.
 #[derive(Debug, Drop, PartialEq, Eq)]
@@ -37,6 +38,8 @@ pub struct FollowOptions {
     pub feed: Option<u64>,
     /// Whether the rows are told, and not their number alone.
     pub view: bool,
+    /// In which format the messages are read.
+    pub format: Format,
 }
 
 /// With what the rows begin.

@@ -1,5 +1,7 @@
 //! The sessions of a script race.
-ghost use Rattle.std.specs.Prelude.{◌≡◌, ◌≢◌, IfOk, IfErr};
+ghost use Rattle.std.specs.Prelude.{◌≡◌, ◌≢◌, ◌++◌, IfOk, IfErr};
+ghost use Rattle.text_format.specs.Limits.{header};
+ghost use Rattle.word_lines.specs.Events.{fault_line};
 ghost use Rattle.races.specs.declared.racing.RaceError.TheVariants.{Counts};
 ghost use Rattle.races.specs.declared.settling.FreshError.TheVariants.{Race};
 ghost use Rattle.jobs.specs.Answers.{IsAnswered};
@@ -12,10 +14,12 @@ use races::{FreshError, Gate, RaceError, race_calls};
 use script::fault::TranscriptError;
 use script::scripts::read_script;
 use sessions::{Sink, Source, read_whole};
-use std::alloc::Global;
+use std::alloc::{AllocError, Global};
 use std::sync::Wait;
 use std::thread::Threads;
+use text_format::Format;
 use word_lines::events::write_fault;
+use word_lines::fault::LineFault;
 
 /// Who races, and how.
 #[derive(Clone, Copy, Debug, PartialEq, Eq)]
@@ -24,10 +28,12 @@ pub struct RaceOptions {
     pub sessions: u8,
     /// How many rows a feed holds before it is behind, 1 to 65536.
     pub ring: u32,
+    /// In which format the script is read and the transcript written.
+    pub format: Format,
 }
 
 /// Reads a script whole, has its sessions race on one database, a thread for each, and writes the one
-/// transcript of all their calls. Where a line is faulty nothing is called, and its fault alone is written.
+/// transcript of all their calls. Where a line is faulty nothing is called, and its fault is written behind the header.
 ///
 /// Whether it returns is not promised.
 pub fn race_io<S: Source, K: Sink, R: Threads + Wait + Sync, G: Gate + Sync>(
@@ -49,7 +55,7 @@ pub fn race_io<S: Source, K: Sink, R: Threads + Wait + Sync, G: Gate + Sync>(
         Ok(answer) => answer,
         Err(end) => return end,
     };
-    match answer.write(alloc, output) {
+    match answer.write(alloc, options.format, output) {
         Ok(()) => answer.end(),
         Err(end) => told(end),
     }
@@ -63,23 +69,37 @@ fn answer_to<R: Threads + Wait + Sync, G: Gate + Sync>(
     gate: &G,
     text: &[u8],
 ) -> Result<Answer, End>
-    ensures ok { IfOk result (λ answer. IsRace options text.now (end_of_answer answer) (text_of_answer answer)) }
+    ensures ok { IfOk result (λ answer. IsRace options text.now (end_of_answer answer) (text_of_answer options.format answer)) }
     ensures err { IfErr result (IsUnraced options) }
 {
-    match read_script(alloc, text, options.sessions) {
+    match read_script(alloc, text, options.sessions, options.format) {
         Ok(calls) => match race_calls(rt, alloc, options.sessions, options.ring, calls, gate) {
             Ok(events) => Ok(Answer::Events(events)),
             Err(refused) => Err(end_of(refused)),
         },
         Err(TranscriptError::NoMemory) => Err(End::Memory),
         Err(TranscriptError::Fault { line, fault }) => {
-            let mut told = Vec::new(alloc);
-            match write_fault(&mut told, line, fault) {
-                Ok(()) => Ok(Answer::Fault(told)),
+            match fault_text(alloc, options.format, line, fault) {
+                Ok(told) => Ok(Answer::Fault(told)),
                 Err(_) => Err(End::Memory),
             }
         }
     }
+}
+
+/// The output of a race whose script has a faulty line.
+fn fault_text(
+    alloc: Global,
+    format: Format,
+    line: u64,
+    fault: LineFault,
+) -> Result<Vec<u8>, AllocError>
+    ensures { IfOk result (λ text. text.items ≡ header format ++ fault_line line fault) }
+{
+    let mut text = Vec::new(alloc);
+    text.extend_from_slice(format.header())?;
+    write_fault(&mut text, line, fault)?;
+    Ok(text)
 }
 
 /// How a race ends that left nothing.

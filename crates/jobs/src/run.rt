@@ -5,6 +5,7 @@ use crate::ending::{End, told};
 use sessions::{Config, Sink, Source, serve};
 use std::alloc::Global;
 use std::sync::Wait;
+use text_format::Format;
 
 /// What a database is opened with where the command line doesn't say.
 pub const DEFAULTS: Config = Config {
@@ -13,17 +14,18 @@ pub const DEFAULTS: Config = Config {
     first: 0,
 };
 
-/// Reads a script, makes its calls in order on one database, and writes the transcript. A faulty line
+/// Reads a script of a format, makes its calls in order on one database, and writes the transcript. A faulty line
 /// ends it with its fault; what was answered before stands.
 pub fn run_io<S: Source, K: Sink, T: Wait>(
     rt: &T,
     alloc: Global,
     options: Config,
+    format: Format,
     input: &mut S,
     output: &mut K,
 ) -> End
-    ensures ran { IsRun options (S.given input.old) (S.given input.new) (S.ended input.new) (K.taken output.old) (K.taken output.new) result }
+    ensures ran { IsRun format options (S.given input.old) (S.given input.new) (S.ended input.new) (K.taken output.old) (K.taken output.new) result }
     ensures failed { FailsAt result (S.failures input.old) (S.failures input.new) (K.failures output.old) (K.failures output.new) }
 {
-    told(serve(rt, alloc, options, input, output))
+    told(serve(rt, alloc, options, format, input, output))
 }

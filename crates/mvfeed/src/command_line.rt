@@ -1,105 +1,173 @@
 //! The command line: which words the program takes, and what they ask for.
+//!
+//! The builder's calls stand in small functions that promise nothing, since a proof over many of its calls in one function
+//! takes minutes.
 
 use clap::error::ErrorKind;
 use clap::{Arg, ArgAction, ArgGroup, ArgMatches, Command, Error, value_parser};
 use jobs::{DEFAULTS, FollowOptions, RaceOptions, Start, span_of};
 use sessions::Config;
 use std::alloc::{AllocError, Global};
+use std::convert::AsStr;
+use text_format::Format;
 use word_lines::fault::ReadError;
 
 /// What the program's command line may be.
 pub(crate) fn command<'a>(alloc: Global) -> Result<Command<'a>, AllocError> {
+    let command = with_subcommand(program(alloc), run_command(alloc)?)?;
+    let command = with_subcommand(command, race_command(alloc)?)?;
+    let command = with_subcommand(command, check_command(alloc))?;
+    with_subcommand(command, follow_command(alloc)?)
+}
+
+fn program<'a>(alloc: Global) -> Command<'a> {
     Command::new(alloc, "mvfeed")
         .about("A multiversion timestamp database whose changes leave it as ordered streams")
         .subcommand_required(true)
-        .subcommand(run_command(alloc)?)?
-        .subcommand(race_command(alloc)?)?
-        .subcommand(check_command(alloc))?
-        .subcommand(follow_command(alloc)?)
 }
 
 fn run_command<'a>(alloc: Global) -> Result<Command<'a>, AllocError> {
-    let seats = option(alloc, "seats")
-        .help("How many sessions a script may have, 1 to 64 [default: 64]")
-        .value_parser(value_parser!(u32).range(1..=64));
-    let first = option(alloc, "first")
-        .help("The position of the first event [default: 0]")
-        .value_parser(value_parser!(u64));
-    Command::new(alloc, "run")
-        .about("Make the calls of a script, and write what happened")
-        .arg(seats)?
-        .arg(ring(alloc))?
-        .arg(first)
+    let about = "Make the calls of a script, and write what happened";
+    let command = with(subcommand(alloc, "run", about), seats(alloc))?;
+    let command = with(command, ring(alloc))?;
+    let command = with(command, first(alloc))?;
+    with(command, format(alloc))
 }
 
 fn race_command<'a>(alloc: Global) -> Result<Command<'a>, AllocError> {
-    let sessions = Arg::new(alloc, "sessions")
-        .value_name("N")
-        .required(true)
-        .help("How many sessions the script has, 1 to 64")
-        .value_parser(value_parser!(u8).range(1..=64));
-    Command::new(alloc, "race")
-        .about("Make the calls of a script's sessions in threads, and write what happened")
-        .arg(sessions)?
-        .arg(ring(alloc))
+    let about = "Make the calls of a script's sessions in threads, and write what happened";
+    let command = with(subcommand(alloc, "race", about), sessions(alloc))?;
+    let command = with(command, ring(alloc))?;
+    with(command, format(alloc))
 }
 
 fn check_command<'a>(alloc: Global) -> Command<'a> {
-    Command::new(alloc, "check").about("Say whether a transcript is right, or where it is not")
+    subcommand(
+        alloc,
+        "check",
+        "Say whether a transcript is right, or where it is not",
+    )
 }
 
 fn follow_command<'a>(alloc: Global) -> Result<Command<'a>, AllocError> {
-    let feed = option(alloc, "feed")
-        .help("Take only what polls of this feed told [default: every message]")
-        .value_parser(value_parser!(u64));
-    let view = Arg::new(alloc, "view")
-        .long("view")
-        .action(ArgAction::SetTrue)
-        .help("Write the rows at each resolved message, and not their number alone");
+    let about =
+        "Apply a feed's messages to a replica of its span, and write it at each resolved message";
+    let lo = "The least key of the span [default: -, no bound]";
+    let hi = "The key that the span ends below [default: -, no bound]";
+    let command = with(
+        subcommand(alloc, "follow", about),
+        option(alloc, "lo", "KEY", lo),
+    )?;
+    let command = with(command, option(alloc, "hi", "KEY", hi))?;
+    let command = with_start(alloc, command)?;
+    let command = with(command, feed(alloc))?;
+    let command = with(command, view(alloc))?;
+    with(command, format(alloc))
+}
+
+/// Adds how a replica starts, which is one of two ways.
+fn with_start<'a>(alloc: Global, command: Command<'a>) -> Result<Command<'a>, AllocError> {
+    let cursor = option(alloc, "cursor", "T", "Begin with no rows at this timestamp");
+    let initial = option(
+        alloc,
+        "initial",
+        "T",
+        "Begin as an initial feed of this timestamp does",
+    );
+    let command = with(command, as_cursor(cursor))?;
+    let command = with(command, as_cursor(initial))?;
+    with_group(command, start_group(alloc)?)
+}
+
+fn start_group<'a>(alloc: Global) -> Result<ArgGroup<'a>, AllocError> {
     let start = ArgGroup::new(alloc, "start")
         .arg("cursor")?
         .arg("initial")?
         .required(true);
-    Command::new(alloc, "follow")
-        .about(
-            "Apply a feed's messages to a replica of its span, and write it at each resolved message",
-        )
-        .arg(bound(alloc, "lo").help("The least key of the span [default: -, no bound]"))?
-        .arg(bound(alloc, "hi").help("The key that the span ends below [default: -, no bound]"))?
-        .arg(cursor(alloc, "cursor").help("Begin with no rows at this timestamp"))?
-        .arg(cursor(alloc, "initial").help("Begin as an initial feed of this timestamp does"))?
-        .arg(feed)?
-        .arg(view)?
-        .group(start)
+    Ok(start)
 }
 
-fn bound<'a>(alloc: Global, name: &'a str) -> Arg<'a> {
-    Arg::new(alloc, name).long(name).value_name("KEY")
+fn seats<'a>(alloc: Global) -> Arg<'a> {
+    let help = "How many sessions a script may have, 1 to 64 [default: 64]";
+    option(alloc, "seats", "N", help).value_parser(value_parser!(u32).range(1..=64))
 }
 
-/// A timestamp, or 0.
-fn cursor<'a>(alloc: Global, name: &'a str) -> Arg<'a> {
-    Arg::new(alloc, name)
-        .long(name)
-        .value_name("T")
-        .value_parser(value_parser!(u64).range(0..=9223372036854775807))
+fn first<'a>(alloc: Global) -> Arg<'a> {
+    let help = "The position of the first event [default: 0]";
+    as_number(option(alloc, "first", "N", help))
 }
 
 fn ring<'a>(alloc: Global) -> Arg<'a> {
-    option(alloc, "ring")
-        .help("How many rows a feed holds before it is behind, 1 to 65536 [default: 1024]")
-        .value_parser(value_parser!(u32).range(1..=65536))
+    let help = "How many rows a feed holds before it is behind, 1 to 65536 [default: 1024]";
+    option(alloc, "ring", "N", help).value_parser(value_parser!(u32).range(1..=65536))
 }
 
-fn option<'a>(alloc: Global, name: &'a str) -> Arg<'a> {
-    Arg::new(alloc, name).long(name).value_name("N")
+fn format<'a>(alloc: Global) -> Arg<'a> {
+    let help = "The format of the texts, 1 or 2 [default: 1]";
+    option(alloc, "format", "N", help).value_parser(value_parser!(u8).range(1..=2))
+}
+
+fn sessions<'a>(alloc: Global) -> Arg<'a> {
+    Arg::new(alloc, "sessions")
+        .value_name("N")
+        .required(true)
+        .help("How many sessions the script has, 1 to 64")
+        .value_parser(value_parser!(u8).range(1..=64))
+}
+
+fn feed<'a>(alloc: Global) -> Arg<'a> {
+    let help = "Take only what polls of this feed told [default: every message]";
+    as_number(option(alloc, "feed", "N", help))
+}
+
+fn view<'a>(alloc: Global) -> Arg<'a> {
+    Arg::new(alloc, "view")
+        .long("view")
+        .action(ArgAction::SetTrue)
+        .help("Write the rows at each resolved message, and not their number alone")
+}
+
+fn as_number<'a>(arg: Arg<'a>) -> Arg<'a> {
+    arg.value_parser(value_parser!(u64))
+}
+
+/// A timestamp, or 0.
+fn as_cursor<'a>(arg: Arg<'a>) -> Arg<'a> {
+    arg.value_parser(value_parser!(u64).range(0..=9223372036854775807))
+}
+
+/// An option with a value.
+fn option<'a>(alloc: Global, name: &'a str, value: &'a str, help: &'a str) -> Arg<'a> {
+    Arg::new(alloc, name)
+        .long(name)
+        .value_name(value)
+        .help(help)
+}
+
+fn subcommand<'a>(alloc: Global, name: &'a str, about: &'a str) -> Command<'a> {
+    Command::new(alloc, name).about(about)
+}
+
+fn with<'a>(command: Command<'a>, arg: Arg<'a>) -> Result<Command<'a>, AllocError> {
+    command.arg(arg)
+}
+
+fn with_group<'a>(command: Command<'a>, group: ArgGroup<'a>) -> Result<Command<'a>, AllocError> {
+    command.group(group)
+}
+
+fn with_subcommand<'a>(
+    command: Command<'a>,
+    subcommand: Command<'a>,
+) -> Result<Command<'a>, AllocError> {
+    command.subcommand(subcommand)
 }
 
 /// What the program is asked to do.
 #[derive(Drop)]
 pub(crate) enum Job {
-    /// To run a script on a database that is opened so.
-    Run(Config),
+    /// To run a script of a format on a database that is opened so.
+    Run(Config, Format),
     /// To have the sessions of a script race.
     Race(RaceOptions),
     /// To check a transcript.
@@ -108,10 +176,20 @@ pub(crate) enum Job {
     Follow(FollowOptions),
 }
 
+/// What the words of a command line ask for.
+pub(crate) fn job_in<'a, S: AsStr>(
+    alloc: Global,
+    command: Command<'a>,
+    words: &'a [S],
+) -> Result<Job, Error> {
+    let matches = command.try_get_matches_from(words)?;
+    job_of(alloc, &matches)
+}
+
 /// What a command line asks for, unless a bound in it is none.
-pub(crate) fn job_of(alloc: Global, matches: &ArgMatches) -> Result<Job, Error> {
+fn job_of(alloc: Global, matches: &ArgMatches) -> Result<Job, Error> {
     if let Some(run) = matches.subcommand_matches("run") {
-        return Ok(Job::Run(options_of(run)));
+        return Ok(Job::Run(options_of(run), format_of(run)));
     }
     if let Some(race) = matches.subcommand_matches("race") {
         return Ok(Job::Race(race_options_of(race)));
@@ -126,18 +204,36 @@ pub(crate) fn job_of(alloc: Global, matches: &ArgMatches) -> Result<Job, Error> 
 fn follow_of(alloc: Global, follow: &ArgMatches) -> Result<Job, Error> {
     let lo = follow.get_str("lo").unwrap_or("-");
     let hi = follow.get_str("hi").unwrap_or("-");
-    match span_of(alloc, lo.as_bytes(), hi.as_bytes()) {
+    let format = format_of(follow);
+    match span_of(alloc, lo.as_bytes(), hi.as_bytes(), format) {
         Ok(span) => Ok(Job::Follow(FollowOptions {
             span,
             start: start_of(follow),
             feed: follow.get_one("feed"),
             view: follow.get_flag("view"),
+            format,
         })),
         Err(ReadError::NoMemory) => Err(Error::from(AllocError)),
         Err(ReadError::Fault(_)) => {
-            let told = "a bound is `-` or a key as in scripts, of 65 bytes at most";
-            Err(command(alloc)?.error(ErrorKind::ValueValidation, told)?)
+            Err(command(alloc)?.error(ErrorKind::ValueValidation, bound_refusal(format))?)
         }
+    }
+}
+
+/// What a bound has to be.
+fn bound_refusal(format: Format) -> &'static str {
+    match format {
+        Format::One => "a bound is `-` or a key as in scripts, of 65 bytes at most",
+        Format::Two => "a bound is `-` or a key as in scripts, of 257 bytes at most",
+    }
+}
+
+/// The format of the texts.
+fn format_of(options: &ArgMatches) -> Format {
+    let number: Option<u8> = options.get_one("format");
+    match number {
+        Some(2) => Format::Two,
+        _ => Format::One,
     }
 }
 
@@ -154,6 +250,7 @@ fn race_options_of(race: &ArgMatches) -> RaceOptions {
     RaceOptions {
         sessions: race.get_one("sessions").unwrap_or(1),
         ring: race.get_one("ring").unwrap_or(DEFAULTS.ring),
+        format: format_of(race),
     }
 }
 

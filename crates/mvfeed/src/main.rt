@@ -24,7 +24,7 @@ mod status;
 #[cfg(test)]
 mod tests;
 
-use command_line::{Job, command, job_of};
+use command_line::{Job, command, job_in};
 use jobs::{End, check_io, follow_io, race_io, run_io};
 use races::Open;
 use sessions::{Reading, Sink, Source, Writing};
@@ -43,16 +43,13 @@ fn main(rt: HostRuntime) -> ExitCode {
     let Ok(command) = command(rt.alloc()) else {
         return status::failed(&rt, status::MEMORY);
     };
-    match command.try_get_matches_from(words.as_slice()) {
-        Ok(matches) => match job_of(rt.alloc(), &matches) {
-            Ok(job) => {
-                let mut input = Reading::new(rt.reader());
-                let mut output = Writing::new(io::writer(&rt));
-                let end = done(&rt, rt.alloc(), job, &mut input, &mut output);
-                status::told(&rt, end)
-            }
-            Err(refused) => status::refused(&rt, &refused),
-        },
+    match job_in(rt.alloc(), command, words.as_slice()) {
+        Ok(job) => {
+            let mut input = Reading::new(rt.reader());
+            let mut output = Writing::new(io::writer(&rt));
+            let end = done(&rt, rt.alloc(), job, &mut input, &mut output);
+            status::told(&rt, end)
+        }
         Err(refused) => status::refused(&rt, &refused),
     }
 }
@@ -66,7 +63,7 @@ fn done<S: Source, K: Sink, R: Threads + Wait + Sync>(
     output: &mut K,
 ) -> End {
     match job {
-        Job::Run(options) => run_io(rt, alloc, options, input, output),
+        Job::Run(options, format) => run_io(rt, alloc, options, format, input, output),
         Job::Race(options) => race_io(rt, alloc, options, &Open, input, output),
         Job::Check => check_io(alloc, input, output),
         Job::Follow(options) => follow_io(alloc, options, input, output),

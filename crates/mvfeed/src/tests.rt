@@ -1,232 +1,143 @@
 //! What the program's command lines ask for, and what it leaves its caller.
 
-use crate::command_line::{Job, command, job_of};
+use crate::command_line::{Job, command, job_in};
 use crate::status::{status_of, word_of};
-use jobs::{End, FollowOptions, RaceOptions, Start, span_of};
-use sessions::{Config, OpenError};
+use jobs::{End, FollowOptions, span_of};
+use sessions::OpenError;
 use std::alloc::{AllocError, Global};
-use std::test::Fail;
 
-/// Command lines, each with its seats, its ring and its first position.
-const OPTIONS: [(&[&str], u32, u32, u64); 5] = [
-    (&["mvfeed", "run"], 64, 1024, 0),
-    (&["mvfeed", "run", "--seats", "1"], 1, 1024, 0),
-    (&["mvfeed", "run", "--ring", "65536"], 64, 65536, 0),
-    (
-        &["mvfeed", "run", "--first", "18446744073709551615"],
-        64,
-        1024,
-        18446744073709551615,
-    ),
-    (
-        &["mvfeed", "run", "--first=7", "--ring=1", "--seats=64"],
-        64,
-        1,
-        7,
-    ),
-];
+/// Command lines, whose words commas part, with what each asks for: `run` with its seats, its ring, its first position and
+/// its format, `race` with its sessions, its ring and its format, `check`, or `follow` with its bounds, its start, its feed,
+/// whether the rows are told, and its format. Others are refused.
+const LINES: &str = "mvfeed,run => run 64 1024 0 One
+mvfeed,run,--seats,1 => run 1 1024 0 One
+mvfeed,run,--ring,65536 => run 64 65536 0 One
+mvfeed,run,--first,18446744073709551615 => run 64 1024 18446744073709551615 One
+mvfeed,run,--first=7,--ring=1,--seats=64 => run 64 1 7 One
+mvfeed,run,--format,1 => run 64 1024 0 One
+mvfeed,run,--seats,2,--format=2 => run 2 1024 0 Two
+mvfeed,race,2,--format,2 => race 2 1024 Two
+mvfeed,follow,--cursor,0,--format,2 => follow - - Cursor(0) None false Two
+mvfeed,run,--format,0 => refused
+mvfeed,run,--format,3 => refused
+mvfeed,run,--format => refused
+mvfeed,check,--format,2 => refused
+mvfeed => refused
+mvfeed,walk => refused
+mvfeed,run,it => refused
+mvfeed,run,--seats => refused
+mvfeed,run,--seats,0 => refused
+mvfeed,run,--seats,65 => refused
+mvfeed,run,--ring,0 => refused
+mvfeed,run,--ring,65537 => refused
+mvfeed,run,--first,-1 => refused
+mvfeed,run,--first,18446744073709551616 => refused
+mvfeed,run,--first,ten => refused
+mvfeed,run,--seats,1,--seats,2 => refused
+mvfeed,race,2 => race 2 1024 One
+mvfeed,race,64,--ring,1 => race 64 1 One
+mvfeed,race,0 => refused
+mvfeed,race,65 => refused
+mvfeed,race,two => refused
+mvfeed,race,-1 => refused
+mvfeed,race,--ring,1 => refused
+mvfeed,race => refused
+mvfeed,race,2,3 => refused
+mvfeed,race,2,--ring,0 => refused
+mvfeed,race,2,--first,1 => refused
+mvfeed,check => check
+mvfeed,check,--ring,1 => refused
+mvfeed,follow,--cursor,0 => follow - - Cursor(0) None false One
+mvfeed,follow,--lo=-a,--hi,%25,--initial,9223372036854775807,--feed,18446744073709551615,--view => follow -a %25 Initial(9223372036854775807) Some(18446744073709551615) true One
+mvfeed,follow,--lo,-,--cursor,7 => follow - - Cursor(7) None false One
+mvfeed,follow => refused
+mvfeed,follow,--view => refused
+mvfeed,follow,--cursor,1,--initial,1 => refused
+mvfeed,follow,--cursor => refused
+mvfeed,follow,--cursor,9223372036854775808 => refused
+mvfeed,follow,--initial,-1 => refused
+mvfeed,follow,--initial,1,--initial,1 => refused
+mvfeed,follow,--cursor,1,--feed,one => refused
+mvfeed,follow,--cursor,1,--lo, => refused
+mvfeed,follow,--cursor,1,--hi,%41 => refused
+mvfeed,follow,--cursor,1,--hi,a b => refused
+mvfeed,follow,--cursor,1,it => refused";
 
-/// Command lines that are refused.
-const REFUSED: [&[&str]; 12] = [
-    &["mvfeed"],
-    &["mvfeed", "walk"],
-    &["mvfeed", "run", "it"],
-    &["mvfeed", "run", "--seats"],
-    &["mvfeed", "run", "--seats", "0"],
-    &["mvfeed", "run", "--seats", "65"],
-    &["mvfeed", "run", "--ring", "0"],
-    &["mvfeed", "run", "--ring", "65537"],
-    &["mvfeed", "run", "--first", "-1"],
-    &["mvfeed", "run", "--first", "18446744073709551616"],
-    &["mvfeed", "run", "--first", "ten"],
-    &["mvfeed", "run", "--seats", "1", "--seats", "2"],
+#[test]
+fn command_lines(rt: HostRuntime) {
+    for line in LINES.lines() {
+        assert!(rt; is_asked(rt.alloc(), line) == Some(true), "{line}");
+    }
+}
+
+/// Whether a command line asks for what is said of it.
+fn is_asked(alloc: Global, line: &str) -> Option<bool> {
+    let (words, wanted) = line.split_once(" => ")?;
+    match job_of_words(alloc, words) {
+        None => Some(wanted == "refused"),
+        Some(Job::Run(options, format)) => {
+            let (seats, ring, first) = (options.seats, options.ring, options.first);
+            is_text(
+                wanted,
+                format!(in alloc; "run {seats} {ring} {first} {format:?}"),
+            )
+        }
+        Some(Job::Race(options)) => {
+            let (sessions, ring, format) = (options.sessions, options.ring, options.format);
+            is_text(
+                wanted,
+                format!(in alloc; "race {sessions} {ring} {format:?}"),
+            )
+        }
+        Some(Job::Check) => Some(wanted == "check"),
+        Some(Job::Follow(options)) => is_followed(alloc, &options, wanted),
+    }
+}
+
+fn is_text(wanted: &str, told: Result<String, AllocError>) -> Option<bool> {
+    Some(told.ok()?.as_str() == wanted)
+}
+
+fn job_of_words(alloc: Global, words: &str) -> Option<Job> {
+    let mut list = Vec::new(alloc);
+    for word in words.split(',') {
+        list.push(word).ok()?;
+    }
+    job_in(alloc, command(alloc).ok()?, list.as_slice()).ok()
+}
+
+fn is_followed(alloc: Global, options: &FollowOptions, wanted: &str) -> Option<bool> {
+    let (_, bounds) = wanted.split_once(' ')?;
+    let (lo, rest) = bounds.split_once(' ')?;
+    let (hi, rest) = rest.split_once(' ')?;
+    let span = span_of(alloc, lo.as_bytes(), hi.as_bytes(), options.format).ok()?;
+    let (start, feed, view) = (options.start, options.feed, options.view);
+    let format = options.format;
+    let told = format!(in alloc; "{start:?} {feed:?} {view} {format:?}").ok()?;
+    Some(options.span == span && told.as_str() == rest)
+}
+
+/// Each end, with its status and its word.
+const ENDS: [(End, u8, &str); 11] = [
+    (End::Done, 0, ""),
+    (End::Faulty, 2, ""),
+    (End::No, 3, ""),
+    (End::Open(OpenError::SeatCount), 1, "seats"),
+    (End::Open(OpenError::RingSize), 1, "ring"),
+    (End::Open(OpenError::NoMemory), 1, "memory"),
+    (End::Input, 1, "input"),
+    (End::Output, 1, "output"),
+    (End::Memory, 1, "memory"),
+    (End::Thread, 1, "thread"),
+    (End::Spent, 1, "spent"),
 ];
 
 #[test]
 fn statuses(rt: HostRuntime) {
-    for (end, status, word) in [
-        (End::Done, 0, None),
-        (End::Faulty, 2, None),
-        (End::No, 3, None),
-        (End::Open(OpenError::SeatCount), 1, Some("seats")),
-        (End::Open(OpenError::RingSize), 1, Some("ring")),
-        (End::Open(OpenError::NoMemory), 1, Some("memory")),
-        (End::Input, 1, Some("input")),
-        (End::Output, 1, Some("output")),
-        (End::Memory, 1, Some("memory")),
-        (End::Thread, 1, Some("thread")),
-        (End::Spent, 1, Some("spent")),
-    ] {
-        assert_eq!(rt; status_of(end), status);
-        assert_eq!(rt; word_of(end), word);
-    }
-}
-
-/// The options that a command line asks for, if it is taken.
-fn run_options_in(alloc: Global, words: &[&str]) -> Result<Option<Config>, AllocError> {
-    match command(alloc)?.try_get_matches_from(words) {
-        Ok(matches) => match job_of(alloc, &matches) {
-            Ok(Job::Run(options)) => Ok(Some(options)),
-            _ => Ok(None),
-        },
-        Err(_) => Ok(None),
-    }
-}
-
-#[test]
-fn options_are_read(rt: HostRuntime) -> Result<(), Fail> {
-    for (words, seats, ring, first) in OPTIONS {
-        let wanted = Config { seats, ring, first };
-        assert_eq!(rt;
-            run_options_in(rt.alloc(), words)?,
-            Some(wanted),
-            "{words:?}"
-        );
-    }
-    for words in REFUSED {
-        assert_eq!(rt; run_options_in(rt.alloc(), words)?, None, "{words:?}");
-    }
-    Ok(())
-}
-
-/// The options of a race that a command line asks for, if it is taken.
-fn race_options_in(alloc: Global, words: &[&str]) -> Result<Option<RaceOptions>, AllocError> {
-    match command(alloc)?.try_get_matches_from(words) {
-        Ok(matches) => match job_of(alloc, &matches) {
-            Ok(Job::Race(options)) => Ok(Some(options)),
-            _ => Ok(None),
-        },
-        Err(_) => Ok(None),
-    }
-}
-
-#[test]
-fn options_of_a_race(rt: HostRuntime) -> Result<(), Fail> {
-    let alloc = rt.alloc();
-    let two = RaceOptions {
-        sessions: 2,
-        ring: 1024,
-    };
-    assert_eq!(rt;
-        race_options_in(alloc, &["mvfeed", "race", "2"])?,
-        Some(two)
-    );
-    let most = RaceOptions {
-        sessions: 64,
-        ring: 1,
-    };
-    let words = ["mvfeed", "race", "64", "--ring", "1"];
-    assert_eq!(rt; race_options_in(alloc, &words)?, Some(most));
-    for word in ["0", "65", "two", "-1"] {
-        assert_eq!(rt;
-            race_options_in(alloc, &["mvfeed", "race", word])?,
-            None,
+    for (end, status, word) in ENDS {
+        assert!(rt;
+            status_of(end) == status && word_of(end).unwrap_or("") == word,
             "{word}"
         );
     }
-    for words in [
-        ["mvfeed", "race", "--ring", "1"].as_slice(),
-        &["mvfeed", "race"],
-        &["mvfeed", "race", "2", "3"],
-        &["mvfeed", "race", "2", "--ring", "0"],
-        &["mvfeed", "race", "2", "--first", "1"],
-    ] {
-        assert_eq!(rt; race_options_in(alloc, words)?, None, "{words:?}");
-    }
-    Ok(())
-}
-
-#[test]
-fn check_takes_no_options(rt: HostRuntime) -> Result<(), Fail> {
-    let words = ["mvfeed", "check"];
-    let is_check = match command(rt.alloc())?.try_get_matches_from(&words) {
-        Ok(matches) => matches!(job_of(rt.alloc(), &matches), Ok(Job::Check)),
-        Err(_) => false,
-    };
-    assert!(rt; is_check);
-    let words = ["mvfeed", "check", "--ring", "1"];
-    assert!(rt; command(rt.alloc())?.try_get_matches_from(&words).is_err());
-    Ok(())
-}
-
-/// The options of a feed to follow that a command line asks for, if it is taken.
-fn follow_options_in(alloc: Global, words: &[&str]) -> Result<Option<FollowOptions>, AllocError> {
-    match command(alloc)?.try_get_matches_from(words) {
-        Ok(matches) => match job_of(alloc, &matches) {
-            Ok(Job::Follow(options)) => Ok(Some(options)),
-            _ => Ok(None),
-        },
-        Err(_) => Ok(None),
-    }
-}
-
-#[test]
-fn options_of_a_feed(rt: HostRuntime) -> Result<(), Fail> {
-    let alloc = rt.alloc();
-    let least = FollowOptions {
-        span: span_of(alloc, b"-", b"-")?,
-        start: Start::Cursor(0),
-        feed: None,
-        view: false,
-    };
-    let words = ["mvfeed", "follow", "--cursor", "0"];
-    assert_eq!(rt; follow_options_in(alloc, &words)?, Some(least));
-    let most = FollowOptions {
-        span: span_of(alloc, b"-a", b"%25")?,
-        start: Start::Initial(9223372036854775807),
-        feed: Some(18446744073709551615),
-        view: true,
-    };
-    let words = [
-        "mvfeed",
-        "follow",
-        "--lo=-a",
-        "--hi",
-        "%25",
-        "--initial",
-        "9223372036854775807",
-        "--feed",
-        "18446744073709551615",
-        "--view",
-    ];
-    assert_eq!(rt; follow_options_in(alloc, &words)?, Some(most));
-    let words = ["mvfeed", "follow", "--lo", "-", "--cursor", "7"];
-    let some = follow_options_in(alloc, &words)?;
-    assert!(rt;
-        matches!(
-            some,
-            Some(FollowOptions {
-                start: Start::Cursor(7),
-                ..
-            })
-        )
-    );
-    Ok(())
-}
-
-/// Words behind `follow` that are refused.
-const NOT_FOLLOWED: [&[&str]; 12] = [
-    &[],
-    &["--view"],
-    &["--cursor", "1", "--initial", "1"],
-    &["--cursor"],
-    &["--cursor", "9223372036854775808"],
-    &["--initial", "-1"],
-    &["--initial", "1", "--initial", "1"],
-    &["--cursor", "1", "--feed", "one"],
-    &["--cursor", "1", "--lo", ""],
-    &["--cursor", "1", "--hi", "%41"],
-    &["--cursor", "1", "--hi", "a b"],
-    &["--cursor", "1", "it"],
-];
-
-#[test]
-fn feeds_that_are_not_followed(rt: HostRuntime) -> Result<(), Fail> {
-    for behind in NOT_FOLLOWED {
-        let mut words = vec![in rt.alloc(); "mvfeed", "follow"]?;
-        words.extend_from_slice(behind)?;
-        let taken = follow_options_in(rt.alloc(), words.as_slice())?.is_some();
-        assert!(rt; !taken, "{behind:?}");
-    }
-    Ok(())
 }

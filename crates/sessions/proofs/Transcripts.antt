@@ -1,8 +1,10 @@
 -- A transcript written event by event.
 use Rattle.std.proofs.Common.{◌≡◌, ◌<◌, ℕ, zero, suc, List, [], ◌∷◌, ◌++◌, drop, length, get_or, refl, sym, ap, ◌∙◌, append-nil, append_assoc, arith}
+use Rattle.text_format.specs.declared.Format.{Format}
+use Rattle.text_format.specs.Limits.{header}
 use Rattle.spans.specs.declared.calls.events.Event.{Event}
 use Rattle.word_lines.specs.Events.{event_text}
-use Rattle.script.specs.Transcripts.{transcript_text}
+use Rattle.script.specs.Transcripts.{events_text, transcript_text}
 use Rattle.sessions.specs.Writing.{HasTaken}
 
 dropped : {A : Type 0} (xs : List A) (at : ℕ) (x : A) → at < length xs → x ≡ get_or xs at x → drop at xs ≡ x ∷ drop (suc at) xs
@@ -14,21 +16,22 @@ dropped (y ∷ xs) (suc at) x low e = dropped xs at x (omega arith) e
 pub nothing_taken : (taken bytes : List ℕ) → HasTaken taken taken bytes bytes
 nothing_taken taken bytes = record { part = []; took = sym (append-nil taken); left = refl }
 
--- nothing is kept or written yet
-pub none_kept : (taken : List ℕ) (events : List Event) (pending : List ℕ) → pending ≡ [] → HasTaken taken taken (transcript_text events) (pending ++ transcript_text events)
-none_kept taken events pending none = record { part = []; took = sym (append-nil taken); left = ap (λ (p : List ℕ). p ++ transcript_text events) (sym none) }
+-- the header is kept, and nothing is written yet
+pub header_kept : (format : Format) (taken : List ℕ) (events : List Event) (pending pending' : List ℕ) → pending ≡ [] → pending' ≡ pending ++ header format → HasTaken taken taken (transcript_text format events) (pending' ++ events_text events)
+header_kept format taken events pending pending' none grown =
+    record { part = []; took = sym (append-nil taken); left = ap (λ (p : List ℕ). p ++ events_text events) (sym (grown ∙ ap (λ (p : List ℕ). p ++ header format) none)) }
 
 -- the text of one event more is kept
-pub one_kept : (taken taken' : List ℕ) (events : List Event) (at next : ℕ) (event : Event) (pending pending' : List ℕ) → at < length events → event ≡ get_or events at event → next ≡ suc at → pending' ≡ pending ++ event_text event
-    → HasTaken taken taken' (transcript_text events) (pending ++ transcript_text (drop at events)) → HasTaken taken taken' (transcript_text events) (pending' ++ transcript_text (drop next events))
-one_kept taken taken' events at next event pending pending' low there is grown h =
-    let rest = transcript_text (drop (suc at) events) in record {
+pub one_kept : (whole taken taken' : List ℕ) (events : List Event) (at next : ℕ) (event : Event) (pending pending' : List ℕ) → at < length events → event ≡ get_or events at event → next ≡ suc at → pending' ≡ pending ++ event_text event
+    → HasTaken taken taken' whole (pending ++ events_text (drop at events)) → HasTaken taken taken' whole (pending' ++ events_text (drop next events))
+one_kept whole taken taken' events at next event pending pending' low there is grown h =
+    let rest = events_text (drop (suc at) events) in record {
       part = h.part;
       took = h.took;
       left = h.left ∙ ap (λ (xs : List ℕ). h.part ++ xs)
-          (ap (λ (es : List Event). pending ++ transcript_text es) (dropped events at event low there)
+          (ap (λ (es : List Event). pending ++ events_text es) (dropped events at event low there)
           ∙ (sym (append_assoc pending (event_text event) rest)
-          ∙ (ap (λ (p : List ℕ). p ++ rest) (sym grown) ∙ ap (λ (n : ℕ). pending' ++ transcript_text (drop n events)) (sym is))));
+          ∙ (ap (λ (p : List ℕ). p ++ rest) (sym grown) ∙ ap (λ (n : ℕ). pending' ++ events_text (drop n events)) (sym is))));
     }
 
 -- a part of what is kept is written

@@ -29,6 +29,13 @@ module _ {C : Ghosts Served Event} where
     pub behind : (k : ℕ) (s : Seat Served Event C) → get_elem? seats k ≡ some s → length (seen s) ≤ length (woven steps)
     pub counted : sum_by (λ (s : Seat Served Event C). length (mine s)) seats ≡ length events
 
+  -- whatever events these seats have made, of whom this one called last, the new ones have made one more, or no other
+  abbrev pub HasMadeMore : ℕ → List (Seat Served Event C) → ℕ → List (Seat Served Event C) → Event → Type 0
+  HasMadeMore last seats last' seats' event = (events : List Event) → HasMade last seats events → HasMade last' seats' (events ++ event ∷ [])
+
+  abbrev pub HasMadeNone : ℕ → List (Seat Served Event C) → ℕ → List (Seat Served Event C) → Type 0
+  HasMadeNone last seats last' seats' = (events : List Event) → HasMade last seats events → HasMade last' seats' events
+
   -- one of the seats knows that no position is left
   abbrev pub HasSpent : List (Seat Served Event C) → Type 0
   HasSpent seats = (k : ℕ) × (s : Seat Served Event C) × (get_elem? seats k ≡ some s) × (met_spent s ≡ true)

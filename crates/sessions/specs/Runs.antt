@@ -1,5 +1,6 @@
 -- What a run of a script is: its events, what it read and wrote, and how it ended.
 use Rattle.std.specs.Prelude.{◌≡◌, ℕ, ◌+◌, ◌≤◌, ◌⊎◌, Bool, true, List, [], ◌∷◌, ◌++◌, length, map, position, Some, None}
+use Rattle.text_format.specs.declared.Format.{Format}
 use Rattle.spans.specs.declared.calls.commands.Cmd.{Cmd}
 use Rattle.spans.specs.declared.calls.events.Event.{Event}
 use Rattle.word_lines.specs.declared.fault.LineFault.{LineFault}
@@ -28,59 +29,59 @@ abbrev pub calls_of : List Event → List (ℕ × Cmd)
 calls_of events = map call_of events
 
 -- the whole lines of the input are these calls, and behind them is no newline
-pub record AreLines (seats : ℕ) (input : List ℕ) (calls : List (ℕ × Cmd)) : Type 0 where
+pub record AreLines (format : Format) (seats : ℕ) (input : List ℕ) (calls : List (ℕ × Cmd)) : Type 0 where
   pub lines : List ℕ
   pub rest : List ℕ
   pub parts : input ≡ lines ++ rest
-  pub read : script_at seats lines ≡ record { calls = calls; fault = None }
+  pub read : script_at format seats lines ≡ record { calls = calls; fault = None }
   pub unended : None ≡ position is_newline rest
 
 -- whatever the source holds, its first calls are these
-abbrev pub BeginWith : ℕ → List ℕ → Bool → List (ℕ × Cmd) → Type 0
-BeginWith seats input ended calls = (whole : List ℕ) → MayHold input ended whole → StartsWith (script_at seats whole).calls calls
+abbrev pub BeginWith : Format → ℕ → List ℕ → Bool → List (ℕ × Cmd) → Type 0
+BeginWith format seats input ended calls = (whole : List ℕ) → MayHold input ended whole → StartsWith (script_at format seats whole).calls calls
 
 -- whatever the source holds, its calls are these, up to this faulty line
-abbrev pub EndWithFault : ℕ → List ℕ → Bool → List (ℕ × Cmd) → ℕ → LineFault → Type 0
-EndWithFault seats input ended calls line fault = (whole : List ℕ) → MayHold input ended whole → script_at seats whole ≡ record { calls = calls; fault = Some (record { line = line; fault = fault }) }
+abbrev pub EndWithFault : Format → ℕ → List ℕ → Bool → List (ℕ × Cmd) → ℕ → LineFault → Type 0
+EndWithFault format seats input ended calls line fault = (whole : List ℕ) → MayHold input ended whole → script_at format seats whole ≡ record { calls = calls; fault = Some (record { line = line; fault = fault }) }
 
 -- all positions are used, and at this line comes a further call
-pub record IsSpentAt (used : Type 0) (seats : ℕ) (input : List ℕ) (ended : Bool) (calls : List (ℕ × Cmd)) (line : ℕ) : Type 0 where
+pub record IsSpentAt (format : Format) (used : Type 0) (seats : ℕ) (input : List ℕ) (ended : Bool) (calls : List (ℕ × Cmd)) (line : ℕ) : Type 0 where
   pub all : used
   pub numbered : line ≡ length calls + 1
   pub call : ℕ × Cmd
-  pub next : BeginWith seats input ended (calls ++ call ∷ [])
+  pub next : BeginWith format seats input ended (calls ++ call ∷ [])
 
 -- the line that ends the output of a run, if any does
-abbrev pub IsLast : Type 0 → ℕ → List ℕ → Bool → List (ℕ × Cmd) → List ℕ → Type 0
-IsLast used seats input ended calls last =
+abbrev pub IsLast : Format → Type 0 → ℕ → List ℕ → Bool → List (ℕ × Cmd) → List ℕ → Type 0
+IsLast format used seats input ended calls last =
     (last ≡ [])
-    ⊎ ((line : ℕ) × (f : LineFault) × EndWithFault seats input ended calls line f × (last ≡ fault_line line f))
-    ⊎ ((line : ℕ) × IsSpentAt used seats input ended calls line × (last ≡ spent_line line))
+    ⊎ ((line : ℕ) × (f : LineFault) × EndWithFault format seats input ended calls line f × (last ≡ fault_line line f))
+    ⊎ ((line : ℕ) × IsSpentAt format used seats input ended calls line × (last ≡ spent_line line))
 
 -- the output begins the text of the events with the line that ends it
-pub record IsPart (used : Type 0) (seats : ℕ) (input : List ℕ) (ended : Bool) (events : List Event) (output : List ℕ) : Type 0 where
+pub record IsPart (format : Format) (used : Type 0) (seats : ℕ) (input : List ℕ) (ended : Bool) (events : List Event) (output : List ℕ) : Type 0 where
   pub last : List ℕ
-  pub is_last : IsLast used seats input ended (calls_of events) last
-  pub begins : StartsWith (transcript_text events ++ last) output
+  pub is_last : IsLast format used seats input ended (calls_of events) last
+  pub begins : StartsWith (transcript_text format events ++ last) output
 
 -- how each end comes, after these events and with this output
-abbrev pub EndsBy : Type 0 → Config → List ℕ → Bool → List Event → List ℕ → End → Type 0
-EndsBy used config input ended events output end.Done = (ended ≡ true) × (script_at config.seats input ≡ record { calls = calls_of events; fault = None }) × (output ≡ transcript_text events)
-EndsBy used config input ended events output (end.Fault line fault) = EndWithFault config.seats input ended (calls_of events) line fault × (output ≡ transcript_text events ++ fault_line line fault)
-EndsBy used config input ended events output (end.Spent line) = IsSpentAt used config.seats input ended (calls_of events) line × (output ≡ transcript_text events ++ spent_line line)
-EndsBy used config input ended events output (end.Open reason) = IsReason config reason × (input ≡ []) × (events ≡ []) × (output ≡ [])
-EndsBy used config input ended events output end.Input = AreLines config.seats input (calls_of events) × (output ≡ transcript_text events)
-EndsBy used config input ended events output end.Output = IsPart used config.seats input ended events output
-EndsBy used config input ended events output end.Memory = IsPart used config.seats input ended events output
+abbrev pub EndsBy : Format → Type 0 → Config → List ℕ → Bool → List Event → List ℕ → End → Type 0
+EndsBy format used config input ended events output end.Done = (ended ≡ true) × (script_at format config.seats input ≡ record { calls = calls_of events; fault = None }) × (output ≡ transcript_text format events)
+EndsBy format used config input ended events output (end.Fault line fault) = EndWithFault format config.seats input ended (calls_of events) line fault × (output ≡ transcript_text format events ++ fault_line line fault)
+EndsBy format used config input ended events output (end.Spent line) = IsSpentAt format used config.seats input ended (calls_of events) line × (output ≡ transcript_text format events ++ spent_line line)
+EndsBy format used config input ended events output (end.Open reason) = IsReason config reason × (input ≡ []) × (events ≡ []) × (output ≡ [])
+EndsBy format used config input ended events output end.Input = AreLines format config.seats input (calls_of events) × (output ≡ transcript_text format events)
+EndsBy format used config input ended events output end.Output = IsPart format used config.seats input ended events output
+EndsBy format used config input ended events output end.Memory = IsPart format used config.seats input ended events output
 
--- a database is opened but at the ends that say otherwise
+-- the limits of a database are kept, but at the ends that say otherwise. That the header comes once it is open is read, not proved
 abbrev pub IsOpenAt : Config → End → Type 0
 IsOpenAt config (end.Open reason) = Unit {0}
 IsOpenAt config end.Memory = Unit {0}
 IsOpenAt config _ = SeatsInRange config × RingInRange config
 
 -- what is known of a run, where a source had given and a sink had taken so much before it and so much after it
-pub record IsServed (config : Config) (given given' : List ℕ) (ended : Bool) (taken taken' : List ℕ) (e : End) : Type 0 where
+pub record IsServed (format : Format) (config : Config) (given given' : List ℕ) (ended : Bool) (taken taken' : List ℕ) (e : End) : Type 0 where
   -- the events are one history from the first position on, which has no gap
   pub events : List Event
   pub history : IsHistory config.first events
@@ -89,8 +90,8 @@ pub record IsServed (config : Config) (given given' : List ℕ) (ended : Bool) (
   pub output : List ℕ
   pub wrote : taken' ≡ taken ++ output
   -- their sessions and commands begin those of the input
-  pub begins : BeginWith config.seats input ended (calls_of events)
-  pub ends : EndsBy (config.first + length events ≡ most) config input ended events output e
+  pub begins : BeginWith format config.seats input ended (calls_of events)
+  pub ends : EndsBy format (config.first + length events ≡ most) config input ended events output e
   pub opened : IsOpenAt config e
 
 -- how often reads and writes failed before the run and after it: what waits is written also where a read has failed

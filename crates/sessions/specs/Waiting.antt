@@ -1,5 +1,7 @@
 -- The bytes of an input that were read and not yet taken, and what comes next in them.
 use Rattle.std.specs.Prelude.{◌≡◌, ℕ, ◌+◌, ◌-◌, ◌<◌, ◌≤◌, ◌⊎◌, Bool, true, false, List, [], ◌++◌, length, take, drop, position, Some, None}
+use Rattle.text_format.specs.declared.Format.{Format}
+use Rattle.text_format.specs.Limits.{line_limit}
 use Rattle.sessions.specs.declared.lines.Next.{Next}
 use Rattle.sessions.specs.declared.lines.Next.TheVariants.{Line, More, End}
 use Rattle.sessions.specs.declared.lines.Lines.{Lines}
@@ -13,17 +15,21 @@ waiting l = take (l.end - l.start) (drop l.start l.block.items)
 abbrev pub has_ended : Lines → Bool
 has_ended l = l.ended
 
+-- the format whose lines they are
+abbrev pub format_of : Lines → Format
+format_of l = l.format
+
 -- so many bytes at the front are the next line: those up to the first newline, or all, where there is
 -- none and the line is too long or the input has ended
 abbrev pub IsLine : Lines → ℕ → Type 0
 IsLine l n =
     ((at : ℕ) × (Some at ≡ position is_newline (waiting l)) × (n ≡ at + 1))
-    ⊎ ((None ≡ position is_newline (waiting l)) × (n ≡ length (waiting l)) × (0 < n) × ((l.ended ≡ true) ⊎ (4096 < n)))
+    ⊎ ((None ≡ position is_newline (waiting l)) × (n ≡ length (waiting l)) × (0 < n) × ((l.ended ≡ true) ⊎ (line_limit l.format < n)))
 
 -- what is said of what waits
 abbrev pub IsNext : Lines → Next → Type 0
 IsNext l (Line n) = (n ≤ length (waiting l)) × IsLine l n
-IsNext l More = (None ≡ position is_newline (waiting l)) × (length (waiting l) ≤ 4096) × (l.ended ≡ false)
+IsNext l More = (None ≡ position is_newline (waiting l)) × (length (waiting l) ≤ line_limit l.format) × (l.ended ≡ false)
 IsNext l End = (waiting l ≡ []) × (l.ended ≡ true)
 
 -- the bytes that wait stand at the front of the block
@@ -31,7 +37,8 @@ pub record IsMoved (old new : Lines) : Type 0 where
   pub waits : waiting new ≡ waiting old
   pub ended : new.ended ≡ old.ended
   pub front : new.start ≡ 0
-  pub room : new.end ≤ 4096
+  pub room : new.end ≤ line_limit old.format
+  pub format : new.format ≡ old.format
 
 -- one read: what it gave waits behind the rest, and the end is known where it was found
 pub record IsRead (old new : Lines) (given given' : List ℕ) (ended' : Bool) : Type 0 where
@@ -39,3 +46,4 @@ pub record IsRead (old new : Lines) (given given' : List ℕ) (ended' : Bool) : 
   pub gave : given' ≡ given ++ got
   pub waits : waiting new ≡ waiting old ++ got
   pub found : new.ended ≡ ended'
+  pub format : new.format ≡ old.format

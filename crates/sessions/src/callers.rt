@@ -1,10 +1,10 @@
 //! The callers of one database.
-ghost use Rattle.std.specs.Prelude.{◌≡◌, ◌≤◌, ◌<◌, ◌+◌, ◌++◌, [], ◌∷◌, List, length, vec_len, IfOk, IfErr};
+ghost use Rattle.std.specs.Prelude.{◌≡◌, ◌≤◌, ◌<◌, ◌+◌, ◌++◌, [], ◌∷◌, List, length, vec_len, IfOk, IfErr, OnErr};
 ghost use Rattle.shared_db.specs.Opening.{IsReason, SeatsInRange, RingInRange};
 ghost use Rattle.shared_db.specs.Seats.{first_of, seat_count};
 ghost use Rattle.spans.specs.declared.calls.events.Event.{Event};
 ghost use Rattle.sessions.specs.Seating.{AreSeated, HaveMet};
-ghost use Rattle.sessions.specs.Made.{HasMade, HasSpent, IsHistory};
+ghost use Rattle.sessions.specs.Made.{HasMade, HasMadeMore, HasMadeNone, HasSpent, IsHistory};
 ghost use Rattle.ticket_lock.specs.Lists.{most};
 
 use engine::Engine;
@@ -56,9 +56,9 @@ impl Callers {
         ensures count { vec_len self.new.seats ≡ vec_len self.old.seats }
         ensures db { self.new.db ≡ self.old.db }
         ensures event { IfOk result (λ event. (event.seat ≡ caller) × (event.cmd ≡ cmd)) }
-        ensures made { IfOk result (λ event. (events : List Event) → HasMade self.old.latest self.old.seats.items events → HasMade self.new.latest self.new.seats.items (events ++ event ∷ [])) }
-        ensures still { IfErr result (λ spent. (events : List Event) → HasMade self.old.latest self.old.seats.items events → HasMade self.new.latest self.new.seats.items events) }
-        ensures spent { IfErr result (λ spent. HasSpent self.new.seats.items) }
+        ensures made { IfOk result (HasMadeMore self.old.latest self.old.seats.items self.new.latest self.new.seats.items) }
+        ensures still { OnErr result (HasMadeNone self.old.latest self.old.seats.items self.new.latest self.new.seats.items) }
+        ensures spent { OnErr result (HasSpent self.new.seats.items) }
     {
         catch_up(
             &self.db,

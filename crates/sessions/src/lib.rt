@@ -25,7 +25,8 @@
 //!
 //! ```text
 //! serve, a line              its bytes, and what the database's call costs; six loads more where another seat called before
-//! serve, a read              one for each 65536 bytes at most, and what waits of a line is moved to the front
+//! serve, a read              for 65536 bytes and a line at most; what waits of a line is moved to the front, and looked
+//!                            through again for its end: a line that comes in many pieces costs its length for each
 //! serve, a write             one for each 65536 bytes at least, one before each read and one at the end
 //! read_whole, write_whole    the bytes, once
 //! ```

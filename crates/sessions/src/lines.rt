@@ -1,7 +1,7 @@
 //! The lines of an input, read in large blocks.
 //!
 //! ```text
-//! let mut lines = Lines::new(alloc)?;             waits: nothing
+//! let mut lines = Lines::new(alloc, Format::One)?;   waits: nothing
 //! lines.next()                  More
 //! lines.read_more(source)?                        waits: 0 begin 10\n0 put 1
 //! lines.next()                  Line(11)
@@ -14,22 +14,23 @@
 //! more has to be read it first writes what it owes, since a read may wait.
 ghost use Rattle.std.specs.Prelude.{◌≡◌, ◌≤◌, ◌<◌, ◌+◌, [], false, position, take, drop, length, vec_len, IfOk, IfSome, OnOk, OnErr};
 ghost use Rattle.script.specs.Lines.{is_newline};
+ghost use Rattle.text_format.specs.Limits.{line_limit};
 
 use crate::source::{ReadFailed, Source};
 use memchr::memchr;
 use std::alloc::{AllocError, Global};
-use word_lines::words::MAX_LINE_BYTES;
+use text_format::Format;
 
-/// How many bytes are asked for at once.
+/// How many bytes are asked for at once at least, whatever waits.
 pub(crate) const BLOCK: usize = 65536;
 
 /// What the bytes that were read so far hold next.
 #[derive(Clone, Copy, Debug, PartialEq, Eq)]
 pub enum Next {
     /// A line of this many bytes, its newline among them. The last line of an input may have none, and
-    /// more than 4096 bytes without one are handed out as a line, as soon as they are there.
+    /// more bytes than the format lets a line have are handed out as one, as soon as they are there.
     Line(usize),
-    /// No whole line, and at most 4096 bytes: more has to be read.
+    /// No whole line, and no more bytes than a line may have: more has to be read.
     More,
     /// Nothing, and the input is at its end.
     End,
@@ -44,24 +45,27 @@ pub struct Lines {
     end: usize,
     /// Whether the latest read found the end.
     ended: bool,
+    format: Format,
     ghost ordered: { start ≤ end },
     ghost within: { end ≤ vec_len block },
-    ghost size: { vec_len block ≡ 65536 },
+    ghost size: { vec_len block ≡ line_limit format + 65536 },
 }
 
 impl Lines {
-    ghost use Rattle.sessions.specs.Waiting.{waiting, has_ended, IsNext, IsRead, IsMoved};
+    ghost use Rattle.sessions.specs.Waiting.{waiting, has_ended, format_of, IsNext, IsRead, IsMoved};
 
-    /// No bytes yet.
-    pub fn new(alloc: Global) -> Result<Lines, AllocError>
-        ensures { IfOk result (λ lines. (waiting lines ≡ []) × (has_ended lines ≡ false)) }
+    /// No bytes yet. Its block has room for one line of the format, and for the bytes that are asked for at once behind it.
+    pub fn new(alloc: Global, format: Format) -> Result<Lines, AllocError>
+        ensures nothing { IfOk result (λ lines. (waiting lines ≡ []) × (has_ended lines ≡ false)) }
+        ensures format { IfOk result (λ lines. format_of lines ≡ format) }
     {
-        let block = vec![in alloc; 0u8; BLOCK]?;
+        let block = vec![in alloc; 0u8; format.line_limit() + BLOCK]?;
         Ok(Lines {
             block,
             start: 0,
             end: 0,
             ended: false,
+            format,
         })
     }
 
@@ -80,7 +84,7 @@ impl Lines {
             return Next::Line(at + 1);
         }
         // a line that grows past its limit is handed out as it is
-        if bytes.len() > MAX_LINE_BYTES {
+        if bytes.len() > self.format.line_limit() {
             return Next::Line(bytes.len());
         }
         if !self.ended {
@@ -105,16 +109,18 @@ impl Lines {
         requires { count ≤ length (waiting self.old) }
         ensures bytes { waiting self.new ≡ drop count (waiting self.old) }
         ensures ended { has_ended self.new ≡ has_ended self.old }
+        ensures format { format_of self.new ≡ format_of self.old }
     {
         self.start += count;
     }
 
     /// Reads once, behind what waits. It may wait for the source. Where the read fails all stays as it was.
     pub fn read_more<S: Source>(&mut self, source: &mut S) -> Result<(), ReadFailed>
-        requires room { length (waiting self.old) ≤ 4096 }
+        requires room { length (waiting self.old) ≤ line_limit (format_of self.old) }
         requires open { has_ended self.old ≡ false }
         ensures read { OnOk result (IsRead self.old self.new (S.given source.old) (S.given source.new) (S.ended source.new)) }
         ensures worked { OnOk result (S.failures source.new ≡ S.failures source.old) }
+        ensures format { format_of self.new ≡ format_of self.old }
         ensures waits { OnErr result ((waiting self.new ≡ waiting self.old) × (has_ended self.new ≡ has_ended self.old)) }
         ensures nothing { OnErr result (S.given source.new ≡ S.given source.old) }
         ensures still { OnErr result (S.ended source.new ≡ S.ended source.old) }
@@ -133,7 +139,7 @@ impl Lines {
 
     /// Makes room behind what waits.
     fn move_to_front(&mut self)
-        requires room { length (waiting self.old) ≤ 4096 }
+        requires room { length (waiting self.old) ≤ line_limit (format_of self.old) }
         ensures { IsMoved self.old self.new }
     {
         if self.start > 0 {

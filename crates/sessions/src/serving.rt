@@ -15,10 +15,12 @@ use shared_db::{Config, OpenError};
 use spans::calls::Cmd;
 use std::alloc::{AllocError, Global};
 use std::sync::Wait;
+use text_format::Format;
 use word_lines::commands::read_command;
 use word_lines::fault::ReadError;
 
-/// Opens a database, makes the calls of a script in their order, and writes the transcript.
+/// Opens a database, makes the calls of a script of a format in their order, and writes the transcript. Once the database
+/// is open the output begins with the format's header.
 ///
 /// A line is the call of the seat that it names. A faulty line ends the transcript with its fault,
 /// and so does one for which no position is left; what was answered before it stands. The output is
@@ -27,13 +29,14 @@ pub fn serve<S: Source, K: Sink, T: Wait>(
     rt: &T,
     alloc: Global,
     config: Config,
+    format: Format,
     input: &mut S,
     output: &mut K,
 ) -> End
-    ensures served { IsServed config (S.given input.old) (S.given input.new) (S.ended input.new) (K.taken output.old) (K.taken output.new) result }
+    ensures served { IsServed format config (S.given input.old) (S.given input.new) (S.ended input.new) (K.taken output.old) (K.taken output.new) result }
     ensures failed { FailsBy result (S.failures input.old) (S.failures input.new) (K.failures output.old) (K.failures output.new) }
 {
-    match Run::begin(alloc, config) {
+    match Run::begin(alloc, Terms { config, format }) {
         Ok(mut run) => {
             let end = run.calls(rt, input, output);
             run.finish(end, output)
@@ -42,11 +45,18 @@ pub fn serve<S: Source, K: Sink, T: Wait>(
     }
 }
 
+/// What a run goes by: the database that it opens, and the format of its texts.
+#[derive(Clone, Copy)]
+struct Terms {
+    config: Config,
+    format: Format,
+}
+
 /// A run with what it has read, answered and not yet written.
 #[derive(Drop)]
 struct Run {
     alloc: Global,
-    config: Config,
+    terms: Terms,
     lines: Lines,
     output: Output,
     callers: Callers,
@@ -54,25 +64,29 @@ struct Run {
 
 impl Run {
     ghost use Rattle.sessions.specs.Waiting.{waiting, IsNext, IsLine};
-    ghost use Rattle.sessions.specs.Going.{IsGoing, IsStopped, IsFresh, IsRefused, kept_at};
+    ghost use Rattle.sessions.specs.Going.{IsStopped, IsFresh, IsRefused, GoesOn, Halts, TakesLine, MakesCall, StopsBefore, CallsLine, StopsAtLine, ServesAs};
 
-    fn begin(alloc: Global, config: Config) -> Result<Run, End>
-        ensures ok { IfOk result (λ run. IsFresh run × (run.config ≡ config)) }
-        ensures err { IfErr result (IsRefused config) }
+    fn begin(alloc: Global, terms: Terms) -> Result<Run, End>
+        ensures ok { IfOk result (λ run. IsFresh run × (run.terms ≡ terms)) }
+        ensures err { IfErr result (IsRefused terms.config) }
     {
+        let lines = Lines::new(alloc, terms.format)?;
+        let mut output = Output::new(alloc)?;
+        let callers = Callers::open(alloc, terms.config)?;
+        output.keep(terms.format.header())?;
         Ok(Run {
             alloc,
-            config,
-            lines: Lines::new(alloc)?,
-            output: Output::new(alloc)?,
-            callers: Callers::open(alloc, config)?,
+            terms,
+            lines,
+            output,
+            callers,
         })
     }
 
     /// Makes the calls of all lines, or of those before one that ends the run.
     fn calls<S: Source, K: Sink, T: Wait>(&mut self, rt: &T, input: &mut S, output: &mut K) -> End
         requires fresh { IsFresh self.old }
-        ensures config { self.new.config ≡ self.old.config }
+        ensures terms { self.new.terms ≡ self.old.terms }
         ensures stopped { IsStopped (S.given input.old) (S.given input.new) (S.ended input.new) (K.taken output.old) (K.taken output.new) self.new result }
         ensures failed { FailsBy result (S.failures input.old) (S.failures input.new) (K.failures output.old) (K.failures output.new) }
     {
@@ -97,19 +111,19 @@ impl Run {
     }
 
     /// Writes what waits, and reads once.
-    fn read_more<S: Source, K: Sink>(&mut self, input: &mut S, output: &mut K) -> Result<(), End>
+    fn read_more<S: Source, K: Sink>(&mut self, from: &mut S, to: &mut K) -> Result<(), End>
         requires more { IsNext self.old.lines Next.More }
-        ensures config { self.new.config ≡ self.old.config }
-        ensures ok { OnOk result ((given taken : List ℕ) (events : List Event) → IsGoing [] given (S.given input.old) (S.ended input.old) taken (K.taken output.old) self.old events → IsGoing [] given (S.given input.new) (S.ended input.new) taken (K.taken output.new) self.new events) }
-        ensures err { IfErr result (λ end. (given taken : List ℕ) (events : List Event) → IsGoing [] given (S.given input.old) (S.ended input.old) taken (K.taken output.old) self.old events → IsStopped given (S.given input.new) (S.ended input.new) taken (K.taken output.new) self.new end) }
-        ensures worked { OnOk result ((S.failures input.new ≡ S.failures input.old) × (K.failures output.new ≡ K.failures output.old)) }
-        ensures failed { IfErr result (λ end. FailsBy end (S.failures input.old) (S.failures input.new) (K.failures output.old) (K.failures output.new)) }
+        ensures terms { self.new.terms ≡ self.old.terms }
+        ensures ok { OnOk result (GoesOn self.old self.new (S.given from.old, S.ended from.old, K.taken to.old) (S.given from.new, S.ended from.new, K.taken to.new)) }
+        ensures err { IfErr result (Halts self.old self.new (S.given from.old, S.ended from.old, K.taken to.old) (S.given from.new, S.ended from.new, K.taken to.new)) }
+        ensures worked { OnOk result ((S.failures from.new ≡ S.failures from.old) × (K.failures to.new ≡ K.failures to.old)) }
+        ensures failed { IfErr result (λ end. FailsBy end (S.failures from.old) (S.failures from.new) (K.failures to.old) (K.failures to.new)) }
     {
-        match self.output.write_out(output) {
+        match self.output.write_out(to) {
             Ok(()) => {}
             Err(_) => return Err(End::Output),
         }
-        match self.lines.read_more(input) {
+        match self.lines.read_more(from) {
             Ok(()) => Ok(()),
             Err(_) => Err(End::Input),
         }
@@ -125,9 +139,9 @@ impl Run {
     ) -> Result<(), End>
         requires within { count ≤ length (waiting self.old.lines) }
         requires line { IsLine self.old.lines count }
-        ensures config { self.new.config ≡ self.old.config }
-        ensures ok { OnOk result ((given given' taken : List ℕ) (ended : Bool) (events : List Event) → number ≡ length events + 1 → IsGoing [] given given' ended taken (K.taken output.old) self.old events → (event : Event) × IsGoing [] given given' ended taken (K.taken output.new) self.new (events ++ event ∷ [])) }
-        ensures err { IfErr result (λ end. (given given' taken : List ℕ) (ended : Bool) (events : List Event) → number ≡ length events + 1 → IsGoing [] given given' ended taken (K.taken output.old) self.old events → IsStopped given given' ended taken (K.taken output.new) self.new end) }
+        ensures terms { self.new.terms ≡ self.old.terms }
+        ensures ok { OnOk result (CallsLine self.old self.new number (K.taken output.old) (K.taken output.new)) }
+        ensures err { IfErr result (StopsAtLine self.old self.new number (K.taken output.old) (K.taken output.new)) }
         ensures worked { OnOk result (K.failures output.new ≡ K.failures output.old) }
         ensures failed { IfErr result (λ end. (reads : ℕ) → FailsBy end reads reads (K.failures output.old) (K.failures output.new)) }
     {
@@ -150,13 +164,18 @@ impl Run {
     fn take(&mut self, number: u64, count: usize) -> Result<(u8, Cmd), End>
         requires within { count ≤ length (waiting self.old.lines) }
         requires line { IsLine self.old.lines count }
-        ensures config { self.new.config ≡ self.old.config }
+        ensures terms { self.new.terms ≡ self.old.terms }
         ensures there { IfOk result (λ call. call.0 < vec_len self.new.callers.seats) }
-        ensures ok { IfOk result (λ call. IsCommand call.1 × ((given given' taken taken' : List ℕ) (ended : Bool) (events : List Event) → IsGoing [] given given' ended taken taken' self.old events → IsGoing (command_line call.0 call.1) given given' ended taken taken' self.new events)) }
-        ensures err { IfErr result (λ end. (given given' taken taken' : List ℕ) (ended : Bool) (events : List Event) → number ≡ length events + 1 → IsGoing [] given given' ended taken taken' self.old events → IsStopped given given' ended taken taken' self.new end) }
+        ensures ok { IfOk result (λ call. IsCommand self.old.terms.format call.1 × TakesLine self.old self.new (command_line call.0 call.1)) }
+        ensures err { IfErr result (StopsBefore self.old self.new [] number) }
         ensures failed { IfErr result (λ end. (reads writes : ℕ) → FailsBy end reads reads writes writes) }
     {
-        match read_command(self.alloc, self.lines.line(count), self.callers.count()) {
+        match read_command(
+            self.alloc,
+            self.lines.line(count),
+            self.callers.count(),
+            self.terms.format,
+        ) {
             Ok(call) => {
                 self.lines.advance(count);
                 Ok(call)
@@ -178,10 +197,10 @@ impl Run {
     #[inline(always)]
     fn call<T: Wait>(&mut self, rt: &T, number: u64, seat: u8, cmd: Cmd) -> Result<(), End>
         requires there { seat < vec_len self.old.callers.seats }
-        requires lawful { IsCommand cmd }
-        ensures config { self.new.config ≡ self.old.config }
-        ensures ok { OnOk result ((given given' taken taken' : List ℕ) (ended : Bool) (events : List Event) → IsGoing (command_line seat cmd) given given' ended taken taken' self.old events → (event : Event) × IsGoing [] given given' ended taken taken' self.new (events ++ event ∷ [])) }
-        ensures err { IfErr result (λ end. (given given' taken taken' : List ℕ) (ended : Bool) (events : List Event) → number ≡ length events + 1 → IsGoing (command_line seat cmd) given given' ended taken taken' self.old events → IsStopped given given' ended taken taken' self.new end) }
+        requires lawful { IsCommand self.old.terms.format cmd }
+        ensures terms { self.new.terms ≡ self.old.terms }
+        ensures ok { OnOk result (MakesCall self.old self.new (command_line seat cmd)) }
+        ensures err { IfErr result (StopsBefore self.old self.new (command_line seat cmd) number) }
         ensures failed { IfErr result (λ end. (reads writes : ℕ) → FailsBy end reads reads writes writes) }
     {
         match self.callers.call(rt, seat, cmd) {
@@ -203,8 +222,8 @@ impl Run {
     /// Ends the database, and writes what is left, but where a write has failed: that is not tried
     /// again.
     fn finish<K: Sink>(self, end: End, output: &mut K) -> End
-        ensures served { (given given' taken : List ℕ) (ended : Bool) → IsStopped given given' ended taken (K.taken output.old) self end → IsServed self.config given given' ended taken (K.taken output.new) result }
-        ensures failed { (reads reads' writes : ℕ) → FailsBy end reads reads' writes (K.failures output.old) → FailsBy result reads reads' writes (K.failures output.new) }
+        ensures served { ServesAs self end (K.taken output.old) (K.taken output.new) result }
+        ensures failed { (r r' w : ℕ) → FailsBy end r r' w (K.failures output.old) → FailsBy result r r' w (K.failures output.new) }
     {
         let Run {
             callers,

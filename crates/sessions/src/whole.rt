@@ -11,6 +11,7 @@ use crate::sink::Sink;
 use crate::source::Source;
 use spans::calls::Event;
 use std::alloc::{AllocError, Global};
+use text_format::Format;
 
 /// Reads a source to its end.
 pub fn read_whole<S: Source>(alloc: Global, source: &mut S) -> Result<Vec<u8>, End>
@@ -59,17 +60,26 @@ pub fn write_whole<K: Sink>(sink: &mut K, bytes: &[u8]) -> Result<(), End>
     }
 }
 
-/// Writes the text of events, one after the other, in large blocks.
-pub fn write_transcript<K: Sink>(alloc: Global, sink: &mut K, events: &[Event]) -> Result<(), End>
-    ensures ok { OnOk result (HasTaken (K.taken sink.old) (K.taken sink.new) (transcript_text events.now) []) }
+/// Writes the transcript of events in a format: its header, and their texts, in large blocks.
+pub fn write_transcript<K: Sink>(
+    alloc: Global,
+    sink: &mut K,
+    format: Format,
+    events: &[Event],
+) -> Result<(), End>
+    ensures ok { OnOk result (HasTaken (K.taken sink.old) (K.taken sink.new) (transcript_text format events.now) []) }
     ensures worked { OnOk result (K.failures sink.new ≡ K.failures sink.old) }
-    ensures err { OnErr result (HasBegun (K.taken sink.old) (K.taken sink.new) (transcript_text events.now)) }
+    ensures err { OnErr result (HasBegun (K.taken sink.old) (K.taken sink.new) (transcript_text format events.now)) }
     ensures failed { IfErr result (λ end. StopsWriting end (K.failures sink.old) (K.failures sink.new)) }
 {
     let mut output = match Output::new(alloc) {
         Ok(output) => output,
         Err(_) => return Err(End::Memory),
     };
+    match output.keep(format.header()) {
+        Ok(()) => {}
+        Err(_) => return Err(End::Memory),
+    }
     for event in events {
         match output.keep_event(event) {
             Ok(()) => {}

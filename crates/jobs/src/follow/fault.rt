@@ -21,7 +21,7 @@ pub(crate) enum FollowFault {
     Length = 5,
     /// The line doesn't end in a newline.
     NoNewline = 7,
-    /// Over 4096 bytes stand before the newline.
+    /// More bytes than the format lets a line have stand before the newline.
     LineTooLong = 8,
     /// A row is at or below what was resolved last, or doesn't come after the row before it.
     NotAfter = 21,

@@ -2,7 +2,8 @@
 ghost use Rattle.std.specs.Prelude.{◌≡◌, ◌≤◌, ℕ, [], length, take, IfOk, IfErr, OnOk, OnErr};
 ghost use Rattle.replica.specs.Replicas.{Follows};
 ghost use Rattle.jobs.specs.Ends.{FailsAt};
-ghost use Rattle.jobs.specs.Followed.{start_of, IsTaken, IsRefused};
+ghost use Rattle.sessions.specs.Waiting.{format_of};
+ghost use Rattle.jobs.specs.Followed.{start_of, IsRefused};
 ghost use Rattle.sessions.specs.declared.lines.Next.TheVariants.{More};
 
 use crate::ending::End;
@@ -15,6 +16,7 @@ use replica::{Fault, Replica, Rows};
 use sessions::{Lines, Next, Sink, Source};
 use spans::span::Span;
 use std::alloc::{AllocError, Global};
+use text_format::Format;
 use word_lines::words::text_of;
 
 /// What follows a feed, with what it has read, and told, and not yet written.
@@ -25,20 +27,26 @@ pub(crate) struct Follower {
     choice: Choice,
     replica: Replica,
     view: bool,
+    format: Format,
     report: Report,
+    ghost formatted: { format_of lines ≡ format },
 }
 
 impl Follower {
     ghost use Rattle.sessions.specs.Waiting.{waiting, IsNext};
+    ghost use Rattle.jobs.specs.Taking.{HasTaken};
 
-    pub(crate) fn begin(alloc: Global, options: FollowOptions) -> Result<Follower, AllocError> {
+    pub(crate) fn begin(alloc: Global, options: FollowOptions) -> Result<Follower, AllocError>
+        ensures format { IfOk result (λ follower. follower.format ≡ options.format) }
+    {
         let FollowOptions {
             span,
             start,
             feed,
             view,
+            format,
         } = options;
-        let lines = Lines::new(alloc)?;
+        let lines = Lines::new(alloc, format)?;
         let report = Report::new(alloc)?;
         let replica = begun(alloc, span, start)?;
         Ok(Follower {
@@ -47,6 +55,7 @@ impl Follower {
             choice: Choice::new(feed),
             replica,
             view,
+            format,
             report,
         })
     }
@@ -108,12 +117,13 @@ impl Follower {
     /// Takes one line, and answers at which timestamp the rows are complete by it.
     fn take(&mut self, count: usize) -> Result<Option<u64>, FollowError>
         requires within { count ≤ length (waiting self.old.lines) }
-        ensures ok { IfOk result (λ at. IsTaken self.old.choice self.new.choice self.old.replica self.new.replica (take count (waiting self.old.lines)) at) }
+        ensures ok { IfOk result (HasTaken self.old self.new count) }
+        ensures format { self.new.format ≡ self.old.format }
         ensures err { OnErr result (self.new.replica ≡ self.old.replica) }
-        ensures refused { IfErr result (λ error. IsRefused self.old.replica (take count (waiting self.old.lines)) error) }
+        ensures refused { IfErr result (λ error. IsRefused self.old.format self.old.replica (take count (waiting self.old.lines)) error) }
     {
         let line = self.lines.line(count);
-        let text = match text_of(line) {
+        let text = match text_of(line, self.format) {
             Ok(text) => text,
             Err(fault) => return Err(of_line(fault)),
         };
@@ -121,7 +131,7 @@ impl Follower {
             self.lines.advance(count);
             return Ok(None);
         }
-        let message = match read_message(self.alloc, line) {
+        let message = match read_message(self.alloc, line, self.format) {
             Ok(message) => message,
             Err(fault) => return Err(of_message(fault)),
         };
@@ -172,7 +182,7 @@ impl Follower {
 
     /// Writes what is left, but where a write has failed: that is not tried again.
     pub(crate) fn finish<K: Sink>(mut self, end: End, output: &mut K) -> End
-        ensures failed { (reads reads' writes : ℕ) → FailsAt end reads reads' writes (K.failures output.old) → FailsAt result reads reads' writes (K.failures output.new) }
+        ensures failed { (r r' w : ℕ) → FailsAt end r r' w (K.failures output.old) → FailsAt result r r' w (K.failures output.new) }
     {
         if let End::Output = end {
             return End::Output;

@@ -3,23 +3,28 @@
 use spans::bound::{Bound, BoundError};
 use spans::span::Span;
 use std::alloc::Global;
+use text_format::Format;
 use word_lines::fault::{LineFault, ReadError};
 use word_lines::spelling::bytes_of;
 
-/// The span between two bounds, each spelled as in scripts: `-` is no bound.
-pub fn span_of(alloc: Global, lo: &[u8], hi: &[u8]) -> Result<Span, ReadError> {
-    let lo = bound_of(alloc, lo)?;
-    let hi = bound_of(alloc, hi)?;
+/// The span between two bounds, each spelled as in scripts of a format: `-` is no bound.
+pub fn span_of(alloc: Global, lo: &[u8], hi: &[u8], format: Format) -> Result<Span, ReadError> {
+    let lo = bound_of(alloc, lo, format)?;
+    let hi = bound_of(alloc, hi, format)?;
     Ok(Span { lo, hi })
 }
 
 /// The bound that a word spells, or `-` for none.
-fn bound_of(alloc: Global, word: &[u8]) -> Result<Option<Bound>, ReadError> {
+fn bound_of(alloc: Global, word: &[u8], format: Format) -> Result<Option<Bound>, ReadError> {
     if word == b"-".as_slice() {
         return Ok(None);
     }
     let spelled = bytes_of(alloc, word)?;
-    match Bound::new(alloc, spelled.bytes()) {
+    let bytes = spelled.bytes();
+    if bytes.len() > format.bound_limit() {
+        return Err(ReadError::Fault(LineFault::KeyLength));
+    }
+    match Bound::new(alloc, bytes) {
         Ok(bound) => Ok(Some(bound)),
         Err(BoundError::BoundLength) => Err(ReadError::Fault(LineFault::KeyLength)),
         Err(BoundError::NoMemory) => Err(ReadError::NoMemory),

@@ -14,4 +14,5 @@ returns-in-Ok-clause-read g c = let l = c.move_to_front.new.self in let xs = c.d
       gave = s.given;
       waits = grown l.start l.end n l.block.len xs c.read.new.block _ _ m.front within s.count (search rules) ∙ ap (λ (ys : List ℕ). ys ++ take n c.read.new.block) (same ∙ m.waits);
       found = sym s.ended;
+      format = m.format;
     }

@@ -18,9 +18,9 @@ returns-in-Err-line-clause-stopped g c = let i = c.loop-turn.invariant in let n 
 
 pub loop-turn-preserved-in-Ok : goal.loop-turn-preserved-in-Ok
 loop-turn-preserved-in-Ok g c = let i = c.loop-turn.invariant in let k = c.in-Ok.ensures in
-    ((let a = i.0 in omega arith), k.config ∙ i.1, k.worked.0 ∙ i.2, k.worked.1 ∙ i.3, (i.4.0, i.4.1, k.ok (g.S.Source.given c.args.input.now) (g.K.Sink.taken c.args.output.now) i.4.0 i.4.2))
+    ((let a = i.0 in omega arith), k.terms ∙ i.1, k.worked.0 ∙ i.2, k.worked.1 ∙ i.3, (i.4.0, i.4.1, k.ok (g.S.Source.given c.args.input.now) (g.K.Sink.taken c.args.output.now) i.4.0 i.4.2))
 
 pub loop-turn-preserved : goal.loop-turn-preserved
 loop-turn-preserved g c = let i = c.loop-turn.invariant in let k = c.in-Ok-line.ensures in let n = i.4.1 in
     let made = k.ok (g.S.Source.given c.args.input.now) (g.S.Source.given c.loop-turn.input) (g.K.Sink.taken c.args.output.now) (g.S.Source.ended c.loop-turn.input) i.4.0 (omega arith) i.4.2 in
-    ((let a = i.0 in omega arith), k.config ∙ i.1, i.2, k.worked ∙ i.3, (i.4.0 ++ made.0 ∷ [], omega (arith, length-append i.4.0 (made.0 ∷ [])), made.1))
+    ((let a = i.0 in omega arith), k.terms ∙ i.1, i.2, k.worked ∙ i.3, (i.4.0 ++ made.0 ∷ [], omega (arith, length-append i.4.0 (made.0 ∷ [])), made.1))
