@@ -17,8 +17,6 @@
 //! poll 1 1         store                      ring
 //! poll 1 1         ring                       ring
 //! ```
-//!
-//! A transcript is also played with rings of several lengths, and comes out the same with each.
 #![tactic(auto)]
 
 #[cfg(test)]

@@ -1,6 +1,6 @@
 //! Scripts in which any growth may be refused.
 //!
-//! Each test makes the calls of a transcript on an engine, twice. Wherever memory is wanting once, each reply is
+//! The test makes the calls of a transcript on an engine, twice. Wherever memory is wanting once, each reply is
 //! that of the transcript, or `nomemory` where the command may lack memory and would have been accepted. Such
 //! a command is made again at once, and then its reply and all later ones are those of the transcript: so a
 //! refused growth has changed nothing. In both turns together memory is wanting once at most, so an engine that

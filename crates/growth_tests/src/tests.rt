@@ -1,38 +1,15 @@
-//! Scripts, each a test.
+//! Scripts in which a growth may be refused.
 
 mod playing;
-mod sameness;
 mod scripts;
 
 use playing::play_twice;
-use std::test::Fail;
 
+// Memory is wanting once at most.
 #[test]
-fn a_scan_of_an_absent_key(rt: HostRuntime) -> Result<(), Fail> {
-    play_twice(&rt, scripts::ABSENT_KEY)
-}
-
-#[test]
-fn rows_whose_commits_come_in_another_order(rt: HostRuntime) -> Result<(), Fail> {
-    play_twice(&rt, scripts::ORDER_OF_ROWS)
-}
-
-#[test]
-fn a_transaction_split_over_polls(rt: HostRuntime) -> Result<(), Fail> {
-    play_twice(&rt, scripts::SPLIT)
-}
-
-#[test]
-fn a_feed_that_lags(rt: HostRuntime) -> Result<(), Fail> {
-    play_twice(&rt, scripts::LAGGING)
-}
-
-#[test]
-fn a_delete_that_is_dropped(rt: HostRuntime) -> Result<(), Fail> {
-    play_twice(&rt, scripts::DROPPED_DELETE)
-}
-
-#[test]
-fn a_hard_closing_snapshots_and_a_protection(rt: HostRuntime) -> Result<(), Fail> {
-    play_twice(&rt, scripts::HARD_CLOSING)
+fn refused_growths_change_nothing(rt: HostRuntime) {
+    for case in scripts::TRANSCRIPTS.split("@ ").skip(1) {
+        let wanting = play_twice(rt.alloc(), case);
+        assert!(rt; matches!(wanting, Some(0 | 1)), "{case}");
+    }
 }

@@ -3,12 +3,12 @@
 //!
 //! ```text
 //! transactions, closings, feeds    worked transcripts
-//! rows                             faulty lines, and lines at their limits
-//! verdicts                         transcripts with what a check says of them
-//! checks                           checks of many blocks, and of devices that fail
-//! racing                           what a race writes
-//! follow                           what is told of a feed, and that its rows are those of the database
-//! random                           a script of commands of all kinds
+//! cases                            runs, checks and races: faulty lines, limits, verdicts, devices that fail
+//! followed                         feeds that are followed: faulty lines, limits, the guide to caches
+//! histories                        that the rows which a follower tells are those of the database
+//! long                             many blocks, and devices that fail after any byte
+//! random                           scripts of commands of all kinds
+//! playing, unfolding               what a case asks for, and texts as cases write them
 //! devices                          readers and writers in memory that may fail
 //! ```
 #![tactic(auto)]

@@ -1,107 +1,126 @@
-//! Runs, byte for byte, over readers and writers in memory.
+//! Runs, races, checks and followers, byte for byte, over readers and writers in memory.
 
-mod checks;
+mod cases;
 mod closings;
 mod devices;
 mod feeds;
-mod follow;
-mod racing;
+mod followed;
+mod formats;
+mod histories;
+mod long;
+mod playing;
 mod random;
-mod rows;
 mod transactions;
-mod verdicts;
+mod unfolding;
 
 use devices::{Sink, Source};
-use jobs::{DEFAULTS, End, run_io};
-use sessions::{Config, OpenError, Reading, Writing};
-use std::alloc::{AllocError, Global};
-use std::sync::Wait;
+use histories::{history, told_right};
+use jobs::{End, RaceOptions};
+use long::{
+    altered, are_right, followed, is_checked, long_transcript, messages, reads_may_fail,
+    writes_may_fail,
+};
+use playing::{is_played, is_right, is_yes, race, ran, script_of};
+use random::{Dice, Shape, script};
 use std::test::Fail;
+use text_format::Format;
+use unfolding::unfolded;
 
-/// What a job wrote, and how it ended.
-#[derive(Drop)]
-struct Ran {
-    end: End,
-    output: Vec<u8>,
-}
-
-/// How a run ends that reads from the one and writes to the other.
-fn run_on<R: Wait>(
-    rt: &R,
-    alloc: Global,
-    options: Config,
-    source: Source<'_>,
-    sink: &mut Sink,
-) -> End {
-    let mut input = Reading::new(source);
-    let mut output = Writing::new(sink);
-    run_io(rt, alloc, options, &mut input, &mut output)
-}
-
-fn run_of<R: Wait>(rt: &R, alloc: Global, input: &[u8]) -> Ran {
-    run_with(rt, alloc, DEFAULTS, input)
-}
-
-fn run_with<R: Wait>(rt: &R, alloc: Global, options: Config, input: &[u8]) -> Ran {
-    let mut sink = Sink::new(alloc);
-    let end = run_on(rt, alloc, options, Source::new(input), &mut sink);
-    Ran {
-        end,
-        output: sink.taken,
-    }
-}
-
-/// The worked transcripts, by what they are about.
-const TRANSCRIPTS: [&[&str]; 4] = [
-    &[""],
-    &transactions::TRANSCRIPTS,
-    &closings::TRANSCRIPTS,
-    &feeds::TRANSCRIPTS,
-];
-
-/// The script whose transcript this is: each line without its position and its answer, but those that
-/// follow an answer.
-fn script_of(alloc: Global, transcript: &str) -> Result<Vec<u8>, AllocError> {
-    let mut script = Vec::new(alloc);
-    for line in transcript.lines() {
-        if line.starts_with("row ") || line.starts_with("{") {
-            continue;
+#[test]
+fn all_cases(rt: HostRuntime) {
+    for cases in [
+        cases::FAULTS,
+        cases::OPTIONS,
+        cases::FAILING,
+        cases::RACES,
+        cases::VERDICTS,
+        cases::WRONG,
+        formats::FORMATS,
+        followed::NOT_FOLLOWED,
+        followed::FOLLOWED,
+        followed::CACHES,
+        followed::FAILING,
+    ] {
+        for case in cases.split("@ ").skip(1) {
+            assert!(rt; is_right(&rt, rt.alloc(), case) == Some(true), "{case}");
         }
-        let call = line.split_once(' ').map_or(line, |parts| parts.1);
-        let call = call.split_once(" => ").map_or(call, |parts| parts.0);
-        script.extend_from_slice(call.as_bytes())?;
-        script.push(b'\n')?;
     }
-    Ok(script)
 }
 
 #[test]
-fn transcripts(rt: HostRuntime) -> Result<(), Fail> {
-    for transcript in TRANSCRIPTS.iter().copied().flatten() {
-        let script = script_of(rt.alloc(), transcript)?;
-        let ran = run_of(&rt, rt.alloc(), script.as_slice());
-        assert_eq!(rt; ran.end, End::Done, "{transcript}");
-        assert_eq!(rt;
-            ran.output.as_slice(),
-            transcript.as_bytes(),
-            "{transcript}"
-        );
+fn all_transcripts(rt: HostRuntime) {
+    for transcripts in [
+        transactions::TRANSCRIPTS,
+        closings::TRANSCRIPTS,
+        feeds::TRANSCRIPTS,
+    ] {
+        for transcript in transcripts.split("@ ").skip(1) {
+            assert!(rt;
+                is_played(&rt, rt.alloc(), transcript) == Some(true),
+                "{transcript}"
+            );
+        }
+    }
+}
+
+#[test]
+fn devices_fail_after_any_byte(rt: HostRuntime) -> Result<(), Fail> {
+    let transcript = unfolded(rt.alloc(), feeds::LAGGING)?;
+    let text = std::str::from_utf8(&transcript)?;
+    let script = script_of(rt.alloc(), text)?;
+    assert!(rt; reads_may_fail(&rt, rt.alloc(), &script, text) == Some(true));
+    assert!(rt; writes_may_fail(&rt, rt.alloc(), &script, &transcript));
+    Ok(())
+}
+
+/// What stands in the transcripts of a few thousand commands of all kinds.
+const ANSWERS: &str =
+    " => started, => value, => none, => rows, => written, => committed, => aborted, => closed, => protected, => released, => collected, => opened, => messages, => cancelled, => stats, => toolate, => blocked, => belowclosed, => belowhorizon, => gaprange, => notowner,{\"resolved\",{\"after\":null";
+
+#[test]
+fn thousands_of_commands_get_all_kinds_of_answers(rt: HostRuntime) -> Result<(), Fail> {
+    let shape = Shape {
+        seed: 88172645463325252,
+        first: 0,
+        stride: 1,
+    };
+    let script = script(rt.alloc(), shape, 8000)?;
+    let output = ran(&rt, rt.alloc(), 1024, &script).ok_or("it ends")?;
+    assert!(rt; is_yes(rt.alloc(), &output));
+    let text = std::str::from_utf8(&output)?;
+    assert!(rt; text.contains("\n7999 "));
+    for answer in ANSWERS.split(',') {
+        assert!(rt; text.contains(answer), "{answer}");
     }
     Ok(())
 }
 
+// Close timestamps, some that leave gaps, some far apart, and the last of all.
 #[test]
-fn rings_of_any_size_give_the_same_output(rt: HostRuntime) -> Result<(), Fail> {
-    for ring in [1, 2, 65536] {
-        let options = Config { ring, ..DEFAULTS };
-        for transcript in feeds::TRANSCRIPTS {
-            let script = script_of(rt.alloc(), transcript)?;
-            let ran = run_with(&rt, rt.alloc(), options, script.as_slice());
-            assert_eq!(rt; ran.end, End::Done, "{transcript}");
-            assert_eq!(rt;
-                ran.output.as_slice(),
-                transcript.as_bytes(),
-                "ring {ring}: {transcript}"
+fn timestamps_of_any_shape_are_answered_right(rt: HostRuntime) {
+    assert!(rt; are_right(&rt, rt.alloc(), 0, 1) == Some(true));
+    assert!(rt; are_right(&rt, rt.alloc(), 1000, 7) == Some(true));
+    assert!(rt; are_right(&rt, rt.alloc(), 0, 1099511627776) == Some(true));
+    assert!(rt; are_right(&rt, rt.alloc(), 9223372036854775807 - 66, 1) == Some(true));
+}
+
+#[test]
+fn a_check_of_many_blocks(rt: HostRuntime) -> Result<(), Fail> {
+    let transcript = long_transcript(rt.alloc())?;
+    for piece in [1, 7, 4096, 65536, usize::MAX] {
+        assert!(rt; is_checked(rt.alloc(), &transcript, piece, None, End::No, b"no 4000\n"));
+        // within a line, behind a whole line, in the second block, and in the place of the end
+        for length in [5000, 21, 70000, transcript.len()] {
+            assert!(rt;
+                is_checked(
+                    rt.alloc(),
+                    &transcript,
+                    piece,
+                    Some(length),
+                    End::Input,
+                    b""
+                ),
+                "after {length} bytes"
             );
         }
     }
@@ -109,166 +128,65 @@ fn rings_of_any_size_give_the_same_output(rt: HostRuntime) -> Result<(), Fail> {
 }
 
 #[test]
-fn faulty_lines(rt: HostRuntime) {
-    for (line, last) in rows::FAULTS {
-        let ran = run_of(&rt, rt.alloc(), line.as_bytes());
-        assert_eq!(rt; ran.end, End::Faulty, "{line:?}");
-        assert_eq!(rt; ran.output.as_slice(), last.as_bytes(), "{line:?}");
-    }
-}
-
-/// A line of `before`, some letters and `after`.
-fn padded(
-    alloc: Global,
-    before: &str,
-    letter: u8,
-    count: usize,
-    after: &str,
-) -> Result<Vec<u8>, AllocError> {
-    let mut line = Vec::from_slice(alloc, before.as_bytes())?;
-    for _ in 0..count {
-        line.push(letter)?;
-    }
-    line.extend_from_slice(after.as_bytes())?;
-    Ok(line)
-}
-
-#[test]
-fn lengths(rt: HostRuntime) -> Result<(), Fail> {
-    for (before, letter, count, after, last) in rows::LENGTHS {
-        let line = padded(rt.alloc(), before, letter, count, after)?;
-        let ran = run_of(&rt, rt.alloc(), line.as_slice());
-        assert_eq!(rt; ran.end, End::Faulty, "{before} and {count} letters");
-        assert_eq!(rt;
-            ran.output.as_slice(),
-            last.as_bytes(),
-            "{before} and {count} letters"
-        );
-    }
+fn rows_of_many_blocks(rt: HostRuntime) -> Result<(), Fail> {
+    let text = messages(rt.alloc(), 4000, 20)?;
+    let (end, output) = followed(rt.alloc(), &text, None);
+    assert!(rt; end == End::Done);
+    let newlines = output.iter().filter(|b| **b == b'\n').count();
+    assert!(rt; newlines == 80020);
+    // the write of the second block fails
+    let (end, output) = followed(rt.alloc(), &text, Some(70000));
+    assert!(rt; end == End::Output && output.len() == 70000);
     Ok(())
 }
 
+/// A message that was altered on the way is found by a check of the whole transcript.
 #[test]
-fn events_before_a_fault_are_kept(rt: HostRuntime) -> Result<(), Fail> {
-    let mut script = padded(rt.alloc(), "0 begin 10\n0 put 10 ", b'a', 64, " 1\n")?;
-    let more = padded(rt.alloc(), "0 put 10 ", b'a', 65, " 1\n")?;
-    script.extend_from_slice(more.as_slice())?;
-    let ran = run_of(&rt, rt.alloc(), script.as_slice());
-    let mut wanted = padded(
-        rt.alloc(),
-        "0 0 begin 10 => started\n1 0 put 10 ",
-        b'a',
-        64,
-        " 1 => written\n",
-    )?;
-    wanted.extend_from_slice(b"fault 3 4 keylength\n")?;
-    assert_eq!(rt; ran.end, End::Faulty);
-    assert_eq!(rt; ran.output.as_slice(), wanted.as_slice());
-    Ok(())
+fn an_altered_message_is_found(rt: HostRuntime) {
+    match altered(&rt, rt.alloc()) {
+        Some(told) => assert!(rt; told.as_slice() == b"yes\nno 13\n".as_slice()),
+        None => assert!(rt; false, "nothing was told"),
+    }
 }
 
-/// The script of the two sessions.
-const TWO_SESSIONS: &str = "0 begin 10\n0 put 10 a 1\n0 commit 10\n1 begin 20\n1 get 20 a\n";
+/// A writer and a reader.
+const SCRIPT: &[u8] = b"0 begin 10
+0 put 10 a 1
+0 commit 10
+1 begin 20
+1 scan 20 - -
+1 commit 20
+";
 
 #[test]
-fn a_read_fails(rt: HostRuntime) {
+fn a_transcript_of_a_race_is_right(rt: HostRuntime) {
     let mut sink = Sink::new(rt.alloc());
-    // Two lines and five bytes of the third.
-    let source = Source::new(TWO_SESSIONS.as_bytes()).failing_after(29);
-    let end = run_on(&rt, rt.alloc(), DEFAULTS, source, &mut sink);
-    assert_eq!(rt; end, End::Input);
-    assert_eq!(rt;
-        sink.taken.as_slice(),
-        b"0 0 begin 10 => started\n1 0 put 10 a 1 => written\n".as_slice()
-    );
-}
-
-#[test]
-fn a_write_fails(rt: HostRuntime) {
-    for stuck in [false, true] {
-        let mut sink = Sink::new(rt.alloc()).with_room(30, stuck);
-        let end = run_on(
-            &rt,
-            rt.alloc(),
-            DEFAULTS,
-            Source::new(TWO_SESSIONS.as_bytes()),
-            &mut sink,
-        );
-        assert_eq!(rt; end, End::Output);
-        assert_eq!(rt;
-            sink.taken.as_slice(),
-            b"0 0 begin 10 => started\n1 0 pu".as_slice()
-        );
-    }
-}
-
-#[test]
-fn many_lines_pass_many_blocks(rt: HostRuntime) -> Result<(), Fail> {
-    let mut script = Vec::new(rt.alloc());
-    for _ in 0..20000 {
-        script.extend_from_slice(b"0 get 7 a\n")?;
-    }
-    let ran = run_of(&rt, rt.alloc(), script.as_slice());
-    assert_eq!(rt; ran.end, End::Done);
-    assert!(rt;
-        ran.output
-            .as_slice()
-            .ends_with(b"\n19999 0 get 7 a => notxn\n")
-    );
-    let newlines = ran.output.iter().filter(|b| **b == b'\n').count();
-    assert_eq!(rt; newlines, 20000);
-    Ok(())
-}
-
-#[test]
-fn positions_run_from_the_first(rt: HostRuntime) {
-    let options = Config {
-        first: 7,
-        ..DEFAULTS
+    let two = RaceOptions {
+        sessions: 2,
+        ring: 1024,
+        format: Format::One,
     };
-    let ran = run_with(&rt, rt.alloc(), options, b"0 begin 10\n1 close 5\n");
-    assert_eq!(rt; ran.end, End::Done);
-    assert_eq!(rt;
-        ran.output.as_slice(),
-        b"7 0 begin 10 => started\n8 1 close 5 => closed 5 0\n".as_slice()
-    );
+    let end = race(&rt, rt.alloc(), two, Source::new(SCRIPT), &mut sink);
+    assert!(rt; end == End::Done);
+    let events = sink.taken.iter().filter(|b| **b == b'>').count();
+    assert!(rt; events == 6);
+    assert!(rt; is_yes(rt.alloc(), &sink.taken));
 }
 
-#[test]
-fn the_last_positions_are_used_up(rt: HostRuntime) {
-    for (first, output) in rows::SPENT {
-        let options = Config { first, ..DEFAULTS };
-        let script = b"0 begin 10\n0 commit 10\n0 stats\n".as_slice();
-        let ran = run_with(&rt, rt.alloc(), options, script);
-        assert_eq!(rt; ran.end, End::Spent, "from {first}");
-        assert_eq!(rt; ran.output.as_slice(), output.as_bytes(), "from {first}");
-    }
-}
+/// How many histories are drawn.
+const HISTORIES: u64 = 5000;
 
 #[test]
-fn sessions_are_below_the_seats(rt: HostRuntime) {
-    for (seats, line, output) in rows::SEATED {
-        let options = Config { seats, ..DEFAULTS };
-        let ran = run_with(&rt, rt.alloc(), options, line.as_bytes());
-        assert_eq!(rt; ran.output.as_slice(), output.as_bytes(), "{line:?}");
+fn rows_are_those_of_the_database(rt: HostRuntime) -> Result<(), Fail> {
+    let mut dice = Dice::new(88172645463325252);
+    let mut bytes = 0u64;
+    for _ in 0..HISTORIES {
+        let script = history(rt.alloc(), &mut dice)?;
+        let told = told_right(&rt, rt.alloc(), &script);
+        assert!(rt; told.is_some());
+        bytes = bytes.saturating_add(told.unwrap_or(0));
     }
-}
-
-#[test]
-fn a_database_that_is_not_opened_reads_nothing(rt: HostRuntime) {
-    for (seats, ring, refused) in [
-        (0, 1, OpenError::SeatCount),
-        (65, 1, OpenError::SeatCount),
-        (1, 0, OpenError::RingSize),
-        (1, 65537, OpenError::RingSize),
-    ] {
-        let options = Config {
-            seats,
-            ring,
-            first: 0,
-        };
-        let ran = run_with(&rt, rt.alloc(), options, b"0 begin 10\n");
-        assert_eq!(rt; ran.end, End::Open(refused));
-        assert!(rt; ran.output.is_empty());
-    }
+    // much was resolved, and with rows
+    assert!(rt; bytes > HISTORIES * 100, "{bytes}");
+    Ok(())
 }

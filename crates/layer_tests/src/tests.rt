@@ -1,13 +1,27 @@
-//! What no clause says: that calls succeed, and that the clauses mean what was meant.
+//! What no clause says: that calls succeed, and that the clauses mean what was meant, by scripts of calls.
 
 mod closings;
-mod collections;
-mod following;
 mod marks;
-mod pieces;
 mod rules;
-mod spans_of_versions;
-mod sweeps;
-mod transactions;
+mod script;
 mod versions;
-mod words;
+
+use closing::Closing;
+use mvto_rules::Rules;
+use read_marks::Marks;
+use script::play;
+use version_chain::Store;
+
+#[test]
+fn layers(rt: HostRuntime) {
+    play(&rt, &mut Closing::new(rt.alloc()), closings::SCRIPT);
+    for script in versions::SCRIPTS {
+        play(&rt, &mut Store::new(rt.alloc()), script);
+    }
+    for script in marks::SCRIPTS {
+        play(&rt, &mut Marks::new(rt.alloc()), script);
+    }
+    for script in rules::SCRIPTS {
+        play(&rt, &mut Rules::new(rt.alloc()), script);
+    }
+}

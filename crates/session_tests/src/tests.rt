@@ -1,5 +1,5 @@
-mod devices;
+//! What no clause says: that sessions run at the same time, that seats are had and calls answered, and leases drawn.
+
 mod leases;
-mod merging;
 mod racing;
-mod serving;
+mod seats;

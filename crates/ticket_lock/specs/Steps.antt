@@ -1,5 +1,5 @@
 -- What each step tells the seat that makes it.
-use Rattle.std.specs.Prelude.{◌≡◌, ◌≢◌, ℕ, ◌+◌, ◌<◌, ◌≤◌, List, [], ◌∷◌, length, max, Option, Some, None, true, false}
+use Rattle.std.specs.Prelude.{◌≡◌, ◌≢◌, ℕ, ◌+◌, ◌-◌, ◌^◌, ◌<◌, ◌≤◌, List, [], ◌∷◌, length, max, Option, Some, None, true, false}
 use Rattle.atomic_table.specs.Table.{Step, rest}
 use Rattle.ticket_lock.specs.Lists.{most, StartsWith, of_seat, longer}
 use Rattle.ticket_lock.specs.Views.{SeatState, nobody, caught_up, met_spent, drawn, looked, looking, noted_serving, noted_next, holding, ended, raises, knows_floor}
@@ -73,3 +73,11 @@ DeniedAt m Spent m' = (n : ℕ) × (m' ≡ (met_spent (looking (looked m.0 n) m'
 abbrev pub PutOffAt : {T E : Type 0} → SeatState T E → Denied → SeatState T E → Type 0
 PutOffAt m (Busy served next) m' = (m.0.kept.spent ≡ false) × (m' ≡ (looking (looked m.0 m'.0.loaded) m'.0.looks, m.1))
 PutOffAt m Spent m' = DeniedAt m Spent m'
+
+-- a seat that hadn't met the end of all tickets has drawn this one
+abbrev pub Draws : {T E : Type 0} → SeatState T E → SeatState T E → ℕ → Type 0
+Draws m m' n = (n < 2 ^ 64 - 1) × (m' ≡ (drawn (looking m.0 m'.0.looks) n, m.1)) × (m.0.kept.spent ≡ false)
+
+-- and found that it is served
+abbrev pub DrawsServed : {T E : Type 0} → SeatState T E → SeatState T E → ℕ → Type 0
+DrawsServed m m' n = (n < 2 ^ 64 - 1) × (m' ≡ (drawn (looking (looked m.0 n) m'.0.looks) n, m.1)) × (m.0.kept.spent ≡ false)

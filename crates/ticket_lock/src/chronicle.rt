@@ -37,5 +37,5 @@ pub trait Chronicle {
         ensures { result ≡ floor_of self.now };
 
     /// The law: a longer list from the same first number has no lower floor.
-    ghost floor_rises: { (x y : Self) (first : ℕ) (before after : List Self.Entry) → stands x first before → stands y first (before ++ after) → floor_of x ≤ floor_of y };
+    ghost floor_rises: { (x y : Self) (first : ℕ) (h more : List Self.Entry) → stands x first h → stands y first (h ++ more) → floor_of x ≤ floor_of y };
 }

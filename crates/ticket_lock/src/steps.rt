@@ -2,7 +2,7 @@
 ghost use Rattle.std.specs.Prelude.{◌≡◌, List, ◌≤◌, ◌<◌, ◌+◌, ◌-◌, ◌^◌, ◌++◌, [], ◌∷◌, length, true, false, Some, None, IfSome, IfNone, IfOk, IfErr};
 ghost use Rattle.ticket_lock.specs.Lists.{of_seat, StartsWith};
 ghost use Rattle.ticket_lock.specs.Views.{drawn, met_spent, looked, looking, holding, ended};
-ghost use Rattle.ticket_lock.specs.Steps.{DeniedAt, PutOffAt, HasDrawn, Took};
+ghost use Rattle.ticket_lock.specs.Steps.{DeniedAt, Draws, DrawsServed, PutOffAt, HasDrawn, Took};
 ghost use Rattle.ticket_lock.specs.Proper.{IsSamePass};
 
 use crate::chronicle::Chronicle;
@@ -19,7 +19,7 @@ impl<T: Chronicle> TicketLock<T> {
         requires own { pass.old.table_id ≡ self.now.board.shared.table_id }
         requires free { (pass.old.me.0.sits ≡ true) × (pass.old.me.0.ticket ≡ None) }
         ensures same { IsSamePass pass.old pass.new }
-        ensures some { IfSome result (λ n. (n < 2 ^ 64 - 1) × (pass.new.me ≡ (drawn (looking pass.old.me.0 pass.new.me.0.looks) n, pass.old.me.1)) × (pass.old.me.0.kept.spent ≡ false)) }
+        ensures some { IfSome result (Draws pass.old.me pass.new.me) }
         ensures none { IfNone result (pass.new.me ≡ (met_spent (looking pass.old.me.0 pass.new.me.0.looks), pass.old.me.1)) }
     {
         let shared = &self.board.shared;
@@ -41,7 +41,7 @@ impl<T: Chronicle> TicketLock<T> {
         requires own { pass.old.table_id ≡ self.now.board.shared.table_id }
         requires free { (pass.old.me.0.sits ≡ true) × (pass.old.me.0.ticket ≡ None) }
         ensures same { IsSamePass pass.old pass.new }
-        ensures ok { IfOk result (λ n. (n < 2 ^ 64 - 1) × (pass.new.me ≡ (drawn (looking (looked pass.old.me.0 n) pass.new.me.0.looks) n, pass.old.me.1)) × (pass.old.me.0.kept.spent ≡ false)) }
+        ensures ok { IfOk result (DrawsServed pass.old.me pass.new.me) }
         ensures err { IfErr result (λ d. DeniedAt pass.old.me d pass.new.me) }
     {
         let shared = &self.board.shared;
@@ -70,7 +70,7 @@ impl<T: Chronicle> TicketLock<T> {
         requires own { pass.old.table_id ≡ self.now.board.shared.table_id }
         requires free { (pass.old.me.0.sits ≡ true) × (pass.old.me.0.ticket ≡ None) }
         ensures same { IsSamePass pass.old pass.new }
-        ensures ok { IfOk result (λ n. (n < 2 ^ 64 - 1) × (pass.new.me ≡ (drawn (looking (looked pass.old.me.0 n) pass.new.me.0.looks) n, pass.old.me.1)) × (pass.old.me.0.kept.spent ≡ false)) }
+        ensures ok { IfOk result (DrawsServed pass.old.me pass.new.me) }
         ensures err { IfErr result (λ d. PutOffAt pass.old.me d pass.new.me) }
     {
         let backoff = Backoff::new();

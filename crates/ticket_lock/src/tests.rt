@@ -1,11 +1,12 @@
-//! What no caller sees: that a seat which waits for long sleeps. What callers see is tested in `lock_tests`.
+//! Turns of a lock over a counter: their tickets, who is refused meanwhile, the floor; and what no caller sees, that a seat
+//! which waits for long sleeps.
 ghost use Rattle.std.specs.Prelude.{◌≡◌, length, None};
 ghost use Rattle.ticket_lock.specs.Seats.{AllNew, IsOf, number, ticket};
 
 mod counter;
 
 use crate::rule::ASLEEP;
-use crate::{Seat, Spent, TicketLock};
+use crate::{Denied, Seat, TicketLock};
 use counter::{Counter, Mark};
 use std::process::Abort;
 use std::sync::Wait;
@@ -64,11 +65,26 @@ fn last(
 }
 
 /// One turn, which adds a mark. The ticket that it had.
-fn tick<R: Wait>(rt: &R, lock: &TicketLock<Counter>, seat: &mut Seat<Counter>) -> Result<u64, Spent>
+fn tick<R: Wait>(rt: &R, lock: &TicketLock<Counter>, seat: &mut Seat<Counter>) -> Option<u64>
     requires own { IsOf lock.now seat.old × (ticket seat.old ≡ None) }
     ensures own { IsOf lock.now seat.new × (ticket seat.new ≡ None) }
 {
-    let mut held = lock.turn(rt, seat)?;
+    let mut held = lock.turn(rt, seat).ok()?;
+    let ticket = held.ticket();
+    held.value.count += 1;
+    let mark = Mark {
+        seat: seat.number(),
+    };
+    lock.end(seat, held, &mark);
+    Some(ticket)
+}
+
+/// The same without waiting.
+fn try_tick(lock: &TicketLock<Counter>, seat: &mut Seat<Counter>) -> Result<u64, Denied>
+    requires own { IsOf lock.now seat.old × (ticket seat.old ≡ None) }
+    ensures own { IsOf lock.now seat.new × (ticket seat.new ≡ None) }
+{
+    let mut held = lock.try_turn(seat)?;
     let ticket = held.ticket();
     held.value.count += 1;
     let mark = Mark {
@@ -76,6 +92,81 @@ fn tick<R: Wait>(rt: &R, lock: &TicketLock<Counter>, seat: &mut Seat<Counter>) -
     };
     lock.end(seat, held, &mark);
     Ok(ticket)
+}
+
+/// Whether a call that doesn't wait is refused, since this ticket has its turn and that one is next.
+fn is_busy(lock: &TicketLock<Counter>, seat: &mut Seat<Counter>, has: u64, next_one: u64) -> bool
+    requires own { IsOf lock.now seat.old × (ticket seat.old ≡ None) }
+    ensures own { IsOf lock.now seat.new × (ticket seat.new ≡ None) }
+{
+    match try_tick(lock, seat) {
+        Err(Denied::Busy { served, next }) => served == has && next == next_one,
+        _ => false,
+    }
+}
+
+/// A turn that raises the floor to 1, in which another seat is refused and sees the floor.
+fn raises<R: Wait>(
+    rt: &R,
+    lock: &TicketLock<Counter>,
+    seat: &mut Seat<Counter>,
+    other: &mut Seat<Counter>,
+) -> bool
+    requires own { IsOf lock.now seat.old × (ticket seat.old ≡ None) }
+    requires others { IsOf lock.now other.old × (ticket other.old ≡ None) }
+    ensures own { IsOf lock.now seat.new × (ticket seat.new ≡ None) }
+    ensures others { IsOf lock.now other.new × (ticket other.new ≡ None) }
+{
+    let Ok(mut held) = lock.turn(rt, seat) else {
+        return false;
+    };
+    held.value.count += 1;
+    lock.raise_floor(seat, &held);
+    let busy = is_busy(lock, other, 5, 6) && is_busy(lock, other, 5, 6);
+    let floor = lock.floor(other);
+    let mark = Mark {
+        seat: seat.number(),
+    };
+    lock.end(seat, held, &mark);
+    busy && floor == 1
+}
+
+#[test]
+fn a_seat_has_its_turns(rt: HostRuntime) -> Result<(), Fail> {
+    let (lock, mut seats) = TicketLock::new(rt.alloc(), Counter { count: 0 }, 5, 2)?;
+    let mut second = last(&rt, &lock, &mut seats);
+    let mut first = last(&rt, &lock, &mut seats);
+    assert!(rt; first.number() == 0 && second.number() == 1 && seats.is_empty());
+    assert!(rt; lock.floor(&mut second) == 0);
+    assert!(rt; raises(&rt, &lock, &mut first, &mut second));
+    assert!(rt; tick(&rt, &lock, &mut first) == Some(6));
+    assert!(rt; try_tick(&lock, &mut second).ok() == Some(7));
+    lock.meet(&mut first, &mut second);
+    let mut back = Vec::new(rt.alloc());
+    back.push(second)?;
+    let Err(missing) = lock.finish(back) else {
+        panic!(rt; "a seat was missing");
+    };
+    let mut back = missing.seats;
+    back.push(first)?;
+    let Ok(counter) = missing.lock.finish(back) else {
+        panic!(rt; "all seats were there");
+    };
+    assert!(rt; counter.count == 3);
+    Ok(())
+}
+
+// What is left of the tickets is one.
+#[test]
+fn tickets_are_used_up(rt: HostRuntime) -> Result<(), Fail> {
+    let first = 18446744073709551614;
+    let (lock, mut seats) = TicketLock::new(rt.alloc(), Counter { count: 0 }, first, 1)?;
+    let mut seat = last(&rt, &lock, &mut seats);
+    assert!(rt; tick(&rt, &lock, &mut seat) == Some(first));
+    assert!(rt; tick(&rt, &lock, &mut seat).is_none());
+    assert!(rt; tick(&rt, &lock, &mut seat).is_none());
+    assert!(rt; matches!(try_tick(&lock, &mut seat), Err(Denied::Spent)));
+    Ok(())
 }
 
 /// Waits until the flag is set, but not for ever.
@@ -102,7 +193,7 @@ fn follow<R: Wait>(
     if !saw(&progress.begun) {
         return (seat, None);
     }
-    let ticket = tick(rt, lock, &mut seat).ok();
+    let ticket = tick(rt, lock, &mut seat);
     progress.done.fetch_add(1, SeqCst);
     (seat, ticket)
 }
@@ -127,15 +218,18 @@ fn all_sleep(lock: &TicketLock<Counter>, sleepers: u64) -> bool {
     false
 }
 
-/// The first turn, which lasts until the seats that follow sleep. Then they have to be woken.
+/// The first turn, which lasts until the seats that follow sleep. Then they have to be woken. Before that, one more seat is
+/// told how many tickets are out.
 fn lead<R: Wait + Abort>(
     rt: &R,
     lock: &TicketLock<Counter>,
     mut seat: Seat<Counter>,
+    mut asking: Seat<Counter>,
     progress: &Progress,
     sleepers: u64,
 ) -> (Seat<Counter>, bool)
     requires own { IsOf lock.now seat × (ticket seat ≡ None) }
+    requires asks { IsOf lock.now asking × (ticket asking ≡ None) }
     ensures own { IsOf lock.now result.0 × (ticket result.0 ≡ None) }
 {
     let Ok(mut held) = lock.turn(rt, &mut seat) else {
@@ -144,35 +238,13 @@ fn lead<R: Wait + Abort>(
     held.value.count += 1;
     progress.begun.store(true, SeqCst);
     let asleep = all_sleep(lock, sleepers);
+    let busy = is_busy(lock, &mut asking, 0, sleepers.saturating_add(1));
     let mark = Mark {
         seat: seat.number(),
     };
     lock.end(&mut seat, held, &mark);
     progress.watch(rt, sleepers);
-    (seat, asleep)
-}
-
-#[test]
-fn a_seat_that_sleeps_is_woken(rt: HostRuntime) -> Result<(), Fail> {
-    let (lock, mut seats) = TicketLock::new(rt.alloc(), Counter { count: 0 }, 0, 2)?;
-    let second = last(&rt, &lock, &mut seats);
-    let first = last(&rt, &lock, &mut seats);
-    let progress = Progress::new();
-    let (shared, host, progress) = (&lock, &rt, &progress);
-    let ((mut first, asleep), (_, told)) = join(
-        &rt,
-        || -> (Seat<Counter>, bool)
-            requires { IsOf shared.now first × (ticket first ≡ None) }
-            ensures { IsOf shared.entry.now result.0 × (ticket result.0 ≡ None) }
-        { lead(host, shared, first, progress, 1) },
-        || -> (Seat<Counter>, Option<u64>)
-            requires { IsOf shared.now second × (ticket second ≡ None) }
-            ensures { IsOf shared.entry.now result.0 × (ticket result.0 ≡ None) }
-        { follow(host, shared, second, progress) },
-    );
-    assert_eq!(rt; (asleep, told), (true, Some(1)));
-    assert_eq!(rt; tick(&rt, &lock, &mut first).ok(), Some(2));
-    Ok(())
+    (seat, asleep && busy)
 }
 
 /// Two seats follow, each in a thread. The sum of their tickets.
@@ -198,9 +270,35 @@ fn follow_both<R: Threads + Wait + Sync>(
     Some(by_one?.saturating_add(by_two?))
 }
 
+/// Four seats follow, each in a thread.
+fn follow_all<R: Threads + Wait + Sync>(
+    rt: &R,
+    lock: &TicketLock<Counter>,
+    a: Seat<Counter>,
+    b: Seat<Counter>,
+    c: Seat<Counter>,
+    d: Seat<Counter>,
+    progress: &Progress,
+) -> Option<u64>
+    requires first { (IsOf lock.now a × (ticket a ≡ None)) × (IsOf lock.now b × (ticket b ≡ None)) }
+    requires second { (IsOf lock.now c × (ticket c ≡ None)) × (IsOf lock.now d × (ticket d ≡ None)) }
+{
+    let (by_two, by_others) = join(
+        rt,
+        || -> Option<u64>
+            requires { (IsOf lock.now a × (ticket a ≡ None)) × (IsOf lock.now b × (ticket b ≡ None)) }
+        { follow_both(rt, lock, a, b, progress) },
+        || -> Option<u64>
+            requires { (IsOf lock.now c × (ticket c ≡ None)) × (IsOf lock.now d × (ticket d ≡ None)) }
+        { follow_both(rt, lock, c, d, progress) },
+    );
+    Some(by_two?.saturating_add(by_others?))
+}
+
 #[test]
 fn many_seats_that_sleep_are_woken_in_turn(rt: HostRuntime) -> Result<(), Fail> {
-    let (lock, mut seats) = TicketLock::new(rt.alloc(), Counter { count: 0 }, 0, 5)?;
+    let (lock, mut seats) = TicketLock::new(rt.alloc(), Counter { count: 0 }, 0, 6)?;
+    let asking = last(&rt, &lock, &mut seats);
     let e = last(&rt, &lock, &mut seats);
     let d = last(&rt, &lock, &mut seats);
     let c = last(&rt, &lock, &mut seats);
@@ -208,31 +306,18 @@ fn many_seats_that_sleep_are_woken_in_turn(rt: HostRuntime) -> Result<(), Fail> 
     let a = last(&rt, &lock, &mut seats);
     let progress = Progress::new();
     let (shared, host, progress) = (&lock, &rt, &progress);
-    let ((mut a, asleep), (by_two, by_others)) = join(
+    let ((mut a, led), total) = join(
         &rt,
         || -> (Seat<Counter>, bool)
-            requires { IsOf shared.now a × (ticket a ≡ None) }
+            requires { (IsOf shared.now a × (ticket a ≡ None)) × (IsOf shared.now asking × (ticket asking ≡ None)) }
             ensures { IsOf shared.entry.now result.0 × (ticket result.0 ≡ None) }
-        { lead(host, shared, a, progress, 4) },
-        || -> (Option<u64>, Option<u64>)
+        { lead(host, shared, a, asking, progress, 4) },
+        || -> Option<u64>
             requires { (IsOf shared.now b × (ticket b ≡ None)) × (IsOf shared.now c × (ticket c ≡ None)) × (IsOf shared.now d × (ticket d ≡ None)) × (IsOf shared.now e × (ticket e ≡ None)) }
-        {
-            join(
-                host,
-                || -> Option<u64>
-                    requires { (IsOf shared.now b × (ticket b ≡ None)) × (IsOf shared.now c × (ticket c ≡ None)) }
-                { follow_both(host, shared, b, c, progress) },
-                || -> Option<u64>
-                    requires { (IsOf shared.now d × (ticket d ≡ None)) × (IsOf shared.now e × (ticket e ≡ None)) }
-                { follow_both(host, shared, d, e, progress) },
-            )
-        },
+        { follow_all(host, shared, b, c, d, e, progress) },
     );
-    assert!(rt; asleep, "four seats sleep at once");
-    let Some(total) = by_two.zip(by_others).map(|(x, y)| x.saturating_add(y)) else {
-        panic!(rt; "each has its turn");
-    };
-    assert_eq!(rt; total, 1 + 2 + 3 + 4);
-    assert_eq!(rt; tick(&rt, &lock, &mut a).ok(), Some(5));
+    assert!(rt; led, "four seats sleep at once, and a fifth is told so");
+    assert!(rt; total == Some(1 + 2 + 3 + 4), "each has its turn");
+    assert!(rt; tick(&rt, &lock, &mut a) == Some(5));
     Ok(())
 }

@@ -1,70 +1,199 @@
 //! Where feeds are served from, worked out by hand.
-use super::scripts;
-use super::serving::Case;
+//!
+//! Each case begins at `@`, with what it is about. Then come rows of the length of the rings, a feed, and where it is served from
+//! after each line of the script: `r` its ring, `s` the store, `-` none where it doesn't live. Behind `script` it stands.
 
-/// Rows that fill a ring, and rows that fill none.
-pub(crate) static FALLING: [Case; 15] = [
-    // two rows and one place
-    (1, 1, scripts::TWO_ROWS, "rrrrrrrs"),
-    // two places, and more
-    (2, 1, scripts::TWO_ROWS, "rrrrrrrr"),
-    (3, 1, scripts::TWO_ROWS, "rrrrrrrr"),
-    (1024, 1, scripts::TWO_ROWS, "rrrrrrrr"),
-    (65536, 1, scripts::TWO_ROWS, "rrrrrrrr"),
-    // both rows have one key: each version is a row
-    (1, 1, scripts::ONE_KEY, "rrrrrrrs"),
-    (2, 1, scripts::ONE_KEY, "rrrrrrrr"),
-    // a row that isn't closed takes no place: the first closing stops below 10, which is undecided
-    (1, 1, scripts::UNDECIDED, "rrrrrrrrs"),
-    // a hard closing aborts 10, whose row is none
-    (1, 1, scripts::ABORTED, "rrrrrrr"),
-    // of three feeds: all keys, a key that has no row, and one of the two rows
-    (1, 1, scripts::THREE_SPANS, "rrrrrrrrrs"),
-    (1, 2, scripts::THREE_SPANS, "-rrrrrrrrr"),
-    (1, 3, scripts::THREE_SPANS, "--rrrrrrrr"),
-    // cursors above both rows, and above one of them
-    (1, 1, scripts::CURSORS, "rrrrrrrrr"),
-    (1, 2, scripts::CURSORS, "-rrrrrrrr"),
-    // a number that was never opened
-    (1, 3, scripts::CURSORS, "---------"),
-];
-
-/// Feeds that open where 30 is closed.
-pub(crate) static OPENING: [Case; 9] = [
-    // a cursor below closed
-    (1, 1, scripts::OPENINGS, "-sssssss"),
-    // one at closed, and one above it
-    (1, 2, scripts::OPENINGS, "--rrrrrr"),
-    (1, 3, scripts::OPENINGS, "---rrrrr"),
-    // an initial feed has its snapshot to tell, wherever it begins
-    (1, 4, scripts::OPENINGS, "----ssss"),
-    (1, 5, scripts::OPENINGS, "-----sss"),
-    // a feed with a gap is as a plain one: at closed, and below it
-    (1, 6, scripts::OPENINGS, "------rr"),
-    (1, 7, scripts::OPENINGS, "-------s"),
-    // no such feeds
-    (1, 0, scripts::OPENINGS, "--------"),
-    (1, 8, scripts::OPENINGS, "--------"),
-];
-
-/// Polls of feeds that are behind.
-pub(crate) static RETURNING: [Case; 11] = [
-    // nothing is told, and a row is left twice; then none is left, and the next row goes into the ring
-    (1, 1, scripts::POLLS, "rrrrrrrsssrrrrr"),
-    (2, 1, scripts::POLLS, "rrrrrrrrrrrrrrr"),
-    // one poll tells all; two more rows are too many again
-    (1, 1, scripts::AGAIN, "rrrrrrrsrrrrrs"),
-    (2, 1, scripts::AGAIN, "rrrrrrrrrrrrrr"),
-    // another seat's poll is refused; then the feed is cancelled
-    (1, 1, scripts::CANCELLED, "rrrrrrrss--"),
-    // no row lies between cursor and closed, so a poll that tells nothing leaves none
-    (1, 1, scripts::NO_ROWS, "-srrrrr"),
-    // a snapshot without a value is the same, and so where its resolved message is told
-    (1, 2, scripts::NO_ROWS, "---srrr"),
-    (1, 3, scripts::NO_ROWS, "-----sr"),
-    // a snapshot of two values, told one by one
-    (1, 1, scripts::SNAPSHOT, "-------ssr"),
-    // a row is left, and one more is closed: the feed is behind until both are told
-    (1, 1, scripts::LEFT, "rrrrrrrsssssssr"),
-    (2, 1, scripts::LEFT, "rrrrrrrrrrrrrrr"),
-];
+/// The cases.
+pub(super) const CASES: &str = "@ Two rows, whose commits come in another order
+1 1 rrrrrrrs two rows and one place
+2 1 rrrrrrrr two places, and more
+3 1 rrrrrrrr
+1024 1 rrrrrrrr
+65536 1 rrrrrrrr
+script
+0 open - - 0
+1 begin 20
+1 put 20 a 2
+1 commit 20
+2 begin 10
+2 put 10 b 5
+2 commit 10
+0 close 30
+@ Two rows of one key
+1 1 rrrrrrrs both rows have one key: each version is a row
+2 1 rrrrrrrr
+script
+0 open - - 0
+1 begin 10
+1 put 10 a 1
+1 commit 10
+1 begin 20
+1 del 20 a
+1 commit 20
+0 close 30
+@ A transaction is undecided at the first closing
+1 1 rrrrrrrrs a row that isn't closed takes no place: the first closing stops below 10, which is undecided
+script
+0 open - - 0
+1 begin 20
+1 put 20 a 2
+1 commit 20
+2 begin 10
+2 put 10 b 5
+0 close 30
+2 commit 10
+0 close 30
+@ A transaction is aborted by a hard closing
+1 1 rrrrrrr a hard closing aborts 10, whose row is none
+script
+0 open - - 0
+1 begin 20
+1 put 20 a 2
+1 commit 20
+2 begin 10
+2 put 10 b 5
+0 closehard 30
+@ Feeds of three spans
+1 1 rrrrrrrrrs of three feeds: all keys, a key that has no row, and one of the two rows
+1 2 -rrrrrrrrr
+1 3 --rrrrrrrr
+script
+0 open - - 0
+0 open x - 0
+0 open b c 0
+1 begin 20
+1 put 20 a 2
+1 commit 20
+2 begin 10
+2 put 10 b 5
+2 commit 10
+0 close 30
+@ Feeds whose cursors lie above closed
+1 1 rrrrrrrrr cursors above both rows, and above one of them
+1 2 -rrrrrrrr
+1 3 --------- a number that was never opened
+script
+0 open - - 20
+0 open - - 15
+1 begin 20
+1 put 20 a 2
+1 commit 20
+2 begin 10
+2 put 10 b 5
+2 commit 10
+0 close 30
+@ Feeds of the three kinds
+1 1 -sssssss a cursor below closed
+1 2 --rrrrrr one at closed, and one above it
+1 3 ---rrrrr
+1 4 ----ssss an initial feed has its snapshot to tell, wherever it begins
+1 5 -----sss
+1 6 ------rr a feed with a gap is as a plain one: at closed, and below it
+1 7 -------s
+1 0 -------- no such feeds
+1 8 --------
+script
+0 close 30
+0 open - - 4
+0 open - - 30
+0 open - - 31
+0 openinitial - - 30
+0 openinitial - - 4
+0 openevery - - 30 5
+0 openevery - - 29 5
+@ Two rows are told one by one, and one more is closed after them
+1 1 rrrrrrrsssrrrrr nothing is told, and a row is left twice; then none is left, and the next row goes into the ring
+2 1 rrrrrrrrrrrrrrr
+script
+0 open - - 0
+1 begin 20
+1 put 20 a 2
+1 commit 20
+2 begin 10
+2 put 10 b 5
+2 commit 10
+0 close 30
+0 poll 1 0
+0 poll 1 1
+0 poll 1 1
+1 begin 40
+1 put 40 a 3
+1 commit 40
+0 close 50
+@ Two rows are told at once, and two more are closed after them
+1 1 rrrrrrrsrrrrrs one poll tells all; two more rows are too many again
+2 1 rrrrrrrrrrrrrr
+script
+0 open - - 0
+1 begin 20
+1 put 20 a 2
+1 commit 20
+2 begin 10
+2 put 10 b 5
+2 commit 10
+0 close 30
+0 poll 1 2
+1 begin 40
+1 put 40 a 3
+1 put 40 b 4
+1 commit 40
+0 close 50
+@ A feed is polled by another seat, and then cancelled
+1 1 rrrrrrrss-- another seat's poll is refused; then the feed is cancelled
+script
+0 open - - 0
+1 begin 20
+1 put 20 a 2
+1 commit 20
+2 begin 10
+2 put 10 b 5
+2 commit 10
+0 close 30
+1 poll 1 9
+1 cancel 1
+0 poll 1 9
+@ Feeds that are behind with no row to tell
+1 1 -srrrrr no row lies between cursor and closed, so a poll that tells nothing leaves none
+1 2 ---srrr a snapshot without a value is the same, and so where its resolved message is told
+1 3 -----sr
+script
+0 close 30
+0 open - - 4
+0 poll 1 0
+0 openinitial - - 30
+0 poll 2 0
+0 openinitial - - 4
+0 poll 3 9
+@ An initial feed tells two values
+1 1 -------ssr a snapshot of two values, told one by one
+script
+1 begin 20
+1 put 20 a 2
+1 commit 20
+2 begin 10
+2 put 10 b 5
+2 commit 10
+0 close 30
+0 openinitial - - 30
+0 poll 1 1
+0 poll 1 1
+@ A row is left, and one more is closed after it
+1 1 rrrrrrrsssssssr a row is left, and one more is closed: the feed is behind until both are told
+2 1 rrrrrrrrrrrrrrr
+script
+0 open - - 0
+1 begin 20
+1 put 20 a 2
+1 commit 20
+2 begin 10
+2 put 10 b 5
+2 commit 10
+0 close 30
+0 poll 1 1
+1 begin 40
+1 put 40 a 3
+1 commit 40
+0 close 50
+0 poll 1 1
+0 poll 1 1
+";

@@ -1,77 +1,70 @@
 //! A transcript, played while a growth may be refused.
-use super::sameness::same;
 use engine::Engine;
 use script::transcripts::read_transcript;
 use spans::calls::{Cmd, Event, Refusal, Reply};
 use std::alloc::Global;
-use std::process::Abort;
-use std::test::Fail;
+use text_format::Format;
+use word_lines::replies::write_reply;
 
-/// Makes the calls of a transcript on an engine with rings of one row, and then on one with longer rings.
-/// Memory is wanting once at most.
-pub(crate) fn play_twice(rt: &(impl Abort + AllocGlobal), transcript: &str) -> Result<(), Fail> {
-    let events = events_of(rt.alloc(), transcript)?;
-    let mut short = Engine::new(rt.alloc(), 1);
-    let first = play(rt, &mut short, &events);
-    let mut long = Engine::new(rt.alloc(), 2);
-    let second = play(rt, &mut long, &events);
-    assert!(rt;
-        first.saturating_add(second) <= 1,
-        "memory was wanting more than once"
-    );
-    Ok(())
+/// Makes the calls of a transcript, which stands behind a line, on an engine with rings of one row, and then on one with
+/// longer rings. How often memory was wanting, unless another reply came.
+pub(super) fn play_twice(alloc: Global, case: &str) -> Option<u64> {
+    let (_, transcript) = case.split_once('\n')?;
+    let events = events_of(alloc, transcript.as_bytes())?;
+    let first = play(alloc, &mut Engine::new(alloc, 1), &events)?;
+    let second = play(alloc, &mut Engine::new(alloc, 2), &events)?;
+    Some(first.saturating_add(second))
 }
 
 /// The events of a transcript. Where the growth that is refused is one of reading it, it is read again.
-fn events_of(alloc: Global, transcript: &str) -> Result<Vec<Event>, Fail> {
-    if let Ok(events) = read_transcript(alloc, transcript.as_bytes()) {
-        return Ok(events);
-    }
-    match read_transcript(alloc, transcript.as_bytes()) {
-        Ok(events) => Ok(events),
-        Err(_) => Err(Fail::new("not a transcript")),
+fn events_of(alloc: Global, transcript: &[u8]) -> Option<Vec<Event>> {
+    match read_transcript(alloc, transcript, Format::One) {
+        Ok(events) => Some(events),
+        Err(_) => read_transcript(alloc, transcript, Format::One).ok(),
     }
 }
 
-/// Makes the calls, and says how often memory was wanting.
-fn play(rt: &impl Abort, engine: &mut Engine, events: &[Event]) -> u64 {
+/// Makes the calls. How often memory was wanting.
+fn play(alloc: Global, engine: &mut Engine, events: &[Event]) -> Option<u64> {
     let mut wanting = 0u64;
     for event in events {
-        if !make(rt, engine, event) {
-            wanting = wanting.saturating_add(1);
-        }
+        wanting = wanting.saturating_add(make(alloc, engine, event)?);
     }
-    wanting
+    Some(wanting)
 }
 
-/// Makes a call, and makes it again where memory is wanting. Says whether it was there at once.
-fn make(rt: &impl Abort, engine: &mut Engine, event: &Event) -> bool {
-    let reply = step(rt, engine, event);
-    if same(&reply, &event.reply) {
-        return true;
+/// Makes a call, and makes it again where memory is wanting. How often it was.
+fn make(alloc: Global, engine: &mut Engine, event: &Event) -> Option<u64> {
+    let wanted = text_of(alloc, &event.reply);
+    let reply = step(engine, event)?;
+    if text_of(alloc, &reply).as_slice() == wanted.as_slice() {
+        return Some(0);
     }
-    assert!(rt;
-        may_lack_memory(event),
-        "at {}: another reply",
-        event.position
-    );
-    assert!(rt;
-        matches!(&reply, Reply::Refused(Refusal::NoMemory)),
-        "at {}: another reply",
-        event.position
-    );
-    let again = step(rt, engine, event);
-    assert!(rt;
-        same(&again, &event.reply),
-        "at {}: another reply, made again",
-        event.position
-    );
-    false
+    if !matches!(&reply, Reply::Refused(Refusal::NoMemory)) || !may_lack_memory(event) {
+        return None;
+    }
+    let again = step(engine, event)?;
+    if text_of(alloc, &again).as_slice() == wanted.as_slice() {
+        Some(1)
+    } else {
+        None
+    }
 }
 
-fn step(rt: &impl Abort, engine: &mut Engine, event: &Event) -> Reply {
-    assert!(rt; engine.steps() < 18446744073709551615);
-    engine.step(event.seat, &event.cmd)
+fn step(engine: &mut Engine, event: &Event) -> Option<Reply> {
+    if engine.steps() == u64::MAX {
+        return None;
+    }
+    Some(engine.step(event.seat, &event.cmd))
+}
+
+/// A reply as it is written. Where the growth that is refused is one of writing it, it is written again.
+fn text_of(alloc: Global, reply: &Reply) -> Vec<u8> {
+    let mut out = Vec::new(alloc);
+    if write_reply(&mut out, reply).is_err() {
+        let _ = write_reply(&mut out, reply);
+    }
+    out
 }
 
 /// Whether the command may lack memory, and would have been accepted.
@@ -86,6 +79,5 @@ fn may_lack_memory(event: &Event) -> bool {
             | Cmd::Cancel { .. }
             | Cmd::Stats
     );
-    let refused = matches!(&event.reply, Reply::Refused(_));
-    !takes_none && !refused
+    !takes_none && !matches!(&event.reply, Reply::Refused(_))
 }

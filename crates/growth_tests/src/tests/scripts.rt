@@ -1,14 +1,13 @@
 //! The scripts, each with its replies where no growth is refused.
 
-/// An absent key is scanned, and a write to it comes too late.
-pub(crate) const ABSENT_KEY: &str = "0 0 begin 20 => started
+/// The transcripts, each behind what it is about.
+pub(super) const TRANSCRIPTS: &str = "@ An absent key is scanned, and a write to it comes too late
+0 0 begin 20 => started
 1 0 scan 20 - - => rows 0
 2 1 begin 10 => started
 3 1 put 10 z 1 => toolate
-";
-
-/// The order of commits is not that of the stream.
-pub(crate) const ORDER_OF_ROWS: &str = "0 0 open - - 0 => opened 1
+@ The order of commits is not that of the stream
+0 0 open - - 0 => opened 1
 1 1 begin 20 => started
 2 1 put 20 a 2 => written
 3 1 commit 20 => committed 1
@@ -21,10 +20,8 @@ pub(crate) const ORDER_OF_ROWS: &str = "0 0 open - - 0 => opened 1
 {\"after\":\"MQ==\",\"key\":\"Yg==\",\"updated\":\"10\"}
 {\"after\":\"Mg==\",\"key\":\"YQ==\",\"updated\":\"20\"}
 {\"resolved\":\"30\"}
-";
-
-/// A transaction is split over polls, with a commit and a closing between.
-pub(crate) const SPLIT: &str = "0 0 open - - 0 => opened 1
+@ A transaction is split over polls, with a commit and a closing between
+0 0 open - - 0 => opened 1
 1 1 begin 10 => started
 2 1 put 10 a 1 => written
 3 1 put 10 b 2 => written
@@ -40,10 +37,8 @@ pub(crate) const SPLIT: &str = "0 0 open - - 0 => opened 1
 {\"after\":\"Mg==\",\"key\":\"Yg==\",\"updated\":\"10\"}
 {\"after\":\"Mw==\",\"key\":\"Yw==\",\"updated\":\"12\"}
 {\"resolved\":\"15\"}
-";
-
-/// A feed that lags holds the horizon back.
-pub(crate) const LAGGING: &str = "0 0 begin 5 => started
+@ A feed that lags holds the horizon back
+0 0 begin 5 => started
 1 0 put 5 a 1 => written
 2 0 commit 5 => committed 1
 3 0 begin 10 => started
@@ -65,10 +60,8 @@ pub(crate) const LAGGING: &str = "0 0 begin 5 => started
 16 0 readat 29 a => belowhorizon 30
 17 0 readat 30 a => value 3
 18 0 readat 31 a => notclosed 30
-";
-
-/// A delete that is dropped keeps its mark.
-pub(crate) const DROPPED_DELETE: &str = "0 0 begin 3 => started
+@ A delete that is dropped keeps its mark
+0 0 begin 3 => started
 1 0 put 3 a 1 => written
 2 0 commit 3 => committed 1
 3 0 begin 5 => started
@@ -81,10 +74,8 @@ pub(crate) const DROPPED_DELETE: &str = "0 0 begin 3 => started
 10 0 collect 10 => collected 10 2
 11 2 put 15 a 2 => toolate
 12 0 stats => stats 0 1 0 10 10
-";
-
-/// A hard closing, snapshots and a protection.
-pub(crate) const HARD_CLOSING: &str = "0 0 begin 10 => started
+@ A hard closing, snapshots and a protection
+0 0 begin 10 => started
 1 0 put 10 a 1 => written
 2 1 begin 50 => started
 3 1 put 50 b 2 => written
@@ -101,4 +92,15 @@ row b 2
 13 0 release 1 => noprotection
 14 2 collect 50 => collected 50 0
 15 2 protect 20 => belowhorizon 50
+@ Keys too long for a start to hold in place are read, and writes to them come too late
+0 0 begin 20 => started
+1 0 get 20 aaaaaaaaaaaaaaaaaaaaaaaaaaaaaaaaaaaaaaaaaaaaaaaaaaaaaaaaaaab => none
+2 0 get 20 aaaaaaaaaaaaaaaaaaaaaaaaaaaaaaaaaaaaaaaaaaaaaaaaaaaaaaaaaaaa => none
+3 1 begin 10 => started
+4 1 put 10 aaaaaaaaaaaaaaaaaaaaaaaaaaaaaaaaaaaaaaaaaaaaaaaaaaaaaaaaaaaa 1 => toolate
+5 1 begin 15 => started
+6 1 put 15 aaaaaaaaaaaaaaaaaaaaaaaaaaaaaaaaaaaaaaaaaaaaaaaaaaaaaaaaaaab 1 => toolate
+7 1 begin 12 => started
+8 1 put 12 a 1 => written
+9 1 commit 12 => committed 1
 ";

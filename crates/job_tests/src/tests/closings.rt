@@ -1,9 +1,8 @@
 //! Closings, snapshots, protections and collections.
 
-/// Transcripts of runs that end well.
-pub(crate) const TRANSCRIPTS: [&str; 4] = [
-    // closing
-    "0 0 begin 10 => started
+/// Transcripts of runs that end well, each behind what it is about.
+pub(super) const TRANSCRIPTS: &str = "@ closing
+0 0 begin 10 => started
 1 0 close 100 => closed 9 0
 2 0 commit 10 => committed 0
 3 0 close 100 => closed 100 0
@@ -12,9 +11,8 @@ pub(crate) const TRANSCRIPTS: [&str; 4] = [
 6 0 begin 100 => belowclosed 100
 7 0 begin 101 => started
 8 0 commit 50 => ended
-",
-    // a dropped delete keeps its mark
-    "0 0 begin 3 => started
+@ a dropped delete keeps its mark
+0 0 begin 3 => started
 1 0 put 3 a 1 => written
 2 0 commit 3 => committed 1
 3 0 begin 5 => started
@@ -27,9 +25,8 @@ pub(crate) const TRANSCRIPTS: [&str; 4] = [
 10 0 collect 10 => collected 10 2
 11 2 put 15 a 2 => toolate
 12 0 stats => stats 0 1 0 10 10
-",
-    // hard closing, snapshots, protection
-    "0 0 begin 10 => started
+@ hard closing, snapshots, protection
+0 0 begin 10 => started
 1 0 put 10 a 1 => written
 2 1 begin 50 => started
 3 1 put 50 b 2 => written
@@ -46,9 +43,8 @@ row b 2
 13 0 release 1 => noprotection
 14 2 collect 50 => collected 50 0
 15 2 protect 20 => belowhorizon 50
-",
-    // what holds the horizon back
-    "0 0 close 40 => closed 40 0
+@ what holds the horizon back
+0 0 close 40 => closed 40 0
 1 0 protect 10 => protected 1
 2 1 protect 30 => protected 2
 3 0 collect 40 => collected 10 0
@@ -62,5 +58,4 @@ row b 2
 11 1 cancel 1 => cancelled
 12 0 collect 40 => collected 40 0
 13 0 stats => stats 0 0 0 40 40
-",
-];
+";

@@ -19,10 +19,12 @@ impl<'a> Source<'a> {
         }
     }
 
-    /// Gives this many bytes, and then fails.
-    pub(crate) fn failing_after(mut self, length: usize) -> Source<'a> {
-        self.rest = &self.rest[..length.min(self.rest.len())];
-        self.fails_at_end = true;
+    /// Gives this many bytes, and then fails; where it is none it gives all.
+    pub(crate) fn failing_after(mut self, length: Option<usize>) -> Source<'a> {
+        if let Some(length) = length {
+            self.rest = &self.rest[..length.min(self.rest.len())];
+            self.fails_at_end = true;
+        }
         self
     }
 
@@ -51,6 +53,7 @@ impl Read for Source<'_> {
 pub(crate) struct Sink {
     pub(crate) taken: Vec<u8>,
     room: usize,
+    piece: usize,
     stuck: bool,
 }
 
@@ -59,21 +62,28 @@ impl Sink {
         Sink {
             taken: Vec::new(alloc),
             room: usize::MAX,
+            piece: usize::MAX,
             stuck: false,
         }
     }
 
-    /// Takes this many bytes; then it fails once, or takes none once where it is stuck.
-    pub(crate) fn with_room(mut self, room: usize, stuck: bool) -> Sink {
-        self.room = room;
+    /// Takes this many bytes; then it fails once, or takes none once where it is stuck. Where it is none it takes all.
+    pub(crate) fn with_room(mut self, room: Option<usize>, stuck: bool) -> Sink {
+        self.room = room.unwrap_or(usize::MAX);
         self.stuck = stuck;
+        self
+    }
+
+    /// Takes at most this many bytes at once.
+    pub(crate) fn in_pieces_of(mut self, piece: usize) -> Sink {
+        self.piece = piece;
         self
     }
 }
 
 impl Write for &mut Sink {
     fn write(&mut self, buf: &[u8]) -> Result<usize> {
-        let count = buf.len().min(self.room);
+        let count = buf.len().min(self.room).min(self.piece);
         if count == 0 {
             // Only this once: what is written after a failure would be seen.
             self.room = usize::MAX;

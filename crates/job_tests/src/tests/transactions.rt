@@ -1,24 +1,21 @@
 //! Transactions: their reads, their scans, their writes and their ends.
 
-/// Transcripts of runs that end well.
-pub(crate) const TRANSCRIPTS: [&str; 11] = [
-    // two sessions
-    "0 0 begin 10 => started
+/// Transcripts of runs that end well, each behind what it is about.
+pub(super) const TRANSCRIPTS: &str = "@ two sessions
+0 0 begin 10 => started
 1 0 put 10 a 1 => written
 2 0 commit 10 => committed 1
 3 1 begin 20 => started
 4 1 get 20 a => value 1
-",
-    // a write beneath a later read
-    "0 0 begin 10 => started
+@ a write beneath a later read
+0 0 begin 10 => started
 1 1 begin 20 => started
 2 1 get 20 a => none
 3 0 put 10 a 1 => toolate
 4 0 commit 10 => ended
 5 1 commit 20 => committed 0
-",
-    // a write between two versions
-    "0 0 begin 5 => started
+@ a write between two versions
+0 0 begin 5 => started
 1 0 put 5 a 1 => written
 2 0 commit 5 => committed 1
 3 0 begin 12 => started
@@ -28,29 +25,25 @@ pub(crate) const TRANSCRIPTS: [&str; 11] = [
 7 1 get 15 a => value 2
 8 0 begin 11 => started
 9 0 put 11 a 3 => written
-",
-    // read, then write, by one transaction
-    "0 0 begin 20 => started
+@ read, then write, by one transaction
+0 0 begin 20 => started
 1 0 get 20 a => none
 2 0 put 20 a 1 => written
 3 1 begin 10 => started
 4 1 put 10 a 2 => toolate
-",
-    // an own read leaves no mark
-    "0 0 begin 20 => started
+@ an own read leaves no mark
+0 0 begin 20 => started
 1 0 put 20 a 1 => written
 2 0 get 20 a => value 1
 3 1 begin 10 => started
 4 1 put 10 a 2 => written
-",
-    // an absent key was scanned
-    "0 0 begin 20 => started
+@ an absent key was scanned
+0 0 begin 20 => started
 1 0 scan 20 - - => rows 0
 2 1 begin 10 => started
 3 1 put 10 z 1 => toolate
-",
-    // a blocked read
-    "0 0 begin 10 => started
+@ a blocked read
+0 0 begin 10 => started
 1 0 put 10 a 1 => written
 2 1 begin 20 => started
 3 2 begin 15 => started
@@ -58,9 +51,8 @@ pub(crate) const TRANSCRIPTS: [&str; 11] = [
 5 0 commit 10 => committed 1
 6 1 get 20 a => value 1
 7 2 put 15 a 2 => toolate
-",
-    // scans that are blocked, and transactions that abort
-    "0 0 begin 10 => started
+@ scans that are blocked, and transactions that abort
+0 0 begin 10 => started
 1 0 put 10 a 1 => written
 2 1 begin 20 => started
 3 1 scan 20 - - => blocked 10
@@ -72,18 +64,16 @@ pub(crate) const TRANSCRIPTS: [&str; 11] = [
 9 2 begin 15 => started
 10 2 del 15 a => toolate
 11 2 put 15 b 1 => ended
-",
-    // an own key in a scan
-    "0 0 begin 20 => started
+@ an own key in a scan
+0 0 begin 20 => started
 1 0 put 20 b 1 => written
 2 0 scan 20 a c => rows 1
 row b 1
 3 1 begin 10 => started
 4 1 put 10 b 2 => written
 5 1 put 10 a 3 => toolate
-",
-    // reads and scans of many timestamps over two keys
-    "0 0 begin 10 => started
+@ reads and scans of many timestamps over two keys
+0 0 begin 10 => started
 1 0 put 10 b 1 => written
 2 0 commit 10 => committed 1
 3 0 begin 30 => started
@@ -103,9 +93,8 @@ row b 1
 16 2 put 35 b 5 => toolate
 17 2 begin 25 => started
 18 2 put 25 c 6 => toolate
-",
-    // ranges of timestamps
-    "0 0 begin 0 => tsrange
+@ ranges of timestamps
+0 0 begin 0 => tsrange
 1 0 begin 9223372036854775808 => tsrange
 2 0 begin 9223372036854775807 => started
 3 1 get 9223372036854775807 a => notowner
@@ -116,5 +105,4 @@ row b 1
 8 0 close 9223372036854775807 => closed 9223372036854775806 0
 9 0 closehard 9223372036854775808 => tsrange
 10 0 commit 9223372036854775807 => committed 0
-",
-];
+";

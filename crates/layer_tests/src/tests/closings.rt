@@ -1,62 +1,85 @@
 //! What is closed, and the protections that stand.
+use super::script::{Asked, Words, put_number};
 use closing::Closing;
-use std::test::Fail;
+use std::alloc::Global;
 
-/// Protects a timestamp, where a number is left.
-fn protect(closing: &mut Closing, t: u64) -> Result<u64, Fail> {
-    if closing.made() == u64::MAX {
-        return Err(Fail::new("no number is left"));
+/// Closings with the oldest undecided timestamp or `-`, hard closings, protections and their ends.
+pub(super) const SCRIPT: &str = "close 30 20=19
+close 30 20=19
+close 10 -=19
+close 30 40=30
+close 35 1=30
+close 35 0=30
+close 35 -=35
+hard 50=50
+hard 40=50
+least=none
+protect 25=1
+least=25
+protect 12=2
+protect 12=3
+least=12
+protect 70=4
+least=12
+release 2=yes
+release 2=no
+release 0=no
+release 9=no
+least=12
+release 3=yes
+least=25
+release 1=yes
+least=70
+release 4=yes
+least=none
+protect 5=5
+";
+
+impl Asked for Closing {
+    fn ask(&mut self, alloc: Global, mut words: Words<'_>, out: &mut Vec<u8>) -> Option<()> {
+        match words.word().first() {
+            Some(b'c') => close(alloc, self, &mut words, out),
+            Some(b'h') => put_number(alloc, out, self.close_hard(words.number())),
+            Some(b'p') => protect(alloc, self, &mut words, out),
+            Some(b'r') => release(self, &mut words, out),
+            _ => least(alloc, self, out),
+        }
     }
-    Ok(closing.protect(t)?)
 }
 
-/// Whether a close leads to this.
-fn closes(closing: &mut Closing, to: u64, oldest: Option<u64>, closed: u64) -> bool {
-    closing.close(to, oldest) == closed && closing.closed() == closed
+fn close(
+    alloc: Global,
+    closing: &mut Closing,
+    words: &mut Words<'_>,
+    out: &mut Vec<u8>,
+) -> Option<()> {
+    let to = words.number();
+    let oldest = words.number_or_none();
+    put_number(alloc, out, closing.close(to, oldest))
 }
 
-#[test]
-fn closed_rises(rt: HostRuntime) {
-    let mut closing = Closing::new(rt.alloc());
-    assert!(rt; closing.closed() == 0);
-    assert!(rt; closes(&mut closing, 30, Some(20), 19));
-    assert!(rt; closes(&mut closing, 30, Some(20), 19));
-    assert!(rt; closes(&mut closing, 10, None, 19));
-    assert!(rt; closes(&mut closing, 30, Some(40), 30));
-    assert!(rt; closes(&mut closing, 35, Some(1), 30));
-    assert!(rt; closes(&mut closing, 35, Some(0), 30));
-    assert!(rt; closes(&mut closing, 35, None, 35));
-    assert!(rt; closing.close_hard(50) == 50);
-    assert!(rt; closing.close_hard(40) == 50);
-    assert!(rt; closing.closed() == 50);
+fn protect(
+    alloc: Global,
+    closing: &mut Closing,
+    words: &mut Words<'_>,
+    out: &mut Vec<u8>,
+) -> Option<()> {
+    if closing.made() == u64::MAX {
+        return None;
+    }
+    let id = closing.protect(words.number()).ok()?;
+    put_number(alloc, out, id)
 }
 
-/// Whether a protection gets this number, and this is then the least that is protected.
-fn protects(closing: &mut Closing, t: u64, id: u64, least: u64) -> Result<bool, Fail> {
-    Ok(protect(closing, t)? == id && closing.least_protection() == Some(least))
+fn release(closing: &mut Closing, words: &mut Words<'_>, out: &mut Vec<u8>) -> Option<()> {
+    let stood = closing.release(words.number());
+    let word = if stood { b"yes".as_slice() } else { b"no" };
+    out.extend_from_slice(word).ok()
 }
 
-/// Whether a protection stood, and this is the least that is protected once it is released.
-fn releases(closing: &mut Closing, id: u64, stood: bool, least: Option<u64>) -> bool {
-    closing.release(id) == stood && closing.least_protection() == least
-}
-
-#[test]
-fn protections_stand(rt: HostRuntime) -> Result<(), Fail> {
-    let mut closing = Closing::new(rt.alloc());
-    assert!(rt; closing.least_protection().is_none());
-    assert!(rt; protects(&mut closing, 25, 1, 25)?);
-    assert!(rt; protects(&mut closing, 12, 2, 12)?);
-    assert!(rt; protects(&mut closing, 12, 3, 12)?);
-    assert!(rt; protects(&mut closing, 70, 4, 12)?);
-    assert!(rt; releases(&mut closing, 2, true, Some(12)));
-    assert!(rt; releases(&mut closing, 2, false, Some(12)));
-    assert!(rt; releases(&mut closing, 0, false, Some(12)));
-    assert!(rt; releases(&mut closing, 9, false, Some(12)));
-    assert!(rt; releases(&mut closing, 3, true, Some(25)));
-    assert!(rt; releases(&mut closing, 1, true, Some(70)));
-    assert!(rt; releases(&mut closing, 4, true, None));
-    assert!(rt; closing.made() == 4);
-    assert!(rt; protect(&mut closing, 5)? == 5);
-    Ok(())
+fn least(alloc: Global, closing: &Closing, out: &mut Vec<u8>) -> Option<()> {
+    match closing.least_protection() {
+        None => out.extend_from_slice(b"none").ok(),
+        Some(least) => put_number(alloc, out, least),
+    }
 }

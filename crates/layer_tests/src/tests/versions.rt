@@ -1,160 +1,274 @@
-//! Versions of keys: what a write, a commit and an abort leave, and what a search finds.
-use super::words::ts_of;
-use spans::span::Span;
+//! Versions of keys: what a write, a commit, an abort and a collection leave, and what a search finds.
+use super::script::{Asked, Words, put_number};
 use std::alloc::Global;
-use std::test::Fail;
-use timestamps::key::Key;
+use std::slice;
 use timestamps::value::Value;
-use version_chain::{Steps, Store};
+use version_chain::Store;
 
-/// A list of one key.
-fn one(alloc: Global, key: &[u8]) -> Result<Vec<Key>, Fail> {
-    let mut keys = Vec::new(alloc);
-    keys.push(Key::new(alloc, key)?)?;
-    Ok(keys)
-}
+/// Scripts, each of a store. A `write` is of a delete. `newest` has the newest version of a key up to a timestamp,
+/// `least` the least timestamp of a version above, `in` the last bytes of a span's keys, and `follows` the committed
+/// versions after a place, up to a timestamp. A `drop` says how many versions it dropped as dead.
+pub(super) const SCRIPTS: [&str; 9] = [
+    // a key has a version at each write
+    "write 20 apple=
+write 10 apple=
+write 30 apple=
+versions=3
+newest 9 apple=none
+newest 10 apple=10
+newest 29 apple=20
+newest 99 apple=30
+newest 99 pear=none
+least 0 apple=10
+least 10 apple=20
+least 29 apple=30
+least 30 apple=none
+least 0 pear=none
+",
+    // a commit marks, and an abort drops
+    "write 10 apple=
+write 10 pear=
+write 20 apple=
+commit 10 apple=
+newest 15 apple=10 committed
+newest 15 pear=10
+newest 25 apple=20
+abort 20 apple=
+abort 10 pear=
+abort 30 plum=
+newest 25 apple=10 committed
+newest 25 pear=none
+versions=1
+",
+    // a later write of a transaction takes the place of an earlier
+    "write 10 apple=
+put 10 apple 7=
+newest 10 apple=10 is 7
+least 10 apple=none
+versions=1
+",
+    // what is dead goes: 10 and 20 lie below 40; 30 is undecided, 60 above the horizon, and the delete is dead.
+    // A late commit is dead at once
+    "put 10 apple 7=
+put 20 apple 7=
+put 30 apple 7=
+put 40 apple 7=
+put 60 apple 7=
+write 30 pear=
+commit 10 apple=
+commit 20 apple=
+commit 40 apple=
+commit 60 apple=
+commit 30 pear=
+drop 5=0
+drop 15=0
+drop 50=3
+versions=3
+newest 29 apple=none
+newest 39 apple=30 is 7
+newest 50 apple=40 is 7 committed
+newest 99 apple=60 is 7 committed
+newest 99 pear=none
+drop 50=0
+drop 10=0
+commit 30 apple=
+drop 50=1
+drop 60=1
+versions=1
+",
+    // what goes at the front leaves the rest: two places are left over, then three, which are half of all and go, and
+    // then two of three
+    "put 10 apple 7=
+put 20 apple 7=
+put 30 apple 7=
+put 40 apple 7=
+put 50 apple 7=
+put 60 apple 7=
+commit 10 apple=
+commit 20 apple=
+commit 30 apple=
+commit 40 apple=
+commit 50 apple=
+commit 60 apple=
+drop 10=0
+least 0 apple=10
+drop 30=2
+least 0 apple=30
+drop 30=0
+drop 40=1
+least 0 apple=40
+drop 60=2
+least 0 apple=60
+versions=1
+newest 99 apple=60 is 7 committed
+",
+    // a first version takes a place that is left over: of two, so that the third version moves the others
+    "put 10 apple 7=
+put 20 apple 7=
+put 30 apple 7=
+put 40 apple 7=
+put 50 apple 7=
+put 60 apple 7=
+commit 10 apple=
+commit 20 apple=
+commit 30 apple=
+commit 40 apple=
+commit 50 apple=
+commit 60 apple=
+drop 30=2
+write 17 apple=
+least 0 apple=17
+newest 29 apple=17
+write 16 apple=
+least 0 apple=16
+newest 29 apple=17
+write 15 apple=
+least 0 apple=15
+newest 29 apple=17
+abort 15 apple=
+least 0 apple=16
+newest 99 apple=60 is 7 committed
+versions=6
+",
+    // the keys of a span, from its start to its end
+    "write 10 c=
+write 10 a=
+write 10 e=
+write 10 b=
+write 10 d=
+write 20 ab=
+in - -=abbcde
+in b d=bc
+in aa b=b
+in d -=de
+in d d=
+in d b=
+in f -=
+write 10 kkkkkkkkl=
+write 10 kkkkkkkk=
+write 10 m=
+in kkkkkkkk -=klm
+in kkkkkkkkk -=lm
+in f kkkkkkkkk=k
+in f kkkkkkkk=
+in m -=m
+in n -=
+",
+    // what is committed follows by timestamp and then by key; the greater key is committed first
+    "write 10 a=
+write 10 b=
+write 10 c=
+write 20 a=
+write 20 c=
+write 30 b=
+write 30 d=
+abort 10 c=
+commit 30 d=
+follows 0 - 99= 30 d
+commit 10 b=
+commit 10 a=
+follows 9 b 30= 10 a 10 b 30 d
+follows 10 b 99= 30 d
+follows 10 - 29=
+follows 0 - 10= 10 a 10 b
+follows 10 b 9=
+",
+    // the greatest timestamp follows; the key of a place needs no version
+    "follows 0 - 18446744073709551615=
+write 9223372036854775807 b=
+commit 9223372036854775807 b=
+follows 9223372036854775807 a 18446744073709551615= 9223372036854775807 b
+follows 9223372036854775807 - 18446744073709551615=
+follows 18446744073709551615 a 18446744073709551615=
+",
+];
 
-/// Writes a version of a key, a delete.
-pub(super) fn write(alloc: Global, store: &mut Store, ts: u64, key: &[u8]) -> Result<(), Fail> {
-    store.write(&Key::new(alloc, key)?, ts_of(ts)?, None)?;
-    Ok(())
-}
-
-/// Commits a version of a key.
-pub(super) fn commit(alloc: Global, store: &mut Store, ts: u64, key: &[u8]) -> Result<(), Fail> {
-    store.commit(ts_of(ts)?, one(alloc, key)?.as_slice());
-    Ok(())
-}
-
-/// Aborts a version of a key.
-pub(super) fn abort(alloc: Global, store: &mut Store, ts: u64, key: &[u8]) -> Result<(), Fail> {
-    store.abort(ts_of(ts)?, one(alloc, key)?.as_slice());
-    Ok(())
-}
-
-/// The timestamp of the newest version of the key at or below `t`, 0 where there is none, and 1000
-/// more where it is committed.
-pub(super) fn newest(store: &Store, key: &Key, t: u64) -> u64 {
-    match store.newest_at(key, t) {
-        None => 0,
-        Some(version) => {
-            let ts = version.ts.get();
-            if version.decided {
-                ts.saturating_add(1000)
-            } else {
-                ts
-            }
+impl Asked for Store {
+    fn ask(&mut self, alloc: Global, mut words: Words<'_>, out: &mut Vec<u8>) -> Option<()> {
+        match words.word().first() {
+            Some(b'v') => put_number(alloc, out, self.versions()),
+            Some(b'd') => put_number(alloc, out, self.drop_dead(words.number()).ok()?),
+            Some(b'n') => newest(alloc, self, &mut words, out),
+            Some(b'l') => least(alloc, self, &mut words, out),
+            Some(b'i') => keys_in(alloc, self, &mut words, out),
+            Some(b'f') => follows(alloc, self, &mut words, out),
+            Some(letter) => change(alloc, self, *letter, &mut words),
+            None => None,
         }
     }
 }
 
-#[test]
-fn a_key_has_a_version_at_each_write(rt: HostRuntime) -> Result<(), Fail> {
-    let alloc = rt.alloc();
-    let apple = Key::new(alloc, b"apple")?;
-    let pear = Key::new(alloc, b"pear")?;
-    let mut store = Store::new(alloc);
-    for number in [20, 10, 30] {
-        write(alloc, &mut store, number, b"apple")?;
+/// Writes, commits or aborts a version of a key.
+fn change(alloc: Global, store: &mut Store, letter: u8, words: &mut Words<'_>) -> Option<()> {
+    let ts = words.ts()?;
+    let key = words.key(alloc)?;
+    match letter {
+        b'w' => store.write(&key, ts, None).ok()?,
+        b'p' => {
+            let value = Value::new(alloc, words.word()).ok()?;
+            store.write(&key, ts, Some(&value)).ok()?;
+        }
+        b'c' => store.commit(ts, slice::from_ref(&key)),
+        b'a' => store.abort(ts, slice::from_ref(&key)),
+        _ => return None,
     }
-    assert!(rt; store.versions() == 3);
-    for (t, found) in [(9, 0), (10, 10), (29, 20), (99, 30)] {
-        assert!(rt; newest(&store, &apple, t) == found, "at {t}");
-    }
-    assert!(rt; newest(&store, &pear, 99) == 0);
-    assert!(rt; store.next_above(&apple, 0) == Some(10));
-    assert!(rt; store.next_above(&apple, 10) == Some(20));
-    assert!(rt; store.next_above(&apple, 29) == Some(30));
-    assert!(rt; store.next_above(&apple, 30).is_none());
-    assert!(rt; store.next_above(&pear, 0).is_none());
-    Ok(())
+    Some(())
 }
 
-#[test]
-fn a_commit_marks_and_an_abort_drops(rt: HostRuntime) -> Result<(), Fail> {
-    let alloc = rt.alloc();
-    let apple = Key::new(alloc, b"apple")?;
-    let pear = Key::new(alloc, b"pear")?;
-    let mut store = Store::new(alloc);
-    write(alloc, &mut store, 10, b"apple")?;
-    write(alloc, &mut store, 10, b"pear")?;
-    write(alloc, &mut store, 20, b"apple")?;
-    commit(alloc, &mut store, 10, b"apple")?;
-    assert!(rt; newest(&store, &apple, 15) == 1010);
-    assert!(rt; newest(&store, &pear, 15) == 10);
-    assert!(rt; newest(&store, &apple, 25) == 20);
-    abort(alloc, &mut store, 20, b"apple")?;
-    abort(alloc, &mut store, 10, b"pear")?;
-    abort(alloc, &mut store, 30, b"plum")?;
-    assert!(rt; newest(&store, &apple, 25) == 1010);
-    assert!(rt; newest(&store, &pear, 25) == 0);
-    assert!(rt; store.versions() == 1);
-    Ok(())
+fn newest(alloc: Global, store: &Store, words: &mut Words<'_>, out: &mut Vec<u8>) -> Option<()> {
+    let t = words.number();
+    let key = words.key(alloc)?;
+    let Some(version) = store.newest_at(&key, t) else {
+        return out.extend_from_slice(b"none").ok();
+    };
+    put_number(alloc, out, version.ts.get())?;
+    if let Some(value) = &version.after {
+        out.extend_from_slice(b" is ").ok()?;
+        out.extend_from_slice(value.bytes()).ok()?;
+    }
+    if version.committed {
+        out.extend_from_slice(b" committed").ok()?;
+    }
+    Some(())
 }
 
-#[test]
-fn a_later_write_of_a_transaction_takes_the_place_of_an_earlier(
-    rt: HostRuntime,
-) -> Result<(), Fail> {
-    let alloc = rt.alloc();
-    let apple = Key::new(alloc, b"apple")?;
-    let value = Value::new(alloc, b"7")?;
-    let mut store = Store::new(alloc);
-    write(alloc, &mut store, 10, b"apple")?;
-    store.write(&apple, ts_of(10)?, Some(&value))?;
-    match store.newest_at(&apple, 10) {
-        Some(version) => assert!(rt; version.after == Some(value.copy()?)),
-        None => return Err(Fail::new("no version")),
+fn least(alloc: Global, store: &Store, words: &mut Words<'_>, out: &mut Vec<u8>) -> Option<()> {
+    let t = words.number();
+    let key = words.key(alloc)?;
+    match store.next_above(&key, t) {
+        None => out.extend_from_slice(b"none").ok(),
+        Some(ts) => put_number(alloc, out, ts),
     }
-    assert!(rt; store.next_above(&apple, 10).is_none());
-    assert!(rt; store.versions() == 1);
-    Ok(())
 }
 
-// Run with a refused growth too: then the first branch is not taken.
-#[test]
-fn a_refused_write_leaves_what_was(rt: HostRuntime) -> Result<(), Fail> {
-    let alloc = rt.alloc();
-    let apple = Key::new(alloc, b"apple")?;
-    let pear = Key::new(alloc, b"pear")?;
-    let value = Value::new(alloc, b"7")?;
-    let mut store = Store::new(alloc);
-    for number in [10, 20, 30, 40, 50] {
-        let before = newest(&store, &apple, 99);
-        match store.write(&apple, ts_of(number)?, Some(&value)) {
-            Ok(()) => assert!(rt; newest(&store, &apple, 99) == number),
-            Err(_) => assert!(rt; newest(&store, &apple, 99) == before),
-        }
-        match store.write(&pear, ts_of(number)?, None) {
-            Ok(()) => assert!(rt; newest(&store, &pear, number) == number),
-            Err(_) => assert!(rt; newest(&store, &pear, number) < number),
-        }
+fn keys_in(alloc: Global, store: &Store, words: &mut Words<'_>, out: &mut Vec<u8>) -> Option<()> {
+    let span = words.span(alloc)?;
+    for (key, _) in store.in_span(&span) {
+        out.push(*key.bytes().last()?).ok()?;
     }
-    Ok(())
+    Some(())
 }
 
-#[test]
-fn a_chain_is_searched_by_halves(rt: HostRuntime) -> Result<(), Fail> {
-    let alloc = rt.alloc();
-    let whole = Span { lo: None, hi: None };
-    let mut store = Store::new(alloc);
-    write(alloc, &mut store, 500, b"apple")?;
-    for number in 1..100 {
-        write(alloc, &mut store, number * 10, b"apple")?;
+/// What is committed after a place, whose key `-` is none: of each version its timestamp and its key.
+fn follows(alloc: Global, store: &Store, words: &mut Words<'_>, out: &mut Vec<u8>) -> Option<()> {
+    let mut ts = words.number();
+    let first = words.key(alloc)?;
+    let through = words.number();
+    let mut key = if first.bytes() == b"-".as_slice() {
+        None
+    } else {
+        Some(&first)
+    };
+    for _ in 0..9 {
+        let Some((found, version)) = store.committed_after(ts, key, through) else {
+            return Some(());
+        };
+        ts = version.ts.get();
+        key = Some(found);
+        out.push(b' ').ok()?;
+        put_number(alloc, out, ts)?;
+        out.push(b' ').ok()?;
+        out.extend_from_slice(found.bytes()).ok()?;
     }
-    let (_, chain) = store.in_span(&whole).next().ok_or("no chain")?;
-    let mut steps = Steps::new();
-    for number in 1..990 {
-        let want = number - number % 10;
-        match chain.newest_at(number, &mut steps) {
-            None => assert!(rt; number < 10),
-            Some(version) => assert!(rt; version.ts.get() == want),
-        }
-        match chain.next_above(number, &mut steps) {
-            None => return Err(Fail::new("no version above")),
-            Some(version) => assert!(rt; version.ts.get() == want + 10),
-        }
-    }
-    assert!(rt; chain.next_above(990, &mut steps).is_none());
-    Ok(())
+    None
 }

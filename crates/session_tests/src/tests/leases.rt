@@ -8,6 +8,7 @@ use script::scripts::read_script;
 use shared_db::{Config, Db};
 use std::alloc::{AllocError, Global};
 use std::test::Fail;
+use text_format::Format;
 use timestamps::lease::Lease;
 use timestamps::oracle::OraclePass;
 use trace_check::Verdict;
@@ -27,43 +28,73 @@ fn next_timestamp(db: &Db, pass: &mut OraclePass, lease: &mut Lease) -> Option<u
     lease.next().map(|ts| ts.get())
 }
 
-/// A line of a session's script: all kinds of commands in turn.
-fn line(alloc: Global, session: u64, turn: u64, ts: u64) -> Result<String, AllocError> {
-    let number = turn / 25 + 1;
-    let (half, quarter) = (ts / 2, ts / 4);
-    match turn % 25 {
-        0 | 8 | 15 => format!(in alloc; "{session} begin {ts}\n"),
-        1 | 16 => format!(in alloc; "{session} get {ts} a\n"),
-        2 => format!(in alloc; "{session} put {ts} a {number}\n"),
-        3 => format!(in alloc; "{session} scan {ts} a c\n"),
-        4 => format!(in alloc; "{session} del {ts} b\n"),
-        5 | 18 => format!(in alloc; "{session} commit {ts}\n"),
-        6 => format!(in alloc; "{session} close {half}\n"),
-        7 => format!(in alloc; "{session} stats\n"),
-        9 => format!(in alloc; "{session} put {ts} b {number}\n"),
-        10 => format!(in alloc; "{session} abort {ts}\n"),
-        11 => format!(in alloc; "{session} readat {quarter} a\n"),
-        12 => format!(in alloc; "{session} scanat {quarter} - -\n"),
-        13 => format!(in alloc; "{session} protect {quarter}\n"),
-        14 => format!(in alloc; "{session} closehard {quarter}\n"),
-        17 => format!(in alloc; "{session} put {ts} c -\n"),
-        19 => format!(in alloc; "{session} release {number}\n"),
-        20 => format!(in alloc; "{session} collect {quarter}\n"),
-        21 => opening(alloc, session, number, half),
-        22 => format!(in alloc; "{session} poll {number} 3\n"),
-        23 => format!(in alloc; "{session} poll 1 5\n"),
-        _ => format!(in alloc; "{session} cancel {number}\n"),
+/// The forms of a session's lines, in turn: the session stands at A, its timestamp at B, the number of the turn at C, half of
+/// the timestamp at D and a quarter at E.
+const FORMS: &str = "A begin B
+A get B a
+A put B a C
+A scan B a c
+A del B b
+A commit B
+A close D
+A stats
+A begin B
+A put B b C
+A abort B
+A readat E a
+A scanat E - -
+A protect E
+A closehard E
+A begin B
+A get B a
+A put B c -
+A commit B
+A release C
+A collect E
+opening
+A poll C 3
+A poll 1 5
+A cancel C";
+
+/// The forms of the first openings, and a poll for the others.
+const OPENINGS: &str = "A poll 2 9
+A open - - D
+A openinitial a - D
+A openevery - b D 7";
+
+/// The form of a turn.
+fn form_of(turn: u64) -> &'static str {
+    if turn % 25 == 21 {
+        let number = turn / 25 + 1;
+        return OPENINGS
+            .lines()
+            .nth((number % 8) as usize)
+            .unwrap_or("A poll 2 9");
     }
+    FORMS.lines().nth((turn % 25) as usize).unwrap_or("A stats")
 }
 
-/// A line that opens a feed of some kind, or that polls one.
-fn opening(alloc: Global, session: u64, number: u64, cursor: u64) -> Result<String, AllocError> {
-    match number % 8 {
-        1 => format!(in alloc; "{session} open - - {cursor}\n"),
-        2 => format!(in alloc; "{session} openinitial a - {cursor}\n"),
-        3 => format!(in alloc; "{session} openevery - b {cursor} 7\n"),
-        _ => format!(in alloc; "{session} poll 2 9\n"),
+/// Puts a form with its capital letters replaced, and ends the line.
+fn put_form(
+    alloc: Global,
+    out: &mut Vec<u8>,
+    form: &str,
+    numbers: &[u64],
+) -> Result<(), AllocError> {
+    for byte in form.as_bytes() {
+        match *byte {
+            letter @ b'A'..=b'E' => {
+                let number = numbers
+                    .get(usize::from(letter.saturating_sub(b'A')))
+                    .copied()
+                    .unwrap_or(0);
+                out.extend_from_slice(format!(in alloc; "{number}")?.as_bytes())?;
+            }
+            other => out.push(other)?,
+        }
     }
+    out.push(b'\n')?;
+    Ok(())
 }
 
 /// The script of one session, written behind what is there.
@@ -82,7 +113,8 @@ fn put_session(
         if turn % 25 == 0 || turn % 25 == 8 || turn % 25 == 15 {
             ts = next_timestamp(db, &mut pass, &mut lease).ok_or("no timestamp is left")?;
         }
-        script.extend_from_slice(line(alloc, session, turn, ts)?.as_bytes())?;
+        let numbers = [session, ts, turn / 25 + 1, ts / 2, ts / 4];
+        put_form(alloc, script, form_of(turn), &numbers)?;
     }
     Ok(())
 }
@@ -109,13 +141,12 @@ fn eight_sessions_with_leases(rt: HostRuntime) -> Result<(), Fail> {
     };
     let (db, seats, passes) = Db::open(rt.alloc(), config)?;
     let script = script_of(rt.alloc(), &db, passes)?;
-    let calls = read_script(rt.alloc(), script.as_slice(), 8)?;
-    assert_eq!(rt; calls.len(), 8000);
+    let calls = read_script(rt.alloc(), script.as_slice(), 8, Format::One)?;
+    assert!(rt; calls.len() == 8000);
     let lists = lists_of(rt.alloc(), 8, calls)?;
     let ended = race(&rt, rt.alloc(), &db, seats, lists, &Open)?;
     let (settled, verdict) = settle_checked(rt.alloc(), db, ended)?;
-    assert_eq!(rt; verdict, Verdict::Yes);
-    assert_eq!(rt; settled.events.len(), 8000);
-    assert_eq!(rt; settled.engine.steps(), 8000);
+    assert!(rt; verdict == Verdict::Yes);
+    assert!(rt; settled.events.len() == 8000 && settled.engine.steps() == 8000);
     Ok(())
 }

@@ -1,15 +1,17 @@
 //! Sessions that race, held by gates so that their calls come in a wanted order.
-use races::{FreshError, Gate, Open, RaceError, race_calls, race_fresh};
+use races::{Gate, Open, race_calls, race_fresh};
 use script::scripts::read_script;
 use sessions::Config;
-use spans::calls::{Cmd, Event, Refusal, Reply};
-use std::alloc::Global;
+use spans::calls::{Cmd, Event};
+use std::alloc::{AllocError, Global};
 use std::sync::Wait;
 use std::sync::atomic::Ordering::SeqCst;
 use std::sync::atomic::{AtomicBool, AtomicU64};
 use std::test::Fail;
 use std::thread::{Threads, yield_now};
+use text_format::Format;
 use trace_check::{Verdict, check};
+use word_lines::events::write_event;
 
 /// How often a held session looks whether it may go on, giving way between two looks.
 const PATIENCE: u64 = 1_000_000;
@@ -69,109 +71,95 @@ impl Gate for Holds<'_> {
     }
 }
 
-/// The events of a script whose sessions race.
+/// The events of a script whose two sessions race.
 fn raced<R: Threads + Wait + Sync, G: Gate + Sync>(
     rt: &R,
     alloc: Global,
-    sessions: u8,
     script: &[u8],
     gate: &G,
-) -> Result<Vec<Event>, Fail> {
-    let calls = read_script(alloc, script, sessions)?;
-    Ok(race_calls(rt, alloc, sessions, 1024, calls, gate)?)
+) -> Option<Vec<Event>> {
+    let Ok(calls) = read_script(alloc, script, 2, Format::One) else {
+        return None;
+    };
+    race_calls(rt, alloc, 2, 1024, calls, gate).ok()
 }
 
-/// Whether the checker finds the events right.
-fn is_right(alloc: Global, events: &[Event]) -> Result<bool, Fail> {
-    Ok(check(alloc, events)? == Verdict::Yes)
-}
-
-#[test]
-fn sessions_run_at_the_same_time(rt: HostRuntime) -> Result<(), Fail> {
-    let gate = Holds::new(&[((0, 1), (1, 1)), ((1, 0), (0, 1))]);
-    let script = b"0 stats\n0 stats\n1 stats\n1 stats\n";
-    let events = raced(&rt, rt.alloc(), 2, script, &gate)?;
-    assert!(rt; !gate.late.load(SeqCst), "a session waited in vain");
-    assert_eq!(rt; events.len(), 4);
-    assert_eq!(rt; (events[0].seat, events[1].seat), (0, 1));
-    Ok(())
-}
-
-#[test]
-fn a_transcript_of_a_race_is_right(rt: HostRuntime) -> Result<(), Fail> {
-    let script = b"0 begin 10\n0 put 10 a 1\n0 commit 10\n1 begin 20\n1 scan 20 - -\n1 commit 20\n";
-    let events = raced(&rt, rt.alloc(), 2, script, &Open)?;
-    assert_eq!(rt; events.len(), 6);
-    assert!(rt; is_right(rt.alloc(), events.as_slice())?);
-    Ok(())
-}
-
-#[test]
-fn a_feed_is_cancelled_between_polls(rt: HostRuntime) -> Result<(), Fail> {
-    let mut script = Vec::from_slice(rt.alloc(), b"1 cancel 1\n0 open - - 0\n")?;
-    for _ in 0..100 {
-        script.extend_from_slice(b"0 poll 1 1\n")?;
+/// Whether the race of a script, whose sessions are held so, is right, begins so, and nobody waits in vain.
+fn begins<R: Threads + Wait + Sync>(
+    rt: &R,
+    alloc: Global,
+    script: &[u8],
+    holds: &[(Place, Place)],
+    wanted: &[u8],
+) -> Option<bool> {
+    let gate = Holds::new(holds);
+    let events = raced(rt, alloc, script, &gate)?;
+    let mut out = Vec::new(alloc);
+    for event in &events {
+        write_event(&mut out, event).ok()?;
     }
-    let gate = Holds::new(&[((1, 0), (0, 51)), ((0, 51), (1, 1))]);
-    let events = raced(&rt, rt.alloc(), 2, script.as_slice(), &gate)?;
-    assert!(rt; !gate.late.load(SeqCst), "a session waited in vain");
-    assert_eq!(rt; events.len(), 102);
-    for (position, event) in events.iter().enumerate() {
-        let right = match position {
-            0 => matches!(event.reply, Reply::Opened { feed: 1 }),
-            1..=50 =>
-                matches!(&event.reply, Reply::Messages(messages) if messages.as_slice().is_empty()),
-            51 => matches!(event.reply, Reply::Cancelled),
-            _ => matches!(event.reply, Reply::Refused(Refusal::FeedCancelled)),
-        };
-        assert!(rt; right, "position {position}");
-    }
-    Ok(())
+    let is_right = check(alloc, &events).ok()? == Verdict::Yes;
+    Some(is_right && out.starts_with(wanted) && !gate.late.load(SeqCst))
 }
 
-#[test]
-fn a_hard_closing_comes_between_calls(rt: HostRuntime) -> Result<(), Fail> {
-    let script = b"0 begin 10\n0 put 10 a 1\n0 commit 10\n1 closehard 20\n";
-    let gate = Holds::new(&[((1, 0), (0, 2)), ((0, 2), (1, 1))]);
-    let events = raced(&rt, rt.alloc(), 2, script, &gate)?;
-    assert!(rt; !gate.late.load(SeqCst), "a session waited in vain");
-    assert_eq!(rt; events.len(), 4);
-    assert!(rt; matches!(events[0].reply, Reply::Started));
-    assert!(rt; matches!(events[1].reply, Reply::Written));
-    assert!(rt; matches!(events[2].reply, Reply::Closed { at: 20, aborted: 1 }));
-    assert!(rt; matches!(events[3].reply, Reply::Refused(Refusal::Ended)));
-    Ok(())
-}
+/// Two sessions, of which each waits for the other's first call.
+const BOTH: &[u8] = b"0 stats\n0 stats\n1 stats\n1 stats\n";
+
+const BOTH_BEGIN: &[u8] = b"0 0 stats => stats 0 0 0 0 0\n1 1 stats => stats 0 0 0 0 0\n";
+
+/// A feed that is cancelled between its polls.
+const CANCELLED: &[u8] =
+    b"1 cancel 1\n0 open - - 0\n0 poll 1 1\n0 poll 1 1\n0 poll 1 1\n0 poll 1 1\n";
+
+const CANCELLED_ALL: &[u8] = b"0 0 open - - 0 => opened 1
+1 0 poll 1 1 => messages 0
+2 0 poll 1 1 => messages 0
+3 1 cancel 1 => cancelled
+4 0 poll 1 1 => feedcancelled
+5 0 poll 1 1 => feedcancelled
+";
+
+/// A hard closing that comes between a transaction's calls.
+const CLOSED: &[u8] = b"0 begin 10\n0 put 10 a 1\n0 commit 10\n1 closehard 20\n";
+
+const CLOSED_ALL: &[u8] = b"0 0 begin 10 => started
+1 0 put 10 a 1 => written
+2 1 closehard 20 => closed 20 1
+3 0 commit 10 => ended
+";
 
 #[test]
-fn positions_are_used_up_in_a_race(rt: HostRuntime) -> Result<(), Fail> {
-    let mut lists = Vec::new(rt.alloc());
+fn calls_of_sessions_come_in_a_wanted_order(rt: HostRuntime) {
+    let alloc = rt.alloc();
+    let holds = [((0, 1), (1, 1)), ((1, 0), (0, 1))];
+    assert!(rt; begins(&rt, alloc, BOTH, &holds, BOTH_BEGIN) == Some(true));
+    let holds = [((1, 0), (0, 3)), ((0, 3), (1, 1))];
+    assert!(rt; begins(&rt, alloc, CANCELLED, &holds, CANCELLED_ALL) == Some(true));
+    let holds = [((1, 0), (0, 2)), ((0, 2), (1, 1))];
+    assert!(rt; begins(&rt, alloc, CLOSED, &holds, CLOSED_ALL) == Some(true));
+}
+
+/// Four lists of twenty calls.
+fn lists(alloc: Global) -> Result<Vec<Vec<Cmd>>, AllocError> {
+    let mut lists = Vec::new(alloc);
     for _ in 0..4 {
-        let mut list = Vec::new(rt.alloc());
+        let mut list = Vec::new(alloc);
         for _ in 0..20 {
             list.push(Cmd::Stats)?;
         }
         lists.push(list)?;
     }
+    Ok(lists)
+}
+
+#[test]
+fn positions_are_used_up_in_a_race(rt: HostRuntime) -> Result<(), Fail> {
     let config = Config {
         seats: 4,
         ring: 16,
         first: 18446744073709551605,
     };
-    let settled = race_fresh(&rt, rt.alloc(), config, lists, &Open)?;
-    assert_eq!(rt; settled.events.len(), 10);
-    assert_eq!(rt; settled.engine.steps(), 10);
+    let settled = race_fresh(&rt, rt.alloc(), config, lists(rt.alloc())?, &Open)?;
+    assert!(rt; settled.events.len() == 10 && settled.engine.steps() == 10);
     Ok(())
-}
-
-#[test]
-fn there_is_a_list_for_each_seat(rt: HostRuntime) {
-    let config = Config {
-        seats: 2,
-        ring: 16,
-        first: 0,
-    };
-    let lists = Vec::new(rt.alloc());
-    let refused = race_fresh(&rt, rt.alloc(), config, lists, &Open).err();
-    assert_eq!(rt; refused, Some(FreshError::Race(RaceError::Counts)));
 }

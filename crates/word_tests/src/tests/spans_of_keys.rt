@@ -1,88 +1,22 @@
-//! Bounds, spans, the keys that they hold, and lists of messages and rows.
+//! Spans, and the keys that they hold.
 ghost use Rattle.std.specs.Prelude.{IfOk};
 ghost use Rattle.std.specs.List.Sorted.{IsStrictlySortedBy};
 ghost use Rattle.timestamps.specs.Bytes.{key_cmp};
 
-use super::words::sevens;
 use spans::bound::Bound;
-use spans::calls::{Message, Messages, Rows};
 use spans::law::law_of_histories;
 use spans::span::Span;
 use std::alloc::Global;
 use std::cmp::Ordering;
 use std::test::Fail;
 use timestamps::key::Key;
-use timestamps::ts::Ts;
 
-/// Whether so many bytes are a bound.
-fn is_bound(alloc: Global, length: usize) -> Result<bool, Fail> {
-    let bytes = sevens(alloc, length)?;
-    Ok(Bound::new(alloc, &bytes).is_ok())
-}
-
-#[test]
-fn limits(rt: HostRuntime) -> Result<(), Fail> {
-    let alloc = rt.alloc();
-    assert!(rt; !is_bound(alloc, 0)?);
-    assert!(rt; is_bound(alloc, 1)?);
-    assert!(rt; is_bound(alloc, 65)?);
-    assert!(rt; !is_bound(alloc, 66)?);
-    Ok(())
-}
-
-/// The span between two bounds; no bytes make no bound.
+/// The span between two bounds; no letter makes no bound.
 fn span_of(alloc: Global, lo: &str, hi: &str) -> Span {
     Span {
         lo: Bound::new(alloc, lo.as_bytes()).ok(),
         hi: Bound::new(alloc, hi.as_bytes()).ok(),
     }
-}
-
-/// Whether a span holds a key, and its copy too.
-fn holds(alloc: Global, lo: &str, hi: &str, key: &str) -> Result<bool, Fail> {
-    let span = span_of(alloc, lo, hi);
-    let key = Key::new(alloc, key.as_bytes())?;
-    let held = span.contains(&key);
-    if span.copy()?.contains(&key) != held {
-        return Err(Fail::new("a copy holds other keys"));
-    }
-    Ok(held)
-}
-
-/// Two bounds, a key, and whether the span between them holds it.
-static HELD: [(&str, &str, &str, bool); 9] = [
-    ("", "", "a", true),
-    ("b", "", "a", false),
-    ("b", "", "b", true),
-    ("", "b", "a", true),
-    ("", "b", "b", false),
-    ("", "b", "ba", false),
-    ("a", "c", "b", true),
-    ("c", "a", "b", false),
-    ("b", "b", "b", false),
-];
-
-#[test]
-fn spans_hold_keys(rt: HostRuntime) -> Result<(), Fail> {
-    for (lo, hi, key, held) in &HELD {
-        assert!(rt;
-            holds(rt.alloc(), lo, hi, key)? == *held,
-            "{key} from {lo} to {hi}"
-        );
-    }
-    Ok(())
-}
-
-#[test]
-fn lists(rt: HostRuntime) -> Result<(), Fail> {
-    let mut list = Vec::new(rt.alloc());
-    list.push(Message::Resolved(Ts::new(10).ok_or("in range")?))?;
-    let messages = Messages::from_vec(list);
-    assert!(rt; messages.as_slice().len() == 1);
-    let rows = Rows::from_vec(Vec::new(rt.alloc()));
-    assert!(rt; rows.as_slice().is_empty());
-    law_of_histories();
-    Ok(())
 }
 
 /// Two keys that rise.
@@ -106,50 +40,71 @@ fn pieces_of(alloc: Global, span: &Span) -> Result<Vec<Span>, Fail> {
     Ok(span.without(alloc, &keys)?)
 }
 
-/// Whether one of the spans holds the key.
-fn any_holds(spans: &[Span], key: &Key) -> bool {
+/// How many of the spans hold the key.
+fn count_of(spans: &[Span], key: &Key) -> usize {
+    let mut count = 0usize;
     for span in spans {
         if span.contains(key) {
-            return true;
+            count = count.saturating_add(1);
         }
     }
-    false
+    count
 }
 
-/// Keys, and whether they were taken out.
-static KEYS: [(&str, bool); 7] = [
-    ("a", false),
-    ("b", true),
-    ("b\0", false),
-    ("c", false),
-    ("d", true),
-    ("da", false),
-    ("y", false),
+/// Bounds of a span, how many pieces it has without the keys b and d, and the keys of `a b b%0 c d e` that these hold, in the
+/// places of the others a point.
+const HELD: &str = ",=3 a.xc.e
+b,d=2 ..xc..
+b,da=3 ..xc..
+ba,z=2 ...c.e
+e,b=1 ......
+x,=1 ......
+b,b=1 ......
+,b=1 a.....
+a,c=2 a.x...
+b,=3 ..xc.e";
+
+const KEYS: [(&[u8], u8); 6] = [
+    (b"a", b'a'),
+    (b"b", b'b'),
+    (b"b\0", b'x'),
+    (b"c", b'c'),
+    (b"d", b'd'),
+    (b"e", b'e'),
 ];
 
-/// How many pieces the span has, which hold its keys but for those that were taken out.
-fn count_of_pieces(alloc: Global, lo: &str, hi: &str) -> Result<usize, Fail> {
-    let span = span_of(alloc, lo, hi);
-    let pieces = pieces_of(alloc, &span)?;
-    for (key, taken) in &KEYS {
-        let key = Key::new(alloc, key.as_bytes())?;
-        if any_holds(&pieces, &key) != (span.contains(&key) && !*taken) {
-            return Err(Fail::new("the pieces hold other keys"));
-        }
+/// The letters of the keys that one of the pieces holds, and points for the others.
+fn letters_of(alloc: Global, pieces: &[Span]) -> Option<Vec<u8>> {
+    let mut held = Vec::new(alloc);
+    for (bytes, letter) in KEYS {
+        let key = Key::new(alloc, bytes).ok()?;
+        let has = count_of(pieces, &key) == 1;
+        held.push(if has { letter } else { b'.' }).ok()?;
     }
-    Ok(pieces.len())
+    Some(held)
+}
+
+/// Whether the pieces of a span hold what its row says.
+fn are_held(alloc: Global, row: &str, pieces: &[Span]) -> Option<bool> {
+    let (count, wanted) = row.split_once(' ')?;
+    let held = letters_of(alloc, pieces)?;
+    Some(held.as_slice() == wanted.as_bytes() && Some(pieces.len()) == count.parse::<usize>().ok())
 }
 
 #[test]
 fn spans_without_keys(rt: HostRuntime) -> Result<(), Fail> {
-    let alloc = rt.alloc();
-    assert!(rt; count_of_pieces(alloc, "", "")? == 3);
-    assert!(rt; count_of_pieces(alloc, "b", "d")? == 2);
-    assert!(rt; count_of_pieces(alloc, "b", "da")? == 3);
-    assert!(rt; count_of_pieces(alloc, "ba", "z")? == 2);
-    assert!(rt; count_of_pieces(alloc, "e", "b")? == 1);
-    assert!(rt; count_of_pieces(alloc, "x", "")? == 1);
-    let above = Bound::successor(alloc, &Key::new(alloc, b"ab")?)?;
+    for row in HELD.lines() {
+        let (bounds, wanted) = row.split_once('=').ok_or("a row")?;
+        let (lo, hi) = bounds.split_once(',').ok_or("two bounds")?;
+        let span = span_of(rt.alloc(), lo, hi).copy()?;
+        let pieces = pieces_of(rt.alloc(), &span)?;
+        assert!(rt;
+            are_held(rt.alloc(), wanted, &pieces) == Some(true),
+            "{row}"
+        );
+    }
+    let above = Bound::successor(rt.alloc(), &Key::new(rt.alloc(), b"ab")?)?;
     assert!(rt; above.bytes() == b"ab\0".as_slice());
+    law_of_histories();
     Ok(())
 }

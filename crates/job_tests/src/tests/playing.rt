@@ -1,0 +1,243 @@
+//! What a case asks for, done over readers and writers in memory.
+use super::devices::{Sink, Source};
+use super::unfolding::{Words, unfolded};
+use jobs::{
+    DEFAULTS, End, FollowOptions, RaceOptions, Start, check_io, follow_io, race_io, run_io, span_of,
+};
+use races::Open;
+use sessions::{Config, OpenError, Reading, Writing};
+use std::alloc::{AllocError, Global};
+use std::sync::Wait;
+use std::thread::Threads;
+use text_format::Format;
+
+/// How many bytes are read and written at once.
+const PIECES: [usize; 4] = [1, 7, 4096, usize::MAX];
+
+/// Whether a case ends as it says, and writes what it says.
+pub(super) fn is_right<R: Threads + Wait + Sync>(
+    rt: &R,
+    alloc: Global,
+    case: &str,
+) -> Option<bool> {
+    let (header, rest) = case.split_once('\n')?;
+    let (input, rest) = rest.split_once("= ")?;
+    let (end, output) = rest.split_once('\n')?;
+    let input = unfolded(alloc, input).ok()?;
+    let output = unfolded(alloc, output).ok()?;
+    for piece in PIECES {
+        // what waits of a line is looked through again after each read
+        if input.len() > 100_000 && piece < 4096 {
+            continue;
+        }
+        for stuck in [false, true] {
+            let source = Source::new(&input)
+                .failing_after(behind(header, " fails "))
+                .in_pieces_of(piece);
+            let mut sink = Sink::new(alloc)
+                .with_room(behind(header, " room "), stuck)
+                .in_pieces_of(piece);
+            let ended = done(rt, alloc, header, source, &mut sink)?;
+            if word_of(ended) != end || sink.taken.as_slice() != output.as_slice() {
+                return Some(false);
+            }
+        }
+    }
+    Some(true)
+}
+
+/// The number behind a word, if there is one.
+fn behind(header: &str, word: &str) -> Option<usize> {
+    let (_, rest) = header.split_once(word)?;
+    Words::new(rest).word().parse::<usize>().ok()
+}
+
+/// The word that a case has for an end.
+fn word_of(end: End) -> &'static str {
+    match end {
+        End::Done => "done",
+        End::Faulty => "faulty",
+        End::No => "no",
+        End::Input => "input",
+        End::Output => "output",
+        End::Open(OpenError::SeatCount) => "seats",
+        End::Open(OpenError::RingSize) => "ring",
+        End::Spent => "spent",
+        _ => "other",
+    }
+}
+
+/// How what a header asks for ends.
+fn done<R: Threads + Wait + Sync>(
+    rt: &R,
+    alloc: Global,
+    header: &str,
+    source: Source<'_>,
+    sink: &mut Sink,
+) -> Option<End> {
+    let mut words = Words::new(header);
+    match words.word().as_bytes() {
+        b"run" => {
+            let config = config_of(&mut words)?;
+            Some(run(rt, alloc, config, format_of(header), source, sink))
+        }
+        b"check" => Some(check(alloc, source, sink)),
+        b"race" => {
+            let mut options = race_options_of(&mut words)?;
+            options.format = format_of(header);
+            Some(race(rt, alloc, options, source, sink))
+        }
+        b"follow" => {
+            let mut options = follow_options_of(alloc, &mut words)?;
+            options.format = format_of(header);
+            Some(follow(alloc, options, source, sink))
+        }
+        _ => {
+            let mut played = Sink::new(alloc);
+            run(rt, alloc, DEFAULTS, Format::One, source, &mut played);
+            let source = Source::new(&played.taken);
+            Some(follow(alloc, follow_options_of(alloc, &mut words)?, source, sink))
+        }
+    }
+}
+
+/// The format that a header asks for.
+fn format_of(header: &str) -> Format {
+    match behind(header, " format ") {
+        Some(2) => Format::Two,
+        _ => Format::One,
+    }
+}
+
+fn config_of(words: &mut Words<'_>) -> Option<Config> {
+    Some(Config {
+        seats: u32::try_from(words.number()?).ok()?,
+        ring: u32::try_from(words.number()?).ok()?,
+        first: words.number()?,
+    })
+}
+
+fn race_options_of(words: &mut Words<'_>) -> Option<RaceOptions> {
+    Some(RaceOptions {
+        sessions: u8::try_from(words.number()?).ok()?,
+        ring: u32::try_from(words.number()?).ok()?,
+        format: Format::One,
+    })
+}
+
+fn follow_options_of(alloc: Global, words: &mut Words<'_>) -> Option<FollowOptions> {
+    let lo = words.word();
+    let hi = words.word();
+    let is_initial = words.word() == "initial";
+    let cursor = words.number()?;
+    Some(FollowOptions {
+        span: span_of(alloc, lo.as_bytes(), hi.as_bytes(), Format::Two).ok()?,
+        start: if is_initial {
+            Start::Initial(cursor)
+        } else {
+            Start::Cursor(cursor)
+        },
+        feed: words.number(),
+        view: words.word() == "yes",
+        format: Format::One,
+    })
+}
+
+/// How a run ends that reads from the one and writes to the other.
+pub(super) fn run<R: Wait>(
+    rt: &R,
+    alloc: Global,
+    config: Config,
+    format: Format,
+    source: Source<'_>,
+    sink: &mut Sink,
+) -> End {
+    let mut input = Reading::new(source);
+    let mut output = Writing::new(sink);
+    run_io(rt, alloc, config, format, &mut input, &mut output)
+}
+
+/// How a check ends that does.
+pub(super) fn check(alloc: Global, source: Source<'_>, sink: &mut Sink) -> End {
+    let mut input = Reading::new(source);
+    let mut output = Writing::new(sink);
+    check_io(alloc, &mut input, &mut output)
+}
+
+/// How a race ends that does.
+pub(super) fn race<R: Threads + Wait + Sync>(
+    rt: &R,
+    alloc: Global,
+    options: RaceOptions,
+    source: Source<'_>,
+    sink: &mut Sink,
+) -> End {
+    let mut input = Reading::new(source);
+    let mut output = Writing::new(sink);
+    race_io(rt, alloc, options, &Open, &mut input, &mut output)
+}
+
+/// How a follower ends that does.
+pub(super) fn follow(
+    alloc: Global,
+    options: FollowOptions,
+    source: Source<'_>,
+    sink: &mut Sink,
+) -> End {
+    let mut input = Reading::new(source);
+    let mut output = Writing::new(sink);
+    follow_io(alloc, options, &mut input, &mut output)
+}
+
+/// What a run writes, if it reads its whole script.
+pub(super) fn ran<R: Wait>(rt: &R, alloc: Global, ring: u32, script: &[u8]) -> Option<Vec<u8>> {
+    let mut sink = Sink::new(alloc);
+    let config = Config { ring, ..DEFAULTS };
+    let end = run(
+        rt,
+        alloc,
+        config,
+        Format::One,
+        Source::new(script),
+        &mut sink,
+    );
+    if end == End::Done {
+        Some(sink.taken)
+    } else {
+        None
+    }
+}
+
+/// Whether a check finds a transcript right.
+pub(super) fn is_yes(alloc: Global, transcript: &[u8]) -> bool {
+    let mut sink = Sink::new(alloc);
+    let end = check(alloc, Source::new(transcript), &mut sink);
+    end == End::Done && sink.taken.as_slice() == b"yes\n".as_slice()
+}
+
+/// Whether a transcript, behind its first line, is what its calls get with rings of any size, and right.
+pub(super) fn is_played<R: Wait>(rt: &R, alloc: Global, text: &str) -> Option<bool> {
+    let (_, transcript) = text.split_once('\n')?;
+    let script = script_of(alloc, transcript).ok()?;
+    let transcript = unfolded(alloc, transcript).ok()?;
+    for ring in [1, 2, 1024, 65536] {
+        if ran(rt, alloc, ring, &script)?.as_slice() != transcript.as_slice() {
+            return Some(false);
+        }
+    }
+    Some(is_yes(alloc, &transcript))
+}
+
+/// The script whose transcript this is: each line without its position and its answer, but those that
+/// follow an answer.
+pub(super) fn script_of(alloc: Global, transcript: &str) -> Result<Vec<u8>, AllocError> {
+    let mut script = Vec::new(alloc);
+    for line in transcript.lines() {
+        if let Some((call, _)) = line.split_once(" => ") {
+            let (_, call) = call.split_once(' ').unwrap_or(("", call));
+            script.extend_from_slice(call.as_bytes())?;
+            script.push(b'\n')?;
+        }
+    }
+    Ok(script)
+}
