@@ -1,9 +1,11 @@
 -- What the hulls of the parts of an order say of the keys that its places hold.
-use Rattle.std.specs.Prelude.{Bool, List, None, Option, Some, false, if◌then◌else◌, slice_get, zero, suc, true, ℕ, ◌&&◌, ◌+◌, ◌-◌, ◌/◌, ◌<◌, ◌==◌, ◌≡◌, ◌≤◌, ◌⊎◌}
+use Rattle.std.specs.List.{IsDistinct}
+use Rattle.std.specs.Map.{keys_of}
+use Rattle.std.specs.Prelude.{Bool, List, None, Option, Some, false, if◌then◌else◌, length, nat_eq, slice_get, zero, suc, true, ℕ, ◌&&◌, ◌+◌, ◌-◌, ◌/◌, ◌<◌, ◌==◌, ◌≡◌, ◌≤◌, ◌⊎◌}
 use Rattle.spans.specs.KeyOrder.{below_high, from_low}
 use Rattle.feed.specs.declared.hulls.Hull.{Hull}
 use Rattle.feed.specs.declared.slots.Slot.{Slot}
-use Rattle.feed.specs.Slots.{Slots}
+use Rattle.feed.specs.Slots.{Slots, holds_at}
 
 -- which keys each place holds
 abbrev pub Held : Type 0
@@ -69,6 +71,10 @@ IsCovering slots held o a b = (x : List ℕ) (i : ℕ) → a ≤ i → i < b →
 abbrev pub AreHulls : ℕ → Slots → Held → List (Option Hull) → ℕ → ℕ → Type 0
 AreHulls zero slots held hulls a b = Unit {0}
 AreHulls (suc k) slots held hulls a b = a < b → IsCovering slots held (slice_get hulls (middle a b)) a b × AreHulls k slots held hulls a (middle a b) × AreHulls k slots held hulls (middle a b + 1) b
+
+-- each feed has one slot, and the hulls are those of the first slots
+abbrev pub IsOrder : Slots → List (Option Hull) → Type 0
+IsOrder slots hulls = IsDistinct nat_eq (keys_of slots) × ((k : ℕ) → AreHulls k slots (holds_at slots) hulls 0 (length hulls))
 
 -- hulls of other places are as they were
 abbrev pub AreSameOutside : List (Option Hull) → List (Option Hull) → ℕ → ℕ → Type 0

@@ -163,7 +163,7 @@ impl Feeds {
         let Some(live) = self.live.get(&feed) else {
             return Err(AllocError);
         };
-        let messages = live.ring_messages(self.alloc, max)?;
+        let messages = live.next_in_ring(self.alloc, max)?;
         let told = messages.len() as u64;
         let messages = with_due(messages, live.due(closed), max)?;
         let place = place_behind(live.after(), messages.as_slice())?;
@@ -190,9 +190,9 @@ impl Feeds {
             return Err(AllocError);
         };
         // one more, which tells whether any is left
-        let rows = live.left_rows(self.alloc, store, closed, max.saturating_add(1))?;
+        let rows = live.next_in_store(self.alloc, store, closed, max.saturating_add(1))?;
         let more = rows.len() as u64 > max;
-        let messages = row_messages(self.alloc, first_rows(rows, max))?;
+        let messages = row_messages(self.alloc, at_most(rows, max))?;
         let messages = with_due(messages, live.due(closed), max)?;
         let place = place_behind(live.after(), messages.as_slice())?;
         self.move_to(feed, place, 0)?;
@@ -324,7 +324,7 @@ fn with_due(messages: Vec<Message>, due: Option<Ts>, max: u64) -> Result<Vec<Mes
 }
 
 /// The first `max` rows.
-fn first_rows(rows: Vec<Row>, max: u64) -> Vec<Row>
+fn at_most(rows: Vec<Row>, max: u64) -> Vec<Row>
     ensures { result.items ≡ take max rows.items }
 {
     let mut rows = rows;

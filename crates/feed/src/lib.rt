@@ -28,8 +28,8 @@
 //! mark_behind                         O(f log f)
 //! ```
 //!
-//! An offer also looks at slots that have come or turned since the order was last made: so it is made anew once that
-//! was done as often as there are slots. Only opening and polling can want for memory. An offer that finds none
+//! An offer also looks at each slot that has come or turned since the order was last made. Once offers have looked at
+//! more of these than there are slots, the order is made anew. Only opening and polling can want for memory. An offer that finds none
 //! sends those feeds behind that want the row, and leaves the order as it is.
 #![tactic(auto)]
 

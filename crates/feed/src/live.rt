@@ -162,8 +162,8 @@ impl LiveFeed {
         self.behind = true;
     }
 
-    /// The first `max` rows of its ring, as messages.
-    pub(crate) fn ring_messages(&self, alloc: Global, max: u64) -> Result<Vec<Message>, AllocError>
+    /// The next rows from its ring, at most `max`, as messages.
+    pub(crate) fn next_in_ring(&self, alloc: Global, max: u64) -> Result<Vec<Message>, AllocError>
         ensures { IfOk result (λ ms. ms.items ≡ map Message.Row (take max self.now.ring)) }
     {
         let count = max.min(self.ring.len() as u64) as usize;
@@ -216,9 +216,9 @@ impl LiveFeed {
         self.behind = behind;
     }
 
-    /// The first `n` rows that are left for it in the store: what an initial feed has left of its
-    /// snapshot, and as many stored rows as those leave room for.
-    pub(crate) fn left_rows(
+    /// The next rows from the store, at most `n`: what an initial feed has left of its snapshot, and as
+    /// many stored rows as those leave room for.
+    pub(crate) fn next_in_store(
         &self,
         alloc: Global,
         store: &Store,
@@ -227,7 +227,7 @@ impl LiveFeed {
     ) -> Result<Vec<Row>, AllocError>
         ensures { IfOk result (λ rows. AreNextAt store.now self.now.place closed n rows.items) }
     {
-        let mut rows = self.first_rows(alloc, store, n)?;
+        let mut rows = self.snapshot_rows(alloc, store, n)?;
         let room = n.saturating_sub(rows.len() as u64);
         let mut stored = self.stored_rows(alloc, store, closed, room)?;
         rows.append(&mut stored)?;
@@ -235,7 +235,7 @@ impl LiveFeed {
     }
 
     /// The first `n` rows that are left of its snapshot, where it tells one.
-    fn first_rows(&self, alloc: Global, store: &Store, n: u64) -> Result<Vec<Row>, AllocError>
+    fn snapshot_rows(&self, alloc: Global, store: &Store, n: u64) -> Result<Vec<Row>, AllocError>
         ensures { IfOk result (λ rows. AreNextFirstsAt store.now self.now.place n rows.items) }
     {
         let Some(at) = self.snapshot_at() else {

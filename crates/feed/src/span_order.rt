@@ -34,17 +34,14 @@ pub(crate) struct SpanOrder {
 }
 
 impl Model for SpanOrder {
-    ghost use Rattle.std.specs.Prelude.{ℕ, length, nat_eq};
-    ghost use Rattle.std.specs.Map.{keys_of};
-    ghost use Rattle.std.specs.List.{IsDistinct};
-    ghost use Rattle.feed.specs.Slots.{Slots, holds_at};
-    ghost use Rattle.feed.specs.Hulls.{AreHulls};
+    ghost use Rattle.feed.specs.Slots.{Slots};
+    ghost use Rattle.feed.specs.Hulls.{IsOrder};
 
     ghost Value = { Slots };
 
     ghost view = { λ s. s.slots.entries };
 
-    ghost invariant = { λ s. IsDistinct nat_eq (keys_of s.slots.entries) × ((k : ℕ) → AreHulls k s.slots.entries (holds_at s.slots.entries) s.hulls.items 0 (length s.hulls.items)) };
+    ghost invariant = { λ s. IsOrder s.slots.entries s.hulls.items };
 }
 
 impl SpanOrder {

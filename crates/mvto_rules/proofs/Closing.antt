@@ -1,5 +1,5 @@
 -- Closing hard takes back what undecided transactions wrote, one after another.
-use Rattle.std.proofs.Common.{Bool, List, None, Option, Some, ap, arith, cond, eqb-true, eq-eqb, false, inl, inr, refl, subst, sym, true, ℕ, ◌==◌, ◌&&◌, ◌||◌, ◌∷◌, ◌≡◌, ◌∙◌, []}
+use Rattle.std.proofs.Common.{Bool, List, None, Option, Some, ap, cond, eqb-true, eq-eqb, false, inl, inr, refl, subst, sym, true, ℕ, ◌==◌, ◌&&◌, ◌||◌, ◌∷◌, ◌≡◌, ◌∙◌, []}
 use Rattle.std.specs.Prelude.{is_some, nat_le, not, ◌≤◌}
 use Rattle.std.specs.List.{list_any}
 use Rattle.std.proofs.lemmas.Bool.{or_cases, or_left, or_right}
@@ -12,8 +12,8 @@ use Rattle.kept.specs.Changes.{IsClosedAt, IsHardClosedAt}
 use Rattle.kept.specs.Lists.{AreThose}
 use Rattle.kept.specs.Table.{is_open, keys_of}
 use Rattle.txn_table.specs.TransactionIn.{Table, transaction_in}
-use Rattle.version_chain.specs.Stores.{IsAbortedIn, Stored, is_committed_in, version_in}
-use Rattle.mvto_rules.specs.Closings.{AreCut, AreOpenNoted, is_cut}
+use Rattle.version_chain.specs.Stores.{IsAbortedIn, Stored, version_in}
+use Rattle.mvto_rules.specs.Closings.{AreOpenNoted, AreTakenBack, is_taken_back}
 use Rattle.mvto_rules.specs.Tables.{AreInRange}
 use Rattle.timestamps.specs.declared.ts.TheConstants.{MAX}
 
@@ -30,14 +30,14 @@ has_among i [] h = absurd h
 has_among i (x ∷ xs) h = elim h [ inl here ↦ or_left (x == i) (is_among i xs) (eq-eqb x i here) | inr there ↦ or_right (x == i) (is_among i xs) (has_among i xs there) ]
 
 -- the transactions that are left are still to be taken back
-pub record IsCutting (s s' : Stored) (table : Table) (to : ℕ) (rest : List ℕ) : Type 0 where
-  pub cut : AreCut s s' (λ i. is_cut table to i && not (is_among i rest))
-  pub part : (t : ℕ) → Has t rest → is_cut table to t ≡ true
+pub record IsTakingBack (s s' : Stored) (table : Table) (to : ℕ) (rest : List ℕ) : Type 0 where
+  pub taken : AreTakenBack s s' (λ i. is_taken_back table to i && not (is_among i rest))
+  pub part : (t : ℕ) → Has t rest → is_taken_back table to t ≡ true
   pub distinct : AreDistinct rest
 
-pub cut_begins : (s : Stored) (table : Table) (to : ℕ) (all : List ℕ) → AreThose (is_cut table to) all → IsCutting s s table to all
-cut_begins s table to all those = record {
-  cut = record { version = λ y i. sym (ap (λ b. cond b None (version_in s y i)) (none i)); committed = λ y i b e. refl };
+pub taking_begins : (s : Stored) (table : Table) (to : ℕ) (all : List ℕ) → AreThose (is_taken_back table to) all → IsTakingBack s s table to all
+taking_begins s table to all those = record {
+  taken = record { version = λ y i. sym (ap (λ b. cond b None (version_in s y i)) (none i)); committed = λ y i b e. refl };
   part = λ t i. (those.each t).0 i;
   distinct = those.distinct;
 }
@@ -46,35 +46,35 @@ cut_begins s table to all those = record {
     past true c h = ap not (h refl)
     past false c h = refl
 
-    none : (i : ℕ) → (is_cut table to i && not (is_among i all)) ≡ false
-    none i = past (is_cut table to i) (is_among i all) (λ on. has_among i all ((those.each i).1 on))
+    none : (i : ℕ) → (is_taken_back table to i && not (is_among i all)) ≡ false
+    none i = past (is_taken_back table to i) (is_among i all) (λ on. has_among i all ((those.each i).1 on))
 
 is_some_not : (a b : Option After) (c : Bool) → a ≡ cond c None b → (v : After) → a ≡ Some v → b ≡ Some v
 is_some_not a b true is v e = (let no : None ≡ Some v = sym is ∙ e in cc)
 is_some_not a b false is v e = sym is ∙ e
 
-open_of_cut : (b c : Bool) → (b && c) ≡ true → c ≡ true
-open_of_cut true c e = e
-open_of_cut false c e = cc
+open_of_taken : (b c : Bool) → (b && c) ≡ true → c ≡ true
+open_of_taken true c e = e
+open_of_taken false c e = cc
 
 some_open : (o : Option Transaction) → is_open o ≡ true → is_some o ≡ true
 some_open None e = cc
 some_open (Some n) e = refl
 
 -- it is the transaction of a timestamp
-pub cut_in_range : (table : Table) (to t : ℕ) → AreInRange table → is_cut table to t ≡ true → (1 ≤ t) × (t ≤ MAX)
-cut_in_range table to t range is = range t (some_open (transaction_in table t) (open_of_cut (nat_le t to) (is_open (transaction_in table t)) is))
+pub taken_in_range : (table : Table) (to t : ℕ) → AreInRange table → is_taken_back table to t ≡ true → (1 ≤ t) × (t ≤ MAX)
+taken_in_range table to t range is = range t (some_open (transaction_in table t) (open_of_taken (nat_le t to) (is_open (transaction_in table t)) is))
 
-pub cut_goes_on : (s s1 s2 : Stored) (table : Table) (to x : ℕ) (rest : List ℕ) → AreOpenNoted s table → IsCutting s s1 table to (x ∷ rest) → IsAbortedIn s1 s2 x (keys_of (transaction_in table x)) → IsCutting s s2 table to rest
-cut_goes_on s s1 s2 table to x rest noted cutting aborted = record {
-  cut = record {
+pub taking_goes_on : (s s1 s2 : Stored) (table : Table) (to x : ℕ) (rest : List ℕ) → AreOpenNoted s table → IsTakingBack s s1 table to (x ∷ rest) → IsAbortedIn s1 s2 x (keys_of (transaction_in table x)) → IsTakingBack s s2 table to rest
+taking_goes_on s s1 s2 table to x rest noted taking aborted = record {
+  taken = record {
     version = λ y i. by_test (x == i)
-        (λ same. subst (λ j. version_in s2 y j ≡ cond (is_cut table to j && not (is_among j rest)) None (version_in s y j)) (eqb-true x i same) (here y))
-        (λ other. aborted.version y i ∙ ap (λ b. cond (b && has y keys) None (version_in s1 y i)) other ∙ cutting.cut.version y i ∙ ap (λ b. cond (is_cut table to i && not (b || is_among i rest)) None (version_in s y i)) other);
-    committed = λ y i b e. aborted.committed y i b e ∙ cutting.cut.committed y i b (is_some_not (version_in s2 y i) (version_in s1 y i) ((x == i) && has y keys) (aborted.version y i) b e);
+        (λ same. subst (λ j. version_in s2 y j ≡ cond (is_taken_back table to j && not (is_among j rest)) None (version_in s y j)) (eqb-true x i same) (here y))
+        (λ other. aborted.version y i ∙ ap (λ b. cond (b && has y keys) None (version_in s1 y i)) other ∙ taking.taken.version y i ∙ ap (λ b. cond (is_taken_back table to i && not (b || is_among i rest)) None (version_in s y i)) other);
+    committed = λ y i b e. aborted.committed y i b e ∙ taking.taken.committed y i b (is_some_not (version_in s2 y i) (version_in s1 y i) ((x == i) && has y keys) (aborted.version y i) b e);
   };
-  part = λ t i. cutting.part t (inr i);
-  distinct = cutting.distinct.1;
+  part = λ t i. taking.part t (inr i);
+  distinct = taking.distinct.1;
 }
   where
     keys : List (List ℕ)
@@ -83,31 +83,31 @@ cut_goes_on s s1 s2 table to x rest noted cutting aborted = record {
     itself : (x == x) ≡ true
     itself = eq-eqb x x refl
 
-    is : is_cut table to x ≡ true
-    is = cutting.part x (inl refl)
+    is : is_taken_back table to x ≡ true
+    is = taking.part x (inl refl)
 
-    gone : (is_cut table to x && not (is_among x rest)) ≡ true
+    gone : (is_taken_back table to x && not (is_among x rest)) ≡ true
     gone = by_test (is_among x rest)
-        (λ on. absurd (cutting.distinct.0 (among_has x rest on)))
+        (λ on. absurd (taking.distinct.0 (among_has x rest on)))
         (λ off. ap (λ b. b && not (is_among x rest)) is ∙ ap not off)
 
-    left : (is_cut table to x && not (is_among x (x ∷ rest))) ≡ false
+    left : (is_taken_back table to x && not (is_among x (x ∷ rest))) ≡ false
     left = ap (λ b. b && not (is_among x (x ∷ rest))) is ∙ ap not (or_left (x == x) (is_among x rest) itself)
 
-    here : (y : List ℕ) → version_in s2 y x ≡ cond (is_cut table to x && not (is_among x rest)) None (version_in s y x)
+    here : (y : List ℕ) → version_in s2 y x ≡ cond (is_taken_back table to x && not (is_among x rest)) None (version_in s y x)
     here y = aborted.version y x ∙ ap (λ b. cond (b && has y keys) None (version_in s1 y x)) itself ∙ by_test (has y keys)
         (λ on. ap (λ b. cond b None (version_in s1 y x)) on)
-        (λ off. ap (λ b. cond b None (version_in s1 y x)) off ∙ cutting.cut.version y x ∙ ap (λ b. cond b None (version_in s y x)) left ∙ noted y x (open_of_cut (nat_le x to) (is_open (transaction_in table x)) is) off)
+        (λ off. ap (λ b. cond b None (version_in s1 y x)) off ∙ taking.taken.version y x ∙ ap (λ b. cond b None (version_in s y x)) left ∙ noted y x (open_of_taken (nat_le x to) (is_open (transaction_in table x)) is) off)
         ∙ sym (ap (λ b. cond b None (version_in s y x)) gone)
 
-pub cut_ends : (s s' : Stored) (table : Table) (to : ℕ) → IsCutting s s' table to [] → AreCut s s' (is_cut table to)
-cut_ends s s' table to cutting = record { version = λ y i. cutting.cut.version y i ∙ ap (λ b. cond b None (version_in s y i)) (and_true (is_cut table to i)); committed = cutting.cut.committed }
+pub taking_ends : (s s' : Stored) (table : Table) (to : ℕ) → IsTakingBack s s' table to [] → AreTakenBack s s' (is_taken_back table to)
+taking_ends s s' table to taking = record { version = λ y i. taking.taken.version y i ∙ ap (λ b. cond b None (version_in s y i)) (and_true (is_taken_back table to i)); committed = taking.taken.committed }
   where
     and_true : (b : Bool) → (b && true) ≡ b
     and_true true = refl
     and_true false = refl
 
--- what was cut and then closed was closed hard
+-- what was taken back and then closed was closed hard
 pub hard_closed : (k k' : Kept) (v : List ℕ → ℕ → Option After) (d : List ℕ → ℕ → Bool) (to n : ℕ)
     → ((y : List ℕ) (i : ℕ) → v y i ≡ cond (nat_le i to && is_open (k.transaction i)) None (k.version y i)) → ((y : List ℕ) (i : ℕ) (b : After) → v y i ≡ Some b → d y i ≡ k.committed y i)
     → IsClosedAt (record k { version = v; committed = d }) k' n → IsHardClosedAt k k' to n

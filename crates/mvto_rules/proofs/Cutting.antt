@@ -1,6 +1,7 @@
 -- A span cut into pieces, key by key.
 use Rattle.std.proofs.Common.{Bool, List, None, Option, Some, ap, arith, false, inl, inr, refl, subst, sym, true, ℕ, ◌<◌, ◌≤◌, ◌⊎◌, ◌&&◌, ◌++◌, ◌∷◌, ◌≡◌, ◌∙◌, []}
 use Rattle.std.specs.Prelude.{bytes_eq, not}
+use Rattle.std.specs.Map.{keys_of}
 use Rattle.std.specs.Ordering.{is_eq, is_lt, ordering_reverse}
 use Rattle.std.specs.declared.cmp.Ordering.{Ordering}
 use Rattle.std.specs.declared.cmp.Ordering.TheVariants.{Equal, Greater, Less}
@@ -13,6 +14,7 @@ use Rattle.spans.specs.KeyOrder.{below_high, from_low, key_lt}
 use Rattle.spans.specs.Keys.{in_span}
 use Rattle.spans.specs.Successors.{successor}
 use Rattle.spans.specs.declared.span.Span.{Span}
+use Rattle.spans.proofs.Keyed.{RisingKeys}
 use Rattle.spans.proofs.Members.{Has, has_append}
 use Rattle.spans.proofs.Steps.{by_test, newest_only, same_key}
 use Rattle.spans.proofs.Succeeding.{above_successor}
@@ -22,8 +24,9 @@ use Rattle.version_chain.specs.Chains.{Entry, chain_of}
 use Rattle.version_chain.specs.Stores.{Stored, after_of, version_in}
 use Rattle.version_chain.specs.Versions.{version_of}
 use Rattle.version_chain.specs.declared.chain.Version.{Version}
-use Rattle.mvto_rules.specs.Pieces.{without_version}
-use Rattle.mvto_rules.specs.Scans.{AreAhead, AreMade, IsGap, is_below, newest_in}
+use Rattle.mvto_rules.specs.Cuts.{open_piece}
+use Rattle.mvto_rules.specs.Scans.{AreAhead, AreMade, IsGap, IsOpen, is_below, newest_in}
+use Rattle.mvto_rules.specs.declared.cut.Cut.{Cut}
 
 -- ---- the order of keys
 
@@ -147,45 +150,58 @@ none_made s t span = record {
 
 -- ---- keys without a version
 
-nothing_there : (s : Stored) (t : ℕ) (x : List ℕ) → 0 < t → chain_of s x ≡ [] → IsGap s t x 0 18446744073709551615
-nothing_there s t x low none =
+pub nothing_there : (s : Stored) (t : ℕ) (x : List ℕ) → 0 < t → t ≤ MAX → chain_of s x ≡ [] → IsGap s t x 0 18446744073709551615
+nothing_there s t x low high none =
     let empty = λ (i : ℕ). ap (λ vs. after_of (version_of vs i)) none in
+    let at : (newest_in s t x).ts ≡ 0 = ap (λ v. v.ts) (newest_only (version_in s x) t 0 None (record { at_most = omega arith; gap = λ i l h. empty i; has = inl (refl, refl) })) in
     record {
-      at = ap (λ v. v.ts) (newest_only (version_in s x) t 0 None (record { at_most = omega arith; gap = λ i l h. empty i; has = inl (refl, refl) }));
+      from = omega (arith, at);
       low = low;
+      high = omega (arith, high);
       next = None;
       is_next = λ n l. empty n;
-      to = refl;
+      to = omega arith;
     }
+
+-- a gap within a gap of the read is one too
+pub narrower : (s : Stored) (t : ℕ) (x : List ℕ) (above to above' to' : ℕ) → IsGap s t x above to → above ≤ above' → to' ≤ to → above' < t → t ≤ to' → IsGap s t x above' to'
+narrower s t x above to above' to' gap from less low high = record {
+  from = omega (arith, gap.from, from);
+  low = low;
+  high = high;
+  next = gap.next;
+  is_next = gap.is_next;
+  to = omega (arith, gap.to, less);
+}
 
 -- ---- the walk
 
--- up to the next entry no key of the span has a version
-pub passed : (s : Stored) (t : ℕ) (span : Span) (lo : Option (List ℕ)) (k : List ℕ) (vs : List Version) (rest : List Entry) (ps : List Piece) → 0 < t → t ≤ MAX → AreAhead s span lo ((k, vs) ∷ rest) → AreMade s t span (is_below lo) ps
-    → AreMade s t span (λ x. key_lt x k) (ps ++ without_version lo (Some k) ∷ [])
-passed s t span lo k vs rest ps low high ahead made =
-    one_more s t span (is_below lo) (λ x. key_lt x k) ps (without_version lo (Some k)) made low (omega arith)
+-- the open piece, up to the next entry
+pub passed : (s : Stored) (t : ℕ) (span : Span) (k : List ℕ) (vs : List Version) (rest : List Entry) (c : Cut) → in_span span k ≡ true → from_low c.lo k ≡ true → RisingKeys (k ∷ keys_of rest) → IsOpen s t span ((k, vs) ∷ rest) c → AreMade s t span (is_below c.lo) c.pieces.items
+    → AreMade s t span (λ x. key_lt x k) (c.pieces.items ++ open_piece c (Some k) ∷ [])
+passed s t span k vs rest c there from_k rising opened made =
+    one_more s t span (is_below c.lo) (λ x. key_lt x k) c.pieces.items (open_piece c (Some k)) made opened.low opened.high
     (λ x below. before x (not_true _ below))
     (λ x has.
-    let from : from_low lo x ≡ true = and_left _ _ has in
-    let less : key_lt x k ≡ true = and_right (from_low lo x) _ has in
-    let inside : in_span span x ≡ true = both_true _ _ (ahead.inner x from) (stays_below span.hi k x (and_right (from_low span.lo k) _ ahead.each.0.0) less) in (
+    let from : from_low c.lo x ≡ true = and_left _ _ has in
+    let less : key_lt x k ≡ true = and_right (from_low c.lo x) _ has in
+    let inside : in_span span x ≡ true = both_true _ _ (opened.inner x from) (stays_below span.hi k x (and_right (from_low span.lo k) _ there) less) in (
       inside,
       ap not from,
       less,
-      nothing_there s t x low (ahead.nowhere x inside from (λ i. elim i [
+      opened.gap x inside from (λ i. elim i [
         | inl here ↦ both_ways (key_lt x k) (subst (λ y. key_lt y k ≡ false) here (not_itself k)) less
-        | inr there ↦ both_ways (key_lt x k) (not_both k x (ap is_lt (ahead.rising.0 x there))) less
-      ])),
+        | inr after ↦ both_ways (key_lt x k) (not_both k x (ap is_lt (rising.0 x after))) less
+      ]),
     ))
     (λ x inside from less. both_true _ _ (sym (not_not _) ∙ ap not from) less)
   where
-    before : (x : List ℕ) → from_low lo x ≡ false → key_lt x k ≡ true
+    before : (x : List ℕ) → from_low c.lo x ≡ false → key_lt x k ≡ true
     before x off = by_test (key_lt x k)
         (λ on. on)
         (λ at. by_test (key_lt k x)
-        (λ above. (let no : true ≡ false = sym (stays_from lo k x (ahead.from k (inl refl)) above) ∙ off in cc))
-        (λ same. (let no : true ≡ false = sym (subst (λ y. from_low lo y ≡ true) (same_key k x (same_place k x at same)) (ahead.from k (inl refl))) ∙ off in cc)))
+        (λ above. (let no : true ≡ false = sym (stays_from c.lo k x from_k above) ∙ off in cc))
+        (λ same. (let no : true ≡ false = sym (subst (λ y. from_low c.lo y ≡ true) (same_key k x (same_place k x at same)) from_k) ∙ off in cc)))
 
 -- past the key
 past_key : (k x : List ℕ) → is_below (Some (successor k)) x ≡ not (key_lt k x)
@@ -202,16 +218,12 @@ pub own_passed : (s : Stored) (t : ℕ) (span : Span) (k : List ℕ) (ps : List 
 own_passed s t span k ps made own = none_more s t span (λ x. key_lt x k) (is_below (Some (successor k))) ps made (past_below k)
     (λ x inside at past. subst (λ y. (newest_in s t y).ts ≡ t) (same_key k x (past_here k x at past)) own)
 
--- any other key is in its own piece
-pub other_passed : (s : Stored) (t : ℕ) (span : Span) (k : List ℕ) (ps : List Piece) (p : Piece) → in_span span k ≡ true → AreMade s t span (λ x. key_lt x k) ps → IsGap s t k p.above p.until → t ≤ p.until → ((x : List ℕ) → in_span p.span x ≡ bytes_eq k x)
-    → AreMade s t span (is_below (Some (successor k))) (ps ++ p ∷ [])
-other_passed s t span k ps p inside made gap high alone =
-    one_more s t span (λ x. key_lt x k) (is_below (Some (successor k))) ps p made gap.low high (past_below k)
-    (λ x has.
-    let same : k ≡ x = same_key k x (sym (alone x) ∙ has) in
-    subst (λ y. (in_span span y ≡ true) × (key_lt y k ≡ false) × (is_below (Some (successor k)) y ≡ true) × IsGap s t y p.above p.until) same
-    (inside, not_itself k, past_key k k ∙ ap not (not_itself k), gap))
-    (λ x in' at past. alone x ∙ past_here k x at past)
+-- behind a key that is from the bound on
+pub stays_behind : (lo : Option (List ℕ)) (k x : List ℕ) → from_low lo k ≡ true → from_low (Some (successor k)) x ≡ true → from_low lo x ≡ true
+stays_behind lo k x from_k from = stays_from lo k x from_k (sym (from_successor k x) ∙ from)
+
+isnt_behind : (k x : List ℕ) → k ≡ x → from_low (Some (successor k)) x ≡ true → ⊥
+isnt_behind k x here from = both_ways (key_lt k x) (subst (λ y. key_lt k y ≡ false) here (not_itself k)) (sym (from_successor k x) ∙ from)
 
 -- the entries behind the next one
 pub ahead_of : (s : Stored) (span : Span) (lo : Option (List ℕ)) (k : List ℕ) (vs : List Version) (rest : List Entry) → AreAhead s span lo ((k, vs) ∷ rest) → AreAhead s span (Some (successor k)) rest
@@ -219,23 +231,19 @@ ahead_of s span lo k vs rest ahead = record {
   rising = ahead.rising.1;
   each = ahead.each.1;
   from = λ x i. from_successor k x ∙ ap is_lt (ahead.rising.0 x i);
-  inner = λ x from. ahead.inner x (above x from);
-  nowhere = λ x inside from none. ahead.nowhere x inside (above x from) (λ i. elim i [
-    | inl here ↦ both_ways (key_lt k x) (subst (λ y. key_lt k y ≡ false) here (not_itself k)) (sym (from_successor k x) ∙ from)
+  inner = λ x from. ahead.inner x (stays_behind lo k x (ahead.from k (inl refl)) from);
+  nowhere = λ x inside from none. ahead.nowhere x inside (stays_behind lo k x (ahead.from k (inl refl)) from) (λ i. elim i [
+    | inl here ↦ isnt_behind k x here from
     | inr there ↦ none there
   ]);
 }
-  where
-    above : (x : List ℕ) → from_low (Some (successor k)) x ≡ true → from_low lo x ≡ true
-    above x from = stays_from lo k x (ahead.from k (inl refl)) (sym (from_successor k x) ∙ from)
 
--- behind the last entry no key has a version
-pub all_made : (s : Stored) (t : ℕ) (span : Span) (lo : Option (List ℕ)) (ps : List Piece) → 0 < t → t ≤ MAX → AreAhead s span lo [] → AreMade s t span (is_below lo) ps
-    → AreMade s t span (λ x. true) (ps ++ without_version lo span.hi ∷ [])
-all_made s t span lo ps low high ahead made =
-    one_more s t span (is_below lo) (λ x. true) ps (without_version lo span.hi) made low (omega arith) (λ x is. refl)
+-- behind the last entry the open piece has all keys that are left
+pub all_made : (s : Stored) (t : ℕ) (span : Span) (c : Cut) → IsOpen s t span [] c → AreMade s t span (is_below c.lo) c.pieces.items → AreMade s t span (λ x. true) (c.pieces.items ++ open_piece c span.hi ∷ [])
+all_made s t span c opened made =
+    one_more s t span (is_below c.lo) (λ x. true) c.pieces.items (open_piece c span.hi) made opened.low opened.high (λ x is. refl)
     (λ x has.
-    let from : from_low lo x ≡ true = and_left _ _ has in
-    let inside : in_span span x ≡ true = both_true _ _ (ahead.inner x from) (and_right (from_low lo x) _ has) in
-    (inside, ap not from, refl, nothing_there s t x low (ahead.nowhere x inside from (λ i. absurd i))))
+    let from : from_low c.lo x ≡ true = and_left _ _ has in
+    let inside : in_span span x ≡ true = both_true _ _ (opened.inner x from) (and_right (from_low c.lo x) _ has) in
+    (inside, ap not from, refl, opened.gap x inside from (λ i. absurd i)))
     (λ x inside from past. both_true _ _ (sym (not_not _) ∙ ap not from) (and_right (from_low span.lo x) _ inside))

@@ -5,7 +5,6 @@ use Rattle.std.specs.List.{AllByRecursion, Contains}
 use Rattle.std.specs.Map.{keys_of}
 use Rattle.std.proofs.lemmas.Bool.{both_ways}
 use Rattle.std.proofs.lemmas.Bool.Decides.{nat_tests}
-use Rattle.timestamps.specs.declared.ts.TheConstants.{MAX}
 use Rattle.spans.specs.Answer.{first_refusal_or}
 use Rattle.spans.specs.Kept.{Kept}
 use Rattle.spans.specs.Keys.{in_span}
@@ -20,11 +19,12 @@ use Rattle.spans.proofs.Members.{Has}
 use Rattle.spans.proofs.Steps.{by_test}
 use Rattle.spans.proofs.WriteSets.{has, has_in}
 use Rattle.kept.specs.Changes.{IsScannedBy}
-use Rattle.kept.specs.Finding.{AreKeysOf}
-use Rattle.kept.specs.Marks.{IsPiece, until}
+use Rattle.kept.specs.Finding.{AreKeysOf, IsNextAbove, seen}
+use Rattle.kept.specs.Marks.{IsMarkedBy, IsNoted, IsPiece, until}
 use Rattle.kept.specs.Replies.{scan_reply, unless_refused}
 use Rattle.kept.specs.Table.{refusal}
-use Rattle.kept.proofs.Noting.{merged_noted, own_noted}
+use Rattle.kept.proofs.Marking.{merged}
+use Rattle.kept.proofs.Noting.{own_noted}
 use Rattle.read_marks.specs.Marks.{AreApart}
 use Rattle.read_marks.specs.declared.piece.Piece.{Piece}
 use Rattle.version_chain.specs.Chains.{AreFilled, Entry, chain_of}
@@ -121,18 +121,32 @@ has_contains (q ∷ ps) p i = elim i [
 pub are_apart : (s : Stored) (t : ℕ) (span : Span) (ps : List Piece) → AreMade s t span (λ x. true) ps → AreApart ps
 are_apart s t span ps made p q i j x a b = made.apart p q (contains_has ps p i) (contains_has ps q j) x a b
 
-pub scanned : (k : Kept) (r : Rules) (m' : List ℕ → ℕ → Bool) (t : ℕ) (span : Span) (ps : List Piece) → t ≤ MAX → AreMade r.store t span (λ x. true) ps
+wider : (m m' : ℕ → Bool) (j above to above' to' : ℕ) → above' ≤ above → to ≤ to' → IsMarkedBy m m' j above to → IsMarkedBy m m' j above' to'
+wider m m' j above to above' to' from less marked = record {
+  only = marked.only;
+  covers = λ n was. (let by = marked.covers n was in (by.0, by.1, by.2, elim by.3 [ inl same ↦ inl same | inr within ↦ inr (omega (arith, within.0), omega (arith, within.1)) ]));
+}
+
+-- readers are joined within a gap that is narrower than that of the read
+narrower_noted : (k : Kept) (x : List ℕ) (t above to : ℕ) (next : Option ℕ) (m' : ℕ → Bool) → IsNextAbove (k.version x) t next → (seen k x t).ts ≤ above → above < t → t ≤ to → to ≤ until next → IsPiece (k.marked x) m' t above to → IsNoted k x t m'
+narrower_noted k x t above to next m' is_next from low high less piece = record {
+  next = next;
+  is_next = is_next;
+  own = λ own. absurd (omega (arith, from, low, own));
+  other = λ other. wider (k.marked x) m' t above to (seen k x t).ts (until next) from less (merged (k.marked x) m' t above to low high piece);
+}
+
+pub scanned : (k : Kept) (r : Rules) (m' : List ℕ → ℕ → Bool) (t : ℕ) (span : Span) (ps : List Piece) → AreMade r.store t span (λ x. true) ps
     → ((p : Piece) → Contains ps p → (x : List ℕ) → in_span p.span x ≡ true → IsPiece ((holding k r).marked x) (m' x) t p.above p.until)
     → ((x : List ℕ) → ((p : Piece) → Contains ps p → in_span p.span x ≡ false) → (j : ℕ) → m' x j ≡ (holding k r).marked x j)
     → IsScannedBy (holding k r) (record (holding k r) { marked = m' }) t span
-scanned k r m' t span ps high made inside outside = record {
+scanned k r m' t span ps made inside outside = record {
   noted = λ x in'. elim (made.each x in' refl) [
     | inl own ↦ (let next = some_next (chain_of r.store x) t in own_noted (holding k r) x t next.0 (m' x) next.1 own (outside x (λ p i. by_test (in_span p.span x)
-        (λ on. absurd (let gap = (made.within p (contains_has ps p i) x on).2 in let at : (newest_in r.store t x).ts ≡ p.above = gap.at in omega (arith, gap.low)))
+        (λ on. absurd (let gap = (made.within p (contains_has ps p i) x on).2 in omega (arith, gap.from, gap.low, own)))
         (λ off. off))))
     | inr of ↦ (let gap = (made.within of.0 of.1 x of.2).2 in
-        let low : (newest_in r.store t x).ts < t = subst (λ n. n < t) (sym gap.at) gap.low in
-        merged_noted (holding k r) x t gap.next (m' x) gap.is_next low high (subst (λ n. IsPiece ((holding k r).marked x) (m' x) t n (until gap.next)) (sym gap.at) (subst (λ n. IsPiece ((holding k r).marked x) (m' x) t of.0.above n) gap.to (inside of.0 (has_contains ps of.0 of.1) x of.2))))
+        narrower_noted (holding k r) x t of.0.above of.0.until gap.next (m' x) gap.is_next gap.from gap.low gap.high gap.to (inside of.0 (has_contains ps of.0 of.1) x of.2))
   ];
   others = λ x out. outside x (λ p i. by_test (in_span p.span x)
       (λ on. absurd (both_ways _ out (made.within p (contains_has ps p i) x on).0))

@@ -1,6 +1,8 @@
 -- A walk through the entries of a span.
-use Rattle.std.proofs.Common.{Bor, List, None, Option, Some, ap, append_assoc, cond, false, inl, inr, refl, subst, sym, true, ℕ, ◌<◌, ◌≤◌, ◌++◌, ◌∷◌, ◌≡◌, ◌∙◌, []}
-use Rattle.std.specs.Prelude.{IfSome, MatchOption, bytes_eq}
+use Rattle.std.proofs.Common.{Bor, List, None, Option, Some, ap, append_assoc, arith, cond, false, inl, inr, refl, subst, sym, true, ℕ, ◌<◌, ◌≤◌, ◌-◌, ◌++◌, ◌∷◌, ◌≡◌, ◌∙◌, []}
+use Rattle.std.specs.Prelude.{IfSome, MatchOption, bytes_eq, max, min}
+use Rattle.std.proofs.Math.Nat.{le-max_left, le-max_right, le-min, max-le, min-le_left, min-le_right}
+use Rattle.std.proofs.lemmas.Bool.{both_ways}
 use Rattle.std.specs.List.{AllByRecursion}
 use Rattle.std.specs.Map.{keys_of}
 use Rattle.std.specs.Option.{option_copied}
@@ -11,7 +13,7 @@ use Rattle.spans.specs.Keys.{in_span, with_value}
 use Rattle.spans.specs.Successors.{successor}
 use Rattle.spans.specs.declared.span.Span.{Span}
 use Rattle.spans.proofs.Keyed.{IsIn, RisingKeys}
-use Rattle.spans.proofs.Steps.{by_test}
+use Rattle.spans.proofs.Steps.{by_test, key_itself, same_key}
 use Rattle.kept.specs.Finding.{IsNextAbove}
 use Rattle.kept.specs.Marks as marking
 use Rattle.read_marks.specs.declared.piece.Piece.{Piece}
@@ -20,13 +22,13 @@ use Rattle.version_chain.specs.Stores.{Stored, after_of, is_committed_in, versio
 use Rattle.version_chain.specs.Versions.{IsNewestOf, IsNoneUpTo, version_of}
 use Rattle.version_chain.specs.declared.chain.Version.{Version}
 use Rattle.version_chain.proofs.InSpans.{chain_among, chain_nowhere, passes_among}
-use Rattle.mvto_rules.specs.Pieces.{without_version}
-use Rattle.mvto_rules.specs.Scans.{AreAhead, AreMade, IsGap, IsWalking, entries_of, first_blocker, is_below, keys_in, newest_in, rows_in}
+use Rattle.mvto_rules.specs.Cuts.{IsPassed, IsWhole, narrowed, open_piece}
+use Rattle.mvto_rules.specs.Scans.{AreMade, IsGap, IsOpen, IsWalking, entries_of, first_blocker, is_below, keys_in, newest_in, rows_in}
 use Rattle.mvto_rules.specs.Sights.{sight_of, value_in}
 use Rattle.mvto_rules.specs.declared.sight.Sight.TheVariants as sights
 use Rattle.mvto_rules.specs.declared.cut.Cut.{Cut}
 use Rattle.mvto_rules.specs.declared.walk.Walk.{Walk}
-use Rattle.mvto_rules.proofs.Cutting.{ahead_of, all_made, none_made, other_passed, own_passed, passed}
+use Rattle.mvto_rules.proofs.Cutting.{ahead_of, all_made, narrower, none_made, nothing_there, own_passed, passed, stays_behind}
 use Rattle.mvto_rules.proofs.Noting.{past_until}
 use Rattle.mvto_rules.proofs.Seeing.{IsThere, blocked_is, blocker_is, chain_newest, found_there, is_stopped, other_is, own_is}
 
@@ -49,41 +51,81 @@ row_more : (xs rows : List (List ℕ × List ℕ)) (x : List ℕ) (a : After) �
 row_more xs rows x None = append_assoc xs [] rows
 row_more xs rows x (Some v) = append_assoc xs ((x, v) ∷ []) rows
 
--- then the walk goes on behind it
-stepped : (s : Stored) (t : ℕ) (span : Span) (x : List ℕ) (vs : List Version) (rest : List Entry) (w w' : Walk) (o : Option Version) → IsWalking s t span ((x, vs) ∷ rest) w → IsThere (version_in s x) (is_committed_in s x) t o → is_stopped (sight_of t o) ≡ false
-    → w'.cut.lo ≡ Some (successor x) → AreMade s t span (is_below (Some (successor x))) w'.cut.pieces.items → w'.rows.items ≡ w.rows.items ++ with_value x (value_in o) [] → IsWalking s t span rest w'
-stepped s t span x vs rest w w' o walk there free lo made rows = record {
-  ahead = subst (λ l. AreAhead s span l rest) (sym lo) (ahead_of s span w.cut.lo x vs rest walk.ahead);
-  made = subst (λ l. AreMade s t span (is_below l) w'.cut.pieces.items) (sym lo) made;
-  rows = ap (λ l. l ++ rows_in s t (keys_of rest)) rows ∙ row_more w.rows.items (rows_in s t (keys_of rest)) x (value_in o) ∙ ap (λ v. w.rows.items ++ with_value x v.after (rows_in s t (keys_of rest))) (sym there.is) ∙ walk.rows;
-  free = sym (passed_at s t x (keys_of rest) o there free) ∙ walk.free;
-}
+-- what it has of the entries before, with that of one more
+rows_more : (s : Stored) (t : ℕ) (x : List ℕ) (rest : List Entry) (all rows rows' : List (List ℕ × List ℕ)) (o : Option Version) → IsThere (version_in s x) (is_committed_in s x) t o → rows' ≡ rows ++ with_value x (value_in o) []
+    → rows ++ rows_in s t (x ∷ keys_of rest) ≡ all → rows' ++ rows_in s t (keys_of rest) ≡ all
+rows_more s t x rest all rows rows' o there more were =
+    ap (λ l. l ++ rows_in s t (keys_of rest)) more ∙ row_more rows (rows_in s t (keys_of rest)) x (value_in o) ∙ ap (λ v. rows ++ with_value x v.after (rows_in s t (keys_of rest))) (sym there.is) ∙ were
 
+-- at the reader's own version the open piece ends, and the next begins behind it
 pub stepped_own : (s : Stored) (t : ℕ) (span : Span) (x : List ℕ) (vs : List Version) (rest : List Entry) (w w' : Walk) (o : Option Version) → 0 < t → t ≤ MAX → IsWalking s t span ((x, vs) ∷ rest) w → IsThere (version_in s x) (is_committed_in s x) t o → sights.Own ≡ sight_of t o
-    → (w'.cut.pieces.items ≡ w.cut.pieces.items ++ without_version w.cut.lo (Some x) ∷ []) × (w'.cut.lo ≡ Some (successor x)) → w'.rows.items ≡ w.rows.items ++ with_value x (value_in o) [] → IsWalking s t span rest w'
+    → IsPassed w.cut w'.cut x → w'.rows.items ≡ w.rows.items ++ with_value x (value_in o) [] → IsWalking s t span rest w'
 stepped_own s t span x vs rest w w' o low high walk there is cut rows =
-    let made = passed s t span w.cut.lo x vs rest w.cut.pieces.items low high walk.ahead walk.made in
-    let own = own_passed s t span x (w.cut.pieces.items ++ without_version w.cut.lo (Some x) ∷ []) made (own_is (version_in s x) (is_committed_in s x) t o low there is) in
-    stepped s t span x vs rest w w' o walk there (ap is_stopped (sym is)) cut.1 (subst (AreMade s t span (is_below (Some (successor x)))) (sym cut.0) own) rows
+    let from_x : from_low w.cut.lo x ≡ true = walk.behind x (walk.ahead.from x (inl refl)) in
+    let made = passed s t span x vs rest w.cut walk.ahead.each.0.0 from_x walk.ahead.rising walk.opened walk.made in
+    let own = own_passed s t span x (w.cut.pieces.items ++ open_piece w.cut (Some x) ∷ []) made (own_is (version_in s x) (is_committed_in s x) t o low there is) in
+    let ahead = ahead_of s span walk.point x vs rest walk.ahead in
+    let begins : w'.cut.lo ≡ Some (successor x) = cut.1 in
+    record {
+      point = Some (successor x);
+      ahead = ahead;
+      behind = λ y from. subst (λ l. from_low l y ≡ true) (sym begins) from;
+      opened = record {
+        inner = λ y from. ahead.inner y (subst (λ l. from_low l y ≡ true) begins from);
+        low = subst (λ n. n < t) (sym cut.2.0) low;
+        high = subst (λ n. t ≤ n) (sym cut.2.1) (omega (arith, high));
+        gap = λ y inside from none. subst (λ n. IsGap s t y n w'.cut.until) (sym cut.2.0) (subst (λ n. IsGap s t y 0 n) (sym cut.2.1) (nothing_there s t y low high (ahead.nowhere y inside (subst (λ l. from_low l y ≡ true) begins from) none)));
+      };
+      made = subst (λ l. AreMade s t span (is_below l) w'.cut.pieces.items) (sym begins) (subst (AreMade s t span (is_below (Some (successor x)))) (sym cut.0) own);
+      rows = rows_more s t x rest _ w.rows.items w'.rows.items o there rows walk.rows;
+      free = sym (passed_at s t x (keys_of rest) o there (ap is_stopped (sym is))) ∙ walk.free;
+    }
 
-pub stepped_other : (s : Stored) (t above to : ℕ) (span : Span) (x : List ℕ) (vs : List Version) (rest : List Entry) (w w' : Walk) (o : Option Version) (mid : Cut) → 0 < t → t ≤ MAX → IsWalking s t span ((x, vs) ∷ rest) w → IsThere (version_in s x) (is_committed_in s x) t o
+-- at another's, or at none, the gap of the open piece becomes narrower
+narrowed_open : (s : Stored) (t above to : ℕ) (span : Span) (x : List ℕ) (vs : List Version) (rest : List Entry) (c : Cut) → IsGap s t x above to → IsOpen s t span ((x, vs) ∷ rest) c → IsOpen s t span rest (narrowed above to c)
+narrowed_open s t above to span x vs rest c gap opened = record {
+  inner = opened.inner;
+  low = low;
+  high = high;
+  gap = λ y inside from none. by_test (bytes_eq x y)
+      (λ same. subst (λ z. IsGap s t z (max c.above above) (min c.until to)) (same_key x y same) (narrower s t x above to _ _ gap (le-max_right c.above above) (min-le_right c.until to) low high))
+      (λ other. narrower s t y c.above c.until _ _ (opened.gap y inside from (λ i. elim i [
+        | inl here ↦ both_ways (bytes_eq x y) other (subst (λ z. bytes_eq x z ≡ true) here (key_itself x))
+        | inr there ↦ none there
+      ])) (le-max_left c.above above) (min-le_left c.until to) low high);
+}
+  where
+    low : max c.above above < t
+    low =
+        let most : max c.above above ≤ t - 1 = max-le (omega (arith, opened.low)) (omega (arith, gap.low)) in
+        omega (arith, most, gap.low)
+
+    high : t ≤ min c.until to
+    high = le-min opened.high gap.high
+
+pub stepped_other : (s : Stored) (t above to : ℕ) (span : Span) (x : List ℕ) (vs : List Version) (rest : List Entry) (w w' : Walk) (o : Option Version) → 0 < t → t ≤ MAX → IsWalking s t span ((x, vs) ∷ rest) w → IsThere (version_in s x) (is_committed_in s x) t o
     → sights.Other above ≡ sight_of t o → (next : Option ℕ) × IsNextAbove (λ i. after_of (version_of vs i)) t next × (to ≡ marking.until next)
-    → (mid.pieces.items ≡ w.cut.pieces.items ++ without_version w.cut.lo (Some x) ∷ []) × (mid.lo ≡ Some (successor x))
-    → (spot : Span) × (w'.cut.pieces.items ≡ mid.pieces.items ++ record { span = spot; above = above; until = to } ∷ []) × ((y : List ℕ) → in_span spot y ≡ bytes_eq x y)
-    → w'.cut.lo ≡ mid.lo → w'.rows.items ≡ w.rows.items ++ with_value x (value_in o) [] → IsWalking s t span rest w'
-stepped_other s t above to span x vs rest w w' o mid low high walk there is next cut spot same rows =
+    → w'.cut ≡ narrowed above to w.cut → w'.rows.items ≡ w.rows.items ++ with_value x (value_in o) [] → IsWalking s t span rest w'
+stepped_other s t above to span x vs rest w w' o low high walk there is next cut rows =
     let other = other_is (version_in s x) (is_committed_in s x) t o above low there is in
+    let late : t ≤ to = subst (λ n. t ≤ n) (sym next.2) (past_until (λ i. after_of (version_of vs i)) t next.0 high next.1) in
     let gap : IsGap s t x above to = record {
-      at = other.0;
+      from = omega (arith, other.0);
       low = other.1;
+      high = late;
       next = next.0;
       is_next = subst (λ us. IsNextAbove (λ i. after_of (version_of us i)) t next.0) (sym walk.ahead.each.0.1) next.1;
-      to = next.2;
+      to = omega (arith, next.2);
     } in
-    let late : t ≤ to = subst (λ n. t ≤ n) (sym next.2) (past_until (λ i. after_of (version_of vs i)) t next.0 high next.1) in
-    let made = passed s t span w.cut.lo x vs rest w.cut.pieces.items low high walk.ahead walk.made in
-    let more = other_passed s t span x (w.cut.pieces.items ++ without_version w.cut.lo (Some x) ∷ []) (record { span = spot.0; above = above; until = to }) walk.ahead.each.0.0 made gap late spot.2 in
-    stepped s t span x vs rest w w' o walk there (ap is_stopped (sym is)) (same ∙ cut.1) (subst (AreMade s t span (is_below (Some (successor x)))) (sym (spot.1 ∙ ap (λ ps. ps ++ record { span = spot.0; above = above; until = to } ∷ []) cut.0)) more) rows
+    record {
+      point = Some (successor x);
+      ahead = ahead_of s span walk.point x vs rest walk.ahead;
+      behind = λ y from. subst (λ c. from_low c.lo y ≡ true) (sym cut) (walk.behind y (stays_behind walk.point x y (walk.ahead.from x (inl refl)) from));
+      opened = subst (IsOpen s t span rest) (sym cut) (narrowed_open s t above to span x vs rest w.cut gap walk.opened);
+      made = subst (λ c. AreMade s t span (is_below c.lo) c.pieces.items) (sym cut) walk.made;
+      rows = rows_more s t x rest _ w.rows.items w'.rows.items o there rows walk.rows;
+      free = sym (passed_at s t x (keys_of rest) o there (ap is_stopped (sym is))) ∙ walk.free;
+    }
 
 -- ---- the entries of a span
 
@@ -101,19 +143,27 @@ inside_from : (span : Span) (x : List ℕ) → in_span span x ≡ true → from_
 inside_from span x inside = by_test (from_low span.lo x) (λ on. on) (λ off. (let no : in_span span x ≡ false = rw off refl in let t : true ≡ false = sym inside ∙ no in cc))
 
 -- at first all of them are left
-pub started : (s : Stored) (t : ℕ) (span : Span) (found : List Entry) (w : Walk) → found ≡ entries_of s span → RisingKeys (keys_of found) → (w.rows.items ≡ []) × (w.cut.pieces.items ≡ []) × (w.cut.lo ≡ span.lo) → IsWalking s t span found w
-started s t span found w those rising empty =
+pub started : (s : Stored) (t : ℕ) (span : Span) (found : List Entry) (w : Walk) → 0 < t → t ≤ MAX → found ≡ entries_of s span → RisingKeys (keys_of found) → (w.rows.items ≡ []) × IsWhole w.cut span → IsWalking s t span found w
+started s t span found w low high those rising empty =
     let each = each_found s span found [] found those rising refl in
-    let ahead : AreAhead s span span.lo found = record {
-      rising = rising;
-      each = each;
-      from = λ x i. inside_from span x (in_each s span found x each i);
-      inner = λ x from. from;
-      nowhere = λ x inside from none. chain_nowhere span s found x those inside none;
-    } in
+    let begins : w.cut.lo ≡ span.lo = empty.1.1 in
     record {
-      ahead = subst (λ l. AreAhead s span l found) (sym empty.2) ahead;
-      made = subst (λ l. AreMade s t span (is_below l) w.cut.pieces.items) (sym empty.2) (subst (AreMade s t span (is_below span.lo)) (sym empty.1) (none_made s t span));
+      point = span.lo;
+      ahead = record {
+        rising = rising;
+        each = each;
+        from = λ x i. inside_from span x (in_each s span found x each i);
+        inner = λ x from. from;
+        nowhere = λ x inside from none. chain_nowhere span s found x those inside none;
+      };
+      behind = λ x from. subst (λ l. from_low l x ≡ true) (sym begins) from;
+      opened = record {
+        inner = λ x from. subst (λ l. from_low l x ≡ true) begins from;
+        low = subst (λ n. n < t) (sym empty.1.2.0) low;
+        high = subst (λ n. t ≤ n) (sym empty.1.2.1) (omega (arith, high));
+        gap = λ x inside from none. subst (λ n. IsGap s t x n w.cut.until) (sym empty.1.2.0) (subst (λ n. IsGap s t x 0 n) (sym empty.1.2.1) (nothing_there s t x low high (chain_nowhere span s found x those inside none)));
+      };
+      made = subst (λ l. AreMade s t span (is_below l) w.cut.pieces.items) (sym begins) (subst (AreMade s t span (is_below span.lo)) (sym empty.1.0) (none_made s t span));
       rows = ap (λ l. l ++ rows_in s t (keys_of found)) empty.0 ∙ ap (λ es. rows_in s t (keys_of es)) those;
       free = ap (λ es. first_blocker s t (keys_of es)) those;
     }
@@ -134,10 +184,10 @@ nothing_more [] = refl
 nothing_more (x ∷ xs) = ap (λ l. x ∷ l) (nothing_more xs)
 
 -- at last none is
-pub ended : (s : Stored) (t : ℕ) (span : Span) (w : Walk) (ps : List Piece) → 0 < t → t ≤ MAX → IsWalking s t span [] w → ps ≡ w.cut.pieces.items ++ without_version w.cut.lo span.hi ∷ []
+pub ended : (s : Stored) (t : ℕ) (span : Span) (w : Walk) (ps : List Piece) → IsWalking s t span [] w → ps ≡ w.cut.pieces.items ++ open_piece w.cut span.hi ∷ []
     → (first_blocker s t (keys_in s span) ≡ None) × (w.rows.items ≡ rows_in s t (keys_in s span)) × AreMade s t span (λ x. true) ps
-ended s t span w ps low high walk is = (
+ended s t span w ps walk is = (
   sym walk.free,
   sym (nothing_more w.rows.items) ∙ walk.rows,
-  subst (AreMade s t span (λ x. true)) (sym is) (all_made s t span w.cut.lo w.cut.pieces.items low high walk.ahead walk.made),
+  subst (AreMade s t span (λ x. true)) (sym is) (all_made s t span w.cut walk.opened walk.made),
 )

@@ -1,6 +1,5 @@
 -- What closing and collecting do to what the rules hold.
-use Rattle.std.specs.Prelude.{Bool, List, None, Option, Some, false, if◌then◌else◌, length, nat_le, true, ℕ, ◌&&◌, ◌≡◌}
-use Rattle.std.specs.List.{list_any}
+use Rattle.std.specs.Prelude.{Bool, List, None, Some, false, if◌then◌else◌, length, nat_le, true, ℕ, ◌&&◌, ◌≡◌}
 use Rattle.spans.specs.Collection.{VersionName}
 use Rattle.spans.specs.Effects.{After}
 use Rattle.spans.specs.Kept.{Kept}
@@ -14,9 +13,9 @@ use Rattle.version_chain.specs.Stores.{Stored, is_committed_in, version_in}
 use Rattle.mvto_rules.specs.Holding.{holding}
 use Rattle.mvto_rules.specs.declared.rules.Rules.{Rules}
 
--- an undecided transaction at or below to
-abbrev pub is_cut : Table → ℕ → ℕ → Bool
-is_cut table to t = nat_le t to && is_open (transaction_in table t)
+-- a hard closing at to takes the transaction of t back: it is undecided, and at or below to
+abbrev pub is_taken_back : Table → ℕ → ℕ → Bool
+is_taken_back table to t = nat_le t to && is_open (transaction_in table t)
 
 -- each version of an undecided transaction is one of a key that it noted
 abbrev pub AreOpenNoted : Stored → Table → Type 0
@@ -27,19 +26,19 @@ abbrev pub AreAllNoted : Rules → Type 0
 AreAllNoted r = AreOpenNoted r.store r.txns
 
 -- the versions at these timestamps are gone
-pub record AreCut (s s' : Stored) (among : ℕ → Bool) : Type 0 where
+pub record AreTakenBack (s s' : Stored) (among : ℕ → Bool) : Type 0 where
   pub version : (y : List ℕ) (i : ℕ) → version_in s' y i ≡ (if among i then None else version_in s y i)
   pub committed : (y : List ℕ) (i : ℕ) (b : After) → version_in s' y i ≡ Some b → is_committed_in s' y i ≡ is_committed_in s y i
 
--- how many undecided transactions are at or below to
-pub record IsCutCount (table : Table) (to count : ℕ) : Type 0 where
+-- how many transactions a hard closing at to takes back
+pub record IsCountTakenBack (table : Table) (to count : ℕ) : Type 0 where
   pub cut : List ℕ
-  pub those : AreThose (is_cut table to) cut
+  pub those : AreThose (is_taken_back table to) cut
   pub counted : length cut ≡ count
 
 -- the same of what the rules hold
-abbrev pub IsCutOf : Rules → ℕ → ℕ → Type 0
-IsCutOf r to count = IsCutCount r.txns to count
+abbrev pub TakesBack : Rules → ℕ → ℕ → Type 0
+TakesBack r to count = IsCountTakenBack r.txns to count
 
 -- the versions that are dead by the horizon are gone, count of them
 pub record IsCollected (k : Kept) (r r' : Rules) (horizon count : ℕ) : Type 0 where

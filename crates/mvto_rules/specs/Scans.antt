@@ -1,7 +1,7 @@
 -- What a scan of a store reads, and what it marks.
 use Rattle.std.specs.List.{AllByRecursion, filter}
 use Rattle.std.specs.Map.{keys_of}
-use Rattle.std.specs.Prelude.{Bool, List, None, Option, Some, [], if◌then◌else◌, not, true, ℕ, ◌++◌, ◌∷◌, ◌≡◌, ◌<◌, ◌⊎◌}
+use Rattle.std.specs.Prelude.{Bool, List, None, Option, Some, [], if◌then◌else◌, not, true, ℕ, ◌++◌, ◌∷◌, ◌≡◌, ◌<◌, ◌≤◌, ◌⊎◌}
 use Rattle.spans.specs.KeyOrder.{from_low}
 use Rattle.spans.specs.Keys.{in_span, pairs_of}
 use Rattle.spans.specs.Newest.{newest}
@@ -15,6 +15,7 @@ use Rattle.read_marks.specs.declared.piece.Piece.{Piece}
 use Rattle.version_chain.specs.Chains.{Entry, chain_of}
 use Rattle.version_chain.specs.Stores.{Stored, is_committed_in, version_in}
 use Rattle.mvto_rules.specs.Sights.{would_stop}
+use Rattle.mvto_rules.specs.declared.cut.Cut.{Cut}
 use Rattle.mvto_rules.specs.declared.walk.Walk.{Walk}
 use Rattle.spans.specs.Newest as reads
 
@@ -43,15 +44,16 @@ first_blocker s t (x ∷ xs) = if stops_in s t x then Some (newest_in s t x).ts 
 abbrev pub rows_in : Stored → ℕ → List (List ℕ) → List (List ℕ × List ℕ)
 rows_in s t keys = pairs_of (λ x. (newest_in s t x).after) keys
 
--- a read of x at t reads the version of `above`, and the next one is that of `until`
+-- a read of x at t reads no version above `above`, which is below t, and the next one is not below `until`
 pub record IsGap (s : Stored) (t : ℕ) (x : List ℕ) (above until : ℕ) : Type 0 where
-  pub at : (newest_in s t x).ts ≡ above
+  pub from : (newest_in s t x).ts ≤ above
   pub low : above < t
+  pub high : t ≤ until
   pub next : Option ℕ
   pub is_next : IsNextAbove (version_in s x) t next
-  pub to : until ≡ marking.until next
+  pub to : until ≤ marking.until next
 
--- each key of the span that is past the point is in the piece that a read of it marks, but for keys where t reads its own
+-- each key of the span that is past the point is in one piece, whose gap is one of a read of it, but for keys where t reads its own
 pub record AreMade (s : Stored) (t : ℕ) (span : Span) (is_past : List ℕ → Bool) (pieces : List Piece) : Type 0 where
   pub apart : (p q : Piece) → Has p pieces → Has q pieces → (x : List ℕ) → in_span p.span x ≡ true → in_span q.span x ≡ true → p ≡ q
   pub gaps : HaveGaps t pieces
@@ -74,9 +76,19 @@ pub record AreAhead (s : Stored) (span : Span) (lo : Option (List ℕ)) (entries
 abbrev pub is_below : Option (List ℕ) → List ℕ → Bool
 is_below lo x = not (from_low lo x)
 
+-- the keys of the open piece, without those of the entries, have its gap
+pub record IsOpen (s : Stored) (t : ℕ) (span : Span) (entries : List Entry) (c : Cut) : Type 0 where
+  pub inner : (x : List ℕ) → from_low c.lo x ≡ true → from_low span.lo x ≡ true
+  pub low : c.above < t
+  pub high : t ≤ c.until
+  pub gap : (x : List ℕ) → in_span span x ≡ true → from_low c.lo x ≡ true → (IsIn x (keys_of entries) → ⊥) → IsGap s t x c.above c.until
+
 -- these entries are left of a walk through the span, in which nothing has stopped the reader so far
 pub record IsWalking (s : Stored) (t : ℕ) (span : Span) (entries : List Entry) (w : Walk) : Type 0 where
-  pub ahead : AreAhead s span w.cut.lo entries
+  pub point : Option (List ℕ)
+  pub ahead : AreAhead s span point entries
+  pub behind : (x : List ℕ) → from_low point x ≡ true → from_low w.cut.lo x ≡ true
+  pub opened : IsOpen s t span entries w.cut
   pub made : AreMade s t span (is_below w.cut.lo) w.cut.pieces.items
   pub rows : w.rows.items ++ rows_in s t (keys_of entries) ≡ rows_in s t (keys_in s span)
   pub free : first_blocker s t (keys_of entries) ≡ first_blocker s t (keys_in s span)

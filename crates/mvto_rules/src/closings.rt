@@ -2,7 +2,7 @@
 ghost use Rattle.std.specs.Prelude.{◌≤◌, IfOk, OnErr};
 ghost use Rattle.spans.specs.Kept.{Kept};
 ghost use Rattle.kept.specs.Changes.{IsClosedAt, IsHardClosedAt};
-ghost use Rattle.mvto_rules.specs.Closings.{AreCut, AreOpenNoted, IsCutCount, is_cut};
+ghost use Rattle.mvto_rules.specs.Closings.{AreOpenNoted, AreTakenBack, IsCountTakenBack, is_taken_back};
 ghost use Rattle.mvto_rules.specs.Tables.{AreInRange};
 
 use crate::rules::Rules;
@@ -13,10 +13,17 @@ use version_chain::Store;
 
 impl Rules {
     ghost use Rattle.mvto_rules.specs.Holding.{Changes, Stays, with_closed};
-    ghost use Rattle.mvto_rules.specs.Closings.{AreAllNoted, IsCollected, IsCutOf};
+    ghost use Rattle.mvto_rules.specs.Closings.{AreAllNoted, IsCollected, TakesBack};
 
     /// Forgets the transactions and the readers at or below what is now closed. It takes no memory.
     pub fn close(&mut self, closed: u64)
+        ensures { Changes self.old self.new (λ k k'. IsClosedAt k (with_closed closed k') closed) }
+    {
+        self.forget_through(closed);
+    }
+
+    /// Forgets the transactions and the readers at or below what is now closed.
+    fn forget_through(&mut self, closed: u64)
         ensures { Changes self.old self.new (λ k k'. IsClosedAt k (with_closed closed k') closed) }
     {
         self.marks.forget_through(closed);
@@ -28,11 +35,11 @@ impl Rules {
     pub fn close_hard(&mut self, to: u64, closed: u64) -> u64
         requires noted { AreAllNoted self.old }
         requires reached { to ≤ closed }
-        ensures count { IsCutOf self.old to result }
+        ensures count { TakesBack self.old to result }
         ensures closed { Changes self.old self.new (λ k k'. IsHardClosedAt k (with_closed closed k') to closed) }
     {
         let count = take_back_through(&mut self.store, &self.txns, to);
-        self.close(closed);
+        self.forget_through(closed);
         count
     }
 
@@ -50,8 +57,8 @@ impl Rules {
 fn take_back_through(store: &mut Store, txns: &Txns, to: u64) -> u64
     requires noted { AreOpenNoted store.old txns.now }
     requires in_range { AreInRange txns.now }
-    ensures cut { AreCut store.old store.new (is_cut txns.now to) }
-    ensures count { IsCutCount txns.now to result }
+    ensures gone { AreTakenBack store.old store.new (is_taken_back txns.now to) }
+    ensures count { IsCountTakenBack txns.now to result }
 {
     let mut count = 0u64;
     for ts in txns.undecided_through(to) {

@@ -17,15 +17,33 @@
 //! put 25 c -> too late     10* 45 50*         40 60                30     30 found that c has none
 //! ```
 //!
-//! Of the readers of one version only the greatest is kept. A read of one's own version marks nothing.
+//! Of the readers of one version only the greatest can refuse a write, so a get joins them into that one. A read of
+//! one's own version marks nothing.
 //!
-//! Cost, of k keys, v versions and m readers of one, and s spans that are marked: a read and a write
-//! O(log k + log v + log s + log m), and the readers or versions above theirs move; a read of a key that
-//! shares its readers with others copies them. A scan costs so for each key that it finds and each marked
-//! span that it meets; a commit O(log k + log v) for each key written, and so an abort, which a write that
-//! is too late is as well. Where the marked spans have doubled, a read goes over all of them. A commit, an
-//! abort, a write that is too late and a read that is blocked need no memory; a scan that finds no memory
-//! goes over its keys once more, to see whether it is blocked.
+//! A scan marks its span in one piece, cut only at keys of which the reader has its own version. So it joins fewer
+//! readers than a get of each key would: those above every version that it read, and not above the next version of
+//! any key. Where some keys of a span are written between scans, each other key keeps a reader for each scan until
+//! that is forgotten.
+//!
+//! Costs, where n transactions stand, of k keys with v versions and m readers each, and of s marked spans:
+//!
+//! ```text
+//! begin             O(log n)
+//! get               O(log n + log k + log v + log s + log m), and the readers above its own move
+//! write             O(log n + log k + log v + log s + log m), and the versions above its own move
+//! scan              O(log n + log k + log s), O(log v) for each key and O(m) for each marked span that it meets
+//! commit, abort     O(log n), and O(log k + log v) for each key written
+//! write, too late   the same
+//! close             O(log n) for each transaction that goes
+//! close_hard        an abort of each transaction that it takes back, and a close
+//! collect           as `version_chain` says of what it drops
+//! read_at           O(log k + log v)
+//! scan_at           O(log k), and O(log v) for each key that it meets
+//! ```
+//!
+//! A read of a key that shares its readers with others copies them. Where the marked spans have doubled, a read goes
+//! over all of them. A commit, an abort, a write that is too late and a read that is blocked need no memory. A scan
+//! that finds no memory goes over its keys once more, to see whether it is blocked.
 #![tactic(auto)]
 
 mod closings;

@@ -3,6 +3,7 @@ ghost use Rattle.std.specs.Prelude.{◌≡◌, ◌<◌, ◌≤◌, ℕ, List, tr
 ghost use Rattle.std.specs.Option.{option_copied};
 ghost use Rattle.timestamps.specs.declared.ts.TheConstants.{MAX};
 ghost use Rattle.spans.specs.Effects.{After};
+ghost use Rattle.spans.specs.Kept.{Kept};
 ghost use Rattle.spans.specs.Legal.{is_accepted};
 ghost use Rattle.spans.specs.declared.span.Span.{Span};
 ghost use Rattle.spans.specs.declared.calls.replies.Refusal.{Refusal};
@@ -12,7 +13,8 @@ ghost use Rattle.spans.specs.declared.calls.replies.Reply.TheVariants as replies
 ghost use Rattle.kept.specs.Answered.{IsScanReply, IsWriteReply};
 ghost use Rattle.kept.specs.Leading.{Pairs};
 ghost use Rattle.kept.specs.Changes.{IsAbortedBy, IsAlike, IsBegun, IsCommittedBy, IsReadBy, IsScannedBy, IsWritten};
-ghost use Rattle.kept.specs.Finding.{seen};
+ghost use Rattle.kept.specs.Finding.{IsNextAbove, seen};
+ghost use Rattle.kept.specs.Marks.{IsLate};
 ghost use Rattle.kept.specs.Replies.{abort_reply, begin_reply, commit_reply, get_reply};
 ghost use Rattle.kept.specs.Table.{refusal};
 ghost use Rattle.version_chain.specs.Stores.{version_in};
@@ -49,7 +51,7 @@ pub struct Rules {
 
 impl Rules {
     ghost use Rattle.mvto_rules.specs.Scans.{AreAllMade};
-    ghost use Rattle.mvto_rules.specs.Holding.{AtClosed, Changes, IsNotedIn, Stays, StaysIfRefused, marked_of, transactions_of, versions_of};
+    ghost use Rattle.mvto_rules.specs.Holding.{AtClosed, Changes, IsNotedIn, Stays, StaysIfRefused, holding, marked_of, transactions_of, versions_of};
 
     /// No version, no mark and no transaction.
     pub fn new(alloc: Global) -> Rules
@@ -98,7 +100,7 @@ impl Rules {
             Err(refusal) => return Ok(Reply::Refused(refusal)),
             Ok(ts) => ts,
         };
-        let newest = self.store.newest_at(key, ts.get());
+        let (newest, next) = self.store.around(key, ts.get());
         match Sight::of(newest, ts) {
             Sight::Blocked(by) => Ok(Reply::Refused(Refusal::Blocked { by })),
             Sight::Own => {
@@ -107,19 +109,22 @@ impl Rules {
             }
             Sight::Other(above) => {
                 let after = value_of(newest)?;
-                self.mark(key, ts, above)?;
+                self.mark(key, ts, above, next)?;
                 Ok(Reply::Found(after))
             }
         }
     }
 
-    /// Marks the reader of a key, who read the version of `above`, or none where that is 0.
-    fn mark(&mut self, key: &Key, ts: Ts, above: u64) -> Result<(), AllocError>
-        requires { above < ts }
+    /// Marks the reader of a key, who read the version of `above`, or none where that is 0. The next
+    /// version is that of `next`.
+    fn mark(&mut self, key: &Key, ts: Ts, above: u64, next: Option<u64>) -> Result<(), AllocError>
+        requires low { above < ts }
+        requires in_range { ts ≤ MAX }
+        requires next { IsNextAbove (version_in (versions_of self.old) key.now) ts next }
         ensures ok { OnOk result (Changes self.old self.new (λ k k'. (seen k key.now ts).ts ≡ above → IsReadBy k k' ts key.now)) }
         ensures err { OnErr result (Stays self.old self.new) }
     {
-        let until = self.store.next_above(key, ts.get()).unwrap_or(u64::MAX);
+        let until = next.unwrap_or(u64::MAX);
         let span = span_of(self.alloc, key)?;
         self.marks.add_pieces(&[Piece { span, above, until }], ts)
     }
@@ -147,17 +152,25 @@ impl Rules {
             Err(refusal) => return Ok(Reply::Refused(refusal)),
             Ok(ts) => ts,
         };
-        let next = self.store.next_above(key, ts.get());
-        if self.marks.any_between(key, ts.get(), next) {
+        if self.is_too_late(key, ts) {
             self.take_back(ts);
             return Ok(Reply::Refused(Refusal::TooLate));
         }
-        self.put(ts, key, after)?;
+        self.store_version(ts, key, after)?;
         Ok(Reply::Written)
     }
 
+    /// Whether a write is too late: a reader above it has read the version below it. That reader is not
+    /// above the next version.
+    fn is_too_late(&self, key: &Key, ts: Ts) -> bool
+        ensures { (k : Kept) → IsLate (holding k self.now) key.now ts result }
+    {
+        let next = self.store.next_above(key, ts.get());
+        self.marks.any_between(key, ts.get(), next)
+    }
+
     /// Puts a version in, and notes its key. Where the note is refused, the version is taken out.
-    fn put(&mut self, ts: Ts, key: &Key, after: Option<&Value>) -> Result<(), AllocError>
+    fn store_version(&mut self, ts: Ts, key: &Key, after: Option<&Value>) -> Result<(), AllocError>
         requires noted { IsNotedIn self.old ts key.now }
         ensures ok { OnOk result (Changes self.old self.new (λ k k'. IsWritten k k' ts key.now (option_copied after.entry))) }
         ensures err { OnErr result (Stays self.old self.new) }
@@ -195,7 +208,6 @@ impl Rules {
     /// Marks the reader of a span by its pieces.
     fn mark_all(&mut self, pieces: &[Piece], ts: Ts) -> Result<(), AllocError>
         requires pieces { (span : Span) × AreAllMade self.old.store ts span pieces.now }
-        requires in_range { ts ≤ MAX }
         ensures ok { OnOk result (Changes self.old self.new (λ k k'. (span : Span) → AreAllMade self.old.store ts span pieces.now → IsScannedBy k k' ts span)) }
         ensures err { OnErr result (Stays self.old self.new) }
     {
@@ -256,13 +268,13 @@ impl Rules {
         if ts <= closed {
             return Err(Refusal::Ended);
         }
-        let Some(owner) = self.txns.owner(ts) else {
+        let Some((owner, state)) = self.txns.standing(ts) else {
             return Err(Refusal::NoTxn);
         };
         if owner != seat {
             return Err(Refusal::NotOwner);
         }
-        if self.txns.state(ts) != Some(State::Undecided) {
+        if state != State::Undecided {
             return Err(Refusal::Ended);
         }
         // each number in the table is one

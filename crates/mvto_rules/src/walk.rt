@@ -27,11 +27,12 @@ pub(crate) struct Walk {
 }
 
 impl Walk {
+    ghost use Rattle.mvto_rules.specs.Cuts.{IsWhole};
     ghost use Rattle.mvto_rules.specs.Scans.{Visits};
 
     /// Nothing found yet of the span.
     pub(crate) fn new(alloc: Global, span: &Span) -> Result<Walk, AllocError>
-        ensures { IfOk result (λ walk. (walk.rows.items ≡ []) × (walk.cut.pieces.items ≡ []) × (walk.cut.lo ≡ span.now.lo)) }
+        ensures { IfOk result (λ walk. (walk.rows.items ≡ []) × IsWhole walk.cut span.now) }
     {
         let cut = Cut::new(alloc, span)?;
         Ok(Walk {
@@ -60,8 +61,7 @@ impl Walk {
             }
             Sight::Other(above) => {
                 let until = until_of(chain, ts);
-                self.cut.pass(self.alloc, key)?;
-                self.cut.add(self.alloc, key, above, until)?;
+                self.cut.narrow(above, until);
                 add_row(&mut self.rows, key, newest)?;
                 Ok(None)
             }

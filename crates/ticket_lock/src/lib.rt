@@ -21,10 +21,10 @@
 //! Where no other seat draws, a turn costs a load and a compare-exchange of the ticket word and two
 //! loads of the serving word, and its end a store of that word and a look at the bed of the next
 //! ticket. Where others draw, it looks a number of times for a turn that is free before it draws a
-//! ticket and waits in line. Who waits in line for long, or whose turn is far, sleeps on a word of its
-//! own, its bed, and whoever ends the turn before wakes that seat alone. `try_turn` makes four steps,
-//! or two or three where it is `Busy`; `floor` and `raise_floor` one each, and `meet` six loads. Only
-//! `new` takes memory, and only `turn` waits.
+//! ticket and waits in line. Each seat in line has a bed, a word of its own to sleep on. It sleeps
+//! there while its turn is far, or when it has waited for long, and is woken when the turn before its
+//! own ends. `try_turn` makes four steps, or two or three where it is `Busy`; `floor` and `raise_floor`
+//! one each, and `meet` six loads. Only `new` takes memory, and only `turn` waits.
 #![tactic(auto)]
 
 mod chronicle;

@@ -84,7 +84,7 @@ impl<T: Chronicle> TicketLock<T> {
     }
 
     // Takes the value, where the ticket was drawn at its turn.
-    pub(crate) fn take_turn(&self, pass: &mut Pass<T, T::Entry>, ticket: u64) -> T
+    pub(crate) fn take_value(&self, pass: &mut Pass<T, T::Entry>, ticket: u64) -> T
         requires own { pass.old.table_id ≡ self.now.board.shared.table_id }
         requires drew { HasDrawn ticket pass.old.me }
         requires served { pass.old.me.0.loaded ≡ ticket }

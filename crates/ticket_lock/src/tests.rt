@@ -313,7 +313,8 @@ fn many_seats_that_sleep_are_woken_in_turn(rt: HostRuntime) -> Result<(), Fail> 
             ensures { IsOf shared.entry.now result.0 × (ticket result.0 ≡ None) }
         { lead(host, shared, a, asking, progress, 4) },
         || -> Option<u64>
-            requires { (IsOf shared.now b × (ticket b ≡ None)) × (IsOf shared.now c × (ticket c ≡ None)) × (IsOf shared.now d × (ticket d ≡ None)) × (IsOf shared.now e × (ticket e ≡ None)) }
+            requires first { (IsOf shared.now b × (ticket b ≡ None)) × (IsOf shared.now c × (ticket c ≡ None)) }
+            requires second { (IsOf shared.now d × (ticket d ≡ None)) × (IsOf shared.now e × (ticket e ≡ None)) }
         { follow_all(host, shared, b, c, d, e, progress) },
     );
     assert!(rt; led, "four seats sleep at once, and a fifth is told so");

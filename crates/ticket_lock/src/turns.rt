@@ -29,7 +29,7 @@ impl<T: Chronicle> TicketLock<T> {
     {
         match self.draw_served(&mut seat.pass) {
             Ok(ticket) => {
-                let value = self.take_turn(&mut seat.pass, ticket);
+                let value = self.take_value(&mut seat.pass, ticket);
                 Ok(Held { value, ticket })
             }
             Err(Denied::Spent) => Err(Spent),
@@ -55,7 +55,7 @@ impl<T: Chronicle> TicketLock<T> {
         ensures own { mine seat.old ≡ of_seat T.seat_of (number seat.old) (seen seat.old) }
     {
         let ticket = self.try_draw(&mut seat.pass)?;
-        let value = self.take_turn(&mut seat.pass, ticket);
+        let value = self.take_value(&mut seat.pass, ticket);
         Ok(Held { value, ticket })
     }
 

@@ -49,18 +49,11 @@ impl Transaction {
         }
     }
 
-    /// The seat that began it.
-    pub(crate) fn seat(&self) -> u8
-        ensures { result ≡ self.now.seat }
+    /// The seat that began it, and how it stands.
+    pub(crate) fn standing(&self) -> (u8, State)
+        ensures { result ≡ (self.now.seat, self.now.state) }
     {
-        self.seat
-    }
-
-    /// How it stands.
-    pub(crate) fn state(&self) -> State
-        ensures { result ≡ self.now.state }
-    {
-        self.state
+        (self.seat, self.state)
     }
 
     /// The keys that it wrote.

@@ -71,23 +71,13 @@ impl Txns {
         }
     }
 
-    /// The seat that began the transaction of `ts`.
-    pub fn owner(&self, ts: u64) -> Option<u8>
-        ensures { result ≡ option_map (λ (n : Transaction). n.seat) (transaction_in self.now ts) }
+    /// The seat that began the transaction of `ts`, and how it stands.
+    pub fn standing(&self, ts: u64) -> Option<(u8, State)>
+        ensures { result ≡ option_map (λ (n : Transaction). (n.seat, n.state)) (transaction_in self.now ts) }
     {
         match self.table.get(&TsKey(ts)) {
             None => None,
-            Some(transaction) => Some(transaction.seat()),
-        }
-    }
-
-    /// How the transaction of `ts` stands.
-    pub fn state(&self, ts: u64) -> Option<State>
-        ensures { result ≡ option_map (λ (n : Transaction). n.state) (transaction_in self.now ts) }
-    {
-        match self.table.get(&TsKey(ts)) {
-            None => None,
-            Some(transaction) => Some(transaction.state()),
+            Some(transaction) => Some(transaction.standing()),
         }
     }
 

@@ -106,10 +106,7 @@ impl Chain {
         ensures steps { (d : ℕ) → length self.now < 2 ^ d → steps.new.count ≤ steps.old.count + d }
     {
         let place = self.place_above(t, steps);
-        if place == 0 {
-            return None;
-        }
-        Some(&self.all()[place - 1])
+        self.before(place)
     }
 
     /// The version with the least timestamp above `t`. It reads at most as many timestamps as the
@@ -119,6 +116,34 @@ impl Chain {
         ensures steps { (d : ℕ) → length self.now < 2 ^ d → steps.new.count ≤ steps.old.count + d }
     {
         let place = self.place_above(t, steps);
+        self.at(place)
+    }
+
+    /// Both of these, by one search.
+    pub(crate) fn around(&self, t: u64) -> (Option<&Version>, Option<&Version>)
+        ensures newest { MatchOption result.0 (IsNoneUpTo self.now t) (λ v. IsNewestOf self.now t v.now) }
+        ensures next { MatchOption result.1 (IsNoneAbove self.now t) (λ v. IsLeastAbove self.now t v.now) }
+    {
+        let place = self.place_above(t, &mut Steps::new());
+        (self.before(place), self.at(place))
+    }
+
+    /// The version before a place, if there is one.
+    fn before(&self, place: usize) -> Option<&Version>
+        requires { place ≤ length self.now }
+        ensures { (t : ℕ) → IsPlaceAbove self.now t place → MatchOption result (IsNoneUpTo self.now t) (λ v. IsNewestOf self.now t v.now) }
+    {
+        if place == 0 {
+            return None;
+        }
+        Some(&self.all()[place - 1])
+    }
+
+    /// The version at a place, if there is one.
+    fn at(&self, place: usize) -> Option<&Version>
+        requires { place ≤ length self.now }
+        ensures { (t : ℕ) → IsPlaceAbove self.now t place → MatchOption result (IsNoneAbove self.now t) (λ v. IsLeastAbove self.now t v.now) }
+    {
         if place == self.all().len() {
             return None;
         }

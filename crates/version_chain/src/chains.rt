@@ -68,14 +68,16 @@ impl Chains {
         }
     }
 
-    /// The version of the key with the least timestamp above `t`.
-    pub(crate) fn next_above(&self, key: &Key, t: u64) -> Option<&Version>
-        ensures { MatchOption result (IsNoneAbove (chain_of self.now key.now) t)
+    /// The same, and the version of the key with the least timestamp above `t`.
+    pub(crate) fn around(&self, key: &Key, t: u64) -> (Option<&Version>, Option<&Version>)
+        ensures newest { MatchOption result.0 (IsNoneUpTo (chain_of self.now key.now) t)
+            (λ v. IsNewestOf (chain_of self.now key.now) t v.now) }
+        ensures next { MatchOption result.1 (IsNoneAbove (chain_of self.now key.now) t)
             (λ v. IsLeastAbove (chain_of self.now key.now) t v.now) }
     {
         match self.map.get(key) {
-            None => None,
-            Some(chain) => chain.next_above(t, &mut Steps::new()),
+            None => (None, None),
+            Some(chain) => chain.around(t),
         }
     }
 

@@ -16,10 +16,11 @@
 //! timestamps as v has binary digits; a commit and an abort do so and read up to two more, for each key
 //! that they are given, and an abort goes to the index. A write searches the chains once, twice for a key
 //! that had no version, and then the index once; it looks at the end of its chain first, and moves the
-//! versions above its own. A collection looks at what was written between the last horizon, or what has
-//! been committed below it since, and its own, and at what is at or below its own in the chains of those
-//! keys. What goes there leaves its place behind, and the versions above stay where they are: a chain is
-//! moved where half of its places are left over. What follows a place is read off the index, which is
+//! versions above its own. A collection begins at the horizon of the last one, or below it where something
+//! has been committed there since. It goes through the keys that were written from there up to its own
+//! horizon, and looks in their chains at the versions that aren't above that. What goes leaves its place
+//! behind, and the versions above stay where they are: a chain is moved where half of its places are left
+//! over. What follows a place is read off the index, which is
 //! searched at the place; each version that it lists from there is a search, and the first that is
 //! committed ends it. The count is one read.
 //!

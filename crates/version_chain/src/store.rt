@@ -78,9 +78,20 @@ impl Store {
     pub fn next_above(&self, key: &Key, t: u64) -> Option<u64>
         ensures { IsNextAbove (version_in self.now key.now) t result }
     {
-        match self.chains.next_above(key, t) {
-            None => None,
-            Some(version) => Some(version.ts.get()),
+        self.around(key, t).1
+    }
+
+    /// The version of the key with the greatest timestamp at or below `t`, and the least timestamp above
+    /// `t` at which the key has one: by one search for the key, and one of its chain.
+    pub fn around(&self, key: &Key, t: u64) -> (Option<&Version>, Option<u64>)
+        ensures newest { MatchOption result.0 ((i : ℕ) → i ≤ t → version_in self.now key.now i ≡ None)
+            (λ v. IsNewestIn self.now key.now t v.now) }
+        ensures next { IsNextAbove (version_in self.now key.now) t result.1 }
+    {
+        let (newest, next) = self.chains.around(key, t);
+        match next {
+            None => (newest, None),
+            Some(version) => (newest, Some(version.ts.get())),
         }
     }
 

@@ -4,13 +4,13 @@ use Rattle.timestamps.specs.declared.ts.TheConstants.{MAX}
 use Rattle.kept.specs.Table.{keys_of}
 use Rattle.txn_table.specs.TransactionIn.{transaction_in}
 use Rattle.version_chain.specs.Stores.{IsAbortedIn}
-use Rattle.mvto_rules.proofs.Closing.{IsCutting, cut_begins, cut_ends, cut_goes_on, cut_in_range}
+use Rattle.mvto_rules.proofs.Closing.{IsTakingBack, taken_in_range, taking_begins, taking_ends, taking_goes_on}
 use Rattle.mvto_rules.proofs.closings.take_back_through.Goals as goal
 
 pub unwrap-ts-requires : goal.unwrap-ts-requires
 unwrap-ts-requires c =
-    let cutting = subst (IsCutting c.args.store.now c.loop-ts.store c.args.txns.now c.args.to) c.in-Some.ensures.steps c.loop-ts.invariant.cutting in
-    let range = cut_in_range c.args.txns.now c.args.to c.in-Some.ts.now c.requires.in_range (cutting.part c.in-Some.ts.now (inl refl)) in
+    let taking = subst (IsTakingBack c.args.store.now c.loop-ts.store c.args.txns.now c.args.to) c.in-Some.ensures.steps c.loop-ts.invariant.taking in
+    let range = taken_in_range c.args.txns.now c.args.to c.in-Some.ts.now c.requires.in_range (taking.part c.in-Some.ts.now (inl refl)) in
     c.new.ensures.in_range.1 (subst (λ n. (1 ≤ n) × (n ≤ MAX)) (sym c.ts.view_is) range)
 
 pub overflow_add-count : goal.overflow_add-count
@@ -18,25 +18,25 @@ overflow_add-count c = omega (arith, c.loop-ts.invariant.counted, ap length c.in
 
 pub loop-ts-init : goal.loop-ts-init
 loop-ts-init c = record {
-  cutting = subst (IsCutting c.args.store.now c.args.store.now c.args.txns.now c.args.to) (sym c.into_iter-ts-iterator.ensures.into_iter_gives) (cut_begins c.args.store.now c.args.txns.now c.args.to c.undecided_through-ts-items.result c.undecided_through-ts-items.ensures.those);
+  taking = subst (IsTakingBack c.args.store.now c.args.store.now c.args.txns.now c.args.to) (sym c.into_iter-ts-iterator.ensures.into_iter_gives) (taking_begins c.args.store.now c.args.txns.now c.args.to c.undecided_through-ts-items.result c.undecided_through-ts-items.ensures.those);
   counted = omega arith;
 }
 
 pub loop-ts-preserved : goal.loop-ts-preserved
 loop-ts-preserved c =
-    let cutting = subst (IsCutting c.args.store.now c.loop-ts.store c.args.txns.now c.args.to) c.in-Some.ensures.steps c.loop-ts.invariant.cutting in
+    let taking = subst (IsTakingBack c.args.store.now c.loop-ts.store c.args.txns.now c.args.to) c.in-Some.ensures.steps c.loop-ts.invariant.taking in
     let named : c.unwrap-ts.result ≡ c.in-Some.ts.now = subst (λ o. IfSome o (λ t. t ≡ c.ts.inside.0)) c.unwrap-ts.ensures c.new.ensures.number ∙ c.ts.view_is in
     let aborted = subst (λ n. IsAbortedIn c.loop-ts.store c.abort.new.self n (keys_of (transaction_in c.args.txns.now n))) named
     (subst (IsAbortedIn c.loop-ts.store c.abort.new.self c.unwrap-ts.result) (c.write_set.ensures.keys ∙ ap (λ n. keys_of (transaction_in c.args.txns.now n)) c.get.ensures.number) c.abort.ensures) in
     record {
-      cutting = cut_goes_on c.args.store.now c.loop-ts.store c.abort.new.self c.args.txns.now c.args.to c.in-Some.ts.now c.next.new.self c.requires.noted cutting aborted;
+      taking = taking_goes_on c.args.store.now c.loop-ts.store c.abort.new.self c.args.txns.now c.args.to c.in-Some.ts.now c.next.new.self c.requires.noted taking aborted;
       counted = omega (arith, c.loop-ts.invariant.counted, ap length c.in-Some.ensures.steps);
     }
 
-pub returns-clause-cut : goal.returns-clause-cut
-returns-clause-cut c =
+pub returns-clause-gone : goal.returns-clause-gone
+returns-clause-gone c =
     let none : c.loop-ts.ts-iterator ≡ [] = c.in-None.ensures.steps.0 in
-    cut_ends c.args.store.now c.loop-ts.store c.args.txns.now c.args.to (subst (IsCutting c.args.store.now c.loop-ts.store c.args.txns.now c.args.to) none c.loop-ts.invariant.cutting)
+    taking_ends c.args.store.now c.loop-ts.store c.args.txns.now c.args.to (subst (IsTakingBack c.args.store.now c.loop-ts.store c.args.txns.now c.args.to) none c.loop-ts.invariant.taking)
 
 pub returns-clause-count : goal.returns-clause-count
 returns-clause-count c = record {

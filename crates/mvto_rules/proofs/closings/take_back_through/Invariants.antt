@@ -1,9 +1,9 @@
 use Rattle.std.proofs.Common.{length, ◌+◌, ◌≡◌}
-use Rattle.mvto_rules.proofs.Closing.{IsCutting}
+use Rattle.mvto_rules.proofs.Closing.{IsTakingBack}
 use Rattle.mvto_rules.proofs.closings.take_back_through.Given as goal
 
 abbrev pub invariant-loop-ts : goal.invariant-loop-ts
 invariant-loop-ts l = record {
-  cutting : IsCutting l.fn.store l.store l.txns l.to l.ts-iterator;
+  taking : IsTakingBack l.fn.store l.store l.txns l.to l.ts-iterator;
   counted : l.count + length l.ts-iterator ≡ length l.initial.ts-iterator;
 }

@@ -21,7 +21,7 @@ returns-clause-told c l at =
     subst (λ v. IsPolledFrom c.args.store.now c.args.self.now c.settle.new.self c.args.feed c.args.closed c.args.max v c.from_vec.result) (some_is l0 l (sym stood ∙ at))
     (polled_from c.args.store.now c.args.self.now c.move_to.new.self c.settle.new.self c.args.feed c.args.closed c.args.max c.saturating_add.result l0 c.in_ok-rows.rows.items c.in_ok-messages.messages.items c.from_vec.result c.due.result
     c.in_ok-place.place.after c.in_ok-place.place.row (nat_lt c.args.max c.len.result) c.in_ok-rows.ensures c.saturating_add.ensures c.ranges.max.fits small
-    (c.in_ok-messages.ensures ∙ ap (map messages.Row) c.first_rows.ensures) c.due.ensures (c.from_vec.ensures ∙ c.in_ok-messages-2.ensures)
+    (c.in_ok-messages.ensures ∙ ap (map messages.Row) c.at_most.ensures) c.due.ensures (c.from_vec.ensures ∙ c.in_ok-messages-2.ensures)
     (c.in_ok-place.ensures.after ∙ ap (λ n. last_resolved n c.as_slice.result.now) c.after.ensures ∙ ap (last_resolved l0.place.after) slice)
     (c.in_ok-place.ensures.row ∙ ap (last_name None) slice)
     (ap (nat_lt c.args.max) long)

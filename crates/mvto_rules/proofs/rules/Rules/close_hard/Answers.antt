@@ -4,5 +4,5 @@ use Rattle.mvto_rules.proofs.Closing.{hard_closed}
 use Rattle.mvto_rules.proofs.rules.Rules.close_hard.Goals as goal
 
 pub returns-clause-closed : goal.returns-clause-closed
-returns-clause-closed c = λ k. hard_closed (holding k c.args.self.now) (record (holding k c.close.new.self) { closed = c.args.closed }) (version_in c.take_back_through-count.new.store) (is_committed_in c.take_back_through-count.new.store) c.args.to c.args.closed
-    c.take_back_through-count.ensures.cut.version c.take_back_through-count.ensures.cut.committed (c.close.ensures k)
+returns-clause-closed c = λ k. hard_closed (holding k c.args.self.now) (record (holding k c.forget_through.new.self) { closed = c.args.closed }) (version_in c.take_back_through-count.new.store) (is_committed_in c.take_back_through-count.new.store) c.args.to c.args.closed
+    c.take_back_through-count.ensures.gone.version c.take_back_through-count.ensures.gone.committed (c.forget_through.ensures k)

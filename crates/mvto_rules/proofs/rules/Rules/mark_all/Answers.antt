@@ -7,5 +7,5 @@ add_pieces-requires-clause-apart c = are_apart c.args.self.now.store c.args.ts c
 
 pub returns-clause-ok : goal.returns-clause-ok
 returns-clause-ok c = both_ok c.add_pieces.result
-    (λ inside outside. λ k span made. scanned k c.args.self.now _ c.args.ts span c.args.pieces.now c.requires.in_range made inside outside)
+    (λ inside outside. λ k span made. scanned k c.args.self.now _ c.args.ts span c.args.pieces.now made inside outside)
     c.add_pieces.ensures.inside c.add_pieces.ensures.outside

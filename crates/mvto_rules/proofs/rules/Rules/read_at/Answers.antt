@@ -1,5 +1,4 @@
 use Rattle.std.proofs.Common.{ap, refl, sym, ◌∙◌}
-use Rattle.std.specs.Option.{option_copied}
 use Rattle.mvto_rules.proofs.Listing.{if_ok}
 use Rattle.mvto_rules.proofs.Seeing.{found_there}
 use Rattle.mvto_rules.proofs.rules.Rules.read_at.Goals as goal

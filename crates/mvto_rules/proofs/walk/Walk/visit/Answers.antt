@@ -23,5 +23,5 @@ returns-in_ok-add_row-in-Other c = λ s span rest walk.
     let low : 0 < c.args.ts = omega (arith, c.get.ensures.in_range.0) in
     let high : c.args.ts ≤ MAX = omega (arith, c.get.ensures.in_range.1) in
     let there = there_at s c.args.ts c.get.result c.args.key.now c.args.chain.now c.newest_at-newest.result walk.ahead.each.0.1 c.get.ensures.number c.newest_at-newest.ensures.version c.of.ensures.above in
-    stepped_other s c.args.ts c.in-Other.above c.until_of-until.result span c.args.key.now c.args.chain.now rest c.args.self.now _ (option_copied c.newest_at-newest.result) c.pass-in-Other.new.self low high walk there
-    c.in-Other.ensures.sight c.until_of-until.ensures c.in_ok-pass-in-Other.ensures c.in_ok-add-in-Other.ensures.piece c.in_ok-add-in-Other.ensures.lo c.in_ok-add_row-in-Other.ensures
+    stepped_other s c.args.ts c.in-Other.above c.until_of-until.result span c.args.key.now c.args.chain.now rest c.args.self.now _ (option_copied c.newest_at-newest.result) low high walk there
+    c.in-Other.ensures.sight c.until_of-until.ensures c.narrow.ensures c.in_ok-add_row-in-Other.ensures

@@ -5,7 +5,7 @@ use Rattle.catch_up.specs.Firsts.{AreNextFirsts}
 use Rattle.feed.specs.Firsts.{AreNextFirstsAt}
 use Rattle.feed.specs.Live.{Live}
 use Rattle.feed.proofs.Catching.{firsts_next, firsts_none, if_ok_more}
-use Rattle.feed.proofs.live.LiveFeed.first_rows.Goals as goal
+use Rattle.feed.proofs.live.LiveFeed.snapshot_rows.Goals as goal
 
 pub returns-in_default : goal.returns-in_default
 returns-in_default c = firsts_none c.args.store.now c.args.self.now.place c.args.n c.new.result.items c.in_default.ensures c.new.ensures.items
