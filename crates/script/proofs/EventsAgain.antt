@@ -7,7 +7,7 @@ use Rattle.std.proofs.lemmas.List.{length-append, drop_at, get_or_at}
 use Rattle.std.proofs.lemmas.List.Elements.{recursion_from_All}
 use Rattle.std.proofs.lemmas.List.Folds.{list_all-append}
 use Rattle.text_format.specs.declared.Format.{Format}
-use Rattle.text_format.specs.Limits.{key_limit, value_limit, line_limit, header, header_lines}
+use Rattle.text_format.specs.Limits.{key_limit, value_limit, line_limit, header_lines}
 use Rattle.base64.proofs.RoundTrip.{length-encode_symbols}
 use Rattle.base64.specs.Rfc4648.{encode_symbols, padding_len}
 use Rattle.std.specs.Prelude.{replicate}

@@ -1,13 +1,23 @@
 -- A text behind its header.
-use Rattle.std.proofs.Common.{◌≡◌, ℕ, true, false, List, [], ◌∷◌, ◌++◌, length, take, drop, Ok, Err, refl, sym, ap, ◌∙◌, arith}
-use Rattle.std.specs.Prelude.{bytes_eq}
+use Rattle.std.proofs.Common.{◌≡◌, ℕ, ◌+◌, ◌≤◌, ◌<◌, Bool, true, false, List, [], ◌∷◌, ◌++◌, length, take, drop, Err, refl, sym, ap, ◌∙◌, arith, append_assoc}
+use Rattle.std.specs.Prelude.{bytes_eq, codes, decimal, not, ◌==◌, ◌^◌}
+use Rattle.std.specs.List.{All, list_all}
+use Rattle.std.proofs.lemmas.Bool.{ne_eqb}
+use Rattle.std.proofs.lemmas.Fmt.{decimal_nonempty}
+use Rattle.std.proofs.lemmas.List.Elements.{recursion_from_All}
 use Rattle.std.proofs.lemmas.List.{take-append-drop, take_at, drop_at}
 use Rattle.std.proofs.lemmas.Slice.Eq.{bytes_eq-Decides}
 use Rattle.spans.specs.declared.calls.events.Event.{Event}
 use Rattle.text_format.specs.declared.Format.{Format}
-use Rattle.text_format.specs.Limits.{header}
+use Rattle.text_format.specs.Limits.{header, format_of}
+use Rattle.text_format.specs.declared.Format.TheVariants.{One, Two}
 use Rattle.word_lines.specs.declared.fault.LineFault.TheVariants.{WordCount}
-use Rattle.script.specs.Transcripts.{body_at, transcript_at}
+use Rattle.word_lines.specs.Commands.{joined, words_of}
+use Rattle.word_lines.specs.Events.{heading_text}
+use Rattle.word_lines.specs.Limits.{IsEvent}
+use Rattle.word_lines.specs.Replies.{reply_words, following_lines}
+use Rattle.word_lines.proofs.JoinedParts.{decimal_all}
+use Rattle.script.specs.Transcripts.{body_at, events_text, transcript_at, transcript_text}
 
 -- a text that begins with its header
 pub behind_header : (format : Format) (text : List ℕ) → bytes_eq (take (length (header format)) text) (header format) ≡ true → transcript_at format text ≡ body_at format (drop (length (header format)) text)
@@ -42,3 +52,35 @@ header_again format body =
     let front : take (length (header format)) (header format ++ body) ≡ header format = take_at (header format) body (length (header format)) refl in
     behind_header format (header format ++ body) (ap (λ (x : List ℕ). bytes_eq x (header format)) front ∙ (bytes_eq-Decides (header format) (header format)).1 refl)
     ∙ ap (body_at format) (drop_at (header format) body (length (header format)) refl)
+
+-- ---- the format of a transcript
+
+abbrev isnt_m : ℕ → Bool
+isnt_m b = not (b == 109)
+
+-- what begins with a word that has no `m` has no header in front
+no_header_begins : (word rest : List ℕ) → 1 ≤ length word → list_all isnt_m word ≡ true → bytes_eq (take (length (header Two)) (word ++ rest)) (header Two) ≡ false
+no_header_begins [] rest some all = absurd (omega (arith, some))
+no_header_begins (b ∷ bs) rest some all = first (b == 109) refl all
+  where
+    first : (is : Bool) → (b == 109) ≡ is → list_all isnt_m (b ∷ bs) ≡ true → bytes_eq (take (length (header Two)) ((b ∷ bs) ++ rest)) (header Two) ≡ false
+    first true is all = let no : false ≡ true = rw is at all in cc
+    first false is all = rw is refl
+
+-- events are written as digits first
+no_header_written : (e : Event) (rest : List ℕ) → e.position < 2 ^ 64 → bytes_eq (take (length (header Two)) (heading_text e ++ rest)) (header Two) ≡ false
+no_header_written e rest small =
+    let words = decimal e.seat ∷ (words_of e.cmd ++ codes "=>" ∷ reply_words e.reply) in
+    ap (λ (text : List ℕ). bytes_eq (take (length (header Two)) text) (header Two)) (append_assoc (decimal e.position) (32 ∷ joined words) rest)
+    ∙ no_header_begins (decimal e.position) ((32 ∷ joined words) ++ rest) (decimal_nonempty e.position small) (decimal_all isnt_m (λ d few. rw (ne_eqb (48 + d) 109 (λ is. omega (arith, few, is))) refl) e.position small)
+
+-- a transcript is found to be in the format that it is written in
+pub format_again : (format : Format) (es : List Event) → All (IsEvent format) es → format_of (transcript_text format es) ≡ format
+format_again Two es are = refl
+format_again One [] are = refl
+format_again One (e ∷ es) are =
+    let first = recursion_from_All (IsEvent One) (e ∷ es) are in
+    let none : bytes_eq (take (length (header Two)) (transcript_text One (e ∷ es))) (header Two) ≡ false =
+    ap (λ (text : List ℕ). bytes_eq (take (length (header Two)) text) (header Two)) (append_assoc (heading_text e) (10 ∷ following_lines e.reply) (events_text es))
+    ∙ no_header_written e ((10 ∷ following_lines e.reply) ++ events_text es) first.0.0 in
+    rw none refl

@@ -1,5 +1,5 @@
 -- What is read as an event is written so.
-use Rattle.std.proofs.Common.{◌≡◌, ℕ, zero, suc, ◌+◌, ◌<◌, ◌≤◌, Bool, true, false, cond, List, [], ◌∷◌, ◌++◌, length, get_or, drop, Result, Ok, Err, refl, sym, ap, subst, ◌∙◌, inl, inr, append_assoc, add-one, arith}
+use Rattle.std.proofs.Common.{◌≡◌, ℕ, zero, suc, ◌+◌, ◌<◌, ◌≤◌, Bool, true, false, cond, List, [], ◌∷◌, ◌++◌, length, get_or, take, drop, Result, Ok, Err, refl, sym, ap, subst, ◌∙◌, inl, inr, append_assoc, add-one, arith}
 use Rattle.std.specs.Prelude.{codes, decimal, bytes_eq, ok_or, nat_lt, ◌==◌, IfOk}
 use Rattle.std.specs.List.{All, AllByRecursion, concat, flat_map}
 use Rattle.std.proofs.Common.{Vec, Global}
@@ -33,7 +33,7 @@ use Rattle.word_lines.specs.Events.{event_text}
 use Rattle.word_lines.specs.Reading.{◌>>=◌, word_at, number_at, session_at, key_at, value_at, row_at, arguments_at}
 use Rattle.script.specs.ReplyReading.{told_as, to_the_end, reply_at}
 use Rattle.script.specs.EventLines.{behind_arrow, heading_of, heading_at, pair_at, pair_of, row_line_at, message_line_at}
-use Rattle.script.specs.Transcripts.{next_at, many_at, following_at, event_at, events_at, body_at, events_text, transcript_text, Tells}
+use Rattle.script.specs.Transcripts.{next_at, many_at, following_at, event_at, events_at, body_at, transcript_at, events_text, transcript_text, Tells}
 use Rattle.script.specs.declared.fault.TranscriptError.{TranscriptError}
 use Rattle.word_lines.proofs.ReadWords.{bind_ok, guarded, refused, some_ok, ok_is, number_word, session_word, key_word, value_word, word_found}
 use Rattle.word_lines.proofs.ReadCommands.{IsRight, Begins, name_of, arity_of, arguments_found, text_found, words_found, row_word}
@@ -41,6 +41,7 @@ use Rattle.script.proofs.ReadReplies.{shape_words, IsShape, reply_found, ended, 
 use Rattle.script.proofs.MessageLines.{message_found}
 use Rattle.script.proofs.TakeLines.{next_found, event_fewer}
 use Rattle.script.proofs.CutLines.{lines_whole}
+use Rattle.script.proofs.Headers.{behind_header, header_is, no_header}
 
 -- each row of the table says what its command is
 table_right : AllByRecursion IsRight table
@@ -281,8 +282,14 @@ module _ (format : Format) where
       let f = events_found (length (lines_of body)) (record { number = 1 + header_lines format; lines = lines_of body }) es (omega arith) e in
       (sym (lines_whole body) ∙ f.0, All-from_recursion (IsEvent format) es f.1)
 
-  -- what is read behind the header is the events of the whole, where nothing is said of want of memory
-  pub told_found : (text body : List ℕ) (r : Result (Vec Event Global) TranscriptError) → text ≡ header format ++ body → Tells (λ events. events.items) r (body_at format body)
+  transcript_found : (b : Bool) (text : List ℕ) (es : List Event) → bytes_eq (take (length (header format)) text) (header format) ≡ b → transcript_at format text ≡ Ok es → (text ≡ transcript_text format es) × All (IsEvent format) es
+  transcript_found true text es begins e =
+      let f = body_found (drop (length (header format)) text) es (sym (behind_header format text begins) ∙ e) in
+      (header_is format text begins ∙ ap (λ (body : List ℕ). header format ++ body) f.0, f.1)
+  transcript_found false text es begins e = absurd (let clash : Err (record { line = 1; fault = WordCount }) ≡ Ok es = sym (no_header format text begins) ∙ e in cc)
+
+  -- what is read of a text is its events, where nothing is said of want of memory
+  pub told_found : (text : List ℕ) (r : Result (Vec Event Global) TranscriptError) → Tells (λ events. events.items) r (transcript_at format text)
       → IfOk r (λ events. (text ≡ transcript_text format events.items) × All (IsEvent format) events.items)
-  told_found text body (Ok events) is tells = let f = body_found body events.items tells in (is ∙ ap (λ (b : List ℕ). header format ++ b) f.0, f.1)
-  told_found text body (Err e) is tells = tt
+  told_found text (Ok events) tells = transcript_found (bytes_eq (take (length (header format)) text) (header format)) text events.items refl tells
+  told_found text (Err e) tells = tt

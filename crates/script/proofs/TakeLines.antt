@@ -1,7 +1,8 @@
 -- Lines read one after the other, as a loop does.
-use Rattle.std.proofs.Common.{◌≡◌, ℕ, zero, suc, ◌-◌, ◌+◌, ◌<◌, ◌≤◌, List, [], ◌∷◌, ◌++◌, Result, Ok, Err, length, true, false, refl, sym, ap, subst, ◌∙◌, append_assoc, arith}
+use Rattle.std.proofs.Common.{◌≡◌, ℕ, zero, suc, ◌-◌, ◌+◌, ◌<◌, ◌≤◌, List, [], ◌∷◌, ◌++◌, Result, Ok, Err, length, Bool, true, false, cond, Option, Some, None, refl, sym, ap, subst, ◌∙◌, append_assoc, arith}
 use Rattle.std.specs.Prelude.{◌==◌}
-use Rattle.std.proofs.lemmas.Bool.{eqb-false}
+use Rattle.std.specs.List.{onto_first}
+use Rattle.std.proofs.lemmas.Bool.{eqb-false, eq-eqb}
 use Rattle.std.proofs.lemmas.List.{append-nil}
 use Rattle.text_format.specs.declared.Format.{Format}
 use Rattle.text_format.specs.Limits.{header_lines}
@@ -16,9 +17,9 @@ use Rattle.word_lines.specs.declared.fault.LineFault.{LineFault}
 use Rattle.script.specs.declared.fault.TranscriptError.{TranscriptError}
 use Rattle.script.specs.declared.fault.TranscriptError.TheVariants as errors
 use Rattle.word_lines.proofs.ReadWords.{bind_ok, ok_is}
-use Rattle.script.specs.Lines.{Place, lines_of}
+use Rattle.script.specs.Lines.{Place, is_newline, lines_of}
 use Rattle.word_lines.specs.Reading.{◌>>=◌}
-use Rattle.script.specs.Transcripts.{Fault, Fails, at_line, first_of, next_at, many_at, following_at, event_at, events_at, body_at}
+use Rattle.script.specs.Transcripts.{Fault, Fails, TakesLines, at_line, first_of, next_at, many_at, following_at, event_at, events_at, body_at, Transcript, nothing_left, onto_left, left_within, left_at, outcome_of, outcome, IsFaulty, TakesEvent}
 
 -- what was read before, and what is still read
 abbrev pub with_front : {A : Type 0} → List A → Result (List A × Place) Fault → Result (List A × Place) Fault
@@ -108,66 +109,125 @@ module _ (format : Format) where
       let line = next_found (heading_at format) p h.0 h.1 in
       subst (λ (y : Event × Place). length y.1.lines < length p.lines) (ok_is (made h.0.0 r.0.0, r.0.1) x r.2) (omega (arith, ap length line.1, following_fewer format h.0.0.shape h.0.1 r.0 r.1))
 
--- the events before, and those that are still read
-abbrev pub onto : List Event → Result (List Event) Fault → Result (List Event) Fault
-onto front read = read >>= λ es. Ok (front ++ es)
+-- ---- what is left
+
+-- what is read, and what is left, where the first event is known
+ahead_same : (read : Result (Event × Place) Fault) (f g : Place → Transcript) → ((x : Event × Place) → read ≡ Ok x → f x.1 ≡ g x.1) → onto_left read f ≡ onto_left read g
+ahead_same (Ok x) f g same = ap (λ (left : Transcript). record { events = x.0 ∷ left.events; fault = left.fault }) (same x refl)
+ahead_same (Err fault) f g same = refl
+
+none_ahead : (b : Bool) (left : Transcript) → b ≡ true → nothing_left ≡ cond b nothing_left left
+none_ahead b left none = rw none refl
 
 module _ (format : Format) where
-  -- what a loop over events keeps: enough events are still allowed to take all lines
-  pub record Reads (front : List Event) (p : Place) (total : Result (List Event) Fault) : Type 0 where
-    pub most : ℕ
-    pub enough : length p.lines ≤ most
-    pub so_far : onto front (events_at format most p) ≡ total
+  -- no line is left
+  pub none_left : (n : ℕ) (p : Place) → length p.lines ≡ 0 → left_within format n p ≡ nothing_left
+  unfolding left_within
+  none_left zero p none = refl
+  none_left (suc n) p none = sym (none_ahead (length p.lines == 0) (onto_left (event_at format p) (λ after. left_within format n after)) (eq-eqb (length p.lines) 0 none))
+
+  -- as many events as there are lines are enough
+  same_within : (n m : ℕ) (p : Place) → length p.lines ≤ n → length p.lines ≤ m → left_within format n p ≡ left_within format m p
+  unfolding left_within
+  same_within zero m p n-enough m-enough = sym (none_left m p (omega arith))
+  same_within (suc n) zero p n-enough m-enough = none_left (suc n) p (omega arith)
+  same_within (suc n) (suc m) p n-enough m-enough =
+      ap (λ (left : Transcript). cond (length p.lines == 0) nothing_left left)
+      (ahead_same (event_at format p) (λ after. left_within format n after) (λ after. left_within format m after) (λ x e. same_within n m x.1 (omega (arith, event_fewer format p x e)) (omega (arith, event_fewer format p x e))))
+
+  some_within : (n : ℕ) (p : Place) → length p.lines ≤ n → (length p.lines == 0) ≡ false → left_within format n p ≡ onto_left (event_at format p) (left_at format)
+  unfolding left_within
+  some_within zero p enough some = absurd (eqb-false (length p.lines) 0 some (omega arith))
+  some_within (suc n) p enough some = rw some (ahead_same (event_at format p) (λ after. left_within format n after) (left_at format) (λ x e. same_within n (length x.1.lines) x.1 (omega (arith, event_fewer format p x e)) (omega arith)))
+
+-- the first event of what is left
+event_first : (read : Result (Event × Place) Fault) (below : Place → Transcript) (r : Result Event TranscriptError) (after : Place) → TakesLines (λ x. x) r after read → TakesEvent (Some r) (onto_left read below) (below after)
+event_first read below (Ok e) after takes = rw takes refl
+event_first read below (Err errors.NoMemory) after takes = tt
+event_first read below (Err (errors.Fault line fault)) after takes = rw takes refl
+
+module _ (format : Format) where
+  -- what is taken where a line is left
+  pub event_taken : (p after : Place) (r : Result Event TranscriptError) → (length p.lines == 0) ≡ false → TakesLines (λ x. x) r after (event_at format p) → TakesEvent (Some r) (left_at format p) (left_at format after)
+  event_taken p after r some takes = rw (some_within format (length p.lines) p (omega arith) some) (event_first (event_at format p) (left_at format) r after takes)
+
+-- ---- the whole of it
+
+onto_outcome : (e : Event) (es : List Event) (fault : Option Fault) → (outcome_of es fault >>= λ others. Ok (e ∷ others)) ≡ outcome_of (e ∷ es) fault
+onto_outcome e es None = refl
+onto_outcome e es (Some f) = refl
+
+whole_by : (read : Result (Event × Place) Fault) (read_on : Place → Result (List Event) Fault) (below : Place → Transcript) → ((p : Place) → read_on p ≡ outcome (below p))
+    → (read >>= λ first. read_on first.1 >>= λ others. Ok (first.0 ∷ others)) ≡ outcome (onto_left read below)
+whole_by (Ok x) read_on below same = ap (λ (others : Result (List Event) Fault). others >>= λ es. Ok (x.0 ∷ es)) (same x.1) ∙ onto_outcome x.0 (below x.1).events (below x.1).fault
+whole_by (Err f) read_on below same = refl
+
+whole_step : (b : Bool) (read : Result (List Event) Fault) (left : Transcript) → read ≡ outcome left → cond b (Ok []) read ≡ outcome (cond b nothing_left left)
+whole_step true read left same = refl
+whole_step false read left same = same
+
+module _ (format : Format) where
+  whole_within : (n : ℕ) (p : Place) → events_at format n p ≡ outcome (left_within format n p)
+  unfolding events_at left_within
+  whole_within zero p = refl
+  whole_within (suc n) p =
+      whole_step (length p.lines == 0) (event_at format p >>= λ first. events_at format n first.1 >>= λ others. Ok (first.0 ∷ others)) (onto_left (event_at format p) (λ after. left_within format n after))
+      (whole_by (event_at format p) (events_at format n) (λ after. left_within format n after) (whole_within n))
+
+  -- what is read of a text is what is left at its beginning
+  pub whole_left : (text : List ℕ) (p : Place) → p ≡ record { number = 1 + header_lines format; lines = lines_of text } → body_at format text ≡ outcome (left_at format p)
+  unfolding body_at
+  whole_left text p is = whole_within (length (lines_of text)) (record { number = 1 + header_lines format; lines = lines_of text }) ∙ ap (λ (q : Place). outcome (left_at format q)) (sym is)
+
+-- ---- how much is left
+
+few_ahead : (n : ℕ) (read : Result (Event × Place) Fault) (below : Place → Transcript) → ((p : Place) → length (below p).events ≤ n) → length (onto_left read below).events ≤ suc n
+few_ahead n (Ok x) below few = omega (arith, few x.1)
+few_ahead n (Err f) below few = omega arith
+
+few_step : (b : Bool) (n : ℕ) (left : Transcript) → length left.events ≤ n → length (cond b nothing_left left).events ≤ n
+few_step true n left few = omega arith
+few_step false n left few = few
+
+lines_onto : (b : ℕ) (lines : List (List ℕ)) → length (onto_first b lines) ≤ suc (length lines)
+lines_onto b [] = omega arith
+lines_onto b (line ∷ lines) = omega arith
+
+lines_step : (s : Bool) (b : ℕ) (lines : List (List ℕ)) → length (cond s ((b ∷ []) ∷ lines) (onto_first b lines)) ≤ suc (length lines)
+lines_step true b lines = omega arith
+lines_step false b lines = lines_onto b lines
+
+-- a line has a byte at least
+few_lines : (text : List ℕ) → length (lines_of text) ≤ length text
+unfolding lines_of
+few_lines [] = omega arith
+few_lines (b ∷ text) = omega (arith, lines_step (is_newline b) b (lines_of text), few_lines text)
+
+module _ (format : Format) where
+  few_within : (n : ℕ) (p : Place) → length (left_within format n p).events ≤ n
+  unfolding left_within
+  few_within zero p = omega arith
+  few_within (suc n) p = few_step (length p.lines == 0) (suc n) (onto_left (event_at format p) (λ after. left_within format n after)) (few_ahead n (event_at format p) (λ after. left_within format n after) (few_within n))
+
+  -- there are no more events than bytes
+  pub few_left : (text body : List ℕ) (p : Place) → p.lines ≡ lines_of body → length body ≤ length text → length (left_at format p).events ≤ length text
+  few_left text body p is within = omega (arith, few_within (length p.lines) p, ap length is, few_lines body)
+
+-- ---- all that is left, read event by event
+
+-- what was read of it, and what is still left of it
+abbrev pub behind : List Event → Transcript → Result (List Event) Fault
+behind front left = outcome_of (front ++ left.events) left.fault
 
 -- one event more was read
-regroup_events : (front : List Event) (e : Event) (read : Result (List Event) Fault) → onto front (read >>= λ others. Ok (e ∷ others)) ≡ onto (front ++ e ∷ []) read
-regroup_events front e (Ok others) = ap (λ (es : List Event). Ok es) (sym (append_assoc front (e ∷ []) others))
-regroup_events front e (Err f) = refl
+pub reads_more : (front : List Event) (e : Event) (left left' : Transcript) → left ≡ record { events = e ∷ left'.events; fault = left'.fault } → behind front left ≡ behind (front ++ e ∷ []) left'
+reads_more front e left left' is = ap (behind front) is ∙ ap (λ (es : List Event). outcome_of es left'.fault) (sym (append_assoc front (e ∷ []) left'.events))
 
-onto_none : (read : Result (List Event) Fault) → onto [] read ≡ read
-onto_none (Ok es) = refl
-onto_none (Err f) = refl
+-- an event is faulty
+pub reads_fail : (error : TranscriptError) (front : List Event) (left : Transcript) (total : Result (List Event) Fault) → IsFaulty error left → total ≡ behind front left → Fails error total
+reads_fail errors.NoMemory front left total faulty so_far = tt
+reads_fail (errors.Fault line fault) front left total faulty so_far = so_far ∙ ap (behind front) faulty
 
-module _ (format : Format) where
-  -- nothing was read yet
-  pub reads_all : (text : List ℕ) (p : Place) → p ≡ record { number = 1 + header_lines format; lines = lines_of text } → Reads format [] p (body_at format text)
-  unfolding body_at
-  reads_all text p e =
-      subst (λ (q : Place). Reads format [] q (body_at format text)) (sym e)
-      (record { most = length (lines_of text); enough = omega arith; so_far = onto_none (events_at format (length (lines_of text)) (record { number = 1 + header_lines format; lines = lines_of text })) })
-
-  reads_on : (most : ℕ) (front : List Event) (p : Place) (e : Event) (after : Place) (total : Result (List Event) Fault) → (length p.lines == 0) ≡ false → event_at format p ≡ Ok (e, after)
-      → length p.lines ≤ most → onto front (events_at format most p) ≡ total → Reads format (front ++ e ∷ []) after total
-  unfolding events_at
-  reads_on zero front p e after total some h enough so_far = absurd (omega (arith, event_fewer format p (e, after) h))
-  reads_on (suc n) front p e after total some h enough so_far =
-      let one : onto front (events_at format (suc n) p) ≡ onto (front ++ e ∷ []) (events_at format n after) = rw (some, h) (regroup_events front e (events_at format n after)) in
-      record { most = n; enough = omega (arith, event_fewer format p (e, after) h); so_far = sym one ∙ so_far }
-
-  -- one event more is read
-  pub reads_more : (front : List Event) (p : Place) (e : Event) (after : Place) (total : Result (List Event) Fault) → (length p.lines == 0) ≡ false → event_at format p ≡ Ok (e, after) → Reads format front p total → Reads format (front ++ e ∷ []) after total
-  reads_more front p e after total some h reads = reads_on reads.most front p e after total some h reads.enough reads.so_far
-
-  fails_at : (most : ℕ) (line : ℕ) (fault : LineFault) (front : List Event) (p : Place) (total : Result (List Event) Fault) → (length p.lines == 0) ≡ false → event_at format p ≡ Err (record { line = line; fault = fault })
-      → length p.lines ≤ most → onto front (events_at format most p) ≡ total → total ≡ Err (record { line = line; fault = fault })
-  unfolding events_at
-  fails_at zero line fault front p total some h enough so_far = absurd (eqb-false (length p.lines) 0 some (omega arith))
-  fails_at (suc n) line fault front p total some h enough so_far =
-      let one : onto front (events_at format (suc n) p) ≡ Err (record { line = line; fault = fault }) = rw (some, h) refl in
-      sym so_far ∙ one
-
-  -- an event is faulty
-  pub reads_fail : (error : TranscriptError) (front : List Event) (p : Place) (total : Result (List Event) Fault) → (length p.lines == 0) ≡ false → Fails error (event_at format p) → Reads format front p total → Fails error total
-  reads_fail errors.NoMemory front p total some h reads = tt
-  reads_fail (errors.Fault line fault) front p total some h reads = fails_at reads.most line fault front p total some h reads.enough reads.so_far
-
-  ends_at : (most : ℕ) (front : List Event) (p : Place) (total : Result (List Event) Fault) → (length p.lines == 0) ≡ true → onto front (events_at format most p) ≡ total → total ≡ Ok front
-  unfolding events_at
-  ends_at zero front p total none so_far = sym so_far ∙ ap (λ (es : List Event). Ok es) (append-nil front)
-  ends_at (suc n) front p total none so_far =
-      let one : onto front (events_at format (suc n) p) ≡ Ok front = rw none (ap (λ (es : List Event). Ok es) (append-nil front)) in
-      sym so_far ∙ one
-
-  -- no line is left
-  pub reads_end : (front : List Event) (p : Place) (total : Result (List Event) Fault) → (length p.lines == 0) ≡ true → Reads format front p total → total ≡ Ok front
-  reads_end front p total none reads = ends_at reads.most front p total none reads.so_far
+-- nothing is left
+pub reads_end : (front : List Event) (left : Transcript) (total : Result (List Event) Fault) → left ≡ nothing_left → total ≡ behind front left → total ≡ Ok front
+reads_end front left total none so_far = so_far ∙ ap (behind front) none ∙ ap (λ (es : List Event). Ok es) (append-nil front)

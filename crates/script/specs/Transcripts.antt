@@ -1,5 +1,5 @@
 -- Reading transcripts from the first line to the last: the events, or the first fault with the number of its line.
-use Rattle.std.specs.Prelude.{◌≡◌, ℕ, zero, suc, ◌+◌, ◌==◌, if◌then◌else◌, List, [], ◌∷◌, ◌++◌, length, take, drop, bytes_eq, Result, Ok, Err}
+use Rattle.std.specs.Prelude.{◌≡◌, ℕ, zero, suc, ◌+◌, ◌==◌, if◌then◌else◌, List, [], ◌∷◌, ◌++◌, length, take, drop, bytes_eq, Option, Some, None, Result, Ok, Err}
 use Rattle.std.specs.List.{flat_map}
 use Rattle.text_format.specs.declared.Format.{Format}
 use Rattle.text_format.specs.Limits.{header, header_lines}
@@ -106,3 +106,47 @@ unfoldable pub transcript_at : Format → List ℕ → Result (List Event) Fault
 transcript_at format text =
     if bytes_eq (take (length (header format)) text) (header format) then body_at format (drop (length (header format)) text)
     else Err (record { line = 1; fault = WordCount })
+
+-- ---- one event at a time
+
+-- what is left of a transcript: its events up to the first faulty one, and that one's fault
+pub record Transcript : Type 0 where
+  pub events : List Event
+  pub fault : Option Fault
+
+-- nothing is left
+abbrev pub nothing_left : Transcript
+nothing_left = record { events = []; fault = None }
+
+-- an event, and what is left behind it; a fault hides what stands below it
+abbrev pub onto_left : Result (Event × Place) Fault → (Place → Transcript) → Transcript
+onto_left (Ok first) below = let others = below first.1 in record { events = first.0 ∷ others.events; fault = others.fault }
+onto_left (Err f) below = record { events = []; fault = Some f }
+
+-- what is left at a place, where there are at most so many events
+unfoldable pub left_within : Format → ℕ → Place → Transcript
+left_within format zero p = nothing_left
+left_within format (suc n) p = if length p.lines == 0 then nothing_left else onto_left (event_at format p) (λ after. left_within format n after)
+
+-- what is left at a place
+abbrev pub left_at : Format → Place → Transcript
+left_at format p = left_within format (length p.lines) p
+
+-- what all that is left says: its events, or its fault
+abbrev pub outcome_of : List Event → Option Fault → Result (List Event) Fault
+outcome_of events None = Ok events
+outcome_of events (Some f) = Err f
+
+abbrev pub outcome : Transcript → Result (List Event) Fault
+outcome left = outcome_of left.events left.fault
+
+-- what is left begins with its fault, unless memory ran out
+abbrev pub IsFaulty : TranscriptError → Transcript → Type 0
+IsFaulty errors.NoMemory left = Unit {0}
+IsFaulty (errors.Fault line fault) left = left ≡ record { events = []; fault = Some (record { line = line; fault = fault }) }
+
+-- the first of what was left was taken off, if there was any, or is faulty
+abbrev pub TakesEvent : Option (Result Event TranscriptError) → Transcript → Transcript → Type 0
+TakesEvent None left left' = (left ≡ nothing_left) × (left' ≡ left)
+TakesEvent (Some (Ok e)) left left' = left ≡ record { events = e ∷ left'.events; fault = left'.fault }
+TakesEvent (Some (Err error)) left left' = IsFaulty error left

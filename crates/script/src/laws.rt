@@ -1,6 +1,7 @@
 //! What holds of all texts, as the contracts of functions that do nothing.
 ghost use Rattle.std.specs.Prelude.{◌≡◌, ℕ, ◌<◌, ◌^◌, List, Some, Ok};
 ghost use Rattle.std.specs.List.{All};
+ghost use Rattle.text_format.specs.Limits.{format_of};
 ghost use Rattle.text_format.specs.declared.Format.{Format};
 ghost use Rattle.spans.specs.declared.calls.events.Event.{Event};
 ghost use Rattle.spans.specs.declared.calls.messages.Message.{Message};
@@ -16,9 +17,11 @@ pub fn messages()
     ensures written { (format : Format) (m : Message) → IsMessage format m → message_of format (message_line m) ≡ Some m }
 {}
 
-/// What was written of events is read as these events, where they and their first lines keep the format's limits.
+/// What was written of events is found to be in its format, and is read as these events, where they and their first lines keep
+/// the format's limits.
 pub fn transcripts()
-    ensures { (f : Format) (es : List Event) → All (IsEvent f) es → All (KeepsLimit f) es → transcript_at f (transcript_text f es) ≡ Ok es }
+    ensures format { (f : Format) (es : List Event) → All (IsEvent f) es → format_of (transcript_text f es) ≡ f }
+    ensures read { (f : Format) (es : List Event) → All (IsEvent f) es → All (KeepsLimit f) es → transcript_at f (transcript_text f es) ≡ Ok es }
 {}
 
 /// What was written of calls that keep the format's limits is read as these calls, for whatever number of seats, and what stands

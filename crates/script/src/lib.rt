@@ -21,6 +21,7 @@
 //! What no clause says of it is tested in `worked_texts`, by the tables of the format.
 #![tactic(auto)]
 
+pub mod events;
 pub mod fault;
 mod following;
 mod headings;

@@ -1,0 +1,99 @@
+//! The events of a transcript, taken one at a time.
+//!
+//! ```text
+//! 1  0 0 begin 10 => started     Some(Ok(Event { position: 0, .. }))
+//! 2  1 0 scan 10 - - => rows 1   Some(Ok(Event { position: 1, .. })), with the row
+//! 3  row a 1
+//! 4  2 0 commit                  Some(Err(Fault { line: 4, .. }))
+//! ```
+ghost use Rattle.std.specs.Prelude.{◌≡◌, ◌≤◌, length, IfOk, MatchResult};
+ghost use Rattle.script.specs.EventLines.{heading_at};
+ghost use Rattle.script.specs.Transcripts.{Fails, TakesLines, TakesEvent, next_at, event_at, outcome, transcript_at};
+
+use crate::fault::TranscriptError;
+use crate::following::take_following;
+use crate::headings::{Heading, read_heading};
+use crate::lines::Lines;
+use spans::calls::Event;
+use std::alloc::Global;
+use std::marker::Model;
+use text_format::Format;
+use word_lines::fault::{LineFault, ReadError};
+
+/// The events of a transcript that are still to be read. The text is lent, and memory is taken for one event at a time.
+#[derive(Drop)]
+pub struct Events<'a> {
+    lines: Lines<'a>,
+    format: Format,
+}
+
+impl<'a> Model for Events<'a> {
+    ghost use Rattle.script.specs.Transcripts.{Transcript, left_at};
+
+    ghost Value = { Transcript };
+
+    ghost view = { λ e. left_at e.format e.lines };
+}
+
+impl<'a> Events<'a> {
+    /// The events of a transcript of a format. A text that doesn't begin with the format's header is faulty in its
+    /// first line, by `WordCount`.
+    pub fn new(text: &'a [u8], format: Format) -> Result<Events<'a>, TranscriptError>
+        // An event has a byte at least.
+        ensures few { IfOk result (λ left. length left.events ≤ length text.now) }
+        ensures exact { MatchResult result (λ left. transcript_at format text.now ≡ outcome left) (λ e. Fails e (transcript_at format text.now)) }
+    {
+        match text.strip_prefix(format.header()) {
+            Some(body) => Ok(Events {
+                lines: Lines::below(body, format.header_lines()),
+                format,
+            }),
+            None => Err(TranscriptError::Fault {
+                line: 1,
+                fault: LineFault::WordCount,
+            }),
+        }
+    }
+
+    /// Takes the next event, if there is one. What is left after an error isn't said.
+    pub fn next(&mut self, alloc: Global) -> Option<Result<Event, TranscriptError>>
+        ensures { TakesEvent result self.old self.new }
+    {
+        if self.lines.is_empty() {
+            return None;
+        }
+        Some(take_event(alloc, &mut self.lines, self.format))
+    }
+}
+
+/// Takes the lines of one event.
+#[tactic(auto, unfolding(crate::specs::Transcripts::event_at))]
+fn take_event(alloc: Global, lines: &mut Lines, format: Format) -> Result<Event, TranscriptError>
+    ensures { TakesLines (λ x. x) result lines.new (event_at format lines.old) }
+{
+    let heading = take_heading(alloc, lines, format)?;
+    let reply = take_following(alloc, heading.shape, lines, format)?;
+    Ok(Event {
+        position: heading.position,
+        seat: heading.seat,
+        cmd: heading.cmd,
+        reply,
+    })
+}
+
+fn take_heading(
+    alloc: Global,
+    lines: &mut Lines,
+    format: Format,
+) -> Result<Heading, TranscriptError>
+    ensures { TakesLines (λ x. x) result lines.new (next_at (heading_at format) lines.old) }
+{
+    let number = lines.number();
+    let Some(line) = lines.take_line() else {
+        return Err(TranscriptError::at_line(number, ReadError::Fault(LineFault::Follow)));
+    };
+    match read_heading(alloc, line, format) {
+        Ok(heading) => Ok(heading),
+        Err(e) => Err(TranscriptError::at_line(number, e)),
+    }
+}
