@@ -1,4 +1,5 @@
 pub mod Verdicts
+pub mod Judging
 pub mod Ends
 pub mod Answers
 pub mod Races

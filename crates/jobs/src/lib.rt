@@ -22,7 +22,7 @@
 //! ```text
 //! run_io      each line costs its bytes, and what the database's call does; memory as the database takes it
 //! race_io     the whole script is kept, a thread for each session, and all events until the end
-//! check_io    the whole transcript is kept, and its events; each costs what the checker does
+//! check_io    the whole transcript is kept, what the checker holds, and one event at a time; each costs what the checker does
 //! follow_io   the rows are kept, and a block of input and of output; a message costs its bytes and a look-up, and
 //!             a resolved one each row where they are told
 //! ```

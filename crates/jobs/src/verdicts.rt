@@ -1,51 +1,121 @@
 //! What is said of a transcript, apart from where it comes from and where the answer goes.
-ghost use Rattle.std.specs.Prelude.{◌≡◌, ◌++◌, IfOk, OnOk, decimal, codes};
+ghost use Rattle.std.specs.Prelude.{◌≡◌, ◌<◌, ◌++◌, [], length, IfOk, OnOk, MatchResult, None, decimal, codes};
 ghost use Rattle.text_format.specs.Limits.{format_of};
-ghost use Rattle.script.specs.Transcripts.{Tells, transcript_at};
-ghost use Rattle.jobs.specs.Verdicts.{IsVerdict};
+ghost use Rattle.script.specs.Transcripts.{Fails, IsFaulty, outcome, transcript_at};
+ghost use Rattle.trace_check.specs.Checkers.{HasTaken};
+ghost use Rattle.jobs.specs.Verdicts.{IsJudged, IsVerdict};
+ghost use Rattle.jobs.specs.Judging.{IsNext};
 
 use crate::ending::End;
 use json_lines::numbers::put_number;
+use script::events::Events;
 use script::fault::TranscriptError;
-use script::transcripts::read_transcript;
-use spans::calls::Event;
 use std::alloc::{AllocError, Global};
 use text_format::Format;
-use trace_check::{Verdict, check};
+use trace_check::Verdict;
+use trace_check::checker::Checker;
 use word_lines::events::write_fault;
 
 /// How the check of a text ends, and what it writes: `yes` where the text is a transcript that the
 /// database could have written, in the format that its first line says, else `no P` with the position
 /// of the first event where it isn't. A text that can't be read gets its fault line, and no verdict.
-/// It costs what reading and checking do.
+/// It costs what reading and checking do, and holds one event at a time.
 pub fn verdict(alloc: Global, text: &[u8]) -> Result<(End, Vec<u8>), AllocError>
     ensures { IfOk result (λ answer. IsVerdict text.now answer.0 answer.1.items) }
 {
     let mut answer = Vec::new(alloc);
-    match read(alloc, text) {
+    match judge(alloc, text) {
         Err(TranscriptError::NoMemory) => Err(AllocError),
         Err(TranscriptError::Fault { line, fault }) => {
             write_fault(&mut answer, line, fault)?;
             Ok((End::Faulty, answer))
         }
-        Ok(events) => match check(alloc, events.as_slice())? {
-            Verdict::Yes => {
-                answer.extend_from_slice(b"yes\n")?;
-                Ok((End::Done, answer))
-            }
-            Verdict::No { position } => {
-                put_no(&mut answer, position)?;
-                Ok((End::No, answer))
-            }
-        },
+        Ok(Verdict::Yes) => {
+            answer.extend_from_slice(b"yes\n")?;
+            Ok((End::Done, answer))
+        }
+        Ok(Verdict::No { position }) => {
+            put_no(&mut answer, position)?;
+            Ok((End::No, answer))
+        }
     }
 }
 
-/// Reads a transcript in the format that it is in.
-fn read(alloc: Global, text: &[u8]) -> Result<Vec<Event>, TranscriptError>
-    ensures { Tells (λ events. events.items) result (transcript_at (format_of text.now) text.now) }
+/// What is said of the events of a transcript, in the format that it is in. A fault anywhere in it is told before a wrong event.
+fn judge(alloc: Global, text: &[u8]) -> Result<Verdict, TranscriptError>
+    ensures { MatchResult result (IsJudged (transcript_at (format_of text.now) text.now)) (λ e. Fails e (transcript_at (format_of text.now) text.now)) }
 {
-    read_transcript(alloc, text, Format::of_transcript(text))
+    match Events::new(text, Format::of_transcript(text)) {
+        Ok(mut events) => {
+            let mut checker = Checker::new(alloc);
+            judge_all(alloc, &mut events, &mut checker)
+        }
+        Err(e) => Err(e),
+    }
+}
+
+/// Has a checker that has taken nothing take the events, as far as they are right.
+fn judge_all(
+    alloc: Global,
+    events: &mut Events,
+    checker: &mut Checker,
+) -> Result<Verdict, TranscriptError>
+    requires few { length events.old.events < 18446744073709551616 }
+    requires fresh { HasTaken checker.old [] }
+    ensures { MatchResult result (IsJudged (outcome events.old)) (λ e. Fails e (outcome events.old)) }
+{
+    loop {
+        match judge_next(alloc, events, checker)? {
+            Next::Right => {}
+            Next::Wrong { position } => {
+                read_out(alloc, events)?;
+                return Ok(Verdict::No { position });
+            }
+            Next::End => return Ok(Verdict::Yes),
+        }
+    }
+}
+
+/// What a checker says of the next event.
+enum Next {
+    /// It was taken.
+    Right,
+    /// It isn't right.
+    Wrong { position: u64 },
+    /// There is none.
+    End,
+}
+
+/// Reads the next event, and has the checker take it.
+fn judge_next(
+    alloc: Global,
+    events: &mut Events,
+    checker: &mut Checker,
+) -> Result<Next, TranscriptError>
+    ensures { MatchResult result (IsNext events.old events.new checker.old checker.new) (λ e. IsFaulty e events.old) }
+{
+    match events.next(alloc) {
+        None => Ok(Next::End),
+        Some(Err(e)) => Err(e),
+        Some(Ok(event)) => {
+            if checker.take(&event)? {
+                return Ok(Next::Right);
+            }
+            Ok(Next::Wrong {
+                position: event.position,
+            })
+        }
+    }
+}
+
+/// Reads what is left, for its fault alone.
+fn read_out(alloc: Global, events: &mut Events) -> Result<(), TranscriptError>
+    ensures { MatchResult result (λ _. events.old.fault ≡ None) (λ e. Fails e (outcome events.old)) }
+{
+    while let Some(event) = events.next(alloc) {
+        let _event = event?;
+    }
+    Ok(())
 }
 
 /// Writes that the event at a position is the first wrong one.

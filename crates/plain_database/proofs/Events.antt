@@ -1,5 +1,6 @@
 -- What a database stands for after one more event.
-use Rattle.std.proofs.Common.{◌≡◌, ℕ, true, false, List, [], ◌∷◌, ◌++◌, Some, None, map, refl, sym, subst}
+use Rattle.std.proofs.Common.{◌≡◌, ℕ, true, false, List, ◌∷◌, ◌==◌, Some, None, refl, sym, subst}
+use Rattle.std.specs.Prelude.{nat_le, option_map}
 use Rattle.spans.specs.declared.calls.commands.Cmd.{Cmd}
 use Rattle.spans.specs.declared.span.Span.{Span}
 use Rattle.spans.specs.declared.calls.commands.Cmd.TheVariants.{Begin, Get, Scan, Put, Del, Commit, Abort, CloseHard, ReadAt, ScanAt}
@@ -7,21 +8,20 @@ use Rattle.spans.specs.declared.calls.replies.Reply.{Reply}
 use Rattle.spans.specs.declared.calls.replies.Reply.TheVariants.{Started, Found, Rows, Written, Committed, Aborted, Closed, Refused}
 use Rattle.spans.specs.declared.calls.replies.Refusal.TheVariants.{TooLate}
 use Rattle.spans.specs.declared.calls.events.Event.{Event}
-use Rattle.spans.specs.Effects.{After, NoEffect, effect, effects_of, event}
+use Rattle.spans.specs.Effects.{After, Aborts, Effect, NoEffect, effect, effects_of, event}
+use Rattle.spans.specs.Keys.{in_span}
 use Rattle.spans.specs.Versions.{visible}
 use Rattle.spans.specs.Legal.{IsRightEvent}
+use Rattle.spans.proofs.Copies.{IsActive}
 use Rattle.spans.proofs.Legal.{right_allowed, legal_allowed}
-use Rattle.plain_versions.specs.declared.transactions.Transaction.{Transaction}
-use Rattle.plain_versions.specs.declared.transactions.State.TheVariants as states
-use Rattle.plain_versions.specs.declared.chains.Chain.{Chain}
-use Rattle.plain_database.specs.declared.reads.Read.{Read}
+use Rattle.plain_versions.specs.declared.transactions.Outcome.TheVariants as outcomes
 use Rattle.plain_database.specs.declared.span_reads.Scan.{Scan as SpanRead}
 use Rattle.plain_database.specs.declared.database.Database.{Database}
-use Rattle.plain_versions.specs.Transactions.{with_begun, begun_by, decided, aborted_through}
-use Rattle.plain_versions.specs.Chains.{with_write, dropped, cleared}
-use Rattle.plain_database.specs.Reads.{read_of}
-use Rattle.plain_versions.specs.Sources.{sources_in}
-use Rattle.plain_database.specs.SpanReads.{scan_of}
+use Rattle.plain_versions.specs.Transactions.{Table, transaction_at, begun, decided, hard_closed, IsSetAt}
+use Rattle.plain_versions.specs.Chains.{Stored, IsWritten, IsCleared}
+use Rattle.plain_database.specs.Reads.{KeyReads, HasReadToo}
+use Rattle.plain_versions.specs.Sources.{source_at}
+use Rattle.plain_database.specs.SpanReads.{scan_of, HasScanToo}
 use Rattle.plain_database.specs.Late.{is_late}
 use Rattle.plain_database.specs.Tied.{IsTied, StandsFor}
 use Rattle.plain_database.proofs.Ties.{tied_still, tied_begins, tied_reads, tied_scans, tied_writes, tied_commits, tied_aborts, tied_snapshot, tied_snapshot_scan, tied_hard_closes, goes}
@@ -34,71 +34,79 @@ stands_still db h n seat cmd reply none stands right = record {
   tied = subst (λ e. IsTied db (e ∷ effects_of h)) (sym none) (tied_still db (effects_of h) stands.tied);
 }
 
-pub stands_begins : (db : Database) (txns : List Transaction) (h : List Event) (n seat t : ℕ) → txns ≡ with_begun db.transactions (begun_by t seat)
-    → StandsFor db h → IsRightEvent (effects_of h) (event n seat (Begin t) Started) → StandsFor (record db { transactions = txns }) (event n seat (Begin t) Started ∷ h)
-stands_begins db txns h n seat t is stands right = record {
+pub stands_begins : (db : Database) (table : Table) (h : List Event) (n seat t : ℕ) → IsSetAt db.transactions table t (begun seat)
+    → StandsFor db h → IsRightEvent (effects_of h) (event n seat (Begin t) Started) → StandsFor (record db { transactions = table }) (event n seat (Begin t) Started ∷ h)
+stands_begins db table h n seat t set stands right = record {
   legal = (right, stands.legal);
-  tied = rw is (tied_begins db (effects_of h) t seat stands.tied (right_allowed (effects_of h) (event n seat (Begin t) Started) right).1);
+  tied = tied_begins db (effects_of h) t seat table set stands.tied (right_allowed (effects_of h) (event n seat (Begin t) Started) right).1;
 }
 
-pub stands_reads : (db : Database) (reads : List Read) (h : List Event) (n seat t : ℕ) (x : List ℕ) (v : After) (k : ℕ) → reads ≡ db.reads ++ read_of t x k ∷ [] → k ≡ (visible (effects_of h) x t).ts
+pub stands_reads : (db : Database) (reads : KeyReads) (h : List Event) (n seat t : ℕ) (x : List ℕ) (v : After) (k : ℕ) → HasReadToo db.reads reads t x k → k ≡ (visible (effects_of h) x t).ts
     → StandsFor db h → IsRightEvent (effects_of h) (event n seat (Get t x) (Found v)) → StandsFor (record db { reads = reads }) (event n seat (Get t x) (Found v) ∷ h)
-stands_reads db reads h n seat t x v k is at stands right = record {
+stands_reads db reads h n seat t x v k more at stands right = record {
   legal = (right, stands.legal);
-  tied = rw is (tied_reads db (effects_of h) t x v k stands.tied at);
+  tied = tied_reads db (effects_of h) reads t x v k stands.tied more at;
 }
 
--- a span was scanned
-pub stands_scans : (db : Database) (scans : List SpanRead) (h : List Event) (n seat t : ℕ) (span : Span) (rows : List (List ℕ × List ℕ)) → scans ≡ db.scans ++ scan_of t span (sources_in span t db.chains) ∷ []
+-- a span was scanned: of each of its keys the sources have the version that its reader sees
+pub stands_scans : (db : Database) (scans : List (ℕ × List SpanRead)) (h : List Event) (n seat t : ℕ) (span : Span) (sources : List (List ℕ × ℕ)) (rows : List (List ℕ × List ℕ))
+    → ((y : List ℕ) → in_span span y ≡ true → source_at sources y ≡ (visible (effects_of h) y t).ts) → HasScanToo db.scans scans t (scan_of span sources)
     → StandsFor db h → IsRightEvent (effects_of h) (event n seat (Scan t span) (Rows rows)) → StandsFor (record db { scans = scans }) (event n seat (Scan t span) (Rows rows) ∷ h)
-stands_scans db scans h n seat t span rows is stands right = record {
+stands_scans db scans h n seat t span sources rows given more stands right = record {
   legal = (right, stands.legal);
-  tied = rw is (tied_scans db (effects_of h) t span rows stands.tied);
+  tied = tied_scans db (effects_of h) scans t span sources rows stands.tied given more;
 }
 
-pub stands_puts : (db : Database) (chains : List Chain) (h : List Event) (n seat t : ℕ) (x v : List ℕ) → chains ≡ with_write db.chains x t (Some v)
+pub stands_puts : (db : Database) (chains : Stored) (h : List Event) (n seat t : ℕ) (x v : List ℕ) → IsWritten db.chains chains x t (Some v)
     → StandsFor db h → IsRightEvent (effects_of h) (event n seat (Put t x v) Written) → StandsFor (record db { chains = chains }) (event n seat (Put t x v) Written ∷ h)
 stands_puts db chains h n seat t x v is stands right = record {
   legal = (right, stands.legal);
-  tied = rw is (tied_writes db (effects_of h) t x (Some v) stands.tied (right_allowed (effects_of h) (event n seat (Put t x v) Written) right).0);
+  tied = tied_writes db (effects_of h) chains t x (Some v) is stands.tied (right_allowed (effects_of h) (event n seat (Put t x v) Written) right).0;
 }
 
-pub stands_dels : (db : Database) (chains : List Chain) (h : List Event) (n seat t : ℕ) (x : List ℕ) → chains ≡ with_write db.chains x t None
+pub stands_dels : (db : Database) (chains : Stored) (h : List Event) (n seat t : ℕ) (x : List ℕ) → IsWritten db.chains chains x t None
     → StandsFor db h → IsRightEvent (effects_of h) (event n seat (Del t x) Written) → StandsFor (record db { chains = chains }) (event n seat (Del t x) Written ∷ h)
 stands_dels db chains h n seat t x is stands right = record {
   legal = (right, stands.legal);
-  tied = rw is (tied_writes db (effects_of h) t x None stands.tied (right_allowed (effects_of h) (event n seat (Del t x) Written) right).0);
+  tied = tied_writes db (effects_of h) chains t x None is stands.tied (right_allowed (effects_of h) (event n seat (Del t x) Written) right).0;
 }
 
-abbrev pub without_writes : Database → ℕ → Database
-without_writes db t = record db { transactions = map (decided t states.Aborted) db.transactions; chains = map (dropped t) db.chains }
+-- the transaction of t is aborted, and its versions are gone
+abbrev pub AreAborted : Database → Database → ℕ → Type 0
+AreAborted db db' t =
+    IsSetAt db.transactions db'.transactions t (option_map (decided outcomes.Aborted))
+    × IsCleared db.chains db'.chains (λ i. t == i)
+    × (db' ≡ record db { transactions = db'.transactions; chains = db'.chains })
 
-pub stands_late_put : (db db' : Database) (h : List Event) (n seat t : ℕ) (x v : List ℕ) → db' ≡ without_writes db t
+aborts : (db db' : Database) (p : List Effect) (t : ℕ) → AreAborted db db' t → IsTied db p → IsActive p t → IsTied db' (Aborts t ∷ p)
+aborts db db' p t are tied active = subst (λ (d : Database). IsTied d (Aborts t ∷ p)) (sym are.2) (tied_aborts db p t db'.transactions db'.chains are.0 are.1 tied active)
+
+pub stands_late_put : (db db' : Database) (h : List Event) (n seat t : ℕ) (x v : List ℕ) → AreAborted db db' t
     → StandsFor db h → IsRightEvent (effects_of h) (event n seat (Put t x v) (Refused TooLate)) → StandsFor db' (event n seat (Put t x v) (Refused TooLate) ∷ h)
-stands_late_put db db' h n seat t x v is stands right = record {
+stands_late_put db db' h n seat t x v are stands right = record {
   legal = (right, stands.legal);
-  tied = rw is (tied_aborts db (effects_of h) t stands.tied (right_allowed (effects_of h) (event n seat (Put t x v) (Refused TooLate)) right));
+  tied = aborts db db' (effects_of h) t are stands.tied (right_allowed (effects_of h) (event n seat (Put t x v) (Refused TooLate)) right);
 }
 
-pub stands_late_del : (db db' : Database) (h : List Event) (n seat t : ℕ) (x : List ℕ) → db' ≡ without_writes db t
+pub stands_late_del : (db db' : Database) (h : List Event) (n seat t : ℕ) (x : List ℕ) → AreAborted db db' t
     → StandsFor db h → IsRightEvent (effects_of h) (event n seat (Del t x) (Refused TooLate)) → StandsFor db' (event n seat (Del t x) (Refused TooLate) ∷ h)
-stands_late_del db db' h n seat t x is stands right = record {
+stands_late_del db db' h n seat t x are stands right = record {
   legal = (right, stands.legal);
-  tied = rw is (tied_aborts db (effects_of h) t stands.tied (right_allowed (effects_of h) (event n seat (Del t x) (Refused TooLate)) right));
+  tied = aborts db db' (effects_of h) t are stands.tied (right_allowed (effects_of h) (event n seat (Del t x) (Refused TooLate)) right);
 }
 
-pub stands_aborts : (db db' : Database) (h : List Event) (n seat t : ℕ) → db' ≡ without_writes db t
+pub stands_aborts : (db db' : Database) (h : List Event) (n seat t : ℕ) → AreAborted db db' t
     → StandsFor db h → IsRightEvent (effects_of h) (event n seat (Abort t) Aborted) → StandsFor db' (event n seat (Abort t) Aborted ∷ h)
-stands_aborts db db' h n seat t is stands right = record {
+stands_aborts db db' h n seat t are stands right = record {
   legal = (right, stands.legal);
-  tied = rw is (tied_aborts db (effects_of h) t stands.tied (right_allowed (effects_of h) (event n seat (Abort t) Aborted) right));
+  tied = aborts db db' (effects_of h) t are stands.tied (right_allowed (effects_of h) (event n seat (Abort t) Aborted) right);
 }
 
-pub stands_commits : (db : Database) (txns : List Transaction) (h : List Event) (n seat t keys : ℕ) → txns ≡ map (decided t states.Committed) db.transactions
-    → StandsFor db h → IsRightEvent (effects_of h) (event n seat (Commit t) (Committed keys)) → StandsFor (record db { transactions = txns }) (event n seat (Commit t) (Committed keys) ∷ h)
-stands_commits db txns h n seat t keys is stands right = record {
+pub stands_commits : (db : Database) (table : Table) (h : List Event) (n seat t keys : ℕ) → IsSetAt db.transactions table t (option_map (decided outcomes.Committed))
+    → StandsFor db h → IsRightEvent (effects_of h) (event n seat (Commit t) (Committed keys)) → StandsFor (record db { transactions = table }) (event n seat (Commit t) (Committed keys) ∷ h)
+stands_commits db table h n seat t keys set stands right = record {
   legal = (right, stands.legal);
-  tied = rw is (tied_commits db (effects_of h) t stands.tied (right_allowed (effects_of h) (event n seat (Commit t) (Committed keys)) right));
+  tied = tied_commits db (effects_of h) t table set stands.tied (right_allowed (effects_of h) (event n seat (Commit t) (Committed keys)) right);
 }
 
 -- a reply that isn't the one that a command is accepted with does nothing
@@ -134,10 +142,10 @@ pub stands_scan_at : (db : Database) (h : List Event) (n seat t : ℕ) (span : S
 stands_scan_at db h n seat t span (Rows rows) stands right = record { legal = (right, stands.legal); tied = tied_snapshot_scan db (effects_of h) t span rows stands.tied }
 stands_scan_at db h n seat t span _ stands right = record { legal = (right, stands.legal); tied = tied_still db (effects_of h) stands.tied }
 
-pub stands_hard_closes : (db : Database) (txns : List Transaction) (chains : List Chain) (h : List Event) (n seat to at aborted : ℕ)
-    → txns ≡ map (aborted_through to) db.transactions → chains ≡ map (cleared (goes db to)) db.chains
-    → StandsFor db h → IsRightEvent (effects_of h) (event n seat (CloseHard to) (Closed at aborted)) → StandsFor (record db { closed = at; transactions = txns; chains = chains }) (event n seat (CloseHard to) (Closed at aborted) ∷ h)
-stands_hard_closes db txns chains h n seat to at aborted is is' stands right = record {
+pub stands_hard_closes : (db : Database) (table : Table) (chains : Stored) (h : List Event) (n seat to at aborted : ℕ)
+    → ((i : ℕ) → transaction_at table i ≡ option_map (hard_closed (nat_le i to)) (transaction_at db.transactions i)) → IsCleared db.chains chains (goes db to)
+    → StandsFor db h → IsRightEvent (effects_of h) (event n seat (CloseHard to) (Closed at aborted)) → StandsFor (record db { closed = at; transactions = table; chains = chains }) (event n seat (CloseHard to) (Closed at aborted) ∷ h)
+stands_hard_closes db table chains h n seat to at aborted set cleared stands right = record {
   legal = (right, stands.legal);
-  tied = rw (is, is') (tied_hard_closes db (effects_of h) to at stands.tied (legal_allowed h stands.legal));
+  tied = tied_hard_closes db (effects_of h) to at table chains set cleared stands.tied (legal_allowed h stands.legal);
 }

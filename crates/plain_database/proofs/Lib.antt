@@ -5,9 +5,13 @@ pub mod Replies
 pub mod ScanReplies
 pub mod Events
 pub mod Scanning
-pub mod Once
 pub mod Counting
-pub mod Streaming
+mod LeftRows
 pub mod ClosedRange
 pub mod Room
 pub mod PollSteps
+mod Reading
+mod SpanReading
+mod Replacing
+pub mod Dying
+pub mod Collecting

@@ -1,5 +1,5 @@
 -- What a feed is told next, and what a database stands for after it was told.
-use Rattle.std.proofs.Common.{◌≡◌, ℕ, zero, suc, ◌≤◌, false, not, List, [], ◌∷◌, ◌++◌, map, take, Option, Some, refl, sym, ◌∙◌, ap, arith}
+use Rattle.std.proofs.Common.{◌≡◌, ℕ, zero, suc, ◌≤◌, Bool, true, false, cond, not, List, [], ◌∷◌, ◌++◌, map, take, Option, Some, None, refl, sym, ◌∙◌, ap, arith}
 use Rattle.std.specs.Prelude.{filter, if◌then◌else◌}
 use Rattle.std.specs.List.{list_any}
 use Rattle.std.proofs.lemmas.Bool.{le-ltb}
@@ -14,13 +14,16 @@ use Rattle.spans.specs.declared.kind.Kind.{Kind}
 use Rattle.spans.specs.declared.kind.Kind.TheVariants.{Plain, Initial, Every}
 use Rattle.spans.specs.Feeds.{Feed, first_rows, list_of, resolved_of, is_due, told_to, rows_in, same_version, due_message, untold_rows, next_messages}
 use Rattle.spans.specs.Legal.{IsRightEvent}
-use Rattle.spans.specs.Transactions.{closed_of}
+use Rattle.spans.specs.Transactions.{closed_of, is_committed}
+use Rattle.spans.specs.Versions.{version_of, write_of}
+use Rattle.spans.proofs.Copies.{AllAllowed, not_both}
 use Rattle.spans.proofs.Listing.{IsSettled, first_none}
 use Rattle.plain_feeds.specs.declared.record.FeedRecord.{FeedRecord}
 use Rattle.plain_feeds.specs.FeedTie.{LeadsTo}
 use Rattle.plain_feeds.specs.Records.{feed_part}
 use Rattle.plain_database.specs.declared.database.Database.{Database}
-use Rattle.plain_database.specs.Tied.{StandsFor}
+use Rattle.plain_database.specs.Streams.{HasCommitted}
+use Rattle.plain_database.specs.Tied.{IsTied, StandsFor}
 use Rattle.plain_database.proofs.ClosedRange.{closed_in_range}
 use Rattle.plain_database.proofs.Ties.{tied_feeds}
 
@@ -50,11 +53,19 @@ nothing_next p f feed max settled none =
     due_none Initial n = le-ltb n 0 (omega arith)
     due_none (Every gap) n = rw (le-ltb n 0 (omega arith)) refl
 
--- the list of a feed's record is that of the feed
-pub list_of_record : (p : List Effect) (o : Option Feed) (feed : Feed) (x : FeedRecord) (n : ℕ) → o ≡ Some feed → o ≡ Some (feed_part x) → list_of p (feed_part x) n ≡ list_of p feed n
-list_of_record p o feed x n is has =
+-- the chains of a database have the committed versions
+pub committed_tied : (db : Database) (p : List Effect) → AllAllowed p → IsTied db p → HasCommitted db p
+committed_tied db p all tied y t = rw (tied.committed t, tied.versions y t) (by_done (is_committed p t) refl)
+  where
+    by_done : (done : Bool) → is_committed p t ≡ done → cond done (version_of p y t) None ≡ cond done (write_of p t y) None
+    by_done true is = rw (not_both p all t is) refl
+    by_done false is = refl
+
+-- the rows that the feed of a record was not told are those of the feed
+pub rows_of_record : (p : List Effect) (f max : ℕ) (o : Option Feed) (feed : Feed) (x : FeedRecord) → o ≡ Some feed → o ≡ Some (feed_part x) → take max (untold_rows p f (feed_part x)) ≡ take max (untold_rows p f feed)
+rows_of_record p f max o feed x is has =
     let same : feed_part x ≡ feed = (let both : Some (feed_part x) ≡ Some feed = sym has ∙ is in cc) in
-    ap (λ v. list_of p v n) same
+    ap (λ v. take max (untold_rows p f v)) same
 
 -- a feed was told messages
 pub stands_polls : (db : Database) (feeds : List FeedRecord) (h : List Event) (n seat f max : ℕ) (ms : List Message) → ((m : ℕ) → LeadsTo db.feeds (Polls f m ms) feeds)

@@ -1,8 +1,7 @@
 -- Why a database's answers are those of the definitions.
-use Rattle.std.proofs.Common.{◌≡◌, ℕ, ◌-◌, ◌≤◌, ◌==◌, Bool, true, false, not, ◌&&◌, ◌||◌, List, [], ◌∷◌, ◌++◌, map, length, Option, Some, None, refl, sym, ◌∙◌, ap, arith}
-use Rattle.std.specs.Prelude.{filter, max, nat_lt, nat_le, Result, Ok, Err, IfOk, OnErr}
+use Rattle.std.proofs.Common.{◌≡◌, ℕ, ◌≤◌, ◌==◌, Bool, true, false, not, ◌&&◌, ◌||◌, List, [], ◌∷◌, ◌++◌, Option, Some, None, refl, sym, ◌∙◌, ap, arith}
+use Rattle.std.specs.Prelude.{max, nat_lt, Result, Ok, Err, IfOk, OnErr}
 use Rattle.std.proofs.lemmas.Bool.{ne_eqb, le-ltb, ltb-false}
-use denote.Ref.{Bor}
 use Rattle.timestamps.specs.declared.ts.TheConstants.{MAX}
 use Rattle.spans.specs.declared.calls.commands.Cmd.TheVariants.{Get, Close, CloseHard, ReadAt}
 use Rattle.spans.specs.declared.calls.commands.Cmd.{Cmd}
@@ -10,24 +9,23 @@ use Rattle.std.specs.declared.alloc.AllocError.{AllocError}
 use Rattle.spans.specs.Legal.{may_lack_memory}
 use Rattle.spans.proofs.Legal.{legal_allowed}
 use Rattle.spans.proofs.Closed.{closed_value}
-use Rattle.plain_versions.proofs.TransactionSteps.{count_through}
-use Rattle.plain_database.proofs.Undecided.{least_open, open_count_of}
+use Rattle.plain_database.proofs.Undecided.{decided_through_is, open_count_through}
 use Rattle.spans.specs.declared.calls.replies.Reply.{Reply}
 use Rattle.spans.specs.declared.calls.replies.Reply.TheVariants.{Found, Closed, Refused}
 use Rattle.spans.specs.declared.calls.replies.Refusal.{Refusal}
 use Rattle.spans.specs.declared.calls.replies.Refusal.TheVariants.{Blocked, NotClosed}
 use Rattle.spans.specs.declared.calls.events.Event.{Event}
 use Rattle.spans.specs.Effects.{Effect, effects_of}
-use Rattle.spans.specs.Transactions.{is_committed, least_of, decided_through, closed_of}
+use Rattle.spans.specs.Transactions.{is_committed, closed_of}
 use Rattle.spans.specs.Versions.{visible, is_blocked, committed_value}
 use Rattle.spans.specs.Newest.{Version as Seen, version_at as seen_at}
 use Rattle.spans.specs.Answer.{first_refusal_or, first_refusal, transaction_tests, snapshot_tests, answer_of}
 use Rattle.spans.proofs.Steps.{by_test, newest_only, newest_like}
 use Rattle.plain_versions.specs.declared.versions.Version.{Version}
-use Rattle.plain_versions.specs.declared.transactions.Transaction.{Transaction}
 use Rattle.plain_database.specs.declared.database.Database.{Database}
 use Rattle.plain_versions.specs.Versions.{IsBest}
-use Rattle.plain_versions.specs.Transactions.{transaction_at, committed_in, is_open, is_open_through}
+use Rattle.plain_versions.specs.Counting.{IsCountOf}
+use Rattle.plain_versions.specs.Transactions.{transaction_at, committed_in, is_undecided_through, IsDecidedThrough}
 use Rattle.plain_versions.specs.Chains.{versions_at}
 use Rattle.plain_database.specs.Tied.{StandsFor}
 use Rattle.plain_database.specs.Answering.{Accepts, Answers, AnswersCounted, MayLackMemory}
@@ -40,14 +38,14 @@ past_tests (test ∷ tests) more reply none = by_test test.0
 
 -- ---- a read
 
-abbrev pub place : Option (Bor Version) → Seen
+abbrev pub place : Option Version → Seen
 place None = seen_at 0 None
-place (Some v) = seen_at v.now.ts v.now.after
+place (Some v) = seen_at v.ts v.after.now
 
 -- the version that is found is the visible one
-pub found_visible : (db : Database) (h : List Event) (x : List ℕ) (t : ℕ) (o : Option (Bor Version)) → StandsFor db h → IsBest (versions_at db.chains x) t o → visible (effects_of h) x t ≡ place o
+pub found_visible : (db : Database) (h : List Event) (x : List ℕ) (t : ℕ) (o : Option Version) → StandsFor db h → IsBest (versions_at db.chains x) t o → visible (effects_of h) x t ≡ place o
 found_visible db h x t None stands best = newest_only _ _ _ _ (newest_like _ _ t 0 None (stands.tied.versions x) best)
-found_visible db h x t (Some v) stands best = newest_only _ _ _ _ (newest_like _ _ t v.now.ts v.now.after (stands.tied.versions x) best.0)
+found_visible db h x t (Some v) stands best = newest_only _ _ _ _ (newest_like _ _ t v.ts v.after.now (stands.tied.versions x) best.0)
 
 blocked_at : (p : List Effect) (x : List ℕ) (t k : ℕ) → (visible p x t).ts ≡ k → is_blocked p x t ≡ (not (k == 0) && (not (k == t) && not (is_committed p k)))
 blocked_at p x t k is = ap (λ n. not (n == 0) && (not (n == t) && not (is_committed p n))) is
@@ -66,12 +64,12 @@ get_none db h seat t x stands here best =
     ap (λ (n : Seen). Found n.after) (sym is) ∙ get_answers (effects_of h) seat t x here (blocked_at (effects_of h) x t 0 (ap (λ (n : Seen). n.ts) is))
 
 -- a version is there that may be read
-pub get_found : (db : Database) (h : List Event) (seat t : ℕ) (x : List ℕ) (v : Bor Version) → StandsFor db h → None ≡ first_refusal (transaction_tests (effects_of h) seat t) → IsBest (versions_at db.chains x) t (Some v)
-    → ((v.now.ts == t) || committed_in (transaction_at db.transactions v.now.ts)) ≡ true → Found v.now.after ≡ answer_of (effects_of h) seat (Get t x)
+pub get_found : (db : Database) (h : List Event) (seat t : ℕ) (x : List ℕ) (v : Version) → StandsFor db h → None ≡ first_refusal (transaction_tests (effects_of h) seat t) → IsBest (versions_at db.chains x) t (Some v)
+    → ((v.ts == t) || committed_in (transaction_at db.transactions v.ts)) ≡ true → Found v.after.now ≡ answer_of (effects_of h) seat (Get t x)
 get_found db h seat t x v stands here best free =
     let is = found_visible db h x t (Some v) stands best in
     ap (λ (n : Seen). Found n.after) (sym is) ∙ get_answers (effects_of h) seat t x here
-    (blocked_at (effects_of h) x t v.now.ts (ap (λ (n : Seen). n.ts) is) ∙ no_block (not (v.now.ts == 0)) (v.now.ts == t) (is_committed (effects_of h) v.now.ts) (rw (sym (stands.tied.committed v.now.ts)) free))
+    (blocked_at (effects_of h) x t v.ts (ap (λ (n : Seen). n.ts) is) ∙ no_block (not (v.ts == 0)) (v.ts == t) (is_committed (effects_of h) v.ts) (rw (sym (stands.tied.committed v.ts)) free))
   where
     no_block : (a b c : Bool) → (b || c) ≡ true → (a && (not b && not c)) ≡ false
     no_block false b c f = refl
@@ -79,12 +77,12 @@ get_found db h seat t x v stands here best free =
     no_block true false c f = rw f refl
 
 -- a version is there that may not be read
-pub get_blocked : (db : Database) (h : List Event) (seat t : ℕ) (x : List ℕ) (v : Bor Version) → StandsFor db h → None ≡ first_refusal (transaction_tests (effects_of h) seat t) → IsBest (versions_at db.chains x) t (Some v)
-    → ((v.now.ts == t) || committed_in (transaction_at db.transactions v.now.ts)) ≡ false → Refused (Blocked v.now.ts) ≡ answer_of (effects_of h) seat (Get t x)
+pub get_blocked : (db : Database) (h : List Event) (seat t : ℕ) (x : List ℕ) (v : Version) → StandsFor db h → None ≡ first_refusal (transaction_tests (effects_of h) seat t) → IsBest (versions_at db.chains x) t (Some v)
+    → ((v.ts == t) || committed_in (transaction_at db.transactions v.ts)) ≡ false → Refused (Blocked v.ts) ≡ answer_of (effects_of h) seat (Get t x)
 get_blocked db h seat t x v stands here best shut =
     let is = ap (λ (n : Seen). n.ts) (found_visible db h x t (Some v) stands best) in
     ap (λ n. Refused (Blocked n)) (sym is) ∙ get_blocks (effects_of h) seat t x here
-    (blocked_at (effects_of h) x t v.now.ts is ∙ rw (ne_eqb v.now.ts 0 (λ z. omega (arith, best.1))) (block (v.now.ts == t) (is_committed (effects_of h) v.now.ts) (rw (sym (stands.tied.committed v.now.ts)) shut)))
+    (blocked_at (effects_of h) x t v.ts is ∙ rw (ne_eqb v.ts 0 (λ z. omega (arith, best.1))) (block (v.ts == t) (is_committed (effects_of h) v.ts) (rw (sym (stands.tied.committed v.ts)) shut)))
   where
     block : (b c : Bool) → (b || c) ≡ false → (not b && not c) ≡ true
     block true c f = cc
@@ -93,16 +91,9 @@ get_blocked db h seat t x v stands here best shut =
 
 -- ---- closing
 
-below_each : (txns : List Transaction) → map (λ (x : Transaction). x.ts - 1) txns ≡ map (λ t. t - 1) (map (λ (x : Transaction). x.ts) txns)
-below_each [] = refl
-below_each (x ∷ xs) = ap (λ (ts : List ℕ). (x.ts - 1) ∷ ts) (below_each xs)
-
-pub decided_through_is : (db : Database) (h : List Event) (to : ℕ) → StandsFor db h → least_of to (map (λ (x : Transaction). x.ts - 1) (filter is_open db.transactions)) ≡ decided_through (effects_of h) to
-decided_through_is db h to stands = ap (least_of to) (below_each (filter is_open db.transactions)) ∙ least_open db (effects_of h) stands.tied to
-
-pub close_answers : (db : Database) (h : List Event) (seat to at n : ℕ) → StandsFor db h → to ≤ MAX → at ≡ max db.closed n → n ≡ least_of to (map (λ (x : Transaction). x.ts - 1) (filter is_open db.transactions))
+pub close_answers : (db : Database) (h : List Event) (seat to at n : ℕ) → StandsFor db h → to ≤ MAX → at ≡ max db.closed n → IsDecidedThrough db.transactions to n
     → Closed at 0 ≡ answer_of (effects_of h) seat (Close to)
-close_answers db h seat to at n stands low is is' = rw (not_above) (ap (λ (m : ℕ). Closed m 0) (is ∙ rw (stands.tied.closed_at, is', decided_through_is db h to stands) refl))
+close_answers db h seat to at n stands low is is' = rw (not_above) (ap (λ (m : ℕ). Closed m 0) (is ∙ rw (stands.tied.closed_at, decided_through_is db (effects_of h) to n stands.tied is') refl))
   where
     not_above : nat_lt MAX to ≡ false
     not_above = le-ltb MAX to low
@@ -114,7 +105,7 @@ at_failure (Err e) holds = holds
 
 -- ---- snapshots and hard closings
 
-pub read_at_answers : (db : Database) (h : List Event) (seat t : ℕ) (x : List ℕ) (o : Option (Bor Version)) → StandsFor db h → None ≡ first_refusal (snapshot_tests (effects_of h) t) → IsBest (versions_at db.chains x) t o
+pub read_at_answers : (db : Database) (h : List Event) (seat t : ℕ) (x : List ℕ) (o : Option Version) → StandsFor db h → None ≡ first_refusal (snapshot_tests (effects_of h) t) → IsBest (versions_at db.chains x) t o
     → Found (place o).after ≡ answer_of (effects_of h) seat (ReadAt t x)
 read_at_answers db h seat t x o stands here best =
     ap Found (ap (λ (n : Seen). n.after) (sym (found_visible db h x t o stands best)) ∙ closed_value (effects_of h) (legal_allowed h stands.legal) x t low)
@@ -125,10 +116,10 @@ read_at_answers db h seat t x o stands here best =
         (λ above. let no : None ≡ Some (NotClosed (closed_of (effects_of h))) = rw above at here in cc)
         (λ below. ltb-false (closed_of (effects_of h)) t below)
 
-pub close_hard_answers : (db : Database) (h : List Event) (seat to at n : ℕ) → StandsFor db h → to ≤ MAX → at ≡ max db.closed to → n ≡ length (filter (is_open_through to) db.transactions)
+pub close_hard_answers : (db : Database) (h : List Event) (seat to at n : ℕ) → StandsFor db h → to ≤ MAX → at ≡ max db.closed to → IsCountOf (is_undecided_through db.transactions to) n
     → Closed at n ≡ answer_of (effects_of h) seat (CloseHard to)
 close_hard_answers db h seat to at n stands low is is' = rw (not_above) (rw (is, stands.tied.closed_at) (ap (λ (m : ℕ). Closed (max (closed_of (effects_of h)) to) m)
-    (is' ∙ count_through to db.transactions ∙ open_count_of db (effects_of h) (legal_allowed h stands.legal) stands.tied (λ t. nat_le t to))))
+    (open_count_through db (effects_of h) to n (legal_allowed h stands.legal) stands.tied is')))
   where
     not_above : nat_lt MAX to ≡ false
     not_above = le-ltb MAX to low

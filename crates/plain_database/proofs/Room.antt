@@ -11,16 +11,20 @@ use Rattle.spans.specs.declared.calls.replies.Reply.TheVariants as replies
 use Rattle.spans.specs.declared.calls.events.Event.{Event}
 use Rattle.spans.specs.Effects.{Collects, Effect, effect_of, effects_of}
 use Rattle.spans.specs.Answer.{first_refusal, horizon_tests, answer_of}
-use Rattle.spans.specs.Collection.{versions_of, dead_of, protections_made, collection_horizon, live_feeds}
+use Rattle.spans.specs.Collection.{versions_of, dead_of, horizon_of, protections_made, collection_horizon, live_feeds}
 use Rattle.spans.specs.Feeds.{feeds_opened}
 use Rattle.spans.specs.Legal.{IsLegal}
 use Rattle.spans.specs.Transactions.{undecided_timestamps}
 use Rattle.spans.proofs.Legal.{legal_allowed}
 use Rattle.plain_feeds.proofs.FeedTies.{opened_at_most}
 use Rattle.plain_feeds.proofs.ProtectionTies.{made_at_most}
+use Rattle.plain_versions.specs.Chains.{version_at}
+use Rattle.plain_versions.specs.Dying.{IsDeathCount}
 use Rattle.plain_database.specs.declared.database.Database.{Database}
 use Rattle.plain_database.specs.Tied.{StandsFor}
-use Rattle.plain_database.proofs.Counting.{versions_few, dead_few, dead_at_horizon}
+use Rattle.plain_database.proofs.Collecting.{died_between}
+use Rattle.plain_database.proofs.Counting.{versions_few, dead_few}
+use Rattle.plain_database.proofs.Dying.{dead_then_is}
 use Rattle.plain_database.proofs.Replies.{past_tests}
 
 -- each event has its effect
@@ -35,12 +39,8 @@ made_fits h few = omega (arith, made_at_most (effects_of h), effect_count h)
 pub opened_fits : (h : List Event) → length h < 18446744073709551615 → feeds_opened (effects_of h) < 18446744073709551615
 opened_fits h few = omega (arith, opened_at_most (effects_of h), effect_count h)
 
--- the count of the versions fits
-pub versions_fit : (h : List Event) → IsLegal h → length h < 18446744073709551615 → min (length (versions_of (effects_of h))) (2 ^ 64 - 1) ≡ length (versions_of (effects_of h))
-versions_fit h legal few = omega (arith, versions_few (effects_of h) (legal_allowed h legal), effect_count h)
-
--- and that of the dead ones, also where a collection would take the horizon to n
-pub dead_fit : (h : List Event) → IsLegal h → length h < 18446744073709551615 → (n : ℕ) → min (length (dead_of (Collects n ∷ effects_of h))) (2 ^ 64 - 1) ≡ length (dead_of (Collects n ∷ effects_of h))
+-- the count of the dead fits, also where a collection would take the horizon to n
+pub dead_fit : (h : List Event) → IsLegal h → length h < 18446744073709551615 → (n : ℕ) → length (dead_of (Collects n ∷ effects_of h)) < 18446744073709551615
 dead_fit h legal few n =
     let fewer : length (dead_of (Collects n ∷ effects_of h)) ≤ length (versions_of (effects_of h)) = dead_few (Collects n ∷ effects_of h) in
     omega (arith, fewer, versions_few (effects_of h) (legal_allowed h legal), effect_count h)
@@ -61,23 +61,22 @@ pub open_answers : (p : List Effect) (seat : ℕ) (span : Span) (cursor : ℕ) �
 open_answers p seat span cursor here = sym (past_tests (horizon_tests p cursor) [] (Opened (suc (feeds_opened p))) here)
 
 -- what a collection that takes the horizon to n is answered
-pub collect_answers : (db : Database) (h : List Event) (seat to n before after removed : ℕ) → StandsFor db h → length h < 18446744073709551615 → to ≤ MAX → n ≡ collection_horizon (effects_of h) to
-    → before ≡ min (length (dead_of (Collects db.horizon ∷ effects_of h))) (2 ^ 64 - 1) → after ≡ min (length (dead_of (Collects n ∷ effects_of h))) (2 ^ 64 - 1) → removed ≡ after - before
-    → Collected n removed ≡ answer_of (effects_of h) seat (Collect to)
-collect_answers db h seat to n before after removed stands few low reached was now is =
+pub collect_answers : (db : Database) (h : List Event) (seat to n removed : ℕ) → StandsFor db h → length h < 18446744073709551615 → to ≤ MAX → n ≡ collection_horizon (effects_of h) to
+    → IsDeathCount (version_at db.chains) db.horizon n removed → Collected n removed ≡ answer_of (effects_of h) seat (Collect to)
+collect_answers db h seat to n removed stands few low reached counted =
     let p = effects_of h in
-    let more : removed ≡ length (dead_of (Collects n ∷ p)) - length (dead_of p) =
-    omega (arith, dead_fit h stands.legal few n, dead_fit h stands.legal few db.horizon, ap length (dead_at_horizon p db.horizon stands.tied.horizon_at)) in
+    let died : removed ≡ min (length (dead_of (Collects n ∷ p)) - length (dead_of p)) (2 ^ 64 - 1) = died_between db p (legal_allowed h stands.legal) stands.tied to n removed reached counted in
+    let more : removed ≡ length (dead_of (Collects n ∷ p)) - length (dead_of p) = omega (arith, died, dead_fit h stands.legal few n) in
     rw (le-ltb MAX to low)
     (ap (Collected n) more ∙ ap (λ m. Collected m (length (dead_of (Collects m ∷ p)) - length (dead_of p))) reached)
 
 -- what is counted
-pub stats_answers : (db : Database) (h : List Event) (seat dead all versions undecided feeds : ℕ) → StandsFor db h → length h < 18446744073709551615
-    → dead ≡ min (length (dead_of (Collects db.horizon ∷ effects_of h))) (2 ^ 64 - 1) → all ≡ min (length (versions_of (effects_of h))) (2 ^ 64 - 1) → versions ≡ all - dead
+pub stats_answers : (db : Database) (h : List Event) (seat all versions undecided feeds : ℕ) → StandsFor db h → length h < 18446744073709551615
+    → all ≡ length (versions_of (effects_of h)) → versions ≡ all - db.dead
     → undecided ≡ length (undecided_timestamps (effects_of h)) → feeds ≡ length (live_feeds (effects_of h))
     → replies.Stats versions undecided feeds db.closed db.horizon ≡ answer_of (effects_of h) seat Stats
-stats_answers db h seat dead all versions undecided feeds stands few gone whole is opened live =
+stats_answers db h seat all versions undecided feeds stands few whole is opened live =
     let p = effects_of h in
-    let left : versions ≡ length (versions_of p) - length (dead_of p) =
-    omega (arith, dead_fit h stands.legal few db.horizon, versions_fit h stands.legal few, ap length (dead_at_horizon p db.horizon stands.tied.horizon_at)) in
+    let gone : db.dead ≡ min (length (dead_of p)) (2 ^ 64 - 1) = stands.tied.dead_count ∙ ap (λ n. min n (2 ^ 64 - 1)) (dead_then_is p (legal_allowed h stands.legal)) in
+    let left : versions ≡ length (versions_of p) - length (dead_of p) = omega (arith, gone, dead_fit h stands.legal few (horizon_of p)) in
     rw (left, opened, live, stands.tied.closed_at, stands.tied.horizon_at) refl

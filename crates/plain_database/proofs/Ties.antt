@@ -1,9 +1,7 @@
 -- What a database holds after one more event.
-use Rattle.std.proofs.Common.{◌≡◌, ℕ, ◌<◌, ◌==◌, Bool, true, false, cond, not, ◌&&◌, ◌||◌, List, [], ◌∷◌, ◌++◌, map, Option, Some, None, refl, sym, ◌∙◌, ap, subst, arith}
+use Rattle.std.proofs.Common.{◌≡◌, ℕ, ◌<◌, ◌==◌, Bool, true, false, cond, not, ◌&&◌, ◌||◌, List, ◌∷◌, Option, Some, None, refl, sym, ◌∙◌, ap, subst, arith}
 use Rattle.std.specs.Prelude.{option_map, is_some, bytes_eq, nat_le, nat_lt}
-use Rattle.std.specs.List.{list_any}
-use Rattle.std.proofs.lemmas.Bool.{eqb-true, false_from_ne_true, ltb-false, or_parts}
-use Rattle.std.proofs.lemmas.List.Folds.{list_any-append}
+use Rattle.std.proofs.lemmas.Bool.{eqb-true, false_from_ne_true, ltb-false}
 use Rattle.spans.specs.Effects.{After, Effect, Begins, Reads, Scans, Writes, Commits, Aborts, Closes, HardCloses, SnapshotReads, SnapshotScans, Opens, Polls, Cancels, Protects, Releases, NoEffect}
 use Rattle.spans.specs.Transactions.{owner_of, closed_of, is_committed, is_aborted, is_undecided}
 use Rattle.spans.specs.Versions.{visible, write_of}
@@ -11,31 +9,27 @@ use Rattle.spans.specs.declared.span.Span.{Span}
 use Rattle.spans.specs.Keys.{in_span, insert_key}
 use Rattle.spans.specs.Reads.{too_late}
 use Rattle.spans.proofs.Steps.{by_test}
-use Rattle.spans.proofs.Keyed.{RisingKeys}
-use Rattle.spans.proofs.Legal.{keys_rise}
 use Rattle.spans.proofs.Copies.{IsActive, AllAllowed}
 use Rattle.spans.proofs.Open.{open_above}
 use Rattle.plain_versions.specs.declared.transactions.Transaction.{Transaction}
 use Rattle.plain_versions.specs.declared.transactions.State.{State}
 use Rattle.plain_versions.specs.declared.transactions.State.TheVariants as states
 use Rattle.plain_database.specs.declared.database.Database.{Database}
-use Rattle.plain_versions.specs.Transactions.{transaction_at, with_begun, begun_by, decided, is_committed_state, is_aborted_state, state_closed, aborted_through, is_undecided_at, committed_in}
-use Rattle.plain_versions.specs.Chains.{version_at, with_write, dropped, cleared}
-use Rattle.plain_database.specs.Reads.{read_of, goes_across}
-use Rattle.plain_versions.specs.Sources.{sources_in}
-use Rattle.plain_database.specs.SpanReads.{scan_of, scan_goes_across}
+use Rattle.plain_versions.specs.declared.transactions.Outcome.{Outcome}
+use Rattle.plain_versions.specs.declared.transactions.Outcome.TheVariants as outcomes
+use Rattle.plain_versions.specs.Transactions.{Table, transaction_at, begun, decided, is_committed_state, is_aborted_state, state_closed, hard_closed, is_undecided_at, committed_in, IsSetAt}
+use Rattle.plain_versions.specs.Chains.{Stored, IsWritten, IsCleared}
+use Rattle.plain_database.specs.Reads.{KeyReads, lies_between, goes_across, HasReadToo}
+use Rattle.plain_versions.specs.Sources.{source_at}
+use Rattle.plain_database.specs.declared.span_reads.Scan.{Scan}
+use Rattle.plain_database.specs.SpanReads.{scan_of, is_scan_across, scan_goes_across, HasScanToo}
 use Rattle.plain_database.specs.Tied.{owner_in, aborted_in, IsTied}
 use Rattle.plain_feeds.specs.declared.record.FeedRecord.{FeedRecord}
 use Rattle.plain_feeds.specs.FeedTie.{FeedsTied}
 use Rattle.plain_feeds.specs.ProtectionTie.{Standing, ProtectionsTied}
 use Rattle.plain_feeds.proofs.FeedTies.{feeds_kept}
 use Rattle.plain_feeds.proofs.ProtectionTies.{protections_kept}
-use Rattle.plain_versions.proofs.Rising.{transaction_at_begun, single_begun, single_mapped, decided_keeps}
-use Rattle.plain_versions.proofs.TransactionSteps.{with_state, transaction_at_decided, transaction_at_closed, found_at}
 use Rattle.plain_database.proofs.Undecided.{open_at}
-use Rattle.plain_database.proofs.SpanReads.{source_visible}
-use Rattle.plain_database.proofs.Once.{once_with_write, once_dropped, once_cleared}
-use Rattle.plain_versions.proofs.ChainSteps.{keys_in, keys_with_write, version_at_with, count_with, keys_dropped, version_at_dropped, count_dropped, keys_cleared, version_at_cleared, count_cleared}
 
 -- ---- the events
 
@@ -50,7 +44,7 @@ IsOfProtection (Protects id t) = Unit {0}
 IsOfProtection (Releases id) = Unit {0}
 IsOfProtection _ = ⊥
 
-owner_decided : (b : Bool) (s : State) (o : Option Transaction) → owner_in (cond b (option_map (with_state s) o) o) ≡ owner_in o
+owner_decided : (b : Bool) (s : Outcome) (o : Option Transaction) → owner_in (cond b (option_map (decided s) o) o) ≡ owner_in o
 owner_decided true s None = refl
 owner_decided true s (Some x) = refl
 owner_decided false s o = refl
@@ -65,36 +59,32 @@ tied_still db p tied = record {
   owners = tied.owners;
   committed = tied.committed;
   aborted = tied.aborted;
-  single = tied.single;
   keys = tied.keys;
   versions = tied.versions;
-  counts = tied.counts;
-  once = tied.once;
   reads = tied.reads;
   horizon_at = tied.horizon_at;
+  dead_count = tied.dead_count;
   feeds = feeds_kept db.feeds p (NoEffect) tt tied.feeds;
   protections = protections_kept db.protections p (NoEffect) tt tied.protections;
 }
 
 -- a transaction that wasn't there begins
-pub tied_begins : (db : Database) (p : List Effect) (t seat : ℕ) → IsTied db p → owner_of p t ≡ None
-    → IsTied (record db { transactions = with_begun db.transactions (begun_by t seat) }) (Begins t seat ∷ p)
-tied_begins db p t seat tied unowned = record {
+pub tied_begins : (db : Database) (p : List Effect) (t seat : ℕ) (table : Table) → IsSetAt db.transactions table t (begun seat) → IsTied db p → owner_of p t ≡ None
+    → IsTied (record db { transactions = table }) (Begins t seat ∷ p)
+tied_begins db p t seat table set tied unowned = record {
   closed_at = tied.closed_at;
-  owners = λ i. rw (transaction_at_begun db.transactions (begun_by t seat) i none) (by_test (t == i) (λ same. rw same refl) (λ other. rw other (tied.owners i)));
-  committed = λ i. rw (transaction_at_begun db.transactions (begun_by t seat) i none) (by_test (t == i)
-      (λ same. rw same (sym (ap committed_in (gone i same)) ∙ tied.committed i))
-      (λ other. rw other (tied.committed i)));
-  aborted = λ i. rw (transaction_at_begun db.transactions (begun_by t seat) i none) (by_test (t == i)
-      (λ same. rw same (sym (ap aborted_in (gone i same)) ∙ tied.aborted i))
-      (λ other. rw other (tied.aborted i)));
-  single = single_begun db.transactions (begun_by t seat) none tied.single;
+  owners = λ i. ap owner_in (set i) ∙ by_test (t == i) (λ same. rw (same, gone i same) refl) (λ other. rw other (tied.owners i));
+  committed = λ i. ap committed_in (set i) ∙ by_test (t == i)
+      (λ same. rw (same, gone i same) (ap committed_in (sym (gone i same)) ∙ tied.committed i))
+      (λ other. rw other (tied.committed i));
+  aborted = λ i. ap aborted_in (set i) ∙ by_test (t == i)
+      (λ same. rw (same, gone i same) (ap aborted_in (sym (gone i same)) ∙ tied.aborted i))
+      (λ other. rw other (tied.aborted i));
   keys = tied.keys;
   versions = tied.versions;
-  counts = tied.counts;
-  once = tied.once;
   reads = tied.reads;
   horizon_at = tied.horizon_at;
+  dead_count = tied.dead_count;
   feeds = feeds_kept db.feeds p (Begins t seat) tt tied.feeds;
   protections = protections_kept db.protections p (Begins t seat) tt tied.protections;
 }
@@ -103,165 +93,146 @@ tied_begins db p t seat tied unowned = record {
     no_owner None e = refl
     no_owner (Some x) e = cc
 
-    none : transaction_at db.transactions t ≡ None
-    none = no_owner (transaction_at db.transactions t) (tied.owners t ∙ unowned)
-
     gone : (i : ℕ) → (t == i) ≡ true → transaction_at db.transactions i ≡ None
-    gone i same = subst (λ n. transaction_at db.transactions n ≡ None) (eqb-true t i same) none
+    gone i same = subst (λ n. transaction_at db.transactions n ≡ None) (eqb-true t i same) (no_owner (transaction_at db.transactions t) (tied.owners t ∙ unowned))
 
--- the last read passes the test, or an earlier one, or a scan
-last_read : (a r b : Bool) → ((a || (r || false)) || b) ≡ (r || (a || b))
-last_read true true b = refl
-last_read true false b = refl
-last_read false true b = refl
-last_read false false b = refl
+-- one more read passes the test, or an earlier one, or a scan
+one_more_read : (a r b : Bool) → ((r || a) || b) ≡ (r || (a || b))
+one_more_read a true b = refl
+one_more_read a false b = refl
 
--- the last scan passes the test, or a read, or an earlier one
-last_scan : (a b s : Bool) → (a || (b || (s || false))) ≡ (s || (a || b))
-last_scan true b true = refl
-last_scan true b false = refl
-last_scan false true true = refl
-last_scan false true false = refl
-last_scan false false true = refl
-last_scan false false false = refl
+-- one more scan passes the test, or a read, or an earlier one
+one_more_scan : (a b s : Bool) → (a || (s || b)) ≡ (s || (a || b))
+one_more_scan true b true = refl
+one_more_scan true b false = refl
+one_more_scan false b s = refl
 
 -- a key is read
-pub tied_reads : (db : Database) (p : List Effect) (t : ℕ) (x : List ℕ) (v : After) (k : ℕ) → IsTied db p → k ≡ (visible p x t).ts
-    → IsTied (record db { reads = db.reads ++ read_of t x k ∷ [] }) (Reads t x v ∷ p)
-tied_reads db p t x v k tied is = record {
+pub tied_reads : (db : Database) (p : List Effect) (reads : KeyReads) (t : ℕ) (x : List ℕ) (v : After) (k : ℕ) → IsTied db p → HasReadToo db.reads reads t x k → k ≡ (visible p x t).ts
+    → IsTied (record db { reads = reads }) (Reads t x v ∷ p)
+tied_reads db p reads t x v k tied more is = record {
   closed_at = tied.closed_at;
   owners = tied.owners;
   committed = tied.committed;
   aborted = tied.aborted;
-  single = tied.single;
   keys = tied.keys;
   versions = tied.versions;
-  counts = tied.counts;
-  once = tied.once;
-  reads = λ y i. ap (λ b. b || list_any (scan_goes_across y i) db.scans) (list_any-append (goes_across y i) db.reads (read_of t x k ∷ []))
-      ∙ last_read (list_any (goes_across y i) db.reads) (goes_across y i (read_of t x k)) (list_any (scan_goes_across y i) db.scans)
-      ∙ ap (λ b. goes_across y i (read_of t x k) || b) (tied.reads y i) ∙ ap (λ n. goes_across y i (read_of t x n) || too_late p y i) is;
+  reads = λ y i. ap (λ b. b || scan_goes_across db.scans y i) (more y i)
+      ∙ one_more_read (goes_across db.reads y i) (bytes_eq x y && lies_between k i t) (scan_goes_across db.scans y i)
+      ∙ ap (λ b. (bytes_eq x y && lies_between k i t) || b) (tied.reads y i) ∙ ap (λ n. (bytes_eq x y && lies_between n i t) || too_late p y i) is;
   horizon_at = tied.horizon_at;
+  dead_count = tied.dead_count;
   feeds = feeds_kept db.feeds p (Reads t x v) tt tied.feeds;
   protections = protections_kept db.protections p (Reads t x v) tt tied.protections;
 }
 
--- a span is scanned
-pub tied_scans : (db : Database) (p : List Effect) (t : ℕ) (span : Span) (rows : List (List ℕ × List ℕ)) → IsTied db p
-    → IsTied (record db { scans = db.scans ++ scan_of t span (sources_in span t db.chains) ∷ [] }) (Scans t span rows ∷ p)
-tied_scans db p t span rows tied = record {
+-- a span is scanned: of each of its keys the sources have the version that its reader sees
+pub tied_scans : (db : Database) (p : List Effect) (scans : List (ℕ × List Scan)) (t : ℕ) (span : Span) (sources : List (List ℕ × ℕ)) (rows : List (List ℕ × List ℕ)) → IsTied db p
+    → ((y : List ℕ) → in_span span y ≡ true → source_at sources y ≡ (visible p y t).ts) → HasScanToo db.scans scans t (scan_of span sources) → IsTied (record db { scans = scans }) (Scans t span rows ∷ p)
+tied_scans db p scans t span sources rows tied given more = record {
   closed_at = tied.closed_at;
   owners = tied.owners;
   committed = tied.committed;
   aborted = tied.aborted;
-  single = tied.single;
   keys = tied.keys;
   versions = tied.versions;
-  counts = tied.counts;
-  once = tied.once;
-  reads = λ y i. ap (λ b. list_any (goes_across y i) db.reads || b) (list_any-append (scan_goes_across y i) db.scans (scan_of t span (sources_in span t db.chains) ∷ []))
-      ∙ last_scan (list_any (goes_across y i) db.reads) (list_any (scan_goes_across y i) db.scans) (scan_goes_across y i (scan_of t span (sources_in span t db.chains)))
-      ∙ ap (λ b. scan_goes_across y i (scan_of t span (sources_in span t db.chains)) || b) (tied.reads y i) ∙ ap (λ b. b || too_late p y i) (across y i);
+  reads = λ y i. ap (λ b. goes_across db.reads y i || b) (more y i)
+      ∙ one_more_scan (goes_across db.reads y i) (scan_goes_across db.scans y i) (nat_lt i t && is_scan_across y i (scan_of span sources))
+      ∙ ap (λ b. (nat_lt i t && is_scan_across y i (scan_of span sources)) || b) (tied.reads y i) ∙ ap (λ b. b || too_late p y i) (across y i);
   horizon_at = tied.horizon_at;
+  dead_count = tied.dead_count;
   feeds = feeds_kept db.feeds p (Scans t span rows) tt tied.feeds;
   protections = protections_kept db.protections p (Scans t span rows) tt tied.protections;
 }
   where
-    across : (y : List ℕ) (i : ℕ) → scan_goes_across y i (scan_of t span (sources_in span t db.chains)) ≡ (in_span span y && (nat_lt (visible p y t).ts i && nat_lt i t))
-    across y i = by_test (in_span span y)
-        (λ inside. rw inside (ap (λ k. nat_lt k i && nat_lt i t) (source_visible db p tied span t y inside)))
+    apart : (a b c : Bool) → (a && (b && c)) ≡ (b && (c && a))
+    apart true true c = by_test c (λ is. rw is refl) (λ isnt. rw isnt refl)
+    apart true false c = refl
+    apart false true true = refl
+    apart false true false = refl
+    apart false false c = refl
+
+    across : (y : List ℕ) (i : ℕ) → (nat_lt i t && is_scan_across y i (scan_of span sources)) ≡ (in_span span y && (nat_lt (visible p y t).ts i && nat_lt i t))
+    across y i = apart (nat_lt i t) (in_span span y) (nat_lt (source_at sources y) i) ∙ by_test (in_span span y)
+        (λ inside. rw inside (ap (λ k. nat_lt k i && nat_lt i t) (given y inside)))
         (λ outside. rw outside refl)
 
 -- a key is written
-pub tied_writes : (db : Database) (p : List Effect) (t : ℕ) (x : List ℕ) (a : After) → IsTied db p → IsActive p t
-    → IsTied (record db { chains = with_write db.chains x t a }) (Writes t x a ∷ p)
-tied_writes db p t x a tied active = record {
+pub tied_writes : (db : Database) (p : List Effect) (chains : Stored) (t : ℕ) (x : List ℕ) (a : After) → IsWritten db.chains chains x t a → IsTied db p → IsActive p t
+    → IsTied (record db { chains = chains }) (Writes t x a ∷ p)
+tied_writes db p chains t x a written tied active = record {
   closed_at = tied.closed_at;
   owners = tied.owners;
   committed = tied.committed;
   aborted = tied.aborted;
-  single = tied.single;
-  keys = keys_with_write db.chains x t a ∙ ap (insert_key x) tied.keys;
-  versions = λ y i. version_at_with db.chains x t a rise y i ∙ by_test (t == i)
+  keys = written.keys ∙ ap (insert_key x) tied.keys;
+  versions = λ y i. written.version y i ∙ by_test (t == i)
       (λ same. by_test (bytes_eq x y)
       (λ here. let live : is_aborted p i ≡ false = subst (λ n. is_aborted p n ≡ false) (eqb-true t i same) active.unaborted in rw (same, here, live) refl)
       (λ there. rw (same, there) (tied.versions y i)))
       (λ other. rw other (tied.versions y i));
-  counts = λ i live. count_with db.chains x t a rise i ∙ by_test (t == i)
-      (λ same. let had : version_at db.chains x t ≡ write_of p i x = tied.versions x t ∙ rw active.unaborted (ap (λ n. write_of p n x) (eqb-true t i same)) in
-      rw (same, had, tied.counts i live) refl)
-      (λ other. rw other (tied.counts i live));
-  once = once_with_write db.chains x t a tied.once;
   reads = tied.reads;
   horizon_at = tied.horizon_at;
+  dead_count = tied.dead_count;
   feeds = feeds_kept db.feeds p (Writes t x a) tt tied.feeds;
   protections = protections_kept db.protections p (Writes t x a) tt tied.protections;
 }
-  where
-    rise : RisingKeys (keys_in db.chains)
-    rise = subst RisingKeys (sym tied.keys) (keys_rise p)
 
 -- a transaction commits
-pub tied_commits : (db : Database) (p : List Effect) (t : ℕ) → IsTied db p → IsActive p t
-    → IsTied (record db { transactions = map (decided t states.Committed) db.transactions }) (Commits t ∷ p)
-tied_commits db p t tied active = record {
+pub tied_commits : (db : Database) (p : List Effect) (t : ℕ) (table : Table) → IsSetAt db.transactions table t (option_map (decided outcomes.Committed)) → IsTied db p → IsActive p t
+    → IsTied (record db { transactions = table }) (Commits t ∷ p)
+tied_commits db p t table set tied active = record {
   closed_at = tied.closed_at;
-  owners = λ i. rw (transaction_at_decided t states.Committed db.transactions i) (owner_decided (t == i) states.Committed (transaction_at db.transactions i) ∙ tied.owners i);
-  committed = λ i. rw (transaction_at_decided t states.Committed db.transactions i) (by_test (t == i)
+  owners = λ i. ap owner_in (set i) ∙ owner_decided (t == i) outcomes.Committed (transaction_at db.transactions i) ∙ tied.owners i;
+  committed = λ i. ap committed_in (set i) ∙ by_test (t == i)
       (λ same. rw same (committed_now (transaction_at db.transactions i) (owner_some db p t tied active i same)))
-      (λ other. rw other (tied.committed i)));
-  aborted = λ i. rw (transaction_at_decided t states.Committed db.transactions i) (by_test (t == i)
+      (λ other. rw other (tied.committed i));
+  aborted = λ i. ap aborted_in (set i) ∙ by_test (t == i)
       (λ same. rw same (not_aborted (transaction_at db.transactions i) ∙ sym (subst (λ n. is_aborted p n ≡ false) (eqb-true t i same) active.unaborted)))
-      (λ other. rw other (tied.aborted i)));
-  single = single_mapped (decided t states.Committed) (decided_keeps t states.Committed) db.transactions tied.single;
+      (λ other. rw other (tied.aborted i));
   keys = tied.keys;
   versions = tied.versions;
-  counts = tied.counts;
-  once = tied.once;
   reads = tied.reads;
   horizon_at = tied.horizon_at;
+  dead_count = tied.dead_count;
   feeds = feeds_kept db.feeds p (Commits t) tt tied.feeds;
   protections = protections_kept db.protections p (Commits t) tt tied.protections;
 }
   where
-    committed_now : (o : Option Transaction) → is_some (owner_in o) ≡ true → committed_in (option_map (with_state states.Committed) o) ≡ true
+    committed_now : (o : Option Transaction) → is_some (owner_in o) ≡ true → committed_in (option_map (decided outcomes.Committed) o) ≡ true
     committed_now None e = e
     committed_now (Some x) e = refl
 
-    not_aborted : (o : Option Transaction) → aborted_in (option_map (with_state states.Committed) o) ≡ false
+    not_aborted : (o : Option Transaction) → aborted_in (option_map (decided outcomes.Committed) o) ≡ false
     not_aborted None = refl
     not_aborted (Some x) = refl
 
 -- a transaction aborts
-pub tied_aborts : (db : Database) (p : List Effect) (t : ℕ) → IsTied db p → IsActive p t
-    → IsTied (record db { transactions = map (decided t states.Aborted) db.transactions; chains = map (dropped t) db.chains }) (Aborts t ∷ p)
-tied_aborts db p t tied active = record {
+pub tied_aborts : (db : Database) (p : List Effect) (t : ℕ) (table : Table) (chains : Stored) → IsSetAt db.transactions table t (option_map (decided outcomes.Aborted)) → IsCleared db.chains chains (λ i. t == i) → IsTied db p → IsActive p t
+    → IsTied (record db { transactions = table; chains = chains }) (Aborts t ∷ p)
+tied_aborts db p t table chains set cleared tied active = record {
   closed_at = tied.closed_at;
-  owners = λ i. rw (transaction_at_decided t states.Aborted db.transactions i) (owner_decided (t == i) states.Aborted (transaction_at db.transactions i) ∙ tied.owners i);
-  committed = λ i. rw (transaction_at_decided t states.Aborted db.transactions i) (by_test (t == i)
+  owners = λ i. ap owner_in (set i) ∙ owner_decided (t == i) outcomes.Aborted (transaction_at db.transactions i) ∙ tied.owners i;
+  committed = λ i. ap committed_in (set i) ∙ by_test (t == i)
       (λ same. rw same (not_committed (transaction_at db.transactions i) ∙ sym (subst (λ n. is_committed p n ≡ false) (eqb-true t i same) active.uncommitted)))
-      (λ other. rw other (tied.committed i)));
-  aborted = λ i. rw (transaction_at_decided t states.Aborted db.transactions i) (by_test (t == i)
+      (λ other. rw other (tied.committed i));
+  aborted = λ i. ap aborted_in (set i) ∙ by_test (t == i)
       (λ same. rw same (aborted_now (transaction_at db.transactions i) (owner_some db p t tied active i same)))
-      (λ other. rw other (tied.aborted i)));
-  single = single_mapped (decided t states.Aborted) (decided_keeps t states.Aborted) db.transactions tied.single;
-  keys = keys_dropped t db.chains ∙ tied.keys;
-  versions = λ y i. version_at_dropped t db.chains y i ∙ by_test (t == i) (λ same. rw same refl) (λ other. rw other (tied.versions y i));
-  counts = λ i live. by_test (t == i)
-      (λ same. let no : true ≡ false = rw same at live in cc)
-      (λ other. count_dropped t db.chains i other ∙ tied.counts i (rw other at live));
-  once = once_dropped t db.chains tied.once;
+      (λ other. rw other (tied.aborted i));
+  keys = cleared.keys ∙ tied.keys;
+  versions = λ y i. cleared.version y i ∙ by_test (t == i) (λ same. rw same refl) (λ other. rw other (tied.versions y i));
   reads = tied.reads;
   horizon_at = tied.horizon_at;
+  dead_count = tied.dead_count;
   feeds = feeds_kept db.feeds p (Aborts t) tt tied.feeds;
   protections = protections_kept db.protections p (Aborts t) tt tied.protections;
 }
   where
-    aborted_now : (o : Option Transaction) → is_some (owner_in o) ≡ true → aborted_in (option_map (with_state states.Aborted) o) ≡ true
+    aborted_now : (o : Option Transaction) → is_some (owner_in o) ≡ true → aborted_in (option_map (decided outcomes.Aborted) o) ≡ true
     aborted_now None e = e
     aborted_now (Some x) e = refl
 
-    not_committed : (o : Option Transaction) → committed_in (option_map (with_state states.Aborted) o) ≡ false
+    not_committed : (o : Option Transaction) → committed_in (option_map (decided outcomes.Aborted) o) ≡ false
     not_committed None = refl
     not_committed (Some x) = refl
 
@@ -272,13 +243,11 @@ tied_closes db p at tied = record {
   owners = tied.owners;
   committed = tied.committed;
   aborted = tied.aborted;
-  single = tied.single;
   keys = tied.keys;
   versions = tied.versions;
-  counts = tied.counts;
-  once = tied.once;
   reads = tied.reads;
   horizon_at = tied.horizon_at;
+  dead_count = tied.dead_count;
   feeds = feeds_kept db.feeds p (Closes at) tt tied.feeds;
   protections = protections_kept db.protections p (Closes at) tt tied.protections;
 }
@@ -290,13 +259,11 @@ tied_snapshot db p t x v tied = record {
   owners = tied.owners;
   committed = tied.committed;
   aborted = tied.aborted;
-  single = tied.single;
   keys = tied.keys;
   versions = tied.versions;
-  counts = tied.counts;
-  once = tied.once;
   reads = tied.reads;
   horizon_at = tied.horizon_at;
+  dead_count = tied.dead_count;
   feeds = feeds_kept db.feeds p (SnapshotReads t x v) tt tied.feeds;
   protections = protections_kept db.protections p (SnapshotReads t x v) tt tied.protections;
 }
@@ -308,55 +275,52 @@ tied_snapshot_scan db p t span rows tied = record {
   owners = tied.owners;
   committed = tied.committed;
   aborted = tied.aborted;
-  single = tied.single;
   keys = tied.keys;
   versions = tied.versions;
-  counts = tied.counts;
-  once = tied.once;
   reads = tied.reads;
   horizon_at = tied.horizon_at;
+  dead_count = tied.dead_count;
   feeds = feeds_kept db.feeds p (SnapshotScans t span rows) tt tied.feeds;
   protections = protections_kept db.protections p (SnapshotScans t span rows) tt tied.protections;
 }
 
 -- something of a feed happens
 pub tied_feeds : (db : Database) (p : List Effect) (e : Effect) (feeds : List FeedRecord) → IsOfFeed e → IsTied db p → FeedsTied feeds (e ∷ p) → IsTied (record db { feeds = feeds }) (e ∷ p)
-tied_feeds db p (Opens f seat kind span cursor) feeds is tied now = record { closed_at = tied.closed_at; owners = tied.owners; committed = tied.committed; aborted = tied.aborted; single = tied.single; keys = tied.keys; versions = tied.versions; counts = tied.counts; once = tied.once; reads = tied.reads; horizon_at = tied.horizon_at; feeds = now; protections = protections_kept db.protections p (Opens f seat kind span cursor) tt tied.protections }
-tied_feeds db p (Polls f max ms) feeds is tied now = record { closed_at = tied.closed_at; owners = tied.owners; committed = tied.committed; aborted = tied.aborted; single = tied.single; keys = tied.keys; versions = tied.versions; counts = tied.counts; once = tied.once; reads = tied.reads; horizon_at = tied.horizon_at; feeds = now; protections = protections_kept db.protections p (Polls f max ms) tt tied.protections }
-tied_feeds db p (Cancels f) feeds is tied now = record { closed_at = tied.closed_at; owners = tied.owners; committed = tied.committed; aborted = tied.aborted; single = tied.single; keys = tied.keys; versions = tied.versions; counts = tied.counts; once = tied.once; reads = tied.reads; horizon_at = tied.horizon_at; feeds = now; protections = protections_kept db.protections p (Cancels f) tt tied.protections }
+tied_feeds db p (Opens f seat kind span cursor) feeds is tied now = record { closed_at = tied.closed_at; owners = tied.owners; committed = tied.committed; aborted = tied.aborted; keys = tied.keys; versions = tied.versions; reads = tied.reads; horizon_at = tied.horizon_at; dead_count = tied.dead_count; feeds = now; protections = protections_kept db.protections p (Opens f seat kind span cursor) tt tied.protections }
+tied_feeds db p (Polls f max ms) feeds is tied now = record { closed_at = tied.closed_at; owners = tied.owners; committed = tied.committed; aborted = tied.aborted; keys = tied.keys; versions = tied.versions; reads = tied.reads; horizon_at = tied.horizon_at; dead_count = tied.dead_count; feeds = now; protections = protections_kept db.protections p (Polls f max ms) tt tied.protections }
+tied_feeds db p (Cancels f) feeds is tied now = record { closed_at = tied.closed_at; owners = tied.owners; committed = tied.committed; aborted = tied.aborted; keys = tied.keys; versions = tied.versions; reads = tied.reads; horizon_at = tied.horizon_at; dead_count = tied.dead_count; feeds = now; protections = protections_kept db.protections p (Cancels f) tt tied.protections }
 tied_feeds db p _ feeds is tied now = absurd is
 
 -- something of a protection happens
 pub tied_protections : (db : Database) (p : List Effect) (e : Effect) (protections : Standing) → IsOfProtection e → IsTied db p → ProtectionsTied protections (e ∷ p) → IsTied (record db { protections = protections }) (e ∷ p)
-tied_protections db p (Protects id t) protections is tied now = record { closed_at = tied.closed_at; owners = tied.owners; committed = tied.committed; aborted = tied.aborted; single = tied.single; keys = tied.keys; versions = tied.versions; counts = tied.counts; once = tied.once; reads = tied.reads; horizon_at = tied.horizon_at; feeds = feeds_kept db.feeds p (Protects id t) tt tied.feeds; protections = now }
-tied_protections db p (Releases id) protections is tied now = record { closed_at = tied.closed_at; owners = tied.owners; committed = tied.committed; aborted = tied.aborted; single = tied.single; keys = tied.keys; versions = tied.versions; counts = tied.counts; once = tied.once; reads = tied.reads; horizon_at = tied.horizon_at; feeds = feeds_kept db.feeds p (Releases id) tt tied.feeds; protections = now }
+tied_protections db p (Protects id t) protections is tied now = record { closed_at = tied.closed_at; owners = tied.owners; committed = tied.committed; aborted = tied.aborted; keys = tied.keys; versions = tied.versions; reads = tied.reads; horizon_at = tied.horizon_at; dead_count = tied.dead_count; feeds = feeds_kept db.feeds p (Protects id t) tt tied.feeds; protections = now }
+tied_protections db p (Releases id) protections is tied now = record { closed_at = tied.closed_at; owners = tied.owners; committed = tied.committed; aborted = tied.aborted; keys = tied.keys; versions = tied.versions; reads = tied.reads; horizon_at = tied.horizon_at; dead_count = tied.dead_count; feeds = feeds_kept db.feeds p (Releases id) tt tied.feeds; protections = now }
 tied_protections db p _ protections is tied now = absurd is
 
 -- closed moves hard
 abbrev pub goes : Database → ℕ → ℕ → Bool
 goes db to = is_undecided_at db.transactions db.closed to
 
-pub tied_hard_closes : (db : Database) (p : List Effect) (to at : ℕ) → IsTied db p → AllAllowed p
-    → IsTied (record db { closed = at; transactions = map (aborted_through to) db.transactions; chains = map (cleared (goes db to)) db.chains }) (HardCloses to at ∷ p)
-tied_hard_closes db p to at tied all = record {
+pub tied_hard_closes : (db : Database) (p : List Effect) (to at : ℕ) (table : Table) (chains : Stored)
+    → ((i : ℕ) → transaction_at table i ≡ option_map (hard_closed (nat_le i to)) (transaction_at db.transactions i)) → IsCleared db.chains chains (goes db to) → IsTied db p → AllAllowed p
+    → IsTied (record db { closed = at; transactions = table; chains = chains }) (HardCloses to at ∷ p)
+tied_hard_closes db p to at table chains set cleared tied all = record {
   closed_at = refl;
-  owners = λ i. rw (transaction_at_closed to db.transactions i) (owner_closed (transaction_at db.transactions i) ∙ tied.owners i);
-  committed = λ i. rw (transaction_at_closed to db.transactions i) (committed_closed (transaction_at db.transactions i) ∙ tied.committed i);
-  aborted = λ i. rw (transaction_at_closed to db.transactions i, sym (tied.owners i), sym (tied.committed i), sym (tied.aborted i)) (aborted_closed i (transaction_at db.transactions i) (found_at db.transactions i));
-  single = single_mapped (aborted_through to) (λ x. refl) db.transactions tied.single;
-  keys = keys_cleared (goes db to) db.chains ∙ tied.keys;
-  versions = λ y i. version_at_cleared (goes db to) db.chains y i ∙ rw (gone i, tied.versions y i) (by_parts (nat_le i to) (is_some (owner_of p i)) (is_committed p i) (is_aborted p i) (write_of p i y));
-  counts = λ i live. let parts = or_parts _ _ live in count_cleared (goes db to) db.chains i (gone i ∙ still (nat_le i to) (is_some (owner_of p i)) (is_committed p i) (is_aborted p i) parts.0) ∙ tied.counts i parts.1;
-  once = once_cleared (goes db to) db.chains tied.once;
+  owners = λ i. ap owner_in (set i) ∙ owner_closed (nat_le i to) (transaction_at db.transactions i) ∙ tied.owners i;
+  committed = λ i. ap committed_in (set i) ∙ committed_closed (nat_le i to) (transaction_at db.transactions i) ∙ tied.committed i;
+  aborted = λ i. ap aborted_in (set i) ∙ aborted_closed (nat_le i to) (transaction_at db.transactions i) ∙ rw (tied.owners i, tied.committed i, tied.aborted i) refl;
+  keys = cleared.keys ∙ tied.keys;
+  versions = λ y i. cleared.version y i ∙ rw (gone i, tied.versions y i) (by_parts (nat_le i to) (is_some (owner_of p i)) (is_committed p i) (is_aborted p i) (write_of p i y));
   reads = tied.reads;
   horizon_at = tied.horizon_at;
+  dead_count = tied.dead_count;
   feeds = feeds_kept db.feeds p (HardCloses to at) tt tied.feeds;
   protections = protections_kept db.protections p (HardCloses to at) tt tied.protections;
 }
   where
-    owner_closed : (o : Option Transaction) → owner_in (option_map (aborted_through to) o) ≡ owner_in o
-    owner_closed None = refl
-    owner_closed (Some x) = refl
+    owner_closed : (low : Bool) (o : Option Transaction) → owner_in (option_map (hard_closed low) o) ≡ owner_in o
+    owner_closed low None = refl
+    owner_closed low (Some x) = refl
 
     by_state : (low : Bool) (s : State) → is_committed_state (state_closed low s) ≡ is_committed_state s
     by_state true states.Undecided = refl
@@ -364,9 +328,9 @@ tied_hard_closes db p to at tied all = record {
     by_state low states.Committed = refl
     by_state low states.Aborted = refl
 
-    committed_closed : (o : Option Transaction) → committed_in (option_map (aborted_through to) o) ≡ committed_in o
-    committed_closed None = refl
-    committed_closed (Some x) = by_state (nat_le x.ts to) x.state
+    committed_closed : (low : Bool) (o : Option Transaction) → committed_in (option_map (hard_closed low) o) ≡ committed_in o
+    committed_closed low None = refl
+    committed_closed low (Some x) = by_state low x.state
 
     by_state' : (low : Bool) (s : State) → is_aborted_state (state_closed low s) ≡ ((low && (true && not (is_committed_state s))) || is_aborted_state s)
     by_state' true states.Undecided = refl
@@ -376,9 +340,10 @@ tied_hard_closes db p to at tied all = record {
     by_state' true states.Aborted = refl
     by_state' false states.Aborted = refl
 
-    aborted_closed : (i : ℕ) (o : Option Transaction) → ((x : Transaction) → o ≡ Some x → x.ts ≡ i) → aborted_in (option_map (aborted_through to) o) ≡ ((nat_le i to && (is_some (owner_in o) && not (committed_in o))) || aborted_in o)
-    aborted_closed i None at' = by_test (nat_le i to) (λ low. rw low refl) (λ high. rw high refl)
-    aborted_closed i (Some x) at' = let same : x.ts ≡ i = at' x refl in rw (sym same) (by_state' (nat_le x.ts to) x.state)
+    aborted_closed : (low : Bool) (o : Option Transaction) → aborted_in (option_map (hard_closed low) o) ≡ ((low && (is_some (owner_in o) && not (committed_in o))) || aborted_in o)
+    aborted_closed true None = refl
+    aborted_closed false None = refl
+    aborted_closed low (Some x) = by_state' low x.state
 
     gone : (i : ℕ) → goes db to i ≡ (nat_le i to && is_undecided p i)
     gone i = rw (open_at db p tied i) (by_test (nat_lt db.closed i)
@@ -396,9 +361,3 @@ tied_hard_closes db p to at tied all = record {
     by_parts true false c false w = refl
     by_parts false o c true w = refl
     by_parts false o c false w = refl
-
-    still : (low o c a : Bool) → (low && (o && not c)) ≡ false → (low && (o && (not c && not a))) ≡ false
-    still false o c a e = refl
-    still true false c a e = refl
-    still true true true a e = refl
-    still true true false a e = cc

@@ -1,16 +1,13 @@
 -- What the contracts are said with: what holds after each history, the answer there, and what stands after one more event.
 use Rattle.std.specs.Prelude.{ℕ, List, ◌∷◌, ◌≡◌, ◌<◌, Some, length, true}
-use Rattle.timestamps.specs.declared.row.Row.{Row}
 use Rattle.spans.specs.declared.calls.commands.Cmd.{Cmd}
 use Rattle.spans.specs.declared.calls.events.Event.{Event}
 use Rattle.spans.specs.declared.calls.messages.Message.{Message}
 use Rattle.spans.specs.declared.calls.replies.Reply.{Reply}
 use Rattle.spans.specs.Answer.{answer_of}
 use Rattle.spans.specs.Effects.{Effect, effects_of, event}
-use Rattle.spans.specs.Feeds.{Feed, feed_of, list_of, next_messages}
+use Rattle.spans.specs.Feeds.{Feed, feed_of, next_messages}
 use Rattle.spans.specs.Legal.{IsRightEvent, is_accepted, may_lack_memory}
-use Rattle.plain_feeds.specs.declared.record.FeedRecord.{FeedRecord}
-use Rattle.plain_feeds.specs.Records.{feed_part}
 use Rattle.plain_database.specs.declared.database.Database.{Database}
 use Rattle.plain_database.specs.Tied.{StandsFor}
 
@@ -46,12 +43,6 @@ abbrev pub Records : Database → ℕ → Cmd → Reply → Database → Type 0
 Records db seat cmd reply db' =
     (h : List Event) (n : ℕ) → StandsFor db h → IsRightEvent (effects_of h) (event n seat cmd reply)
     → StandsFor db' (event n seat cmd reply ∷ h)
-
--- the rows are the list, through n, of each feed of which this is the record
-abbrev pub Lists : Database → FeedRecord → ℕ → List Row → Type 0
-Lists db feed n rows =
-    (h : List Event) → StandsFor db h → (f : ℕ) → feed_of (effects_of h) f ≡ Some (feed_part feed)
-    → rows ≡ list_of (effects_of h) (feed_part feed) n
 
 -- these are the next messages of the feed, at most max
 abbrev pub AreNext : Database → ℕ → ℕ → List Message → Type 0

@@ -1,18 +1,28 @@
--- What the chains say of the rows of one transaction.
-use Rattle.std.specs.Prelude.{ℕ, List, [], ◌∷◌, Bool, if◌then◌else◌, Option, Some, None}
+-- The rows that a feed was not told.
+use Rattle.std.specs.Prelude.{ℕ, List, ◌≡◌, ◌≤◌, true, take, Option, Some}
 use Rattle.timestamps.specs.declared.row.Row.{Row}
-use Rattle.spans.specs.declared.span.Span.{Span}
-use Rattle.spans.specs.Effects.{After}
-use Rattle.spans.specs.Keys.{in_span}
-use Rattle.plain_versions.specs.declared.chains.Chain.{Chain}
-use Rattle.plain_versions.specs.Versions.{version_in}
+use Rattle.timestamps.specs.declared.ts.TheConstants.{MAX}
+use Rattle.spans.specs.Effects.{Effect}
+use Rattle.spans.specs.Feeds.{feed_of, told_to, untold_rows}
+use Rattle.spans.specs.Transactions.{closed_of}
+use Rattle.spans.specs.Versions.{committed_version_of}
+use Rattle.spans.proofs.Copies.{AllAllowed}
+use Rattle.plain_feeds.specs.declared.record.FeedRecord.{FeedRecord}
+use Rattle.plain_feeds.specs.Records.{IsToldIn, feed_part}
+use Rattle.plain_feeds.specs.Places.{key_above, tells_snapshot}
+use Rattle.plain_versions.specs.Chains.{committed_at}
+use Rattle.plain_database.specs.declared.database.Database.{Database}
 
--- what t wrote at x, where it is wanted, as a row before the other rows
-abbrev pub with_row : Bool → ℕ → List ℕ → Option After → List Row → List Row
-with_row wanted t x None rows = rows
-with_row wanted t x (Some a) rows = if wanted then record { ts = t; key = x; after = a } ∷ rows else rows
+-- the chains have the committed versions of p
+abbrev pub HasCommitted : Database → List Effect → Type 0
+HasCommitted db p = (y : List ℕ) (t : ℕ) → committed_at db.transactions db.chains y t ≡ committed_version_of p y t
 
--- the rows of t in the span
-abbrev pub rows_at : ℕ → Span → List Chain → List Row
-rows_at t span [] = []
-rows_at t span (c ∷ cs) = with_row (in_span span c.key) t c.key (version_in c.versions t) (rows_at t span cs)
+-- the rows are the first max, of the list through n, that each feed of which this is the record was not told
+abbrev pub AreLeft : Database → FeedRecord → ℕ → ℕ → List Row → Type 0
+AreLeft db x n max rows =
+    (p : List Effect) → AllAllowed p → HasCommitted db p → (f : ℕ) → feed_of p f ≡ Some (feed_part x) → IsToldIn (Some x) (told_to p f)
+    → n ≡ closed_of p → n ≤ MAX → rows ≡ take max (untold_rows p f (feed_part x))
+
+-- the feed's place is in the snapshot, behind the key
+abbrev pub IsInSnapshot : FeedRecord → Option (List ℕ) → Type 0
+IsInSnapshot x key = (tells_snapshot x ≡ true) × (key ≡ key_above x.told.resolved x.told.row)

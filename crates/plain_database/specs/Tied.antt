@@ -1,21 +1,20 @@
 -- What a database holds of a history.
-use Rattle.std.specs.Prelude.{ℕ, List, ◌≡◌, ◌||◌, false, map, option_map, Option, Some, None, Bool, length, filter}
-use Rattle.std.specs.List.{list_any}
+use Rattle.std.specs.Prelude.{ℕ, List, ◌≡◌, ◌-◌, ◌^◌, ◌||◌, false, option_map, Option, Some, None, Bool, min}
+use Rattle.std.specs.Map.{keys_of}
 use Rattle.spans.specs.declared.calls.events.Event.{Event}
 use Rattle.spans.specs.Effects.{Effect, effects_of}
 use Rattle.spans.specs.Transactions.{owner_of, closed_of, is_committed, is_aborted}
-use Rattle.spans.specs.Versions.{version_of, written_keys, write_count}
+use Rattle.spans.specs.Versions.{version_of, written_keys}
 use Rattle.spans.specs.Reads.{too_late}
 use Rattle.spans.specs.Collection.{horizon_of}
 use Rattle.spans.specs.Legal.{IsLegal}
 use Rattle.plain_feeds.specs.FeedTie.{FeedsTied}
 use Rattle.plain_feeds.specs.ProtectionTie.{ProtectionsTied}
 use Rattle.plain_versions.specs.declared.transactions.Transaction.{Transaction}
-use Rattle.plain_versions.specs.declared.chains.Chain.{Chain}
 use Rattle.plain_database.specs.declared.database.Database.{Database}
-use Rattle.plain_versions.specs.Transactions.{transaction_at, AreSingle, committed_in, has_aborted}
-use Rattle.plain_versions.specs.Chains.{version_at, wrote}
-use Rattle.plain_database.specs.Once.{AreOnce}
+use Rattle.plain_versions.specs.Transactions.{transaction_at, committed_in, has_aborted}
+use Rattle.plain_versions.specs.Chains.{version_at}
+use Rattle.plain_database.specs.Dying.{dead_then}
 use Rattle.plain_database.specs.Reads.{goes_across}
 use Rattle.plain_database.specs.SpanReads.{scan_goes_across}
 
@@ -30,19 +29,17 @@ aborted_in (Some x) = has_aborted x
 abbrev pub closed_timestamp : Database → ℕ
 closed_timestamp db = db.closed
 
--- each list says what the definitions say of p
+-- each map says what the definitions say of p
 pub record IsTied (db : Database) (p : List Effect) : Type 0 where
   pub closed_at : db.closed ≡ closed_of p
   pub owners : (t : ℕ) → owner_in (transaction_at db.transactions t) ≡ owner_of p t
   pub committed : (t : ℕ) → committed_in (transaction_at db.transactions t) ≡ is_committed p t
   pub aborted : (t : ℕ) → aborted_in (transaction_at db.transactions t) ≡ is_aborted p t
-  pub single : AreSingle db.transactions
-  pub keys : map (λ (c : Chain). c.key) db.chains ≡ written_keys p
+  pub keys : keys_of db.chains ≡ written_keys p
   pub versions : (x : List ℕ) (t : ℕ) → version_at db.chains x t ≡ version_of p x t
-  pub counts : (t : ℕ) → is_aborted p t ≡ false → length (filter (wrote t) db.chains) ≡ write_count p t
-  pub once : AreOnce db.chains
-  pub reads : (x : List ℕ) (i : ℕ) → (list_any (goes_across x i) db.reads || list_any (scan_goes_across x i) db.scans) ≡ too_late p x i
+  pub reads : (x : List ℕ) (i : ℕ) → (goes_across db.reads x i || scan_goes_across db.scans x i) ≡ too_late p x i
   pub horizon_at : db.horizon ≡ horizon_of p
+  pub dead_count : db.dead ≡ min (dead_then p) (2 ^ 64 - 1)
   pub feeds : FeedsTied db.feeds p
   pub protections : ProtectionsTied db.protections p
 

@@ -22,22 +22,21 @@ impl Database {
             self.closed,
             self.horizon,
         );
-        let dead_before = self.dead_count(self.horizon);
         Reply::Collected {
             horizon,
-            removed: self.dead_count(horizon).saturating_sub(dead_before),
+            removed: self.chains.died_between(self.horizon, horizon),
         }
     }
 
-    /// Moves the horizon. The dead versions stay, as nothing is forgotten here.
+    /// Moves the horizon. The dead versions stay, as nothing is forgotten here, and are counted.
     pub(crate) fn record_collect(&mut self, to: u64, reply: &Reply)
         ensures { (seat : ℕ) → Records self.old seat (Collect to) reply.now self.new }
     {
         match reply {
-            Reply::Collected {
-                horizon,
-                removed: _,
-            } => self.horizon = *horizon,
+            Reply::Collected { horizon, removed } => {
+                self.horizon = *horizon;
+                self.dead = self.dead.saturating_add(*removed);
+            }
             _ => {}
         }
     }

@@ -1,4 +1,4 @@
-//! The database: a list for each thing that a history is asked about.
+//! The database: a map for each thing that a history is asked about.
 ghost use Rattle.std.specs.Prelude.{◌≡◌, IfOk, OnErr, OnOk, [], true};
 
 use crate::reads::Reads;
@@ -9,7 +9,7 @@ use spans::calls::{Cmd, Reply};
 use spans::kind::Kind;
 use std::alloc::{AllocError, Global};
 
-/// What a history led to, list by list.
+/// What a history led to.
 #[derive(Debug, Drop)]
 pub struct Database {
     pub(crate) alloc: Global,
@@ -19,6 +19,7 @@ pub struct Database {
     pub(crate) reads: Reads,
     pub(crate) scans: Scans,
     pub(crate) horizon: u64,
+    pub(crate) dead: u64,
     pub(crate) feeds: FeedBook,
     pub(crate) protections: Protections,
 }
@@ -41,6 +42,7 @@ impl Database {
             reads: Reads::new(alloc),
             scans: Scans::new(alloc),
             horizon: 0,
+            dead: 0,
             feeds: FeedBook::new(alloc),
             protections: Protections::new(alloc),
         }

@@ -113,9 +113,9 @@ impl Database {
             None => Ok(Messages::from_vec(Vec::new(self.alloc))),
             Some(closed) => {
                 let record = self.feeds.feed(feed);
-                let rows = self.list(record, closed)?;
+                let rows = self.rows_left(record, closed, max)?;
                 self.feeds
-                    .next_messages(self.alloc, feed, max, closed.get(), rows.as_slice())
+                    .next_messages(self.alloc, feed, max, closed.get(), rows)
             }
         }
     }

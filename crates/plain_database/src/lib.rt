@@ -1,13 +1,14 @@
-//! The database as one plain program over lists: what the definitions say, computed.
+//! The database as one plain program: what the definitions say, computed.
 //!
-//! A [`Database`](database::Database) has a list for each thing that a history is asked about. `answer`
+//! A [`Database`](database::Database) has a map for each thing that a history is asked about. `answer`
 //! computes the one right reply to a command, and changes nothing. `record` takes in a command with its
-//! right reply. So a checker of transcripts can ask and compare before it goes on. Nothing is ever forgotten.
+//! right reply. So a checker of transcripts can ask and compare before it goes on. Nothing is ever forgotten, but for
+//! the messages that feeds were told: of these a feed keeps its place.
 //!
 //! The transactions and the chains of versions are those of `plain_versions`. The protections and feeds are
-//! those of `plain_feeds`. The reads of keys (`reads`) and of spans (`span_reads`) are here, each with the
-//! timestamps that it read from. Each other file has one topic: what a command is answered there, and how it
-//! is taken in.
+//! those of `plain_feeds`. The reads of keys (`reads`, and of one key `readers`) and of spans (`span_reads`) are
+//! here, each with the timestamps that it read from. Each other file has one topic: what a command is answered
+//! there, and how it is taken in.
 //!
 //! ```text
 //!                    transactions      chains           reads          closed
@@ -20,24 +21,22 @@
 //! begin 25, put b    toolate: 30 read across 25, since it read every key and found no b
 //! ```
 //!
-//! Costs, of n transactions, v versions, r reads of keys and s scans. The place of a key is the chains up to
-//! its own, and its versions:
+//! Costs, of n transactions. The place of a key is found by the logarithms of the keys and of its versions; so are its
+//! readers, and the readers of spans:
 //!
 //! ```text
-//! begin                   log n, and a move of the transactions above
-//! get                     log n, the place of the key, and a copy of the value
-//! readat                  the place of the key, and a copy of the value
-//! put, del                log n, r, what the s scans found, and the place of the key; n and v where it is too late
-//! commit, abort           n and v
-//! scan                    v, log n for each key, and a copy of each key and row
-//! close                   n
-//! closehard               n, and v log n
-//! scanat                  v log n, and a copy of each row
+//! begin, commit, close    log n
+//! get, readat             log n, the place of the key, and a copy of the value
+//! put, del                log n, the place of the key, and the readers above of it and of spans; an abort where it is too late
+//! abort                   log n, and the place of each key that was written
+//! closehard               an abort of each transaction that it ends
+//! scan                    the place of each key of the span, and a copy of each key and row
+//! scanat                  the same, and log n for each version that it passes over
 //! protect, release        the protections
-//! collect                 v log n, the feeds and the protections
-//! stats                   n, v log n, and the feeds
+//! collect                 the place of each version between the two horizons, the feeds and the protections
+//! stats                   the feeds
 //! open, cancel            one record
-//! poll                    v log n, a sort of the feed's stream, and what the feed was told
+//! poll                    log n for each row between the feed's place and the last that it tells, whatever span they are of
 //! ```
 #![tactic(auto)]
 
@@ -46,6 +45,7 @@ mod collections;
 pub mod database;
 mod feeds;
 mod protections;
+mod readers;
 mod reads;
 mod scans;
 mod snapshots;

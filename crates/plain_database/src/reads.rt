@@ -1,33 +1,32 @@
 //! The reads of single keys.
-ghost use Rattle.std.specs.Prelude.{◌≡◌, ◌++◌, ◌∷◌, [], OnOk, OnErr};
-ghost use Rattle.std.specs.List.{list_any};
-ghost use Rattle.plain_database.specs.Reads.{read_of, goes_across};
+//!
+//! They are kept by key and by reader, so that a write asks no other key's, and of its own key those of the
+//! readers above it alone.
+ghost use Rattle.std.specs.Prelude.{◌≡◌, ◌||◌, ℕ, List, [], OnOk, OnErr, None};
+ghost use Rattle.std.specs.Map.{lookup};
+ghost use Rattle.std.specs.BTreeMap.{is_at};
+ghost use Rattle.timestamps.specs.Bytes.{key_cmp};
+ghost use Rattle.plain_database.specs.Reads.{HasReadToo, goes_across};
 
+use crate::readers::Readers;
 use std::alloc::{AllocError, Global};
+use std::collections::BTreeMap;
 use std::marker::Model;
 use timestamps::key::Key;
 
-/// A read, with the timestamp of the version that it was given.
-#[derive(Debug, Drop)]
-pub struct Read {
-    pub reader: u64,
-    pub key: Key,
-    pub source: u64,
-}
-
-/// The reads, in their order.
+/// The keys that were read, each with its readers.
 #[derive(Debug, Drop)]
 pub struct Reads {
-    list: Vec<Read>,
+    alloc: Global,
+    readers: BTreeMap<Key, Readers>,
 }
 
 impl Model for Reads {
-    ghost use Rattle.std.specs.Prelude.{List};
-    ghost use Rattle.plain_database.specs.declared.reads.Read.{Read};
+    ghost use Rattle.plain_database.specs.Reads.{KeyReads};
 
-    ghost Value = { List Read };
+    ghost Value = { KeyReads };
 
-    ghost view = { λ r. r.list.items };
+    ghost view = { λ r. r.readers.entries };
 }
 
 impl Reads {
@@ -36,33 +35,42 @@ impl Reads {
         ensures { result ≡ [] }
     {
         Reads {
-            list: Vec::new(alloc),
+            alloc,
+            readers: BTreeMap::new(alloc),
         }
     }
 
-    /// Takes in a read.
+    /// Takes in a read, with the timestamp of the version that it was given.
     pub fn add(&mut self, reader: u64, key: &Key, source: u64) -> Result<(), AllocError>
-        ensures ok { OnOk result (self.new ≡ self.old ++ read_of reader key.now source ∷ []) }
+        ensures ok { OnOk result (HasReadToo self.old self.new reader key.now source) }
+        ensures err { OnErr result (self.new ≡ self.old) }
+    {
+        match self.readers.get_mut(key) {
+            Some(readers) => readers.add(reader, source),
+            None => self.add_key(reader, key, source),
+        }
+    }
+
+    /// Takes in the first read of a key.
+    fn add_key(&mut self, reader: u64, key: &Key, source: u64) -> Result<(), AllocError>
+        requires { lookup (is_at (key_cmp key.now)) self.old ≡ None }
+        ensures ok { OnOk result (HasReadToo self.old self.new reader key.now source) }
         ensures err { OnErr result (self.new ≡ self.old) }
     {
         let key = key.copy()?;
-        self.list.push(Read {
-            reader,
-            key,
-            source,
-        })?;
+        let mut readers = Readers::new(self.alloc);
+        readers.add(reader, source)?;
+        self.readers.insert(key, readers)?;
         Ok(())
     }
 
     /// Whether some reader above `ts` was given a version of the key from below it.
     pub fn any_across(&self, key: &Key, ts: u64) -> bool
-        ensures { result ≡ list_any (goes_across key.now ts) self.now }
+        ensures { result ≡ goes_across self.now key.now ts }
     {
-        for read in &self.list {
-            if read.source < ts && ts < read.reader && read.key == *key {
-                return true;
-            }
+        match self.readers.get(key) {
+            None => false,
+            Some(readers) => readers.any_across(ts),
         }
-        false
     }
 }

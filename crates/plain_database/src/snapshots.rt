@@ -23,7 +23,7 @@ impl Database {
         match self.chains.newest(key, t) {
             None => Ok(Reply::Found(None)),
             Some(version) => {
-                let after = copy_after(&version.after)?;
+                let after = copy_after(version.after)?;
                 Ok(Reply::Found(after))
             }
         }

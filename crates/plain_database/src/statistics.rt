@@ -1,8 +1,7 @@
 //! Statistics: how many transactions are undecided, and how many versions there are and are dead.
-ghost use Rattle.std.specs.Prelude.{◌-◌, ◌^◌, ◌∷◌, ◌≡◌, length, min, ℕ};
+ghost use Rattle.std.specs.Prelude.{◌≡◌, length, ℕ};
 ghost use Rattle.spans.specs.declared.calls.commands.Cmd.TheVariants.{Stats};
-ghost use Rattle.spans.specs.Collection.{dead_of, versions_of};
-ghost use Rattle.spans.specs.Effects.{Collects};
+ghost use Rattle.spans.specs.Collection.{versions_of};
 ghost use Rattle.spans.specs.Transactions.{undecided_timestamps};
 ghost use Rattle.plain_database.specs.Answering.{AfterEach, AnswersCounted};
 
@@ -14,9 +13,8 @@ impl Database {
     pub(crate) fn answer_stats(&self) -> Reply
         ensures { (seat : ℕ) → AnswersCounted self.now seat Stats result }
     {
-        let dead = self.dead_count(self.horizon);
         Reply::Stats {
-            versions: self.version_count().saturating_sub(dead),
+            versions: self.version_count().saturating_sub(self.dead),
             undecided: self.undecided_count(),
             feeds: self.feeds.live_count(),
             closed: self.closed,
@@ -31,18 +29,10 @@ impl Database {
         self.transactions.undecided_count()
     }
 
-    /// How many versions there are, with the dead ones; at most the greatest `u64`.
+    /// How many versions there are, with the dead ones.
     fn version_count(&self) -> u64
-        ensures { AfterEach self.now (λ p. result ≡ min (length (versions_of p)) (2 ^ 64 - 1)) }
+        ensures { AfterEach self.now (λ p. result ≡ length (versions_of p)) }
     {
         self.chains.version_count()
-    }
-
-    /// How many versions are dead at a horizon; at most the greatest `u64`.
-    pub(crate) fn dead_count(&self, horizon: u64) -> u64
-        ensures { AfterEach self.now (λ p.
-            result ≡ min (length (dead_of (Collects horizon ∷ p))) (2 ^ 64 - 1)) }
-    {
-        self.chains.dead_count(&self.transactions, horizon)
     }
 }

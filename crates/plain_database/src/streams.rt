@@ -1,80 +1,101 @@
-//! The rows that transactions committed, in the order of streams.
-//!
-//! They are gathered key by key, and sorted by timestamp. The sort is stable, so the keys of one timestamp
-//! stay in their order.
-ghost use Rattle.std.specs.Prelude.{◌≡◌, ◌≤◌, IfOk, map};
-ghost use Rattle.spans.specs.Streams.{pair_row, snapshot_rows, stream_of};
-ghost use Rattle.spans.specs.Transactions.{closed_of};
-ghost use Rattle.plain_database.specs.Answering.{AfterEach, Lists};
+//! The rows that a feed was not told, from its place on.
+ghost use Rattle.std.specs.Prelude.{◌≡◌, ◌≤◌, length, IfOk};
+ghost use Rattle.std.specs.Option.{option_copied};
+ghost use Rattle.timestamps.specs.declared.ts.TheConstants.{MAX};
+ghost use Rattle.plain_versions.specs.Snapshots.{AreNextValues};
+ghost use Rattle.plain_versions.specs.Streams.{AreNextRows};
+ghost use Rattle.plain_database.specs.Streams.{AreLeft, IsInSnapshot};
 
 use crate::database::Database;
-use plain_feeds::FeedRecord;
-use spans::kind::Kind;
+use plain_feeds::{FeedRecord, Place};
 use spans::span::Span;
-use std::alloc::{AllocError, Global};
+use std::alloc::AllocError;
 use timestamps::key::Key;
 use timestamps::row::Row;
 use timestamps::ts::Ts;
-use timestamps::value::Value;
 
 impl Database {
-    /// The list of a feed through `through`, by timestamp and then by key.
-    pub(crate) fn list(&self, feed: &FeedRecord, through: Ts) -> Result<Vec<Row>, AllocError>
-        ensures { IfOk result (λ rows. Lists self.now feed.now through rows.items) }
-    {
-        let mut stream = self.stream(&feed.span, feed.cursor, through)?;
-        match feed.kind {
-            Kind::Plain | Kind::Every { .. } => Ok(stream),
-            Kind::Initial => {
-                let mut list = self.snapshot(&feed.span, feed.cursor)?;
-                list.append(&mut stream)?;
-                Ok(list)
-            }
-        }
-    }
-
-    /// What a span holds at a closed timestamp, as rows of it, by rising key.
-    fn snapshot(&self, span: &Span, t: u64) -> Result<Vec<Row>, AllocError>
-        ensures { IfOk result (λ rows. AfterEach self.now (λ p.
-            t ≤ closed_of p → rows.items ≡ snapshot_rows p span.now t)) }
-    {
-        match Ts::new(t) {
-            // nothing is committed at 0
-            None => Ok(Vec::new(self.alloc)),
-            Some(ts) => {
-                let pairs = self.committed_rows(span, t)?;
-                rows_at(self.alloc, ts, pairs.as_slice())
-            }
-        }
-    }
-
-    /// The committed rows of a span above the cursor and at or below `through`, by timestamp and then by key.
-    pub(crate) fn stream(
+    /// The first `max` rows of a feed's list through `through` that it was not told.
+    pub(crate) fn rows_left(
         &self,
-        span: &Span,
-        cursor: u64,
+        feed: &FeedRecord,
         through: Ts,
+        max: u64,
     ) -> Result<Vec<Row>, AllocError>
-        ensures { IfOk result (λ rows. AfterEach self.now (λ p.
-            rows.items ≡ stream_of p span.now cursor through)) }
+        ensures few { IfOk result (λ rows. length rows.items ≤ max) }
+        ensures left { IfOk result (λ rows. AreLeft self.now feed.now through max rows.items) }
     {
-        let mut rows = self
-            .chains
-            .rows_due(self.alloc, &self.transactions, span, cursor, through)?;
-        rows.sort_by_key(|row| row.ts.get())?;
+        match feed.place() {
+            Place::Snapshot { after } => self.rows_from_snapshot(feed, after, through, max),
+            Place::Stream { ts, after } => self.stream_after(&feed.span, ts, after, through, max),
+        }
+    }
+
+    /// The same, of a feed whose place is in the snapshot at its cursor.
+    fn rows_from_snapshot(
+        &self,
+        feed: &FeedRecord,
+        after: Option<&Key>,
+        through: Ts,
+        max: u64,
+    ) -> Result<Vec<Row>, AllocError>
+        requires snapshot { IsInSnapshot feed.now (option_copied after) }
+        ensures few { IfOk result (λ rows. length rows.items ≤ max) }
+        ensures left { IfOk result (λ rows. AreLeft self.now feed.now through max rows.items) }
+    {
+        let mut rows = self.snapshot_after(feed, after, max)?;
+        let room = max - rows.len() as u64;
+        let mut stream = self.stream_after(&feed.span, feed.cursor, None, through, room)?;
+        rows.append(&mut stream)?;
         Ok(rows)
     }
-}
 
-/// Copies of keys and values, as rows of a timestamp.
-fn rows_at(alloc: Global, ts: Ts, pairs: &[(Key, Value)]) -> Result<Vec<Row>, AllocError>
-    ensures { IfOk result (λ rows. rows.items ≡ map (pair_row ts) pairs.now) }
-{
-    let mut rows = Vec::new(alloc);
-    for (key, value) in pairs {
-        let key = key.copy()?;
-        let after = Some(value.copy()?);
-        rows.push(Row { ts, key, after })?;
+    /// The first `max` committed rows of a span behind a place, and at or below `through`.
+    fn stream_after(
+        &self,
+        span: &Span,
+        ts: u64,
+        after: Option<&Key>,
+        through: Ts,
+        max: u64,
+    ) -> Result<Vec<Row>, AllocError>
+        ensures few { IfOk result (λ rows. length rows.items ≤ max) }
+        ensures rows { IfOk result (λ rows.
+            AreNextRows self.now.transactions self.now.chains span.now ts (option_copied after.entry) through max rows.items) }
+    {
+        self.chains.rows_after(
+            self.alloc,
+            &self.transactions,
+            span,
+            ts,
+            after,
+            through,
+            max,
+        )
     }
-    Ok(rows)
+
+    /// The first `max` rows of the snapshot at a feed's cursor, behind a key.
+    fn snapshot_after(
+        &self,
+        feed: &FeedRecord,
+        after: Option<&Key>,
+        max: u64,
+    ) -> Result<Vec<Row>, AllocError>
+        ensures few { IfOk result (λ rows. length rows.items ≤ max) }
+        ensures values { IfOk result (λ rows. (1 ≤ feed.now.cursor) × (feed.now.cursor ≤ MAX) →
+            AreNextValues self.now.transactions self.now.chains feed.now.span (option_copied after.entry) feed.now.cursor max rows.items) }
+    {
+        match Ts::new(feed.cursor) {
+            // nothing is committed there
+            None => Ok(Vec::new(self.alloc)),
+            Some(cursor) => self.chains.value_rows_after(
+                self.alloc,
+                &self.transactions,
+                &feed.span,
+                after,
+                cursor,
+                max,
+            ),
+        }
+    }
 }

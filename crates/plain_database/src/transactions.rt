@@ -1,18 +1,18 @@
 //! Transactions: begin, get, put, del, commit and abort. A command's answer stands beside its record.
-ghost use Rattle.std.specs.Prelude.{◌==◌, ◌||◌, ◌≡◌, IfOk, OnErr, OnOk, map, true, ℕ};
+ghost use Rattle.std.specs.Prelude.{◌==◌, ◌||◌, ◌≡◌, IfOk, OnErr, OnOk, option_map, true, ℕ};
 ghost use Rattle.spans.specs.declared.calls.commands.Cmd.TheVariants.{Abort, Begin, Commit, Del, Get, Put};
 ghost use Rattle.spans.specs.Answer.{first_refusal, transaction_tests};
 ghost use Rattle.spans.specs.Legal.{is_accepted};
 ghost use Rattle.spans.specs.Versions.{visible};
-ghost use Rattle.plain_versions.specs.Chains.{dropped};
-ghost use Rattle.plain_versions.specs.Transactions.{committed_in, decided, transaction_at};
-ghost use Rattle.plain_versions.specs.declared.transactions.State.TheVariants as states;
+ghost use Rattle.plain_versions.specs.Chains.{IsCleared};
+ghost use Rattle.plain_versions.specs.Transactions.{committed_in, decided, transaction_at, IsSetAt};
+ghost use Rattle.plain_versions.specs.declared.transactions.Outcome.TheVariants as outcomes;
 ghost use Rattle.plain_database.specs.Answering.{Accepts, AfterEach, Answers, Records};
 ghost use Rattle.plain_database.specs.Late.{is_late};
 ghost use Rattle.plain_database.specs.Replies.{write_answer};
 
 use crate::database::Database;
-use plain_versions::State;
+use plain_versions::{Outcome, State};
 use spans::calls::{Refusal, Reply};
 use std::alloc::AllocError;
 use timestamps::key::Key;
@@ -67,7 +67,7 @@ impl Database {
                 if !self.may_read(ts, version.ts) {
                     return Ok(Reply::Refused(Refusal::Blocked { by: version.ts }));
                 }
-                let after = copy_after(&version.after)?;
+                let after = copy_after(version.after)?;
                 Ok(Reply::Found(after))
             }
         }
@@ -171,7 +171,7 @@ impl Database {
         ensures { (seat : ℕ) → Records self.old seat (Commit ts) reply.now self.new }
     {
         match reply {
-            Reply::Committed { keys: _ } => self.transactions.decide(ts, State::Committed),
+            Reply::Committed { keys: _ } => self.transactions.decide(ts, Outcome::Committed),
             _ => {}
         }
     }
@@ -196,12 +196,14 @@ impl Database {
 
     /// Aborts a transaction. Its versions go.
     fn abort(&mut self, ts: u64)
-        ensures { self.new ≡ record self.old {
-          transactions = map (decided ts states.Aborted) self.old.transactions;
-          chains = map (dropped ts) self.old.chains;
+        ensures transactions { IsSetAt self.old.transactions self.new.transactions ts (option_map (decided outcomes.Aborted)) }
+        ensures chains { IsCleared self.old.chains self.new.chains (λ i. ts == i) }
+        ensures rest { self.new ≡ record self.old {
+          transactions = self.new.transactions;
+          chains = self.new.chains;
         } }
     {
-        self.transactions.decide(ts, State::Aborted);
+        self.transactions.decide(ts, Outcome::Aborted);
         self.chains.drop_of(ts);
     }
 

@@ -1,20 +1,21 @@
 -- The tie of a book of feeds is kept: by each call, and by every effect of no feed.
-use Rattle.std.proofs.Common.{◌≡◌, ◌≤◌, ℕ, zero, suc, ◌+◌, ◌<◌, ◌==◌, true, List, [], ◌∷◌, ◌++◌, map, length, Option, Some, None, refl, sym, ◌∙◌, ap, arith}
+use Rattle.std.proofs.Common.{◌≡◌, ◌≤◌, ℕ, zero, suc, ◌+◌, ◌<◌, ◌==◌, true, List, [], ◌∷◌, ◌++◌, map, length, take, Option, Some, None, refl, sym, ◌∙◌, ap, subst, arith}
 use Rattle.std.specs.Prelude.{slice_get, option_map, count_by}
 use Rattle.std.proofs.lemmas.List.{length_push}
 use Rattle.std.proofs.lemmas.Bool.{eqb-true}
 use Rattle.spans.specs.declared.calls.messages.Message.{Message}
 use Rattle.spans.specs.Effects.{Effect, Opens, Polls, Cancels}
 use Rattle.spans.specs.Transactions.{closed_of}
-use Rattle.spans.specs.Feeds.{feeds_opened, Feed, feed_of, told_to, list_of, next_messages}
-use Rattle.spans.specs.FeedRight.{FeedIsRight}
-use Rattle.spans.specs.Collection.{floor_of, live_feeds}
+use Rattle.spans.specs.Feeds.{feeds_opened, Feed, feed_of, told_to, untold_rows, next_messages}
+use Rattle.spans.specs.Collection.{floor_after, floor_of, live_feeds}
 use Rattle.spans.proofs.Steps.{by_test}
+use Rattle.timestamps.specs.declared.row.Row.{Row}
 use Rattle.plain_feeds.specs.declared.record.FeedRecord.{FeedRecord}
-use Rattle.plain_feeds.specs.Records.{telling, cancelled, changed_at, record_at, feed_part, told_in, is_live, is_cancelled_in, floors_in, next_in}
+use Rattle.plain_feeds.specs.declared.told.Told.{Told}
+use Rattle.plain_feeds.specs.Records.{telling, cancelled, changed_at, record_at, feed_part, fresh_told, told_more, IsToldIn, is_live, is_cancelled_in, floors_in, next_in}
 use Rattle.plain_feeds.specs.FeedTie.{FeedsTied, IsOfNoFeed}
 use Rattle.plain_feeds.proofs.RecordLists.{record_push, record_past, live_push, record_changed, length_changed, live_told, live_cancelled, live_count, floors_are}
-use Rattle.plain_feeds.proofs.Telling.{next_is}
+use Rattle.plain_feeds.proofs.Telling.{next_is, told_join}
 
 -- an effect of no feed leaves the tie
 pub feeds_kept : (book : List FeedRecord) (p : List Effect) (d : Effect) → IsOfNoFeed d → FeedsTied book p → FeedsTied book (d ∷ p)
@@ -24,7 +25,7 @@ feeds_kept book p (Cancels f) other tied = absurd other
 feeds_kept book p (_) other tied = record { opened = tied.opened; feeds = tied.feeds; told = tied.told; cancelled = tied.cancelled; live = tied.live }
 
 -- a feed was opened
-pub feeds_open : (book : List FeedRecord) (p : List Effect) (x : FeedRecord) (f : ℕ) → f ≡ suc (length book) → x.told ≡ [] → is_live x ≡ true → FeedsTied book p
+pub feeds_open : (book : List FeedRecord) (p : List Effect) (x : FeedRecord) (f : ℕ) → f ≡ suc (length book) → x.told ≡ fresh_told x.kind x.cursor → is_live x ≡ true → FeedsTied book p
     → FeedsTied (book ++ x ∷ []) (Opens f x.seat x.kind x.span x.cursor ∷ p)
 feeds_open book p x f at told live tied = rw at (record {
   opened = ap suc tied.opened ∙ (let e = length_push book x in sym (e ∙ (omega arith)));
@@ -32,7 +33,7 @@ feeds_open book p x f at told live tied = rw at (record {
       (λ same. rw same refl)
       (λ other. rw other (tied.feeds g)));
   told = λ g. rw (record_push book x g) (by_test (suc (length book) == g)
-      (λ same. rw (same, told) (tied.told g ∙ ap told_in (record_past book g (eqb-true _ _ same))))
+      (λ same. let none : told_to p g ≡ [] = subst (λ (o : Option FeedRecord). IsToldIn o (told_to p g)) (record_past book g (eqb-true _ _ same)) (tied.told g) in rw same (told ∙ ap (λ (ms : List Message). told_more ms (fresh_told x.kind x.cursor)) (sym none)))
       (λ other. rw other (tied.told g)));
   cancelled = λ g. rw (record_push book x g) (by_test (suc (length book) == g)
       (λ same. rw (same, live) (tied.cancelled g ∙ ap is_cancelled_in (record_past book g (eqb-true _ _ same))))
@@ -55,7 +56,7 @@ feeds_cancel book p i f at low tied = rw (← at) (record {
       (λ same. rw same (tied.feeds g ∙ same_feed (record_at book g)))
       (λ other. rw other (tied.feeds g)));
   told = λ g. rw (record_changed cancelled book i g) (by_test (suc i == g)
-      (λ same. rw same (tied.told g ∙ same_told (record_at book g)))
+      (λ same. rw same (same_told (record_at book g) (told_to p g) (tied.told g)))
       (λ other. rw other (tied.told g)));
   cancelled = λ g. rw (record_changed cancelled book i g) (by_test (suc i == g)
       (λ same. let is = opened_is book i g (eqb-true _ _ same) low in rw (same, is.1) refl)
@@ -67,9 +68,9 @@ feeds_cancel book p i f at low tied = rw (← at) (record {
     same_feed None = refl
     same_feed (Some x) = refl
 
-    same_told : (o : Option FeedRecord) → told_in o ≡ told_in (option_map cancelled o)
-    same_told None = refl
-    same_told (Some x) = refl
+    same_told : (o : Option FeedRecord) (ms : List Message) → IsToldIn o ms → IsToldIn (option_map cancelled o) ms
+    same_told None ms told = told
+    same_told (Some x) ms told = told
 
 -- a feed was told messages
 pub feeds_tell : (book : List FeedRecord) (p : List Effect) (i f max : ℕ) (ms : List Message) → suc i ≡ f → i < length book → FeedsTied book p → FeedsTied (changed_at (telling ms) book i) (Polls f max ms ∷ p)
@@ -79,7 +80,7 @@ feeds_tell book p i f max ms at low tied = rw (← at) (record {
       (λ same. rw same (tied.feeds g ∙ same_feed (record_at book g)))
       (λ other. rw other (tied.feeds g)));
   told = λ g. rw (record_changed (telling ms) book i g) (by_test (suc i == g)
-      (λ same. let is = opened_is book i g (eqb-true _ _ same) low in rw (same, tied.told g, is.1) refl)
+      (λ same. let is = opened_is book i g (eqb-true _ _ same) low in rw (same, is.1) (more_told is.0 (told_to p g) (subst (λ (o : Option FeedRecord). IsToldIn o (told_to p g)) is.1 (tied.told g))))
       (λ other. rw other (tied.told g)));
   cancelled = λ g. rw (record_changed (telling ms) book i g) (by_test (suc i == g)
       (λ same. rw same (tied.cancelled g ∙ same_cancelled (record_at book g)))
@@ -90,6 +91,9 @@ feeds_tell book p i f max ms at low tied = rw (← at) (record {
     same_feed : (o : Option FeedRecord) → option_map feed_part o ≡ option_map feed_part (option_map (telling ms) o)
     same_feed None = refl
     same_feed (Some x) = refl
+
+    more_told : (x : FeedRecord) (before : List Message) → IsToldIn (Some x) before → told_more ms x.told ≡ told_more (before ++ ms) (fresh_told x.kind x.cursor)
+    more_told x before told = ap (told_more ms) told ∙ sym (told_join before ms (fresh_told x.kind x.cursor))
 
     same_cancelled : (o : Option FeedRecord) → is_cancelled_in o ≡ is_cancelled_in (option_map (telling ms) o)
     same_cancelled None = refl
@@ -103,15 +107,18 @@ feeds_count book p tied = sym (ap length tied.live ∙ live_count 1 book)
 pub feeds_floors : (book : List FeedRecord) (p : List Effect) → FeedsTied book p → map (floor_of p) (live_feeds p) ≡ floors_in book
 feeds_floors book p tied = ap (map (floor_of p)) tied.live ∙ floors_are p 1 book (λ i x is. told_here i x is)
   where
-    told_here : (i : ℕ) (x : FeedRecord) → slice_get book i ≡ Some x → told_to p (1 + i) ≡ x.told
-    told_here i x is = let at : 1 + i ≡ suc i = omega arith in ap (told_to p) at ∙ tied.told (suc i) ∙ ap told_in is
+    told_here : (i : ℕ) (x : FeedRecord) → slice_get book i ≡ Some x → x.told.floor ≡ floor_after x.cursor (told_to p (1 + i))
+    told_here i x is =
+        let told : IsToldIn (Some x) (told_to p (suc i)) = subst (λ (o : Option FeedRecord). IsToldIn o (told_to p (suc i))) is (tied.told (suc i)) in
+        let at : suc i ≡ 1 + i = omega arith in
+        ap (λ (t : Told). t.floor) told ∙ ap (λ n. floor_after x.cursor (told_to p n)) at
 
 -- what a feed is told next
-pub feeds_next : (book : List FeedRecord) (p : List Effect) (f : ℕ) (feed : Feed) (x : FeedRecord) (max : ℕ) → FeedsTied book p → feed_of p f ≡ Some (feed_part x) → record_at book f ≡ Some x → feed_of p f ≡ Some feed → FeedIsRight p f feed
-    → next_in x max (closed_of p) (list_of p feed (closed_of p)) ≡ next_messages p f feed max
-feeds_next book p f feed x max tied has at is right =
+pub feeds_next : (book : List FeedRecord) (p : List Effect) (f : ℕ) (feed : Feed) (x : FeedRecord) (max : ℕ) (rows : List Row) → FeedsTied book p → feed_of p f ≡ Some (feed_part x) → record_at book f ≡ Some x → feed_of p f ≡ Some feed
+    → rows ≡ take max (untold_rows p f feed) → next_in x max (closed_of p) rows ≡ next_messages p f feed max
+feeds_next book p f feed x max rows tied has at is first =
     let e : feed ≡ feed_part x = (let both : Some feed ≡ Some (feed_part x) = sym is ∙ has in cc) in
-    next_is p f feed x max (tied.told f ∙ ap told_in at) e right
+    next_is p f feed x max rows (subst (λ (o : Option FeedRecord). IsToldIn o (told_to p f)) at (tied.told f)) e first
 
 -- each feed was opened by an effect of its own
 pub opened_at_most : (p : List Effect) → feeds_opened p ≤ length p

@@ -10,7 +10,7 @@ use Rattle.spans.specs.declared.calls.messages.Message.{Message}
 use Rattle.spans.specs.Effects.{Effect}
 use Rattle.spans.specs.Transactions.{least_of}
 use Rattle.spans.specs.Feeds.{told_to}
-use Rattle.spans.specs.Collection.{LiveFeed, floor_of}
+use Rattle.spans.specs.Collection.{LiveFeed, floor_after, floor_of}
 use Rattle.spans.proofs.Steps.{by_test}
 use Rattle.plain_feeds.specs.declared.record.FeedRecord.{FeedRecord}
 use Rattle.plain_feeds.specs.Records.{telling, cancelled, changed_at, record_at, is_live, live_one, live_in, floor_in, floor_one, floors_in}
@@ -150,15 +150,15 @@ pub least_cancelled : (n : ℕ) (x : FeedRecord) → is_live x ≡ false → n �
 least_cancelled n x isnt = rw isnt refl
 
 -- the floors of the records are those of the feeds that live
-pub floors_are : (p : List Effect) (n : ℕ) (xs : List FeedRecord) → ((i : ℕ) (x : FeedRecord) → slice_get xs i ≡ Some x → told_to p (n + i) ≡ x.told) → map (floor_of p) (live_in n xs) ≡ floors_in xs
+pub floors_are : (p : List Effect) (n : ℕ) (xs : List FeedRecord) → ((i : ℕ) (x : FeedRecord) → slice_get xs i ≡ Some x → x.told.floor ≡ floor_after x.cursor (told_to p (n + i))) → map (floor_of p) (live_in n xs) ≡ floors_in xs
 floors_are p n [] told = refl
 floors_are p n (x ∷ xs) told =
     map-append (floor_of p) (live_in (suc n) xs) (live_one n x)
-    ∙ ap (λ l. l ++ map (floor_of p) (live_one n x)) (floors_are p (suc n) xs (λ i y is. let at : suc n + i ≡ n + suc i = omega arith in ap (told_to p) at ∙ told (suc i) y is))
+    ∙ ap (λ l. l ++ map (floor_of p) (live_one n x)) (floors_are p (suc n) xs (λ i y is. let at : n + suc i ≡ suc n + i = omega arith in told (suc i) y is ∙ ap (λ m. floor_after y.cursor (told_to p m)) at))
     ∙ ap (λ l. floors_in xs ++ l) one
   where
-    here : told_to p n ≡ x.told
-    here = ap (told_to p) (sym (add-zero n)) ∙ told 0 x refl
+    here : x.told.floor ≡ floor_after x.cursor (told_to p n)
+    here = told 0 x refl ∙ ap (λ m. floor_after x.cursor (told_to p m)) (add-zero n)
 
     one : map (floor_of p) (live_one n x) ≡ floor_one x
     one = by_test (is_live x) (λ is. rw (is, here) refl) (λ isnt. rw isnt refl)

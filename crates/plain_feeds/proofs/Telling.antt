@@ -1,44 +1,36 @@
 -- What a feed is told next, and what its last message says.
-use Rattle.std.proofs.Common.{◌≡◌, ℕ, zero, suc, ◌-◌, ◌<◌, ◌≤◌, List, [], ◌∷◌, ◌++◌, map, length, take, drop, Option, Some, None, refl, sym, ◌∙◌, ap, arith}
+use Rattle.std.proofs.Common.{◌≡◌, ℕ, zero, suc, ◌+◌, ◌-◌, ◌<◌, ◌≤◌, List, [], ◌∷◌, ◌++◌, map, length, take, get_or, max, Option, Some, None, refl, sym, ◌∙◌, ap, arith}
 use Rattle.std.specs.Prelude.{slice_get, if◌then◌else◌}
-use Rattle.std.proofs.lemmas.List.{length-map}
-use Rattle.std.proofs.Math.Seq.{drop-append_seam}
+use Rattle.std.proofs.lemmas.List.{length-map, length-append, take-append-le, take_all, take_more}
 use Rattle.timestamps.specs.declared.row.Row.{Row}
 use Rattle.spans.specs.declared.calls.messages.Message.{Message}
 use Rattle.spans.specs.declared.calls.messages.Message.TheVariants as messages
 use Rattle.spans.specs.Effects.{Effect}
 use Rattle.spans.specs.Transactions.{closed_of}
-use Rattle.spans.specs.Feeds.{Feed, told_to, rows_in, last_resolved, list_of, start_of, is_due, due_message, untold_rows, next_messages}
-use Rattle.spans.specs.FeedRight.{FeedIsRight}
-use Rattle.spans.specs.Collection.{floor_after}
-use Rattle.spans.proofs.Feeding.{untold_is}
+use Rattle.spans.specs.Feeds.{Feed, told_to, last_resolved, start_of, is_due, due_message, untold_rows, next_messages}
+use Rattle.spans.specs.Collection.{VersionName, floor_after}
+use Rattle.spans.specs.Consumer.{name_of}
+use Rattle.spans.specs.Kept.{last_name}
+use Rattle.plain_feeds.specs.declared.told.Told.{Told}
 use Rattle.plain_feeds.specs.declared.record.FeedRecord.{FeedRecord}
-use Rattle.plain_feeds.specs.Records.{due_at, due_in, feed_part, next_in}
-
-none_left : (n : ℕ) → let none : List Message = [] in none ≡ take n none
-none_left zero = refl
-none_left (suc n) = refl
+use Rattle.plain_feeds.specs.Records.{due_at, due_in, feed_part, next_in, told_more, IsToldIn}
 
 -- enough rows for max
-next_full : (max : ℕ) (rows : List Row) (due : List Message) → max ≤ length (take max rows) → map messages.Row (take max rows) ≡ take max (map messages.Row rows ++ due)
-next_full zero rows due high = refl
-next_full (suc max) [] due high = absurd (omega arith)
-next_full (suc max) (r ∷ rows) due high = ap (λ l. messages.Row r ∷ l) (next_full max rows due (omega arith))
+pub rows_full : (max : ℕ) (rows : List Row) (due : List Message) (ms : List Message) → ms ≡ map messages.Row rows → length rows ≤ max → max ≤ length ms → ms ≡ take max (map messages.Row rows ++ due)
+rows_full max rows due ms is few high =
+    let same : length ms ≡ length rows = ap length is ∙ length-map rows messages.Row in
+    let long : max ≤ length (map messages.Row rows) = omega (arith, same, length-map rows messages.Row) in
+    is ∙ sym (take-append-le max (map messages.Row rows) due long ∙ take_all max (map messages.Row rows) (omega (arith, same, length-map rows messages.Row)))
+
+due_short : (due : Option ℕ) → length (due_at due) ≤ 1
+due_short None = omega arith
+due_short (Some t) = omega arith
 
 -- fewer rows than max: what is due follows
-next_more : (max : ℕ) (rows : List Row) (due : Option ℕ) → length (take max rows) < max → map messages.Row (take max rows) ++ due_at due ≡ take max (map messages.Row rows ++ due_at due)
-next_more zero rows due low = absurd (omega arith)
-next_more (suc max) [] None low = refl
-next_more (suc max) [] (Some t) low = ap (λ l. messages.Resolved t ∷ l) (none_left max)
-next_more (suc max) (r ∷ rows) due low = ap (λ l. messages.Row r ∷ l) (next_more max rows due (omega arith))
-
--- messages that are the first rows: enough of them for max
-pub rows_full : (max : ℕ) (rows : List Row) (due : List Message) (ms : List Message) → ms ≡ map messages.Row (take max rows) → max ≤ length ms → ms ≡ take max (map messages.Row rows ++ due)
-rows_full max rows due ms is high = is ∙ next_full max rows due (let e : length ms ≡ length (take max rows) = ap length is ∙ length-map (take max rows) messages.Row in omega arith)
-
--- and fewer
-pub rows_more : (max : ℕ) (rows : List Row) (due : Option ℕ) (ms : List Message) → ms ≡ map messages.Row (take max rows) → length ms < max → ms ++ due_at due ≡ take max (map messages.Row rows ++ due_at due)
-rows_more max rows due ms is low = ap (λ l. l ++ due_at due) is ∙ next_more max rows due (let e : length ms ≡ length (take max rows) = ap length is ∙ length-map (take max rows) messages.Row in omega arith)
+pub rows_more : (max : ℕ) (rows : List Row) (due : Option ℕ) (ms : List Message) → ms ≡ map messages.Row rows → length ms < max → ms ++ due_at due ≡ take max (map messages.Row rows ++ due_at due)
+rows_more max rows due ms is low =
+    let short : length (ms ++ due_at due) ≤ max = omega (arith, length-append ms (due_at due), due_short due) in
+    sym (take_all max (ms ++ due_at due) short) ∙ ap (λ (front : List Message). take max (front ++ due_at due)) is
 
 -- up to where all is told after a message
 abbrev pub floor_told : Message → ℕ
@@ -58,25 +50,69 @@ floor_last n (x ∷ y ∷ ms) zero m at is = absurd (omega arith)
 floor_last n (messages.Row r ∷ y ∷ ms) (suc i) m at is = floor_last (r.ts - 1) (y ∷ ms) i m (omega arith) is
 floor_last n (messages.Resolved t ∷ y ∷ ms) (suc i) m at is = floor_last t (y ∷ ms) i m (omega arith) is
 
--- the next messages by the record are those by the effects
-pub next_is : (p : List Effect) (f : ℕ) (feed : Feed) (x : FeedRecord) (max : ℕ) → told_to p f ≡ x.told → feed ≡ feed_part x → FeedIsRight p f feed
-    → next_in x max (closed_of p) (list_of p feed (closed_of p)) ≡ next_messages p f feed max
-next_is p f feed x max told is right = ap (take max) (rows ∙ due)
+-- more messages, and then still more
+last_join : (o : Option VersionName) (ms ns : List Message) → last_name o (ms ++ ns) ≡ last_name (last_name o ms) ns
+last_join o [] ns = refl
+last_join o (messages.Row r ∷ ms) ns = last_join (Some (name_of r)) ms ns
+last_join o (messages.Resolved t ∷ ms) ns = last_join o ms ns
+
+resolved_join : (n : ℕ) (ms ns : List Message) → last_resolved n (ms ++ ns) ≡ last_resolved (last_resolved n ms) ns
+resolved_join n [] ns = refl
+resolved_join n (messages.Row r ∷ ms) ns = resolved_join n ms ns
+resolved_join n (messages.Resolved t ∷ ms) ns = resolved_join (max n t) ms ns
+
+floor_join : (n : ℕ) (ms ns : List Message) → floor_after n (ms ++ ns) ≡ floor_after (floor_after n ms) ns
+floor_join n [] ns = refl
+floor_join n (messages.Row r ∷ ms) ns = floor_join (r.ts - 1) ms ns
+floor_join n (messages.Resolved t ∷ ms) ns = floor_join t ms ns
+
+told_is : (row row' : Option VersionName) (resolved resolved' floor floor' : ℕ) → row ≡ row' → resolved ≡ resolved' → floor ≡ floor' → let t : Told = record { row = row; resolved = resolved; floor = floor } in t ≡ record { row = row'; resolved = resolved'; floor = floor' }
+told_is row row' resolved resolved' floor floor' a b c = rw (a, b, c) refl
+
+pub told_join : (ms ns : List Message) (t : Told) → told_more (ms ++ ns) t ≡ told_more ns (told_more ms t)
+told_join ms ns t = told_is _ _ _ _ _ _ (last_join t.row ms ns) (resolved_join t.resolved ms ns) (floor_join t.floor ms ns)
+
+-- the last row of some messages is that of all where there is one
+pub last_over : (o : Option VersionName) (ms : List Message) (n : VersionName) → last_name None ms ≡ Some n → last_name o ms ≡ Some n
+last_over o [] n is = absurd cc
+last_over o (messages.Row r ∷ ms) n is = is
+last_over o (messages.Resolved t ∷ ms) n is = last_over o ms n is
+
+pub last_under : (o : Option VersionName) (ms : List Message) → last_name None ms ≡ None → last_name o ms ≡ o
+last_under o [] is = refl
+last_under o (messages.Row r ∷ ms) is = absurd (named_row (name_of r) ms is)
   where
-    begins : (rest : List Row) × (list_of p feed (closed_of p) ≡ rows_in (told_to p f) ++ rest)
-    begins = right.begins (closed_of p) (omega arith)
+    named_row : (n : VersionName) (ms : List Message) → last_name (Some n) ms ≡ None → ⊥
+    named_row n [] is = cc
+    named_row n (messages.Row r ∷ ms) is = named_row (name_of r) ms is
+    named_row n (messages.Resolved t ∷ ms) is = named_row n ms is
+last_under o (messages.Resolved t ∷ ms) is = last_under o ms is
 
-    left : drop (length (rows_in x.told)) (list_of p feed (closed_of p)) ≡ untold_rows p f feed
-    left =
-        ap (λ ms. drop (length (rows_in ms)) (list_of p feed (closed_of p))) (sym told)
-        ∙ ap (drop (length (rows_in (told_to p f)))) begins.1
-        ∙ drop-append_seam (rows_in (told_to p f)) begins.0
-        ∙ sym (untold_is p f feed begins.0 begins.1)
+-- what more messages leave is put together of its parts
+pub told_added : (t t' : Told) (ms : List Message) (resolved floor : ℕ) → t'.row ≡ last_name t.row ms → t'.resolved ≡ t.resolved → t'.floor ≡ t.floor → resolved ≡ last_resolved t'.resolved ms → floor ≡ floor_after t'.floor ms
+    → let all : Told = record { row = t'.row; resolved = resolved; floor = floor } in all ≡ told_more ms t
+told_added t t' ms resolved floor row same same' reaches stands =
+    told_is _ _ _ _ _ _ row (reaches ∙ ap (λ (n : ℕ). last_resolved n ms) same) (stands ∙ ap (λ (n : ℕ). floor_after n ms) same')
 
-    rows : map messages.Row (drop (length (rows_in x.told)) (list_of p feed (closed_of p))) ++ due_in x (closed_of p) ≡ map messages.Row (untold_rows p f feed) ++ due_in x (closed_of p)
-    rows = ap (λ l. map messages.Row l ++ due_in x (closed_of p)) left
+-- one message more of the walk over them
+pub next_row : (i : ℕ) (ms : List Message) (m : Message) → i < length ms → m ≡ get_or ms i m → last_name None (take (i + 1) ms) ≡ last_name (last_name None (take i ms)) (m ∷ [])
+next_row i ms m low is = ap (last_name None) (take_more ms i m low ∙ ap (λ (x : Message). take i ms ++ x ∷ []) (sym is)) ∙ last_join None (take i ms) (m ∷ [])
 
-    due : map messages.Row (untold_rows p f feed) ++ due_in x (closed_of p) ≡ map messages.Row (untold_rows p f feed) ++ due_message p f feed
-    due = ap (λ l. map messages.Row (untold_rows p f feed) ++ l)
-        (ap (λ (w : Feed). if is_due w.kind (last_resolved (start_of w) x.told) (closed_of p) then messages.Resolved (closed_of p) ∷ [] else []) (sym is)
-        ∙ ap (λ ms. if is_due feed.kind (last_resolved (start_of feed) ms) (closed_of p) then messages.Resolved (closed_of p) ∷ [] else []) (sym told))
+-- the first of the rows are as good as all of them
+take_front : (max : ℕ) (rows : List Row) (due : List Message) → take max (map messages.Row (take max rows) ++ due) ≡ take max (map messages.Row rows ++ due)
+take_front zero rows due = refl
+take_front (suc max) [] due = refl
+take_front (suc max) (r ∷ rows) due = ap (λ (ms : List Message). messages.Row r ∷ ms) (take_front max rows due)
+
+-- the next messages by the record are those by the effects
+pub next_is : (p : List Effect) (f : ℕ) (feed : Feed) (x : FeedRecord) (max : ℕ) (rows : List Row) → IsToldIn (Some x) (told_to p f) → feed ≡ feed_part x → rows ≡ take max (untold_rows p f feed)
+    → next_in x max (closed_of p) rows ≡ next_messages p f feed max
+next_is p f feed x max rows told is first =
+    ap (λ (l : List Row). take max (map messages.Row l ++ due_in x (closed_of p))) first
+    ∙ take_front max (untold_rows p f feed) (due_in x (closed_of p))
+    ∙ ap (λ (l : List Message). take max (map messages.Row (untold_rows p f feed) ++ l)) due
+  where
+    due : due_in x (closed_of p) ≡ due_message p f feed
+    due =
+        ap (λ (t : Told). if is_due x.kind t.resolved (closed_of p) then messages.Resolved (closed_of p) ∷ [] else []) told
+        ∙ ap (λ (w : Feed). if is_due w.kind (last_resolved (start_of w) (told_to p f)) (closed_of p) then messages.Resolved (closed_of p) ∷ [] else []) (sym is)

@@ -1,23 +1,22 @@
 -- How a book of feeds is tied to the effects of a history.
-use Rattle.std.specs.Prelude.{ℕ, List, [], ◌∷◌, ◌≡◌, ◌≤◌, length, not, ◌==◌, Option, Some, None, option_map, is_some}
+use Rattle.std.specs.Prelude.{ℕ, List, [], ◌∷◌, ◌≡◌, ◌≤◌, length, take, not, ◌==◌, Option, Some, None, option_map, is_some}
 use Rattle.spans.specs.declared.calls.replies.Refusal.{Refusal}
 use Rattle.spans.specs.declared.calls.replies.Refusal.TheVariants.{NoFeed, FeedCancelled, NotOwner}
 use Rattle.timestamps.specs.declared.row.Row.{Row}
 use Rattle.spans.specs.declared.calls.messages.Message.{Message}
 use Rattle.spans.specs.Effects.{Effect, Opens, Polls, Cancels}
 use Rattle.spans.specs.Transactions.{closed_of}
-use Rattle.spans.specs.Feeds.{Feed, feed_of, feeds_opened, is_cancelled, list_of, next_messages, told_to}
-use Rattle.spans.specs.FeedRight.{FeedIsRight}
+use Rattle.spans.specs.Feeds.{Feed, feed_of, feeds_opened, is_cancelled, next_messages, told_to, untold_rows}
 use Rattle.spans.specs.Collection.{live_feeds}
 use Rattle.spans.specs.Answer.{first_refusal}
 use Rattle.plain_feeds.specs.declared.record.FeedRecord.{FeedRecord}
-use Rattle.plain_feeds.specs.Records.{record_at, feed_part, told_in, is_cancelled_in, live_in}
+use Rattle.plain_feeds.specs.Records.{record_at, feed_part, IsToldIn, is_cancelled_in, live_in}
 
 -- the book has what the effects say of each feed
 pub record FeedsTied (book : List FeedRecord) (p : List Effect) : Type 0 where
   pub opened : feeds_opened p ≡ length book
   pub feeds : (f : ℕ) → feed_of p f ≡ option_map feed_part (record_at book f)
-  pub told : (f : ℕ) → told_to p f ≡ told_in (record_at book f)
+  pub told : (f : ℕ) → IsToldIn (record_at book f) (told_to p f)
   pub cancelled : (f : ℕ) → is_cancelled p f ≡ is_cancelled_in (record_at book f)
   pub live : live_feeds p ≡ live_in 1 book
 
@@ -29,11 +28,11 @@ Says book P = (p : List Effect) → FeedsTied book p → P p
 abbrev pub LeadsTo : List FeedRecord → Effect → List FeedRecord → Type 0
 LeadsTo book e book' = (p : List Effect) → FeedsTied book p → FeedsTied book' (e ∷ p)
 
--- these are the next messages of the feed, where the book is tied to what closed and the feed's list are taken from
+-- these are the next messages of the feed, where the book is tied to what closed and the feed's next rows are taken from
 abbrev pub AreNext : List FeedRecord → ℕ → ℕ → ℕ → List Row → List Message → Type 0
-AreNext book f max closed list ms =
-    (p : List Effect) (feed : Feed) → FeedsTied book p → feed_of p f ≡ Some feed → FeedIsRight p f feed
-    → closed ≡ closed_of p → list ≡ list_of p feed closed → ms ≡ next_messages p f feed max
+AreNext book f max closed rows ms =
+    (p : List Effect) (feed : Feed) → FeedsTied book p → feed_of p f ≡ Some feed → closed ≡ closed_of p
+    → rows ≡ take max (untold_rows p f feed) → ms ≡ next_messages p f feed max
 
 -- a feed of this number was opened
 pub record IsOpened (book : List FeedRecord) (f : ℕ) : Type 0 where

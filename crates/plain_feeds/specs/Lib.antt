@@ -1,4 +1,5 @@
 pub mod Records
+pub mod Places
 pub mod FeedTie
 pub mod ProtectionTie
 pub mod Horizon

@@ -1,23 +1,33 @@
 -- What a list of feed records says: feed n is the record at place n - 1.
-use Rattle.std.specs.Prelude.{ℕ, zero, suc, List, [], ◌∷◌, ◌++◌, map, take, drop, length, max, Bool, true, false, if◌then◌else◌, Option, Some, None, slice_get}
+use Rattle.std.specs.Prelude.{ℕ, zero, suc, ◌≡◌, List, [], ◌∷◌, ◌++◌, map, take, max, Bool, true, false, if◌then◌else◌, Option, Some, None, slice_get}
 use Rattle.timestamps.specs.declared.row.Row.{Row}
 use Rattle.spans.specs.declared.kind.Kind.{Kind}
 use Rattle.spans.specs.declared.span.Span.{Span}
 use Rattle.spans.specs.declared.calls.messages.Message.{Message}
 use Rattle.spans.specs.declared.calls.messages.Message.TheVariants as messages
-use Rattle.spans.specs.Feeds.{Feed, rows_in, last_resolved, start_at, is_due}
+use Rattle.spans.specs.Feeds.{Feed, last_resolved, start_at, is_due}
 use Rattle.spans.specs.Collection.{LiveFeed, floor_after}
+use Rattle.spans.specs.Kept.{last_name}
 use Rattle.plain_feeds.specs.declared.record.FeedRecord.{FeedRecord}
+use Rattle.plain_feeds.specs.declared.told.Told.{Told}
 use Rattle.plain_feeds.specs.declared.record.FeedState.{FeedState}
 use Rattle.plain_feeds.specs.declared.record.FeedState.TheVariants.{Live, Cancelled}
 
+-- a feed of this kind and cursor was told nothing
+abbrev pub fresh_told : Kind → ℕ → Told
+fresh_told kind cursor = record { row = None; resolved = start_at kind cursor; floor = cursor }
+
+-- what more messages leave of what was told
+abbrev pub told_more : List Message → Told → Told
+told_more ms t = record { row = last_name t.row ms; resolved = last_resolved t.resolved ms; floor = floor_after t.floor ms }
+
 -- a feed that has just been opened
 abbrev pub new_record : ℕ → Kind → Span → ℕ → FeedRecord
-new_record seat kind span cursor = record { seat = seat; kind = kind; span = span; cursor = cursor; told = []; state = Live }
+new_record seat kind span cursor = record { seat = seat; kind = kind; span = span; cursor = cursor; told = fresh_told kind cursor; state = Live }
 
 -- a feed that was told more
 abbrev pub telling : List Message → FeedRecord → FeedRecord
-telling ms x = record x { told = x.told ++ ms }
+telling ms x = record x { told = told_more ms x.told }
 
 -- a feed that was cancelled
 abbrev pub cancelled : FeedRecord → FeedRecord
@@ -38,9 +48,10 @@ record_at book (suc i) = slice_get book i
 abbrev pub feed_part : FeedRecord → Feed
 feed_part x = record { seat = x.seat; kind = x.kind; span = x.span; cursor = x.cursor }
 
-abbrev pub told_in : Option FeedRecord → List Message
-told_in None = []
-told_in (Some x) = x.told
+-- the messages are what the feed was told; a feed that isn't there was told nothing
+abbrev pub IsToldIn : Option FeedRecord → List Message → Type 0
+IsToldIn None ms = ms ≡ []
+IsToldIn (Some x) ms = x.told ≡ told_more ms (fresh_told x.kind x.cursor)
 
 abbrev pub is_live_state : FeedState → Bool
 is_live_state Live = true
@@ -65,7 +76,7 @@ live_in n (x ∷ xs) = live_in (suc n) xs ++ live_one n x
 
 -- up to where all is told to the feed
 abbrev pub floor_in : FeedRecord → ℕ
-floor_in x = max x.cursor (floor_after x.cursor x.told)
+floor_in x = max x.cursor x.told.floor
 
 abbrev pub floor_one : FeedRecord → List ℕ
 floor_one x = if is_live x then floor_in x ∷ [] else []
@@ -77,12 +88,12 @@ floors_in (x ∷ xs) = floors_in xs ++ floor_one x
 
 -- the resolved message that is due
 abbrev pub due_in : FeedRecord → ℕ → List Message
-due_in x closed = if is_due x.kind (last_resolved (start_at x.kind x.cursor) x.told) closed then messages.Resolved closed ∷ [] else []
+due_in x closed = if is_due x.kind x.told.resolved closed then messages.Resolved closed ∷ [] else []
 
 abbrev pub due_at : Option ℕ → List Message
 due_at None = []
 due_at (Some t) = messages.Resolved t ∷ []
 
--- the rows of the list without as many as were told, then what is due: the first n of these
+-- the rows, then what is due: the first n of these
 abbrev pub next_in : FeedRecord → ℕ → ℕ → List Row → List Message
-next_in x n closed list = take n (map messages.Row (drop (length (rows_in x.told)) list) ++ due_in x closed)
+next_in x n closed rows = take n (map messages.Row rows ++ due_in x closed)

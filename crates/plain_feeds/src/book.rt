@@ -20,7 +20,6 @@ use timestamps::row::Row;
 /// The feeds that were opened, in the order of opening.
 #[derive(Debug, Drop)]
 pub struct FeedBook {
-    alloc: Global,
     feeds: Vec<FeedRecord>,
 }
 
@@ -39,7 +38,6 @@ impl FeedBook {
         ensures { FeedsTied result [] }
     {
         FeedBook {
-            alloc,
             feeds: Vec::new(alloc),
         }
     }
@@ -65,7 +63,7 @@ impl FeedBook {
             LeadsTo self.old (Opens number seat kind span.now cursor) self.new) }
         ensures err { OnErr result (self.new ≡ self.old) }
     {
-        let feed = FeedRecord::new(self.alloc, seat, kind, span, cursor)?;
+        let feed = FeedRecord::new(seat, kind, span, cursor)?;
         self.feeds.push(feed)?;
         Ok(self.feeds.len() as u64)
     }
@@ -128,21 +126,22 @@ impl FeedBook {
         &self.feeds[(number - 1) as usize]
     }
 
-    /// The next messages of a feed, at most `max`. `list` is the feed's list through `closed`. The feed
-    /// isn't told them yet.
+    /// The next messages of a feed, at most `max`. `rows` are the first `max` that it was not told, and its list
+    /// goes through `closed`. The feed isn't told them yet.
     pub fn next_messages(
         &self,
         alloc: Global,
         feed: u64,
         max: u64,
         closed: u64,
-        list: &[Row],
+        rows: Vec<Row>,
     ) -> Result<Messages, AllocError>
         requires opened { IsOpened self.now feed }
+        requires room { length rows.items ≤ max }
         requires closed { closed ≤ MAX }
-        ensures { IfOk result (λ messages. AreNext self.now feed max closed list.now messages) }
+        ensures { IfOk result (λ messages. AreNext self.now feed max closed rows.items messages) }
     {
-        self.feed(feed).next_messages(alloc, max, closed, list)
+        self.feed(feed).next_messages(alloc, max, closed, rows)
     }
 
     /// Keeps that a feed was told these messages.
@@ -151,12 +150,7 @@ impl FeedBook {
         ensures told { OnOk result ((max : ℕ) → LeadsTo self.old (Polls feed max messages.now) self.new) }
         ensures err { OnErr result (self.new ≡ self.old) }
     {
-        tell_at(
-            self.alloc,
-            &mut self.feeds,
-            (feed - 1) as usize,
-            messages.as_slice(),
-        )
+        tell_at(&mut self.feeds, (feed - 1) as usize, messages.as_slice())
     }
 
     /// How many feeds live.
@@ -190,18 +184,13 @@ fn cancel_at(feeds: &mut Vec<FeedRecord>, at: usize)
     feeds[at].state = FeedState::Cancelled;
 }
 
-fn tell_at(
-    alloc: Global,
-    feeds: &mut Vec<FeedRecord>,
-    at: usize,
-    messages: &[Message],
-) -> Result<(), AllocError>
+fn tell_at(feeds: &mut Vec<FeedRecord>, at: usize, messages: &[Message]) -> Result<(), AllocError>
     requires { at < vec_len feeds.old }
     ensures ok { OnOk result
         (feeds.new.items ≡ changed_at (telling messages.now) feeds.old.items at) }
     ensures err { OnErr result (feeds.new.items ≡ feeds.old.items) }
 {
-    feeds[at].told.add(alloc, messages)
+    feeds[at].told.add(messages)
 }
 
 fn count_live(feeds: &[FeedRecord]) -> usize

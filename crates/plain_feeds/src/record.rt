@@ -1,5 +1,5 @@
 //! One feed: whose it is, what it watches, what it was told, and whether it lives.
-ghost use Rattle.std.specs.Prelude.{◌≡◌, ◌≤◌, take, drop, map, IfOk};
+ghost use Rattle.std.specs.Prelude.{◌≡◌, ◌≤◌, length, map, IfOk};
 ghost use Rattle.timestamps.specs.declared.ts.TheConstants.{MAX};
 ghost use Rattle.plain_feeds.specs.Records.{new_record, is_live, floor_in, due_at, due_in, next_in};
 
@@ -34,7 +34,6 @@ pub struct FeedRecord {
 impl FeedRecord {
     /// A feed that lives and was told nothing.
     pub(crate) fn new(
-        alloc: Global,
         seat: u8,
         kind: Kind,
         span: &Span,
@@ -48,7 +47,7 @@ impl FeedRecord {
             kind,
             span,
             cursor,
-            told: Told::new(alloc),
+            told: Told::new(kind, cursor),
             state: FeedState::Live,
         })
     }
@@ -67,23 +66,22 @@ impl FeedRecord {
     pub(crate) fn floor(&self) -> u64
         ensures { result ≡ floor_in self.now }
     {
-        self.cursor.max(self.told.floor_from(self.cursor))
+        self.cursor.max(self.told.floor)
     }
 
-    /// The rows of the feed's list that follow those that were told, then the resolved message that is
-    /// due: the first `max` of these.
+    /// Rows as messages, then the resolved message that is due: the first `max` of these.
     pub(crate) fn next_messages(
         &self,
         alloc: Global,
         max: u64,
         closed: u64,
-        list: &[Row],
+        rows: Vec<Row>,
     ) -> Result<Messages, AllocError>
-        requires { closed ≤ MAX }
-        ensures { IfOk result (λ messages. messages ≡ next_in self.now max closed list.now) }
+        requires room { length rows.items ≤ max }
+        requires closed { closed ≤ MAX }
+        ensures { IfOk result (λ messages. messages ≡ next_in self.now max closed rows.items) }
     {
-        let untold = rows_after(list, self.told.row_count());
-        let mut messages = row_messages(alloc, first_rows(untold, max))?;
+        let mut messages = row_messages(alloc, rows)?;
         if (messages.len() as u64) < max {
             if let Some(at) = self.due(closed) {
                 messages.push(Message::Resolved(at))?;
@@ -97,42 +95,20 @@ impl FeedRecord {
         requires { closed ≤ MAX }
         ensures { due_in self.now closed ≡ due_at result }
     {
-        let resolved = self.told.resolved_from(self.kind.start(self.cursor));
-        if self.kind.is_due(resolved, closed) {
+        if self.kind.is_due(self.told.resolved, closed) {
             return Ts::new(closed);
         }
         None
     }
 }
 
-/// The rows from a place on.
-fn rows_after(list: &[Row], told: usize) -> &[Row]
-    ensures { result.now ≡ drop told list.now }
-{
-    if told >= list.len() {
-        return &list[list.len()..];
-    }
-    &list[told..]
-}
-
-/// The first `max` rows.
-fn first_rows(rows: &[Row], max: u64) -> &[Row]
-    ensures { result.now ≡ take max rows.now }
-{
-    if max >= rows.len() as u64 {
-        return rows;
-    }
-    &rows[..max as usize]
-}
-
-/// Copies of rows, as messages.
-fn row_messages(alloc: Global, rows: &[Row]) -> Result<Vec<Message>, AllocError>
-    ensures { IfOk result (λ messages. messages.items ≡ map Message.Row rows.now) }
+/// Rows, as messages.
+fn row_messages(alloc: Global, rows: Vec<Row>) -> Result<Vec<Message>, AllocError>
+    ensures { IfOk result (λ messages. messages.items ≡ map Message.Row rows.items) }
 {
     let mut messages = Vec::new(alloc);
     for row in rows {
-        let copy = row.copy()?;
-        messages.push(Message::Row(copy))?;
+        messages.push(Message::Row(row))?;
     }
     Ok(messages)
 }

@@ -1,109 +1,98 @@
-//! What a feed was told.
-ghost use Rattle.std.specs.Prelude.{◌≡◌, [], ◌++◌, IfOk, OnOk, OnErr, length};
-ghost use Rattle.spans.specs.Feeds.{rows_in, last_resolved};
+//! What is kept of the messages that a feed was told.
+ghost use Rattle.std.specs.Prelude.{◌≡◌, None, IfOk, OnOk, OnErr, option_map};
+ghost use Rattle.std.specs.Option.{option_copied};
 ghost use Rattle.spans.specs.Collection.{floor_after};
+ghost use Rattle.spans.specs.Consumer.{name_of};
+ghost use Rattle.spans.specs.Feeds.{last_resolved};
+ghost use Rattle.spans.specs.Kept.{last_name};
+ghost use Rattle.plain_feeds.specs.Records.{fresh_told, told_more};
 
 use spans::calls::Message;
-use std::alloc::{AllocError, Global};
+use spans::kind::Kind;
+use std::alloc::AllocError;
 use std::marker::Model;
+use timestamps::key::Key;
+use timestamps::row::Row;
 
-/// The messages that a feed was told, the oldest first.
+/// Which row was told: its key and timestamp, and not what it says.
 #[derive(Debug, Drop)]
-pub(crate) struct Told {
-    list: Vec<Message>,
+pub(crate) struct RowName {
+    pub(crate) ts: u64,
+    pub(crate) key: Key,
 }
 
-impl Model for Told {
-    ghost use Rattle.std.specs.Prelude.{List};
-    ghost use Rattle.spans.specs.declared.calls.messages.Message.{Message};
+impl Model for RowName {
+    ghost use Rattle.spans.specs.Collection.{VersionName};
 
-    ghost Value = { List Message };
+    ghost Value = { VersionName };
 
-    ghost view = { λ t. t.list.items };
+    ghost view = { λ n. record { key = n.key; ts = n.ts } };
+}
+
+/// What the messages that a feed was told leave of it, however many they were.
+#[derive(Debug, Drop)]
+pub(crate) struct Told {
+    /// The row that was told last.
+    pub(crate) row: Option<RowName>,
+    /// The greatest of the start and the resolved timestamps.
+    pub(crate) resolved: u64,
+    /// Up to where the last message says that all is told; the cursor before the first.
+    pub(crate) floor: u64,
 }
 
 impl Told {
-    /// Nothing yet.
-    pub(crate) fn new(alloc: Global) -> Told
-        ensures { result ≡ [] }
+    /// Nothing yet, by a feed of this kind and cursor.
+    pub(crate) fn new(kind: Kind, cursor: u64) -> Told
+        ensures { result ≡ fresh_told kind cursor }
     {
         Told {
-            list: Vec::new(alloc),
+            row: None,
+            resolved: kind.start(cursor),
+            floor: cursor,
         }
     }
 
-    /// The messages, lent.
-    pub(crate) fn as_slice(&self) -> &[Message]
-        ensures { result.now ≡ self.now }
-    {
-        self.list.as_slice()
-    }
-
-    /// Adds copies of more messages.
-    pub(crate) fn add(&mut self, alloc: Global, messages: &[Message]) -> Result<(), AllocError>
-        ensures ok { OnOk result (self.new ≡ self.old ++ messages.now) }
+    /// More messages are told.
+    pub(crate) fn add(&mut self, messages: &[Message]) -> Result<(), AllocError>
+        ensures ok { OnOk result (self.new ≡ told_more messages.now self.old) }
         ensures err { OnErr result (self.new ≡ self.old) }
     {
-        // all copies first, so that a refusal leaves what was told
-        let mut copies = copy_messages(alloc, messages)?;
-        self.list.append(&mut copies)
-    }
-
-    /// How many of the messages are rows.
-    pub(crate) fn row_count(&self) -> usize
-        ensures { result ≡ length (rows_in self.now) }
-    {
-        count_rows(self.list.as_slice())
-    }
-
-    /// The greatest of the start and the resolved timestamps.
-    pub(crate) fn resolved_from(&self, start: u64) -> u64
-        ensures { result ≡ last_resolved start self.now }
-    {
-        greatest_resolved(start, self.list.as_slice())
-    }
-
-    /// Up to where the last message says that all is told; the cursor where there is none.
-    pub(crate) fn floor_from(&self, cursor: u64) -> u64
-        ensures { result ≡ floor_after cursor self.now }
-    {
-        floor_of_last(cursor, self.list.as_slice())
-    }
-}
-
-fn copy_message(message: &Message) -> Result<Message, AllocError>
-    ensures { IfOk result (λ copy. copy ≡ message.now) }
-{
-    match message {
-        Message::Row(row) => {
-            let copy = row.copy()?;
-            Ok(Message::Row(copy))
+        // the key is copied first, so that a refusal leaves what was told
+        match last_row(messages) {
+            None => {}
+            Some(row) => {
+                let name = named(row)?;
+                self.row = Some(name);
+            }
         }
-        Message::Resolved(t) => Ok(Message::Resolved(*t)),
+        self.resolved = greatest_resolved(self.resolved, messages);
+        self.floor = floor_of_last(self.floor, messages);
+        Ok(())
     }
 }
 
-fn copy_messages(alloc: Global, messages: &[Message]) -> Result<Vec<Message>, AllocError>
-    ensures { IfOk result (λ copies. copies.items ≡ messages.now) }
+/// The last row of some messages, if there is one.
+fn last_row(messages: &[Message]) -> Option<&Row>
+    ensures { option_map name_of (option_copied result) ≡ last_name None messages.now }
 {
-    let mut copies = Vec::new(alloc);
+    let mut last = None;
     for message in messages {
-        let copy = copy_message(message)?;
-        copies.push(copy)?;
-    }
-    Ok(copies)
-}
-
-fn count_rows(messages: &[Message]) -> usize
-    ensures { result ≡ length (rows_in messages.now) }
-{
-    let mut count = 0;
-    for message in messages {
-        if let Message::Row(_) = message {
-            count += 1;
+        match message {
+            Message::Row(row) => last = Some(row),
+            Message::Resolved(_) => {}
         }
     }
-    count
+    last
+}
+
+fn named(row: &Row) -> Result<RowName, AllocError>
+    ensures { IfOk result (λ name. name ≡ name_of row.now) }
+{
+    let key = row.key.copy()?;
+    Ok(RowName {
+        ts: row.ts.get(),
+        key,
+    })
 }
 
 fn greatest_resolved(start: u64, messages: &[Message]) -> u64
@@ -118,11 +107,11 @@ fn greatest_resolved(start: u64, messages: &[Message]) -> u64
     greatest
 }
 
-fn floor_of_last(cursor: u64, messages: &[Message]) -> u64
-    ensures { result ≡ floor_after cursor messages.now }
+fn floor_of_last(floor: u64, messages: &[Message]) -> u64
+    ensures { result ≡ floor_after floor messages.now }
 {
     match messages.last() {
-        None => cursor,
+        None => floor,
         // another row of the same timestamp may be told yet
         Some(Message::Row(row)) => row.ts.get() - 1,
         Some(Message::Resolved(t)) => t.get(),

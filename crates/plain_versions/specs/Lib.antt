@@ -1,7 +1,12 @@
+pub mod Counting
 pub mod Transactions
+pub mod Undecided
 pub mod Versions
 pub mod Chains
+pub mod Written
+pub mod InSpans
 pub mod Sources
 pub mod Scans
 pub mod Streams
-pub mod Counts
+pub mod Snapshots
+pub mod Dying

@@ -1,64 +1,45 @@
 -- What the chains say of a span.
-use Rattle.std.specs.Prelude.{ℕ, List, [], ◌∷◌, Bool, not, ◌&&◌, ◌==◌, if◌then◌else◌, Option, Some, None}
-use denote.Ref.{Bor}
+use Rattle.std.specs.Prelude.{ℕ, List, [], ◌∷◌, Bool, not, ◌&&◌, ◌==◌, if◌then◌else◌, Option, Some, None, filter}
+use Rattle.std.specs.Map.{keys_of}
 use Rattle.spans.specs.declared.span.Span.{Span}
-use Rattle.spans.specs.Effects.{After}
-use Rattle.spans.specs.Keys.{in_span, with_value}
-use Rattle.spans.specs.Newest.{Version as Seen, version_at as seen_at, newest}
-use Rattle.plain_versions.specs.declared.transactions.Transaction.{Transaction}
-use Rattle.plain_versions.specs.declared.versions.Version.{Version}
-use Rattle.plain_versions.specs.declared.chains.Chain.{Chain}
-use Rattle.plain_versions.specs.Transactions.{transaction_at, committed_in}
-use Rattle.plain_versions.specs.Versions.{version_in}
+use Rattle.spans.specs.Keys.{in_span, pairs_of}
+use Rattle.spans.specs.Newest.{newest}
+use Rattle.plain_versions.specs.Transactions.{Table, transaction_at, committed_in}
+use Rattle.plain_versions.specs.Chains.{Stored, version_at, committed_at}
 
--- what was found
-abbrev pub seen : Option (Bor Version) → Seen
-seen None = seen_at 0 None
-seen (Some v) = seen_at v.now.ts v.now.after
+-- the keys of the span that were ever written, rising
+abbrev pub keys_within : Span → Stored → List (List ℕ)
+keys_within span stored = filter (in_span span) (keys_of stored)
 
--- k is the place of another's version, which is undecided
-abbrev pub is_anothers : List Transaction → ℕ → ℕ → Bool
-is_anothers txns t k = not (k == 0) && (not (k == t) && not (committed_in (transaction_at txns k)))
+-- k is the place of another's version, which isn't committed
+abbrev pub is_anothers : Table → ℕ → ℕ → Bool
+is_anothers table t k = not (k == 0) && (not (k == t) && not (committed_in (transaction_at table k)))
 
--- the writer that stops t from reading the key of the chain, where the span holds that
-abbrev pub blocker_in : List Transaction → Span → ℕ → Chain → Option ℕ
-blocker_in txns span t c =
-    if in_span span c.key && is_anothers txns t (newest (version_in c.versions) t).ts then Some (newest (version_in c.versions) t).ts else None
+-- the writer that stops t from reading x, whose newest version that t sees is of k
+abbrev pub stopped_by : Table → ℕ → ℕ → Option ℕ
+stopped_by table t k = if is_anothers table t k then Some k else None
+
+-- the writer that stops t from reading x
+abbrev pub blocker_of : Table → Stored → ℕ → List ℕ → Option ℕ
+blocker_of table stored t x = stopped_by table t (newest (version_at stored x) t).ts
 
 abbrev pub or_else : Option ℕ → Option ℕ → Option ℕ
 or_else None o = o
 or_else (Some k) o = Some k
 
--- the first writer that stops t
-abbrev pub first_blocker : List Transaction → Span → ℕ → List Chain → Option ℕ
-first_blocker txns span t [] = None
-first_blocker txns span t (c ∷ cs) = or_else (blocker_in txns span t c) (first_blocker txns span t cs)
+-- the first that the keys give
+abbrev pub first_of : (List ℕ → Option ℕ) → List (List ℕ) → Option ℕ
+first_of f [] = None
+first_of f (x ∷ xs) = or_else (f x) (first_of f xs)
 
--- of the versions, those of committed transactions
-abbrev pub settled : List Transaction → List Version → ℕ → Option After
-settled txns vs k = if committed_in (transaction_at txns k) then version_in vs k else None
-
--- the value, where it is wanted
-abbrev pub value_if : Bool → After → After
-value_if wanted a = if wanted then a else None
-
--- the rows of the span, where value says what the versions of a key give
-abbrev pub rows_with : (List Version → After) → Span → List Chain → List (List ℕ × List ℕ)
-rows_with value span [] = []
-rows_with value span (c ∷ cs) = with_value c.key (value_if (in_span span c.key) (value c.versions)) (rows_with value span cs)
+-- the first writer that stops t from reading the span
+abbrev pub first_blocker : Table → Span → ℕ → Stored → Option ℕ
+first_blocker table span t stored = first_of (blocker_of table stored t) (keys_within span stored)
 
 -- the rows of the span that t sees
-abbrev pub rows_seen : Span → ℕ → List Chain → List (List ℕ × List ℕ)
-rows_seen span t chains = rows_with (λ (vs : List Version). (newest (version_in vs) t).after) span chains
+abbrev pub rows_seen : Span → ℕ → Stored → List (List ℕ × List ℕ)
+rows_seen span t stored = pairs_of (λ x. (newest (version_at stored x) t).after) (keys_within span stored)
 
 -- the rows of the span that were committed at t
-abbrev pub rows_settled : List Transaction → Span → ℕ → List Chain → List (List ℕ × List ℕ)
-rows_settled txns span t chains = rows_with (λ (vs : List Version). (newest (settled txns vs) t).after) span chains
-
--- the value of the chain that t sees, where the span holds its key
-abbrev pub value_seen : Span → ℕ → Chain → After
-value_seen span t c = value_if (in_span span c.key) (newest (version_in c.versions) t).after
-
--- the value of the chain that was committed at t, where the span holds its key
-abbrev pub value_settled : List Transaction → Span → ℕ → Chain → After
-value_settled txns span t c = value_if (in_span span c.key) (newest (settled txns c.versions) t).after
+abbrev pub rows_settled : Table → Span → ℕ → Stored → List (List ℕ × List ℕ)
+rows_settled table span t stored = pairs_of (λ x. (newest (committed_at table stored x) t).after) (keys_within span stored)

@@ -1,29 +1,64 @@
--- Which rows of the chains are due to a stream.
-use Rattle.std.specs.Prelude.{ℕ, List, [], ◌∷◌, ◌++◌, Bool, ◌&&◌, nat_lt, nat_le, map, filter, if◌then◌else◌}
+-- The committed rows of a span after a place.
+use Rattle.std.specs.Prelude.{ℕ, List, [], ◌∷◌, ◌++◌, Bool, true, ◌≡◌, ◌≤◌, ◌==◌, ◌&&◌, ◌||◌, ◌↔◌, nat_lt, take, map, if◌then◌else◌, Option, Some, None}
 use Rattle.timestamps.specs.declared.row.Row.{Row}
 use Rattle.spans.specs.declared.span.Span.{Span}
+use Rattle.spans.specs.Collection.{VersionName, version_name}
+use Rattle.spans.specs.Effects.{After}
+use Rattle.spans.specs.KeyOrder.{key_lt}
 use Rattle.spans.specs.Keys.{in_span}
-use Rattle.plain_versions.specs.declared.transactions.Transaction.{Transaction}
-use Rattle.plain_versions.specs.declared.versions.Version.{Version}
-use Rattle.plain_versions.specs.declared.chains.Chain.{Chain}
-use Rattle.plain_versions.specs.Transactions.{transaction_at, committed_in}
+use Rattle.spans.proofs.StreamOrder.{IsRowIn, RisingRows}
+use Rattle.plain_versions.specs.Transactions.{Table, transaction_at, committed_in}
+use Rattle.plain_versions.specs.Chains.{Stored, version_at, committed_at}
 
--- t is above the cursor, at or below end, and committed
-abbrev pub is_due : List Transaction → ℕ → ℕ → ℕ → Bool
-is_due txns cursor end t = nat_lt cursor t && (nat_le t end && committed_in (transaction_at txns t))
+-- x at i comes after the place: above its timestamp, or at it and above its key, where it has one
+abbrev pub is_after : ℕ → Option (List ℕ) → List ℕ → ℕ → Bool
+is_after ts None x i = nat_lt ts i
+is_after ts (Some key) x i = nat_lt ts i || ((ts == i) && key_lt key x)
 
-abbrev pub row_of : List ℕ → Version → Row
-row_of x v = record { ts = v.ts; key = x; after = v.after }
+-- a committed version of the span, after the place and at or below a timestamp. A version at 0 is left out
+pub record IsRowAfter (table : Table) (stored : Stored) (span : Span) (ts : ℕ) (key : Option (List ℕ)) (through : ℕ) (r : Row) : Type 0 where
+  pub there : committed_at table stored r.key r.ts ≡ Some r.after
+  pub inside : in_span span r.key ≡ true
+  pub later : is_after ts key r.key r.ts ≡ true
+  pub low : r.ts ≤ through
+  pub some : 1 ≤ r.ts
 
--- the rows of x that are due
-abbrev pub due_rows : List Transaction → ℕ → ℕ → List ℕ → List Version → List Row
-due_rows txns cursor end x versions = map (row_of x) (filter (λ (v : Version). is_due txns cursor end v.ts) versions)
+-- these are those rows, in their order
+pub record AreRowsAfter (table : Table) (stored : Stored) (span : Span) (ts : ℕ) (key : Option (List ℕ)) (through : ℕ) (rows : List Row) : Type 0 where
+  pub rising : RisingRows rows
+  pub each : (r : Row) → IsRowIn r rows ↔ IsRowAfter table stored span ts key through r
 
--- the rows of the chain that are due
-abbrev pub chain_rows : List Transaction → ℕ → ℕ → Chain → List Row
-chain_rows txns cursor end c = due_rows txns cursor end c.key c.versions
+-- these are the first n of them
+pub record AreNextRows (table : Table) (stored : Stored) (span : Span) (ts : ℕ) (key : Option (List ℕ)) (through n : ℕ) (rows : List Row) : Type 0 where
+  pub all : List Row
+  pub are : AreRowsAfter table stored span ts key through all
+  pub first : rows ≡ take n all
 
--- the rows of the span that are due, key by key
-abbrev pub rows_due : List Transaction → ℕ → ℕ → Span → List Chain → List Row
-rows_due txns cursor end span [] = []
-rows_due txns cursor end span (c ∷ cs) = (if in_span span c.key then due_rows txns cursor end c.key c.versions else []) ++ rows_due txns cursor end span cs
+-- they were added to other rows, as far as n
+pub record AreAdded (table : Table) (stored : Stored) (span : Span) (ts : ℕ) (key : Option (List ℕ)) (through n : ℕ) (rows rows' : List Row) : Type 0 where
+  pub all : List Row
+  pub are : AreRowsAfter table stored span ts key through all
+  pub is : rows' ≡ take n (rows ++ all)
+
+-- ---- version by version
+
+-- the versions of t at these keys
+abbrev pub names_at : ℕ → List (List ℕ) → List VersionName
+names_at t keys = map (λ x. version_name x t) keys
+
+-- what a version left, as a row
+abbrev pub row_with : VersionName → Option After → List Row
+row_with v None = []
+row_with v (Some a) = record { ts = v.ts; key = v.key; after = a } ∷ []
+
+abbrev pub row_of : Stored → VersionName → List Row
+row_of stored v = row_with v (version_at stored v.key v.ts)
+
+-- the version is wanted
+abbrev pub is_wanted : Table → Span → VersionName → Bool
+is_wanted table span v = committed_in (transaction_at table v.ts) && in_span span v.key
+
+-- the rows of the versions that are wanted
+abbrev pub rows_of : Table → Stored → Span → List VersionName → List Row
+rows_of table stored span [] = []
+rows_of table stored span (v ∷ vs) = (if is_wanted table span v then row_of stored v else []) ++ rows_of table stored span vs

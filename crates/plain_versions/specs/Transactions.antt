@@ -1,38 +1,42 @@
--- What a list of transactions says.
-use Rattle.std.specs.Prelude.{ℕ, List, [], ◌∷◌, ◌≡◌, Bool, true, false, ◌==◌, ◌&&◌, ◌-◌, min, nat_lt, nat_le, if◌then◌else◌, Option, Some, None, find}
-use Rattle.std.specs.List.Sorted.{IsNonDecreasingBy, IsPartitionPoint}
+-- What a table of transactions says.
+use Rattle.std.specs.Prelude.{ℕ, List, ◌≡◌, ◌≤◌, ◌⊎◌, Bool, true, false, ◌==◌, ◌&&◌, ◌-◌, nat_lt, nat_le, if◌then◌else◌, Option, Some, None, unwrap_or}
+use Rattle.std.specs.Map.{lookup}
+use Rattle.std.specs.BTreeMap.{is_at}
+use Rattle.std.specs.Ordering.{nat_cmp}
 use Rattle.plain_versions.specs.declared.transactions.Transaction.{Transaction}
 use Rattle.plain_versions.specs.declared.transactions.State.{State}
 use Rattle.plain_versions.specs.declared.transactions.State.TheVariants.{Undecided, Committed, Aborted}
+use Rattle.plain_versions.specs.declared.transactions.Outcome.{Outcome}
+use Rattle.plain_versions.specs.declared.transactions.Outcome.TheVariants as outcomes
+
+-- the transactions, each with its timestamp
+abbrev pub Table : Type 0
+Table = List (ℕ × Transaction)
 
 -- the transaction of t
-abbrev pub transaction_at : List Transaction → ℕ → Option Transaction
-transaction_at txns t = find (λ (x : Transaction). x.ts == t) txns
+abbrev pub transaction_at : Table → ℕ → Option Transaction
+transaction_at table t = lookup (is_at (nat_cmp t)) table
 
-abbrev pub begun_by : ℕ → ℕ → Transaction
-begun_by t seat = record { ts = t; seat = seat; state = Undecided }
+-- the transaction of t became f of what it was, and the others are as they were
+abbrev pub IsSetAt : Table → Table → ℕ → (Option Transaction → Option Transaction) → Type 0
+IsSetAt table table' t f = (i : ℕ) → transaction_at table' i ≡ (if t == i then f (transaction_at table i) else transaction_at table i)
 
--- timestamps rise
-abbrev pub AreRising : List Transaction → Type 0
-AreRising txns = IsNonDecreasingBy (λ (x : Transaction). x.ts) txns
+-- one of the seat that has just begun
+abbrev pub new_transaction : ℕ → Transaction
+new_transaction seat = record { seat = seat; state = Undecided }
 
--- what is below t stands before the place, and nothing else
-abbrev pub IsPlaceOf : ℕ → List Transaction → ℕ → Type 0
-IsPlaceOf t txns place = IsPartitionPoint (λ (x : Transaction). nat_lt x.ts t ≡ true) (λ (x : Transaction). nat_lt x.ts t ≡ false) txns place
+-- the transaction that there is, or else a new one
+abbrev pub begun : ℕ → Option Transaction → Option Transaction
+begun seat o = Some (unwrap_or o (new_transaction seat))
 
--- x in its place, where timestamps rise
-abbrev pub with_begun : List Transaction → Transaction → List Transaction
-with_begun [] x = x ∷ []
-with_begun (y ∷ ys) x = if nat_lt y.ts x.ts then y ∷ with_begun ys x else x ∷ y ∷ ys
+-- how far one is that ended so
+abbrev pub state_after : Outcome → State
+state_after outcomes.Committed = Committed
+state_after outcomes.Aborted = Aborted
 
--- no two have one timestamp
-abbrev pub AreSingle : List Transaction → Type 0
-AreSingle [] = Unit {0}
-AreSingle (x ∷ xs) = (transaction_at xs x.ts ≡ None) × AreSingle xs
-
--- the transaction, which ended so where it is that of t
-abbrev pub decided : ℕ → State → Transaction → Transaction
-decided t s x = if x.ts == t then record x { state = s } else x
+-- the transaction, ended so
+abbrev pub decided : Outcome → Transaction → Transaction
+decided outcome x = record x { state = state_after outcome }
 
 abbrev pub is_committed_state : State → Bool
 is_committed_state Undecided = false
@@ -63,9 +67,9 @@ committed_in (Some x) = has_committed x
 abbrev pub is_open : Transaction → Bool
 is_open x = is_open_state x.state
 
--- the lower of n and the place just below the transaction, where that is undecided
-abbrev pub below_open : Transaction → ℕ → ℕ
-below_open x n = if is_open x then min (x.ts - 1) n else n
+abbrev pub open_in : Option Transaction → Bool
+open_in None = false
+open_in (Some x) = is_open x
 
 -- how far one is after a hard closing, which may have reached it
 abbrev pub state_closed : Bool → State → State
@@ -73,18 +77,20 @@ state_closed reached Undecided = if reached then Aborted else Undecided
 state_closed reached Committed = Committed
 state_closed reached Aborted = Aborted
 
--- the transaction after a hard closing through to
-abbrev pub aborted_through : ℕ → Transaction → Transaction
-aborted_through to x = record { ts = x.ts; seat = x.seat; state = state_closed (nat_le x.ts to) x.state }
-
-abbrev pub open_in : Option Transaction → Bool
-open_in None = false
-open_in (Some x) = is_open x
+-- the transaction after a hard closing, which may have reached it
+abbrev pub hard_closed : Bool → Transaction → Transaction
+hard_closed reached x = record x { state = state_closed reached x.state }
 
 -- the transaction of t is above low, at or below to, and undecided
-abbrev pub is_undecided_at : List Transaction → ℕ → ℕ → ℕ → Bool
-is_undecided_at txns low to t = nat_lt low t && (nat_le t to && open_in (transaction_at txns t))
+abbrev pub is_undecided_at : Table → ℕ → ℕ → ℕ → Bool
+is_undecided_at table low to t = nat_lt low t && (nat_le t to && open_in (transaction_at table t))
 
--- the transaction is undecided, and at or below to
-abbrev pub is_open_through : ℕ → Transaction → Bool
-is_open_through to x = nat_le x.ts to && is_open x
+-- the transaction of t is undecided, and at or below to
+abbrev pub is_undecided_through : Table → ℕ → ℕ → Bool
+is_undecided_through table to t = nat_le t to && open_in (transaction_at table t)
+
+-- n is to, or the place just below the least undecided timestamp where that is lower
+pub record IsDecidedThrough (table : Table) (to n : ℕ) : Type 0 where
+  pub most : n ≤ to
+  pub below : (t : ℕ) → open_in (transaction_at table t) ≡ true → n ≤ t - 1
+  pub reached : (n ≡ to) ⊎ ((t : ℕ) × (open_in (transaction_at table t) ≡ true) × (n ≡ t - 1))

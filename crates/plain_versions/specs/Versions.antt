@@ -1,39 +1,33 @@
 -- What the versions of a key say.
-use Rattle.std.specs.Prelude.{ℕ, List, [], ◌∷◌, Bool, not, ◌==◌, ◌<◌, nat_lt, if◌then◌else◌, Option, Some, None, option_map, is_some, find, filter}
+use Rattle.std.specs.Prelude.{ℕ, List, ◌≡◌, ◌==◌, ◌<◌, if◌then◌else◌, Option, Some, None}
+use Rattle.std.specs.Map.{lookup}
+use Rattle.std.specs.BTreeMap.{is_at}
+use Rattle.std.specs.Ordering.{nat_cmp}
 use Rattle.spans.specs.Effects.{After}
 use Rattle.spans.specs.Newest.{IsNewest}
-use denote.Ref.{Bor}
 use Rattle.plain_versions.specs.declared.versions.Version.{Version}
+use Rattle.plain_versions.specs.Transactions.{Table, transaction_at, committed_in}
 
-abbrev pub written_by : ℕ → After → Version
-written_by t a = record { ts = t; after = a }
+-- the versions of a key: what each transaction that wrote it left there
+abbrev pub Chain : Type 0
+Chain = List (ℕ × After)
 
 -- what t wrote
-abbrev pub version_in : List Version → ℕ → Option After
-version_in versions t = option_map (λ (v : Version). v.after) (find (λ (v : Version). v.ts == t) versions)
+abbrev pub version_in : Chain → ℕ → Option After
+version_in versions t = lookup (is_at (nat_cmp t)) versions
 
-abbrev pub has_version : List Version → ℕ → Bool
-has_version versions t = is_some (version_in versions t)
+-- the version of t became a, and the others are as they were
+abbrev pub IsVersionSet : Chain → Chain → ℕ → Option After → Type 0
+IsVersionSet versions versions' t a = (i : ℕ) → version_in versions' i ≡ (if t == i then a else version_in versions i)
 
--- the versions with a at t, in the place of what t wrote before
-abbrev pub with_version : List Version → ℕ → After → List Version
-with_version [] t a = written_by t a ∷ []
-with_version (v ∷ vs) t a = if v.ts == t then written_by t a ∷ vs else v ∷ with_version vs t a
+-- of the versions, those of committed transactions
+abbrev pub settled : Table → Chain → ℕ → Option After
+settled table versions k = if committed_in (transaction_at table k) then version_in versions k else None
 
--- the versions but those of t
-abbrev pub without : ℕ → List Version → List Version
-without t versions = filter (λ (v : Version). not (v.ts == t)) versions
+-- of the versions, the one with the greatest timestamp at most t was found
+abbrev pub IsBestOf : (ℕ → Option After) → ℕ → Option Version → Type 0
+IsBestOf versions t None = IsNewest versions t 0 None
+IsBestOf versions t (Some v) = IsNewest versions t v.ts v.after.now × (0 < v.ts)
 
--- the versions but those of certain transactions
-abbrev pub without_those : (ℕ → Bool) → List Version → List Version
-without_those gone versions = filter (λ (v : Version). not (gone v.ts)) versions
-
--- the version with the greatest timestamp at most t was found
-abbrev pub IsBest : List Version → ℕ → Option (Bor Version) → Type 0
-IsBest versions t None = IsNewest (version_in versions) t 0 None
-IsBest versions t (Some v) = IsNewest (version_in versions) t v.now.ts v.now.after × (0 < v.now.ts)
-
--- a version at t is better than the best so far
-abbrev pub better : Option (Bor Version) → ℕ → Bool
-better None t = nat_lt 0 t
-better (Some v) t = nat_lt v.now.ts t
+abbrev pub IsBest : Chain → ℕ → Option Version → Type 0
+IsBest versions t found = IsBestOf (version_in versions) t found

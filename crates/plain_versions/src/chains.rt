@@ -1,41 +1,42 @@
-//! The versions of all keys, a chain for each key that was ever written.
-ghost use Rattle.std.specs.Prelude.{◌≡◌, List, ◌++◌, ◌∷◌, [], length, map, filter, find, bytes_eq, slice_get, IfOk, OnOk, OnErr};
-ghost use Rattle.std.specs.Option.{option_copied};
-ghost use Rattle.plain_versions.specs.declared.chains.Chain.{Chain};
-ghost use Rattle.plain_versions.specs.Versions.{IsBest};
-ghost use Rattle.plain_versions.specs.Chains.{place_in, is_chain_of, versions_at, chain_with, with_write, dropped, cleared, wrote};
+//! The versions of all keys, and which keys each transaction wrote.
+ghost use Rattle.std.specs.Prelude.{◌≡◌, ◌==◌, [], OnOk, OnErr, is_some};
+ghost use Rattle.std.specs.Map.{keys_of};
+ghost use Rattle.spans.proofs.Keyed.{RisingKeys};
+ghost use Rattle.plain_versions.specs.Chains.{versions_at, version_at, wrote, IsCleared, IsWritten};
+ghost use Rattle.plain_versions.specs.Counting.{IsCountOf};
+ghost use Rattle.plain_versions.specs.InSpans.{within};
 ghost use Rattle.plain_versions.specs.Transactions.{is_undecided_at};
+ghost use Rattle.plain_versions.specs.Versions.{IsBest};
+ghost use Rattle.plain_versions.specs.Written.{is_version};
 
-mod lent;
-
+use crate::chain_map::ChainMap;
+use crate::in_span::InSpan;
 use crate::transactions::Transactions;
-use crate::versions::{Version, Versions};
+use crate::versions::Version;
+use crate::written::Written;
+use spans::span::Span;
 use std::alloc::{AllocError, Global};
-use std::cmp::Ordering;
 use std::marker::Model;
 use timestamps::key::Key;
 use timestamps::value::Value;
 
-/// A key with its versions.
-#[derive(Debug, Drop)]
-pub struct Chain {
-    pub key: Key,
-    pub versions: Versions,
-}
-
-/// The chains, by rising key.
+/// The versions of all keys.
 #[derive(Debug, Drop)]
 pub struct Chains {
-    list: Vec<Chain>,
+    pub(crate) map: ChainMap,
+    pub(crate) written: Written,
+    count: u64,
 }
 
 impl Model for Chains {
-    ghost use Rattle.std.specs.Prelude.{List};
-    ghost use Rattle.plain_versions.specs.declared.chains.Chain.{Chain};
+    ghost use Rattle.plain_versions.specs.Chains.{Stored};
+    ghost use Rattle.plain_versions.specs.Written.{IsTiedTo};
 
-    ghost Value = { List Chain };
+    ghost Value = { Stored };
 
-    ghost view = { λ c. c.list.items };
+    ghost view = { λ c. c.map };
+
+    ghost invariant = { λ c. IsTiedTo c.map c.written c.count };
 }
 
 impl Chains {
@@ -44,123 +45,98 @@ impl Chains {
         ensures { result ≡ [] }
     {
         Chains {
-            list: Vec::new(alloc),
+            map: ChainMap::new(alloc),
+            written: Written::new(alloc),
+            count: 0,
         }
     }
 
     /// The version of the key with the greatest timestamp at most `ts`. A version at 0 is left out.
-    pub fn newest(&self, key: &Key, ts: u64) -> Option<&Version>
+    pub fn newest(&self, key: &Key, ts: u64) -> Option<Version<'_>>
         ensures { IsBest (versions_at self.now key.now) ts result }
     {
-        match self.chain(key) {
+        match self.map.get(key) {
             None => None,
-            Some(chain) => chain.versions.newest(ts),
+            Some(versions) => versions.newest(ts),
         }
     }
 
-    /// The chain of the key.
-    fn chain(&self, key: &Key) -> Option<&Chain>
-        ensures { option_copied result ≡ find (λ (c : Chain). bytes_eq c.key key.now) self.now }
+    /// Whether a transaction wrote the key.
+    pub(crate) fn has(&self, key: &Key, ts: u64) -> bool
+        ensures { result ≡ is_some (version_at self.now key.now ts) }
     {
-        for chain in &self.list {
-            if chain.key == *key {
-                return Some(chain);
-            }
+        match self.map.get(key) {
+            None => false,
+            Some(versions) => versions.has(ts),
         }
-        None
     }
 
     /// How many keys a transaction wrote.
     pub fn count_of(&self, ts: u64) -> u64
-        ensures { result ≡ length (filter (wrote ts) self.now) }
+        ensures { IsCountOf (wrote self.now ts) result }
     {
-        let mut count = 0;
-        for chain in &self.list {
-            if chain.versions.has(ts) {
-                count += 1;
-            }
+        match self.written.keys_at(ts) {
+            None => 0,
+            Some(keys) => keys.len() as u64,
         }
-        count
+    }
+
+    /// How many versions there are, with the dead ones.
+    pub fn version_count(&self) -> u64
+        ensures { IsCountOf (is_version self.now) result }
+    {
+        self.count
+    }
+
+    /// The chains of a span's keys, by rising key.
+    pub(crate) fn in_span<'a>(&'a self, span: &'a Span) -> InSpan<'a>
+        ensures those { result ≡ within span.now self.now }
+        ensures rising { RisingKeys (keys_of self.now) }
+    {
+        self.map.in_span(span)
     }
 
     /// Takes in a write, in the place of an earlier one of the same transaction at this key. Where memory
     /// is lacking, nothing changes.
     pub fn write(&mut self, ts: u64, key: &Key, after: Option<Value>) -> Result<(), AllocError>
-        ensures ok { OnOk result (self.new ≡ with_write self.old key.now ts after) }
+        ensures ok { OnOk result (IsWritten self.old self.new key.now ts after) }
         ensures err { OnErr result (self.new ≡ self.old) }
     {
-        let place = place_of(self.list.as_slice(), key);
-        if is_at(self.list.as_slice(), place, key) {
-            let chain = &mut self.list[place];
-            chain.versions.write(ts, after)?;
-            return Ok(());
+        if self.has(key, ts) {
+            return self.map.write(ts, key, after);
         }
-        let chain = chain_of(*self.list.allocator(), ts, key, after)?;
-        self.list.insert(place, chain)?;
+        // so that one more can be counted
+        if self.count == u64::MAX {
+            return Err(AllocError);
+        }
+        self.written.add(ts, key)?;
+        if let Err(refused) = self.map.write(ts, key, after) {
+            self.written.remove(ts, key);
+            return Err(refused);
+        }
+        self.count += 1;
         Ok(())
     }
 
-    /// Drops what a transaction wrote. The chains stay.
+    /// Drops what a transaction wrote. The keys stay.
     pub fn drop_of(&mut self, ts: u64)
-        ensures { self.new ≡ map (dropped ts) self.old }
+        ensures { IsCleared self.old self.new (λ i. ts == i) }
     {
-        for chain in self.list.iter_mut() {
-            drop_from(chain, ts);
+        if let Some(keys) = self.written.take_at(ts) {
+            self.map.drop_each(&keys, ts);
+            self.count -= keys.len() as u64;
         }
     }
 
-    /// Drops what undecided transactions above `low` and at or below `to` wrote. The chains stay.
+    /// Drops what undecided transactions above `low` and at or below `to` wrote. The keys stay.
     pub fn drop_undecided(&mut self, transactions: &Transactions, low: u64, to: u64)
-        ensures { self.new ≡ map (cleared (is_undecided_at transactions.now low to)) self.old }
+        ensures { IsCleared self.old self.new (is_undecided_at transactions.now low to) }
     {
-        for chain in self.list.iter_mut() {
-            clear_from(chain, transactions, low, to);
+        if to <= low {
+            return;
+        }
+        for ts in transactions.undecided_between(low, to) {
+            self.drop_of(ts.0);
         }
     }
-}
-
-/// How many chains have a lower key.
-fn place_of(chains: &[Chain], key: &Key) -> usize
-    ensures { result ≡ place_in key.now chains.now }
-{
-    for (i, chain) in chains.iter().enumerate() {
-        if key.cmp(&chain.key) != Ordering::Greater {
-            return i;
-        }
-    }
-    chains.len()
-}
-
-/// Whether the chain of the key stands at this place.
-fn is_at(chains: &[Chain], place: usize, key: &Key) -> bool
-    ensures { result ≡ is_chain_of key.now (slice_get chains.now place) }
-{
-    if place >= chains.len() {
-        return false;
-    }
-    chains[place].key == *key
-}
-
-/// A chain of one version.
-fn chain_of(alloc: Global, ts: u64, key: &Key, after: Option<Value>) -> Result<Chain, AllocError>
-    ensures { IfOk result (λ c. c ≡ chain_with key.now ts after) }
-{
-    let key = key.copy()?;
-    let mut versions = Versions::new(alloc);
-    versions.write(ts, after)?;
-    Ok(Chain { key, versions })
-}
-
-/// Drops what a transaction wrote from a chain.
-fn drop_from(chain: &mut Chain, ts: u64)
-    ensures { chain.new ≡ dropped ts chain.old }
-{
-    chain.versions.drop_of(ts);
-}
-
-/// Drops what undecided transactions wrote from a chain.
-fn clear_from(chain: &mut Chain, transactions: &Transactions, low: u64, to: u64)
-    ensures { chain.new ≡ cleared (is_undecided_at transactions.now low to) chain.old }
-{
-    chain.versions.drop_undecided(transactions, low, to);
 }

@@ -3,12 +3,13 @@ ghost use Rattle.std.specs.Prelude.{◌≡◌, ◌++◌, [], ◌==◌, not, ◌&
 ghost use Rattle.std.specs.Option.{option_copied};
 ghost use Rattle.spans.specs.Keys.{with_value};
 ghost use Rattle.spans.specs.Newest.{newest};
-ghost use Rattle.plain_versions.specs.Scans.{blocker_in, first_blocker, rows_seen, rows_settled, value_seen, value_settled, seen, settled};
+ghost use Rattle.plain_versions.specs.Scans.{first_blocker, rows_seen, rows_settled, stopped_by};
 ghost use Rattle.plain_versions.specs.Transactions.{transaction_at, committed_in};
+ghost use Rattle.plain_versions.specs.Versions.{settled, version_in};
 
-use crate::chains::{Chain, Chains};
+use crate::chains::Chains;
 use crate::transactions::Transactions;
-use crate::versions::{Version, Versions, better_of};
+use crate::versions::Versions;
 use spans::calls::Rows;
 use spans::span::Span;
 use std::alloc::{AllocError, Global};
@@ -21,8 +22,8 @@ impl Chains {
     pub fn blocker(&self, transactions: &Transactions, span: &Span, ts: u64) -> Option<u64>
         ensures { result ≡ first_blocker transactions.now span.now ts self.now }
     {
-        for chain in self.as_slice() {
-            if let Some(by) = blocker_at(transactions, span, chain, ts) {
+        for (_, versions) in self.in_span(span) {
+            if let Some(by) = stopped_at(transactions, versions, ts) {
                 return Some(by);
             }
         }
@@ -34,8 +35,8 @@ impl Chains {
         ensures { IfOk result (λ rows. rows ≡ rows_seen span.now ts self.now) }
     {
         let mut rows = Vec::new(alloc);
-        for chain in self.as_slice() {
-            add_row(&mut rows, &chain.key, visible_in(span, chain, ts))?;
+        for (key, versions) in self.in_span(span) {
+            add_row(&mut rows, key, value_seen(versions, ts))?;
         }
         Ok(Rows::from_vec(rows))
     }
@@ -51,25 +52,18 @@ impl Chains {
         ensures { IfOk result (λ rows. rows ≡ rows_settled transactions.now span.now t self.now) }
     {
         let mut rows = Vec::new(alloc);
-        for chain in self.as_slice() {
-            add_row(
-                &mut rows,
-                &chain.key,
-                committed_in(transactions, span, chain, t),
-            )?;
+        for (key, versions) in self.in_span(span) {
+            add_row(&mut rows, key, value_settled(transactions, versions, t))?;
         }
         Ok(Rows::from_vec(rows))
     }
 }
 
-/// The writer that stops a transaction from reading the key of a chain, where the span holds that.
-fn blocker_at(transactions: &Transactions, span: &Span, chain: &Chain, ts: u64) -> Option<u64>
-    ensures { result ≡ blocker_in transactions.now span.now ts chain.now }
+/// The writer that stops a transaction from reading a key with these versions.
+fn stopped_at(transactions: &Transactions, versions: &Versions, ts: u64) -> Option<u64>
+    ensures { result ≡ stopped_by transactions.now ts (newest (version_in versions.now) ts).ts }
 {
-    if !span.contains(&chain.key) {
-        return None;
-    }
-    match chain.versions.newest(ts) {
+    match versions.newest(ts) {
         None => None,
         Some(version) => {
             if !stops(transactions, ts, version.ts) {
@@ -87,59 +81,28 @@ fn stops(transactions: &Transactions, ts: u64, writer: u64) -> bool
     writer != ts && !transactions.has_committed(writer)
 }
 
-/// The value of a chain that is visible at `ts`, where the span holds its key.
-fn visible_in<'a>(span: &Span, chain: &'a Chain, ts: u64) -> Option<&'a Value>
-    ensures { option_copied result ≡ value_seen span.now ts chain.now }
+/// Of the versions of a key, the value that is visible at `ts`.
+fn value_seen(versions: &Versions, ts: u64) -> Option<&Value>
+    ensures { option_copied result ≡ (newest (version_in versions.now) ts).after }
 {
-    if !span.contains(&chain.key) {
-        return None;
-    }
-    match chain.versions.newest(ts) {
+    match versions.newest(ts) {
         None => None,
         Some(version) => version.after.as_ref(),
     }
-}
-
-/// The value of a chain that was committed at `t`, where the span holds its key.
-fn committed_in<'a>(
-    transactions: &Transactions,
-    span: &Span,
-    chain: &'a Chain,
-    t: u64,
-) -> Option<&'a Value>
-    ensures { option_copied result ≡ value_settled transactions.now span.now t chain.now }
-{
-    if !span.contains(&chain.key) {
-        return None;
-    }
-    settled_at(transactions, &chain.versions, t)
 }
 
 /// Of the versions of a key, the value that was committed at `t`.
-fn settled_at<'a>(transactions: &Transactions, versions: &'a Versions, t: u64) -> Option<&'a Value>
-    ensures { option_copied result ≡ (newest (settled transactions.now versions.now) t).after }
-{
-    match settled_version(transactions, versions, t) {
-        None => None,
-        Some(version) => version.after.as_ref(),
-    }
-}
-
-/// Of the committed versions of a key, the one that is visible at `t`.
-pub(crate) fn settled_version<'a>(
+pub(crate) fn value_settled<'a>(
     transactions: &Transactions,
     versions: &'a Versions,
     t: u64,
-) -> Option<&'a Version>
-    ensures { newest (settled transactions.now versions.now) t ≡ seen result }
+) -> Option<&'a Value>
+    ensures { option_copied result ≡ (newest (settled transactions.now versions.now) t).after }
 {
-    let mut best = None;
-    for version in versions.as_slice() {
-        if transactions.has_committed(version.ts) {
-            best = better_of(best, version, t);
-        }
+    match versions.newest_settled(transactions, t) {
+        None => None,
+        Some(version) => version.after.as_ref(),
     }
-    best
 }
 
 /// Adds the row of a key, where it has a value.

@@ -1,36 +1,29 @@
 //! What a scan is given, key by key.
-ghost use Rattle.std.specs.Prelude.{◌≡◌, ◌++◌, ◌∷◌, [], IfOk, OnOk, OnErr};
+ghost use Rattle.std.specs.Prelude.{◌≡◌, ℕ, List, [], if◌then◌else◌, bytes_eq, IfOk, OnOk, OnErr};
 ghost use Rattle.spans.specs.Newest.{newest};
-ghost use Rattle.plain_versions.specs.Sources.{source_of, source_at, sources_in};
+ghost use Rattle.plain_versions.specs.Sources.{source_at, AreSources};
 ghost use Rattle.plain_versions.specs.Versions.{version_in};
 
 use crate::chains::Chains;
 use crate::versions::Versions;
 use spans::span::Span;
 use std::alloc::{AllocError, Global};
+use std::collections::BTreeMap;
 use std::marker::Model;
 use timestamps::key::Key;
 
-/// A key that a scan found, with the timestamp of the version that it was given.
-#[derive(Debug, Drop)]
-pub struct Source {
-    pub key: Key,
-    pub ts: u64,
-}
-
-/// The keys that a scan found.
+/// The keys that a scan found, each with the timestamp of the version that it was given.
 #[derive(Debug, Drop)]
 pub struct Sources {
-    list: Vec<Source>,
+    map: BTreeMap<Key, u64>,
 }
 
 impl Model for Sources {
-    ghost use Rattle.std.specs.Prelude.{List};
-    ghost use Rattle.plain_versions.specs.declared.sources.Source.{Source};
+    ghost use Rattle.std.specs.Prelude.{ℕ, List};
 
-    ghost Value = { List Source };
+    ghost Value = { List (List ℕ × ℕ) };
 
-    ghost view = { λ s. s.list.items };
+    ghost view = { λ s. s.map.entries };
 }
 
 impl Sources {
@@ -39,17 +32,17 @@ impl Sources {
         ensures { result ≡ [] }
     {
         Sources {
-            list: Vec::new(alloc),
+            map: BTreeMap::new(alloc),
         }
     }
 
     /// Takes in a key.
     fn add(&mut self, key: &Key, ts: u64) -> Result<(), AllocError>
-        ensures ok { OnOk result (self.new ≡ self.old ++ source_of key.now ts ∷ []) }
-        ensures err { OnErr result (self.new ≡ self.old) }
+        ensures { OnOk result ((x : List ℕ) →
+            source_at self.new x ≡ (if bytes_eq key.now x then ts else source_at self.old x)) }
     {
         let key = key.copy()?;
-        self.list.push(Source { key, ts })?;
+        self.map.insert(key, ts)?;
         Ok(())
     }
 
@@ -57,25 +50,21 @@ impl Sources {
     pub fn of(&self, key: &Key) -> u64
         ensures { result ≡ source_at self.now key.now }
     {
-        for source in &self.list {
-            if source.key == *key {
-                return source.ts;
-            }
+        match self.map.get(key) {
+            None => 0,
+            Some(ts) => *ts,
         }
-        0
     }
 }
 
 impl Chains {
     /// The keys of a span that have a chain, each with the timestamp of the version that a scan is given.
     pub fn sources(&self, alloc: Global, span: &Span, ts: u64) -> Result<Sources, AllocError>
-        ensures { IfOk result (λ sources. sources ≡ sources_in span.now ts self.now) }
+        ensures { IfOk result (λ sources. AreSources self.now span.now ts sources) }
     {
         let mut sources = Sources::new(alloc);
-        for chain in self.as_slice() {
-            if span.contains(&chain.key) {
-                sources.add(&chain.key, given(&chain.versions, ts))?;
-            }
+        for (key, versions) in self.in_span(span) {
+            sources.add(key, given(versions, ts))?;
         }
         Ok(sources)
     }

@@ -1,37 +1,36 @@
 //! The versions of one key.
-ghost use Rattle.std.specs.Prelude.{◌≡◌, List, ◌++◌, ◌∷◌, [], ◌==◌, not, filter, is_some, position, OnOk, OnErr};
-ghost use Rattle.plain_versions.specs.declared.versions.Version.{Version};
-ghost use Rattle.plain_versions.specs.Versions.{IsBest, better, has_version, with_version, without, without_those};
-ghost use Rattle.plain_versions.specs.Transactions.{is_undecided_at};
-
-mod lent;
+ghost use Rattle.std.specs.Prelude.{◌≡◌, [], Some, None, OnOk, OnErr, is_some};
+ghost use Rattle.std.specs.Option.{option_copied};
+ghost use Rattle.plain_versions.specs.Versions.{IsBest, IsBestOf, IsVersionSet, settled, version_in};
 
 use crate::transactions::Transactions;
 use std::alloc::{AllocError, Global};
+use std::collections::BTreeMap;
+use std::iter::DoubleEndedIterator;
 use std::marker::Model;
+use timestamps::ts_key::TsKey;
 use timestamps::value::Value;
 
-/// What a transaction wrote at a key.
-#[derive(Debug, Drop)]
-pub struct Version {
+/// What a transaction wrote at a key, lent.
+#[derive(Clone, Copy)]
+pub struct Version<'a> {
     pub ts: u64,
     /// The value that it wrote last, or `None` for a delete.
-    pub after: Option<Value>,
+    pub after: &'a Option<Value>,
 }
 
-/// The versions of one key, one for each transaction that wrote it and isn't aborted.
+/// The versions of one key by timestamp, one for each transaction that wrote it and isn't aborted.
 #[derive(Debug, Drop)]
 pub struct Versions {
-    list: Vec<Version>,
+    map: BTreeMap<TsKey, Option<Value>>,
 }
 
 impl Model for Versions {
-    ghost use Rattle.std.specs.Prelude.{List};
-    ghost use Rattle.plain_versions.specs.declared.versions.Version.{Version};
+    ghost use Rattle.plain_versions.specs.Versions.{Chain};
 
-    ghost Value = { List Version };
+    ghost Value = { Chain };
 
-    ghost view = { λ v. v.list.items };
+    ghost view = { λ v. v.map.entries };
 }
 
 impl Versions {
@@ -40,102 +39,66 @@ impl Versions {
         ensures { result ≡ [] }
     {
         Versions {
-            list: Vec::new(alloc),
+            map: BTreeMap::new(alloc),
         }
-    }
-
-    /// The version with the greatest timestamp at most `ts`.
-    pub(crate) fn newest(&self, ts: u64) -> Option<&Version>
-        ensures { IsBest self.now ts result }
-    {
-        newest_of(self.list.as_slice(), ts)
     }
 
     /// Whether a transaction wrote the key.
     pub(crate) fn has(&self, ts: u64) -> bool
-        ensures { result ≡ has_version self.now ts }
+        ensures { result ≡ is_some (version_in self.now ts) }
     {
-        for version in &self.list {
-            if version.ts == ts {
-                return true;
+        self.map.contains_key(&TsKey(ts))
+    }
+
+    /// What a transaction wrote.
+    pub(crate) fn get(&self, ts: u64) -> Option<&Option<Value>>
+        ensures { option_copied result ≡ version_in self.now ts }
+    {
+        self.map.get(&TsKey(ts))
+    }
+
+    /// The version with the greatest timestamp at most `ts`. A version at 0 is left out.
+    pub(crate) fn newest(&self, ts: u64) -> Option<Version<'_>>
+        ensures { IsBest self.now ts result }
+    {
+        match self.map.range(..=TsKey(ts)).next_back() {
+            None => None,
+            Some((found, after)) => {
+                if found.0 == 0 {
+                    return None;
+                }
+                Some(Version { ts: found.0, after })
             }
         }
-        false
+    }
+
+    /// Of the committed versions, the one with the greatest timestamp at most `t`.
+    pub(crate) fn newest_settled(&self, transactions: &Transactions, t: u64) -> Option<Version<'_>>
+        ensures { IsBestOf (settled transactions.now self.now) t result }
+    {
+        let mut through = t;
+        while let Some(version) = self.newest(through) {
+            if transactions.has_committed(version.ts) {
+                return Some(version);
+            }
+            through = version.ts - 1;
+        }
+        None
     }
 
     /// Takes in a write, in the place of an earlier one of the same transaction.
     pub(crate) fn write(&mut self, ts: u64, after: Option<Value>) -> Result<(), AllocError>
-        ensures ok { OnOk result (self.new ≡ with_version self.old ts after) }
+        ensures ok { OnOk result (IsVersionSet self.old self.new ts (Some after)) }
         ensures err { OnErr result (self.new ≡ self.old) }
     {
-        match place_of(self.list.as_slice(), ts) {
-            Some(i) => {
-                self.list[i] = Version { ts, after };
-                Ok(())
-            }
-            None => {
-                self.list.push(Version { ts, after })?;
-                Ok(())
-            }
-        }
+        self.map.insert(TsKey(ts), after)?;
+        Ok(())
     }
 
     /// Drops what a transaction wrote.
     pub(crate) fn drop_of(&mut self, ts: u64)
-        ensures { self.new ≡ without ts self.old }
+        ensures { IsVersionSet self.old self.new ts None }
     {
-        self.list.retain(|version| version.ts != ts);
-    }
-
-    /// Drops what undecided transactions above `low` and at or below `to` wrote.
-    pub(crate) fn drop_undecided(&mut self, transactions: &Transactions, low: u64, to: u64)
-        ensures { self.new ≡ without_those (is_undecided_at transactions.now low to) self.old }
-    {
-        self.list.retain(|version| !transactions.is_undecided_between(low, to, version.ts));
-    }
-}
-
-/// Where the version of a transaction stands.
-fn place_of(versions: &[Version], ts: u64) -> Option<usize>
-    ensures { result ≡ position (λ (v : Version). v.ts == ts) versions.now }
-{
-    versions.iter().position(|version| version.ts == ts)
-}
-
-/// The version with the greatest timestamp at most `ts`.
-fn newest_of<'a>(versions: &'a [Version], ts: u64) -> Option<&'a Version>
-    ensures { IsBest versions.now ts result }
-{
-    let mut best: Option<&Version> = None;
-    for version in versions {
-        best = better_of(best, version, ts);
-    }
-    best
-}
-
-/// The better of the best version so far and the next.
-pub(crate) fn better_of<'a>(
-    best: Option<&'a Version>,
-    next: &'a Version,
-    ts: u64,
-) -> Option<&'a Version>
-    ensures { (xs : List Version) → IsBest xs ts best.entry → IsBest (xs ++ next.now ∷ []) ts result }
-{
-    if next.ts > ts {
-        return best;
-    }
-    if !is_better(best, next.ts) {
-        return best;
-    }
-    Some(next)
-}
-
-/// Whether a version is better than the best so far.
-fn is_better(best: Option<&Version>, ts: u64) -> bool
-    ensures { result ≡ better best.entry ts }
-{
-    match best {
-        None => 0 < ts,
-        Some(best) => best.ts < ts,
+        self.map.remove(&TsKey(ts));
     }
 }

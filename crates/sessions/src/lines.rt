@@ -12,7 +12,7 @@
 //!
 //! A front end asks for what is [`next`](Lines::next): of a line it takes what it needs and advances, and where
 //! more has to be read it first writes what it owes, since a read may wait.
-ghost use Rattle.std.specs.Prelude.{◌≡◌, ◌≤◌, ◌<◌, ◌+◌, [], false, position, take, drop, length, vec_len, IfOk, IfSome, OnOk, OnErr};
+ghost use Rattle.std.specs.Prelude.{◌≡◌, ◌≤◌, ◌<◌, ◌+◌, ◌-◌, [], false, position, take, drop, length, vec_len, IfOk, IfSome, OnOk, OnErr};
 ghost use Rattle.script.specs.Lines.{is_newline};
 ghost use Rattle.text_format.specs.Limits.{line_limit};
 
@@ -43,12 +43,15 @@ pub struct Lines {
     block: Vec<u8>,
     start: usize,
     end: usize,
+    /// Where the first newline stands among what waits. Each byte is looked at once, whether or not a read completes a line.
+    newline: Option<usize>,
     /// Whether the latest read found the end.
     ended: bool,
     format: Format,
     ghost ordered: { start ≤ end },
     ghost within: { end ≤ vec_len block },
     ghost size: { vec_len block ≡ line_limit format + 65536 },
+    ghost found: { newline ≡ position is_newline (take (end - start) (drop start block.items)) },
 }
 
 impl Lines {
@@ -64,6 +67,7 @@ impl Lines {
             block,
             start: 0,
             end: 0,
+            newline: None,
             ended: false,
             format,
         })
@@ -79,10 +83,10 @@ impl Lines {
     pub fn next(&self) -> Next
         ensures { IsNext self.now result }
     {
-        let bytes = self.waiting();
-        if let Some(at) = newline_in(bytes) {
+        if let Some(at) = self.newline {
             return Next::Line(at + 1);
         }
+        let bytes = self.waiting();
         // a line that grows past its limit is handed out as it is
         if bytes.len() > self.format.line_limit() {
             return Next::Line(bytes.len());
@@ -112,6 +116,7 @@ impl Lines {
         ensures format { format_of self.new ≡ format_of self.old }
     {
         self.start += count;
+        self.newline = newline_in(&self.block[self.start..self.end]);
     }
 
     /// Reads once, behind what waits. It may wait for the source. Where the read fails all stays as it was.
@@ -131,6 +136,12 @@ impl Lines {
             Err(failed) => Err(failed),
             Ok(count) => {
                 self.ended = count == 0;
+                // after the move what waits begins the block
+                self.newline = newline_with(
+                    self.newline,
+                    &self.block[..self.end + count],
+                    self.end,
+                );
                 self.end += count;
                 Ok(())
             }
@@ -147,6 +158,21 @@ impl Lines {
             self.end -= self.start;
             self.start = 0;
         }
+    }
+}
+
+/// Where the first newline stands, where it is known where that of the first `searched` bytes does.
+fn newline_with(newline: Option<usize>, bytes: &[u8], searched: usize) -> Option<usize>
+    requires within { searched ≤ length bytes.now }
+    requires known { newline ≡ position is_newline (take searched bytes.now) }
+    ensures { result ≡ position is_newline bytes.now }
+{
+    if newline.is_some() {
+        return newline;
+    }
+    match newline_in(&bytes[searched..]) {
+        None => None,
+        Some(at) => Some(searched + at),
     }
 }
 

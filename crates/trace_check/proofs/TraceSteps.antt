@@ -1,11 +1,11 @@
 -- A trace grows by right events alone, and what begins it is a trace.
-use Rattle.std.proofs.Common.{◌≡◌, ℕ, suc, ◌+◌, ◌<◌, ◌≤◌, List, [], ◌∷◌, ◌++◌, reverse, length, take, drop, get_or, refl, sym, ap, ◌∙◌, subst, arith, add-one, append_assoc}
+use Rattle.std.proofs.Common.{◌≡◌, ℕ, suc, ◌+◌, ◌<◌, ◌≤◌, List, [], ◌∷◌, ◌++◌, reverse, length, take, drop, get_or, Some, refl, sym, ap, ◌∙◌, subst, arith, add-one, append_assoc}
 use Rattle.std.proofs.Math.Seq.{drop-cons}
-use Rattle.std.proofs.lemmas.List.{reverse-append, take-append-drop, take_more, length-take-le, length-reverse}
+use Rattle.std.proofs.lemmas.List.{reverse-append, take-append-drop, take_more, length-take-le}
 use Rattle.spans.specs.declared.calls.events.Event.{Event}
 use Rattle.spans.specs.Effects.{effects_of}
 use Rattle.spans.specs.Legal.{IsRightEvent, IsLegal, IsGapless}
-use Rattle.trace_check.specs.Traces.{position_of_first, IsTrace, IsFirstWrong}
+use Rattle.trace_check.specs.Traces.{position_of_first, last_from, last_position, IsInPlace, IsTrace, IsFirstWrong}
 use Rattle.spans.proofs.Histories.{gapless_more, turned_more}
 
 -- ---- positions
@@ -25,10 +25,30 @@ gapless_from_first : (n : ℕ) (es : List Event) → IsGapless n es → IsGaples
 gapless_from_first n [] gapless = tt
 gapless_from_first n (e ∷ es) gapless = subst (λ k. IsGapless k (e ∷ es)) (sym gapless.0) gapless
 
--- more events at the end leave the first where it stands
-same_first : (before : List Event) (e : Event) (after : List Event) → position_of_first (before ++ e ∷ after) ≡ position_of_first (before ++ e ∷ [])
-same_first [] e after = refl
-same_first (x ∷ xs) e after = refl
+-- one more event stands last
+last_behind : (position : ℕ) (es : List Event) (e : Event) → last_from position (es ++ e ∷ []) ≡ e.position
+last_behind position [] e = refl
+last_behind position (x ∷ xs) e = last_behind x.position xs e
+
+pub last_more : (es : List Event) (e : Event) → last_position (es ++ e ∷ []) ≡ Some e.position
+last_more [] e = refl
+last_more (x ∷ xs) e = ap Some (last_behind x.position xs e)
+
+-- behind a position the last of a list without a gap stands as far on as the list is long
+last_from_is : (position : ℕ) (es : List Event) → IsGapless (suc position) es → last_from position es ≡ position + length es
+last_from_is position [] gapless = omega arith
+last_from_is position (x ∷ xs) gapless = omega (arith, gapless.0, last_from_is x.position xs (subst (λ n. IsGapless (suc n) xs) (sym gapless.0) gapless.1))
+
+-- an event in its place leaves no gap
+gapless_grows : (es : List Event) (e : Event) → IsGapless (position_of_first es) es → IsInPlace (last_position es) e.position → IsGapless (position_of_first (es ++ e ∷ [])) (es ++ e ∷ [])
+gapless_grows [] e gapless in_place = (refl, tt)
+gapless_grows (x ∷ xs) e gapless in_place = gapless_more x.position (x ∷ xs) e gapless (omega (arith, in_place, last_from_is x.position xs gapless.1))
+
+-- and only there
+place_is : (es : List Event) (e : Event) → IsGapless (position_of_first (es ++ e ∷ [])) (es ++ e ∷ []) → IsInPlace (last_position es) e.position
+place_is [] e gapless = tt
+place_is (x ∷ xs) e gapless =
+    omega (arith, last_stands x.position (x ∷ xs) e gapless, last_from_is x.position xs (gapless_begins x.position (x ∷ xs) (e ∷ []) gapless).1)
 
 -- ---- legal lists
 
@@ -53,49 +73,42 @@ wrong_is_no_trace events position wrong trace = wrong.stops (trace_begins (wrong
     parts : events ≡ (wrong.before ++ wrong.event ∷ []) ++ wrong.after
     parts = wrong.parts ∙ sym (append_assoc wrong.before (wrong.event ∷ []) wrong.after)
 
+-- a right event in its place makes a longer trace
+pub trace_more : (events : List Event) (e : Event) → IsTrace events → IsInPlace (last_position events) e.position → IsRightEvent (effects_of (reverse events)) e → IsTrace (events ++ e ∷ [])
+trace_more events e trace in_place right = record {
+  legal = subst IsLegal (sym (turned_more events e)) (right, trace.legal);
+  gapless = gapless_grows events e trace.gapless in_place;
+}
+
+-- and no other does
+pub trace_place : (events : List Event) (e : Event) → IsTrace (events ++ e ∷ []) → IsInPlace (last_position events) e.position
+trace_place events e trace = place_is events e trace.gapless
+
+pub trace_right : (events : List Event) (e : Event) → IsTrace (events ++ e ∷ []) → IsRightEvent (effects_of (reverse events)) e
+trace_right events e trace = (subst IsLegal (turned_more events e) trace.legal).0
+
 -- ---- the event at an index
 
 -- the events up to an index and with the one there
-next_is : (events : List Event) (i : ℕ) (e : Event) → i < length events → e ≡ get_or events i e → take (i + 1) events ≡ take i events ++ e ∷ []
+pub next_is : (events : List Event) (i : ℕ) (e : Event) → i < length events → e ≡ get_or events i e → take (i + 1) events ≡ take i events ++ e ∷ []
 next_is events i e within is = take_more events i e within ∙ ap (λ (x : Event). take i events ++ x ∷ []) (sym is)
 
 -- a list is what comes before an index, the event there, and what comes after it
 parts_at : (events : List Event) (i : ℕ) (e : Event) → i < length events → e ≡ get_or events i e → events ≡ take i events ++ e ∷ drop (i + 1) events
 parts_at events i e within is = sym (take-append-drop i events) ∙ ap (λ (l : List Event). take i events ++ l) (rw add-one (drop-cons events i e within ∙ ap (λ (x : Event). x ∷ drop (suc i) events) (sym is)))
 
--- the history up to an index and with the event there
-pub turned_next : (events : List Event) (i : ℕ) (e : Event) → i < length events → e ≡ get_or events i e → reverse (take (i + 1) events) ≡ e ∷ reverse (take i events)
-turned_next events i e within is = ap reverse (next_is events i e within is) ∙ turned_more (take i events) e
-
--- in its place the event at an index leaves no gap
-pub gapless_next : (first : ℕ) (events : List Event) (i : ℕ) (e : Event) → i < length events → e ≡ get_or events i e → IsGapless first (take i events) → e.position ≡ first + i → IsGapless first (take (i + 1) events)
-gapless_next first events i e within is gapless at =
-    subst (IsGapless first) (sym (next_is events i e within is)) (gapless_more first (take i events) e gapless (omega (arith, length-take-le i events (omega arith))))
-
--- where the event at an index isn't right, or is out of its place, the list goes wrong with it
-pub wrong_at : (events : List Event) (i : ℕ) (e : Event) → i < length events → e ≡ get_or events i e → IsLegal (reverse (take i events)) → IsGapless (position_of_first events) (take i events)
-    → ¬ (IsRightEvent (effects_of (reverse (take i events))) e × (e.position ≡ position_of_first events + i)) → IsFirstWrong events e.position
-wrong_at events i e within is legal gapless isnt = record {
+-- where the list is no trace with the event at an index, it goes wrong there
+pub wrong_at : (events : List Event) (i : ℕ) (e : Event) → i < length events → e ≡ get_or events i e → IsTrace (take i events) → ¬ IsTrace (take i events ++ e ∷ []) → IsFirstWrong events e.position
+wrong_at events i e within is right stops = record {
   before = take i events;
   event = e;
   after = drop (i + 1) events;
-  parts = parts;
-  right = record { legal = legal; gapless = gapless_from_first (position_of_first events) (take i events) gapless };
-  stops = λ trace. isnt ((subst IsLegal (turned_more (take i events) e) trace.legal).0, in_place trace);
+  parts = parts_at events i e within is;
+  right = right;
+  stops = stops;
   stands = refl;
 }
-  where
-    parts : events ≡ take i events ++ e ∷ drop (i + 1) events
-    parts = parts_at events i e within is
-
-    in_place : IsTrace (take i events ++ e ∷ []) → e.position ≡ position_of_first events + i
-    in_place trace = omega (
-      arith,
-      last_stands (position_of_first (take i events ++ e ∷ [])) (take i events) e trace.gapless,
-      ap position_of_first parts ∙ same_first (take i events) e (drop (i + 1) events),
-      length-take-le i events (omega arith),
-    )
 
 -- so few events come before an index that a number counts them
-pub few_before : (events : List Event) (i : ℕ) → i < length events → length events ≤ 18446744073709551615 → length (reverse (take i events)) < 18446744073709551615
-few_before events i within all = omega (arith, length-reverse (take i events), length-take-le i events (omega arith))
+pub few_before : (events : List Event) (i : ℕ) → i < length events → length events ≤ 18446744073709551615 → length (take i events) < 18446744073709551615
+few_before events i within all = omega (arith, length-take-le i events (omega arith))

@@ -1,5 +1,5 @@
 -- Which lists of events, the oldest first, one database can have given, and where another list first goes wrong.
-use Rattle.std.specs.Prelude.{ℕ, List, [], ◌∷◌, ◌++◌, ◌≡◌, ◌<◌, ◌↔◌, Bool, true, length, reverse}
+use Rattle.std.specs.Prelude.{ℕ, List, [], ◌∷◌, ◌++◌, ◌≡◌, ◌<◌, ◌↔◌, ◌+◌, Bool, true, Option, Some, None, length, reverse}
 use Rattle.spans.specs.declared.calls.events.Event.{Event}
 use Rattle.spans.specs.Effects.{effects_of}
 use Rattle.spans.specs.Legal.{IsLegal, IsGapless, IsRightEvent}
@@ -10,6 +10,21 @@ use Rattle.plain_database.specs.Tied.{StandsFor}
 abbrev pub position_of_first : List Event → ℕ
 position_of_first [] = 0
 position_of_first (e ∷ es) = e.position
+
+-- where the last of a position and events behind it stands
+abbrev pub last_from : ℕ → List Event → ℕ
+last_from position [] = position
+last_from position (e ∷ es) = last_from e.position es
+
+-- where the last event stands, if there is one
+abbrev pub last_position : List Event → Option ℕ
+last_position [] = None
+last_position (e ∷ es) = Some (last_from e.position es)
+
+-- an event may stand at a position: behind the last one, or anywhere
+abbrev pub IsInPlace : Option ℕ → ℕ → Type 0
+IsInPlace None position = Unit {0}
+IsInPlace (Some last) position = position ≡ last + 1
 
 -- each reply is right after the events before it, and each next event stands one place further
 pub record IsTrace (events : List Event) : Type 0 where

@@ -1,11 +1,11 @@
 //! The independent checker: whether a list of events is one that the definitions allow.
 //!
-//! [`check`] goes through the events, the oldest first. It asks the
+//! A [`Checker`](checker::Checker) is handed the events one by one, the oldest first. It asks the
 //! [`Database`](plain_database::database::Database), which is the definitions as one plain program, for the
 //! one right answer after the events so far, compares the reply with it exactly, and then has the
 //! database take the event in. A reply may also be want of memory, in the place of an answer that is no
-//! refusal, where the command may want memory. The first event that isn't right, or that doesn't stand
-//! one place further than the one before, is named.
+//! refusal, where the command may want memory. An event has to stand one place further than the one before.
+//! [`check`] hands over a list of events, and names the first that isn't right.
 //!
 //! ```text
 //! 7 0 begin 10 => started           right           10 is undecided
@@ -18,18 +18,18 @@
 //! ```
 //!
 //! Cost: an event costs a walk or two of what the database then holds, and one comparison of replies.
-//! It takes memory for what the events before it left, and for one answer at a time.
+//! It takes memory for what the events before it left, and for one answer at a time: a checker keeps no event.
 #![tactic(auto)]
 
+pub mod checker;
 mod same;
 mod taking;
 
-ghost use Rattle.std.specs.Prelude.{◌≡◌, ◌↔◌, ◌+◌, ℕ, true, IfOk};
+ghost use Rattle.std.specs.Prelude.{◌≡◌, ◌↔◌, ℕ, IfOk};
 ghost use Rattle.trace_check.specs.declared.Verdict.TheVariants.{Yes, No};
-ghost use Rattle.trace_check.specs.Traces.{position_of_first, IsTrace, IsFirstWrong};
+ghost use Rattle.trace_check.specs.Traces.{IsTrace, IsFirstWrong};
 
-use crate::taking::take_in;
-use plain_database::database::Database;
+use crate::checker::Checker;
 use spans::calls::Event;
 use std::alloc::{AllocError, Global};
 
@@ -47,32 +47,13 @@ pub fn check(alloc: Global, events: &[Event]) -> Result<Verdict, AllocError>
     ensures yes { IfOk result (λ v. (v ≡ Yes) ↔ IsTrace events.now) }
     ensures no { IfOk result (λ v. (position : ℕ) → v ≡ No position → IsFirstWrong events.now position) }
 {
-    let mut database = Database::new(alloc);
-    let first = first_position(events);
-    for (index, event) in events.iter().enumerate() {
-        if !is_in_place(event.position, first, index) || !take_in(&mut database, event)? {
+    let mut checker = Checker::new(alloc);
+    for event in events {
+        if !checker.take(event)? {
             return Ok(Verdict::No {
                 position: event.position,
             });
         }
     }
     Ok(Verdict::Yes)
-}
-
-/// Where the first event stands; 0 where there is none.
-fn first_position(events: &[Event]) -> u64
-    ensures { result ≡ position_of_first events.now }
-{
-    match events.first() {
-        None => 0,
-        Some(event) => event.position,
-    }
-}
-
-/// Whether a position is that of the event at an index.
-fn is_in_place(position: u64, first: u64, index: usize) -> bool
-    ensures { (result ≡ true) ↔ (position ≡ first + index) }
-{
-    // a sum could pass the greatest number, a difference can't
-    position.checked_sub(first) == Some(index as u64)
 }

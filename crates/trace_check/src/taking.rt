@@ -1,5 +1,5 @@
 //! How the database is asked about one event, and takes it in.
-ghost use Rattle.std.specs.Prelude.{◌≡◌, ◌↔◌, true, IfOk};
+ghost use Rattle.std.specs.Prelude.{◌≡◌, ◌↔◌, true, false, IfOk, OnErr};
 ghost use Rattle.spans.specs.declared.calls.replies.Reply.TheVariants.{Refused};
 ghost use Rattle.spans.specs.declared.calls.replies.Refusal.TheVariants.{NoMemory};
 ghost use Rattle.spans.specs.Legal.{is_accepted, may_lack_memory};
@@ -14,6 +14,8 @@ use std::alloc::AllocError;
 pub(crate) fn take_in(database: &mut Database, event: &Event) -> Result<bool, AllocError>
     ensures right { IfOk result (Judges database.old event.now) }
     ensures taken { IfOk result (TakesIn database.old database.new event.now) }
+    ensures refused { IfOk result (λ right. right ≡ false → database.new ≡ database.old) }
+    ensures memory { OnErr result (database.new ≡ database.old) }
 {
     let answer = database.answer(event.seat, &event.cmd)?;
     if same_reply(&event.reply, &answer) {

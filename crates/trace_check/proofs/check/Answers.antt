@@ -1,28 +1,22 @@
-use Rattle.std.proofs.Common.{◌≡◌, ◌+◌, ◌∙◌, true, false, refl, sym, ap, subst, arith}
-use Rattle.plain_database.specs.Tied.{StandsFor}
+use Rattle.std.proofs.Common.{◌≡◌, ◌∙◌, take, true, false, sym, subst, arith}
+use Rattle.trace_check.specs.Checkers.{HasTaken}
 use Rattle.trace_check.specs.Traces.{IsFirstWrong}
-use Rattle.trace_check.proofs.TraceSteps.{turned_next, gapless_next, wrong_at, wrong_is_no_trace, few_before}
+use Rattle.trace_check.proofs.TraceSteps.{next_is, wrong_at, wrong_is_no_trace, few_before}
 use Rattle.trace_check.proofs.check.Goals as goal
-use Rattle.trace_check.proofs.check.Goals.{then-not-is_in_place-via-then-not-is_in_place, then-not-is_in_place-via-else-not-is_in_place+in_ok-take_in+then-not-branch}
 
-pub loop-index-preserved : goal.loop-index-preserved
-loop-index-preserved c = record {
-  stands = subst (StandsFor c.take_in.new.database) (sym (turned_next c.args.events.now c.loop-index.index c.index-events-index.result c.loop-index-test.true c.index-events-index.is))
-      (c.in_ok-take_in.ensures.taken c.if-not-branch.false _ c.loop-index.invariant.stands (few_before c.args.events.now c.loop-index.index c.loop-index-test.true (omega arith)));
-  gapless = gapless_next c.first_position-first.result c.args.events.now c.loop-index.index c.index-events-index.result c.loop-index-test.true c.index-events-index.is c.loop-index.invariant.gapless
-      (c.if-not-is_in_place.ensures.0 refl);
-}
+pub loop-event-preserved : goal.loop-event-preserved
+loop-event-preserved c =
+    subst (HasTaken c.take.new.self) (sym (next_is c.args.events.now c.loop-event.event-index c.event-item.result c.loop-event-test.true c.event-item.is))
+    (c.in_ok-take.ensures.taken c.if-not-branch.false (take c.loop-event.event-index c.args.events.now) c.loop-event.invariant (few_before c.args.events.now c.loop-event.event-index c.loop-event-test.true (omega arith)))
 
-pub returns-then-not-is_in_place : goal.returns-then-not-is_in_place
-returns-then-not-is_in_place c =
-    let wrong : IsFirstWrong c.args.events.now c.index-events-index.result.position =
-    wrong_at c.args.events.now c.loop-index.index c.index-events-index.result c.loop-index-test.true c.index-events-index.is c.loop-index.invariant.stands.legal
-    (rw c.first_position-first.ensures at c.loop-index.invariant.gapless)
-    (λ both. elim c.then-not-is_in_place.branch [
-      | then-not-is_in_place-via-then-not-is_in_place w ↦ let clash : false ≡ true = w.if-not-is_in_place.ensures.1 (both.1 ∙ ap (λ n. n + c.loop-index.index) (sym c.first_position-first.ensures)) in cc
-      | then-not-is_in_place-via-else-not-is_in_place+in_ok-take_in+then-not-branch w ↦ let clash : false ≡ true = sym w.if-not-branch.true ∙ (w.in_ok-take_in.ensures.right _ c.loop-index.invariant.stands (few_before c.args.events.now c.loop-index.index c.loop-index-test.true (omega arith))).1 both.0 in cc
-    ]) in
+pub returns-then-not-branch : goal.returns-then-not-branch
+returns-then-not-branch c =
+    let events = c.args.events.now in
+    let before = take c.loop-event.event-index events in
+    let wrong : IsFirstWrong events c.event-item.result.position =
+    wrong_at events c.loop-event.event-index c.event-item.result c.loop-event-test.true c.event-item.is c.loop-event.invariant.trace
+    (λ trace. let clash : false ≡ true = sym c.if-not-branch.true ∙ (c.in_ok-take.ensures.right before c.loop-event.invariant (few_before events c.loop-event.event-index c.loop-event-test.true (omega arith))).1 trace in cc) in
     record {
-      yes = (λ no. cc, λ trace. absurd (wrong_is_no_trace c.args.events.now c.index-events-index.result.position wrong trace));
-      no = λ position is. let same : c.index-events-index.result.position ≡ position = cc in subst (IsFirstWrong c.args.events.now) same wrong;
+      yes = (λ no. cc, λ trace. absurd (wrong_is_no_trace events c.event-item.result.position wrong trace));
+      no = λ position is. let same : c.event-item.result.position ≡ position = cc in subst (IsFirstWrong events) same wrong;
     }

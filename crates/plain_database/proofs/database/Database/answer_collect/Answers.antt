@@ -5,6 +5,5 @@ use Rattle.plain_database.proofs.database.Database.answer_collect.Goals as goal
 
 pub returns : goal.returns
 returns c = λ seat h stands few.
-    collect_answers c.args.self.now h seat c.args.to c.horizon_reached-horizon.result c.dead_count-dead_before.result c.dead_count.result c.saturating_sub.result stands few (omega arith)
-    (c.horizon_reached-horizon.ensures (effects_of h) stands.tied.feeds stands.tied.protections stands.tied.closed_at stands.tied.horizon_at)
-    (c.dead_count-dead_before.ensures h stands) (c.dead_count.ensures h stands) c.saturating_sub.ensures
+    collect_answers c.args.self.now h seat c.args.to c.horizon_reached-horizon.result c.died_between.result stands few (omega arith)
+    (c.horizon_reached-horizon.ensures (effects_of h) stands.tied.feeds stands.tied.protections stands.tied.closed_at stands.tied.horizon_at) c.died_between.ensures

@@ -1,11 +1,16 @@
-use Rattle.std.proofs.Common.{◌∙◌, ap, sym, refl}
+use Rattle.std.proofs.Common.{◌≡◌, ◌≤◌, ◌∙◌, Option, Some, ap, subst, sym, refl, arith}
 use Rattle.std.proofs.lemmas.Bool.{both_ways}
 use Rattle.std.proofs.lemmas.Result.{IfOk-weaker}
+use Rattle.timestamps.specs.declared.ts.TheConstants.{MAX}
 use Rattle.spans.specs.Effects.{effects_of}
-use Rattle.spans.specs.Feeds.{feed_of, list_of}
-use Rattle.spans.proofs.Feeding.{fed, feeding}
+use Rattle.spans.specs.Feeds.{feed_of, told_to}
+use Rattle.spans.specs.Transactions.{closed_of}
+use Rattle.spans.proofs.Feeding.{feeding}
 use Rattle.spans.proofs.Legal.{legal_allowed}
-use Rattle.plain_database.proofs.PollSteps.{nothing_closed, nothing_next, list_of_record}
+use Rattle.plain_feeds.specs.declared.record.FeedRecord.{FeedRecord}
+use Rattle.plain_feeds.specs.Records.{IsToldIn}
+use Rattle.plain_database.proofs.ClosedRange.{closed_in_range}
+use Rattle.plain_database.proofs.PollSteps.{committed_tied, nothing_closed, nothing_next, rows_of_record}
 use Rattle.plain_database.proofs.database.Database.next_messages.Goals as goal
 
 pub returns-in-None : goal.returns-in-None
@@ -14,9 +19,14 @@ returns-in-None c = λ h f stands is.
 
 pub returns-in_ok-rows-in-Some : goal.returns-in_ok-rows-in-Some
 returns-in_ok-rows-in-Some c = IfOk-weaker c.next_messages.result _ _
-    (λ ms e h f stands is. e (effects_of h) f stands.tied.feeds is (fed (effects_of h) (legal_allowed h stands.legal) c.args.feed f is)
-    (c.get.ensures.number ∙ c.in-Some.ensures.number ∙ stands.tied.closed_at)
-    (c.as_slice.ensures.value ∙ c.in_ok-rows-in-Some.ensures h stands c.args.feed (c.feed-record.ensures.feed (effects_of h) stands.tied.feeds)
-    ∙ list_of_record (effects_of h) (feed_of (effects_of h) c.args.feed) f c.feed-record.result.now c.in-Some.closed is (c.feed-record.ensures.feed (effects_of h) stands.tied.feeds)
-    ∙ ap (list_of (effects_of h) f) (sym c.get.ensures.number)))
+    (λ ms e h f stands is.
+    let p = effects_of h in
+    let all = legal_allowed h stands.legal in
+    let x = c.feed-record.result.now in
+    let has = c.feed-record.ensures.feed p stands.tied.feeds in
+    let told : IsToldIn (Some x) (told_to p c.args.feed) = subst (λ (o : Option FeedRecord). IsToldIn o (told_to p c.args.feed)) c.feed-record.ensures.record (stands.tied.feeds.told c.args.feed) in
+    let at : c.in-Some.closed ≡ closed_of p = c.in-Some.ensures.number ∙ stands.tied.closed_at in
+    let low : c.in-Some.closed ≤ MAX = omega (arith, at, closed_in_range h stands.legal) in
+    e p f stands.tied.feeds is (c.get.ensures.number ∙ at)
+    (c.in_ok-rows-in-Some.ensures.left p all (committed_tied c.args.self.now p all stands.tied) c.args.feed has told at low ∙ rows_of_record p c.args.feed c.args.max (feed_of p c.args.feed) f x is has))
     c.next_messages.ensures

@@ -7,7 +7,7 @@ use Rattle.plain_database.proofs.database.Database.record_put.Goals as goal
 pub returns-then-is_too_late-clause-ok : goal.returns-then-is_too_late-clause-ok
 returns-then-is_too_late-clause-ok c = λ seat h n.
     rw (late_is c.args.reply.now (sym c.if-is_too_late.ensures))
-    (stands_late_put c.args.self.now c.abort.new.self h n seat c.args.ts c.args.key.now c.args.value.now c.abort.ensures)
+    (stands_late_put c.args.self.now c.abort.new.self h n seat c.args.ts c.args.key.now c.args.value.now (c.abort.ensures.transactions, c.abort.ensures.chains, c.abort.ensures.rest))
 
 pub returns-in_ok-value-in-Written-clause-ok : goal.returns-in_ok-value-in-Written-clause-ok
 returns-in_ok-value-in-Written-clause-ok c =

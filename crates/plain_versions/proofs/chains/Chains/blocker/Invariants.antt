@@ -1,7 +1,12 @@
-use Rattle.std.proofs.Common.{◌≡◌, drop}
-use Rattle.plain_versions.specs.Scans.{first_blocker}
+use Rattle.std.proofs.Common.{◌≡◌}
+use Rattle.spans.specs.Newest.{newest}
+use Rattle.plain_versions.specs.InSpans.{within}
+use Rattle.plain_versions.specs.Scans.{stopped_by}
+use Rattle.plain_versions.specs.Versions.{Chain, version_in}
+use Rattle.plain_versions.proofs.ByKey.{first_in}
 use Rattle.plain_versions.proofs.chains.Chains.blocker.Given as goal
 
--- none is before
-abbrev pub invariant-loop-chain : goal.invariant-loop-chain
-invariant-loop-chain l = first_blocker l.transactions l.span l.ts (drop l.chain-index l.chain-items) ≡ first_blocker l.transactions l.span l.ts l.chain-items
+-- no chain so far stops the reader
+abbrev pub invariant-loop-versions : goal.invariant-loop-versions
+invariant-loop-versions l = first_in (λ (vs : Chain). stopped_by l.transactions l.ts (newest (version_in vs) l.ts).ts) l.versions-iterator
+    ≡ first_in (λ (vs : Chain). stopped_by l.transactions l.ts (newest (version_in vs) l.ts).ts) (within l.span l.self)

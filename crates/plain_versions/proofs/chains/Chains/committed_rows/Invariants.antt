@@ -1,9 +1,10 @@
-use Rattle.std.proofs.Common.{◌≡◌, ◌++◌, drop}
+use Rattle.std.proofs.Common.{◌≡◌, ◌++◌}
 use Rattle.spans.specs.Newest.{newest}
-use Rattle.plain_versions.specs.Scans.{settled, rows_with}
+use Rattle.plain_versions.specs.Versions.{Chain, settled}
+use Rattle.plain_versions.specs.InSpans.{within}
+use Rattle.plain_versions.proofs.ByKey.{rows_of}
 use Rattle.plain_versions.proofs.chains.Chains.committed_rows.Given as goal
 
--- with the rows that are left they are all rows
-abbrev pub invariant-loop-chain : goal.invariant-loop-chain
-invariant-loop-chain l =
-    l.rows.items ++ rows_with (λ vs. (newest (settled l.transactions vs) l.t).after) l.span (drop l.chain-index l.chain-items) ≡ rows_with (λ vs. (newest (settled l.transactions vs) l.t).after) l.span l.chain-items
+-- with the rows of the chains that are left, all rows are there
+abbrev pub invariant-loop-key : goal.invariant-loop-key
+invariant-loop-key l = l.rows.items ++ rows_of (λ (vs : Chain). (newest (settled l.transactions vs) l.t).after) l.key-iterator ≡ rows_of (λ (vs : Chain). (newest (settled l.transactions vs) l.t).after) (within l.span l.self)

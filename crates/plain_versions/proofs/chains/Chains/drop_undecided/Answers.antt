@@ -1,9 +1,26 @@
-use Rattle.std.proofs.Common.{arith}
-use Rattle.std.proofs.lemmas.Grind.{common_steps}
-use Rattle.std.proofs.lemmas.List.Edits.{map_over_more}
-use Rattle.plain_versions.specs.Transactions.{is_undecided_at}
-use Rattle.plain_versions.specs.Chains.{cleared}
+use Rattle.std.proofs.Common.{ap, sym, ◌∙◌, List, ℕ, Option, None, cond}
+use Rattle.std.specs.BTreeMap.{is_at}
+use Rattle.std.specs.List.{list_any}
+use Rattle.std.specs.Ordering.{nat_cmp}
+use Rattle.spans.specs.Effects.{After}
+use Rattle.plain_versions.specs.Chains.{version_at}
+use Rattle.plain_versions.proofs.Changes.{gone_next}
 use Rattle.plain_versions.proofs.chains.Chains.drop_undecided.Goals as goal
 
-pub loop-chain-preserved : goal.loop-chain-preserved
-loop-chain-preserved c = grind (arith, common_steps, map_over_more (cleared (is_undecided_at c.args.transactions.now c.args.low c.args.to)))
+pub loop-ts-preserved : goal.loop-ts-preserved
+loop-ts-preserved c = record {
+  version = λ y i.
+      ap (λ (o : Option After). cond (list_any (is_at (nat_cmp i)) c.next.new.self) None o) (c.drop_of.ensures.version y i)
+      ∙ gone_next c.ts.inside.0 c.in-Some.ts.now i (list_any (is_at (nat_cmp i)) c.next.new.self) (version_at c.loop-ts.self y i) c.ts.view_is
+      ∙ ap (λ (ts : List ℕ). cond (list_any (is_at (nat_cmp i)) ts) None (version_at c.loop-ts.self y i)) (sym c.in-Some.ensures.steps)
+      ∙ c.loop-ts.invariant.version y i;
+  keys = c.drop_of.ensures.keys ∙ c.loop-ts.invariant.keys;
+}
+
+pub returns : goal.returns
+returns c = record {
+  version = λ y i.
+      ap (λ (ts : List ℕ). cond (list_any (is_at (nat_cmp i)) ts) None (version_at c.loop-ts.self y i)) (sym c.in-None.ensures.steps.0)
+      ∙ c.loop-ts.invariant.version y i;
+  keys = c.loop-ts.invariant.keys;
+}

@@ -1,8 +1,17 @@
-use Rattle.std.proofs.Common.{◌≡◌, ◌++◌, drop}
-use Rattle.plain_versions.specs.Sources.{sources_in}
+use Rattle.std.proofs.Common.{◌≡◌, ℕ, List, None, true}
+use Rattle.std.specs.Map.{lookup}
+use Rattle.std.specs.BTreeMap.{is_at}
+use Rattle.timestamps.specs.Bytes.{key_cmp}
+use Rattle.spans.specs.Keys.{in_span}
+use Rattle.spans.specs.Newest.{newest}
+use Rattle.plain_versions.specs.Chains.{version_at}
+use Rattle.plain_versions.specs.Sources.{source_at}
+use Rattle.plain_versions.proofs.ByKey.{AreByKey}
 use Rattle.plain_versions.proofs.chains.Chains.sources.Given as goal
 
--- with the keys that are left they are all keys
-abbrev pub invariant-loop-chain : goal.invariant-loop-chain
-invariant-loop-chain l =
-    l.sources ++ sources_in l.span l.ts (drop l.chain-index l.chain-items) ≡ sources_in l.span l.ts l.chain-items
+-- all but the keys of the chains that are left have their sources
+abbrev pub invariant-loop-key : goal.invariant-loop-key
+invariant-loop-key l = record {
+  chains : AreByKey l.self l.key-iterator;
+  given : (x : List ℕ) → in_span l.span x ≡ true → lookup (is_at (key_cmp x)) l.key-iterator ≡ None → source_at l.sources x ≡ (newest (version_at l.self x) l.ts).ts;
+}

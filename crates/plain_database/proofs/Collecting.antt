@@ -1,0 +1,106 @@
+-- What a database holds after a collection, and how many versions that leaves dead.
+use Rattle.std.proofs.Common.{◌≡◌, ℕ, ◌+◌, ◌-◌, ◌^◌, ◌≤◌, ◌&&◌, List, ◌∷◌, length, refl, sym, ◌∙◌, ap, arith, inl, inr}
+use Rattle.timestamps.specs.declared.ts.TheConstants.{MAX}
+use Rattle.std.specs.Prelude.{is_some, min, nat_lt}
+use Rattle.spans.specs.declared.calls.commands.Cmd.TheVariants.{Collect}
+use Rattle.spans.specs.declared.calls.replies.Reply.{Reply}
+use Rattle.spans.specs.declared.calls.replies.Reply.TheVariants.{Collected, Refused}
+use Rattle.spans.specs.declared.calls.replies.Refusal.TheVariants.{NoMemory, TsRange}
+use Rattle.spans.specs.declared.calls.events.Event.{Event}
+use Rattle.spans.specs.Collection.{VersionName, collection_horizon, dead_of, horizon_of, is_delete}
+use Rattle.spans.specs.Effects.{Collects, Effect, NoEffect, effect, effects_of, event}
+use Rattle.spans.specs.Legal.{IsRightEvent}
+use Rattle.spans.specs.Newest.{Version as Seen, newest}
+use Rattle.spans.specs.Transactions.{closed_of}
+use Rattle.spans.specs.Versions.{version_of}
+use Rattle.spans.proofs.Copies.{AllAllowed}
+use Rattle.spans.proofs.Legal.{legal_allowed}
+use Rattle.spans.proofs.Steps.{by_test, newest_same}
+use Rattle.kept.proofs.Dead.{horizon_low}
+use Rattle.plain_versions.specs.Chains.{version_at}
+use Rattle.plain_versions.specs.Dying.{IsDeathCount, is_between, is_delete_between, replaces_between}
+use Rattle.plain_feeds.proofs.FeedTies.{feeds_kept}
+use Rattle.plain_feeds.proofs.ProtectionTies.{protections_kept}
+use Rattle.plain_database.specs.declared.database.Database.{Database}
+use Rattle.plain_database.specs.Tied.{IsTied, StandsFor}
+use Rattle.plain_database.proofs.Dying.{died_count, dead_rises, dead_then_is}
+
+-- how far a collection reaches
+record Reaches (p : List Effect) (n : ℕ) : Type 0 where
+  pub rises : horizon_of p ≤ n
+  pub through : n ≤ closed_of p
+
+reaches : (p : List Effect) → AllAllowed p → (to n : ℕ) → n ≡ collection_horizon p to → Reaches p n
+reaches p all to n is = record { rises = omega (arith, is); through = horizon_low (Collects n ∷ p) ((to, is), all) }
+
+-- deletes and replaced values are those of the history
+same_delete : (db : Database) (p : List Effect) → IsTied db p → (n : ℕ) (v : VersionName) → is_delete_between (version_at db.chains) db.horizon n v ≡ is_delete_between (version_of p) (horizon_of p) n v
+same_delete db p tied n v = ap (λ o. is_between db.horizon n v.ts && is_delete o) (tied.versions v.key v.ts) ∙ ap (λ low. is_between low n v.ts && is_delete (version_of p v.key v.ts)) tied.horizon_at
+
+same_replaced : (db : Database) (p : List Effect) → IsTied db p → (n : ℕ) (v : VersionName) → replaces_between (version_at db.chains) db.horizon n v ≡ replaces_between (version_of p) (horizon_of p) n v
+same_replaced db p tied n v =
+    ap (λ o. is_between db.horizon n v.ts && (is_some o && is_some (newest (version_at db.chains v.key) (v.ts - 1)).after)) (tied.versions v.key v.ts)
+    ∙ ap (λ (m : Seen). is_between db.horizon n v.ts && (is_some (version_of p v.key v.ts) && is_some m.after)) (newest_same (version_at db.chains v.key) (version_of p v.key) (v.ts - 1) (λ i low. tied.versions v.key i))
+    ∙ ap (λ low. is_between low n v.ts && (is_some (version_of p v.key v.ts) && is_some (newest (version_of p v.key) (v.ts - 1)).after)) tied.horizon_at
+
+-- so many die
+pub died_between : (db : Database) (p : List Effect) → AllAllowed p → IsTied db p → (to n removed : ℕ) → n ≡ collection_horizon p to → IsDeathCount (version_at db.chains) db.horizon n removed
+    → removed ≡ min (length (dead_of (Collects n ∷ p)) - length (dead_of p)) (2 ^ 64 - 1)
+died_between db p all tied to n removed is counted =
+    let r = reaches p all to n is in
+    let ds = counted.are_deletes.all in
+    let rs = counted.are_replaced.all in
+    let sum : length (dead_of (Collects n ∷ p)) - length (dead_of p) ≡ length ds + length rs =
+    died_count p all n r.rises r.through ds rs counted.are_deletes.distinct counted.are_replaced.distinct
+    (λ v. (λ i. sym (same_delete db p tied n v) ∙ (counted.are_deletes.each v).0 i, λ h. (counted.are_deletes.each v).1 (same_delete db p tied n v ∙ h)))
+    (λ v. (λ i. sym (same_replaced db p tied n v) ∙ (counted.are_replaced.each v).0 i, λ h. (counted.are_replaced.each v).1 (same_replaced db p tied n v ∙ h))) in
+    omega (arith, sum, counted.sum, counted.are_deletes.count, counted.are_replaced.count)
+
+-- the horizon moves
+tied_collects : (db : Database) (p : List Effect) (to n removed : ℕ) → AllAllowed p → IsTied db p → n ≡ collection_horizon p to → removed ≡ length (dead_of (Collects n ∷ p)) - length (dead_of p)
+    → IsTied (record db { horizon = n; dead = min (db.dead + removed) (2 ^ 64 - 1) }) (Collects n ∷ p)
+tied_collects db p to n removed all tied is died = record {
+  closed_at = tied.closed_at;
+  owners = tied.owners;
+  committed = tied.committed;
+  aborted = tied.aborted;
+  keys = tied.keys;
+  versions = tied.versions;
+  reads = tied.reads;
+  horizon_at = refl;
+  dead_count = (let r = reaches p all to n is in omega (arith, tied.dead_count, dead_then_is p all, died, dead_rises p all n r.rises));
+  feeds = feeds_kept db.feeds p (Collects n) tt tied.feeds;
+  protections = protections_kept db.protections p (Collects n) tt tied.protections;
+}
+
+-- what a right collection reached, and how many it says that it removed
+record IsCollected (p : List Effect) (to n removed : ℕ) : Type 0 where
+  pub reached : n ≡ collection_horizon p to
+  pub died : removed ≡ length (dead_of (Collects n ∷ p)) - length (dead_of p)
+
+collected : (p : List Effect) (k seat to n removed : ℕ) → IsRightEvent p (event k seat (Collect to) (Collected n removed)) → IsCollected p to n removed
+collected p k seat to n removed right = elim right [
+  | inl is ↦ by_test (nat_lt MAX to)
+      (λ high. absurd (let no' : Collected n removed ≡ Refused TsRange = rw high at is in cc))
+      (λ low.
+      let same : Collected n removed ≡ Collected (collection_horizon p to) (length (dead_of (Collects (collection_horizon p to) ∷ p)) - length (dead_of p)) = rw low at is in
+      let reached : n ≡ collection_horizon p to = cc in
+      let died : removed ≡ length (dead_of (Collects (collection_horizon p to) ∷ p)) - length (dead_of p) = cc in
+      record { reached = reached; died = died ∙ ap (λ m. length (dead_of (Collects m ∷ p)) - length (dead_of p)) (sym reached) })
+  | inr want ↦ absurd (let no' : Collected n removed ≡ Refused NoMemory = want.0 in cc)
+]
+
+-- a collection
+pub stands_collects : (db : Database) (h : List Event) (dead k seat to n removed : ℕ) → dead ≡ min (db.dead + removed) (2 ^ 64 - 1)
+    → StandsFor db h → IsRightEvent (effects_of h) (event k seat (Collect to) (Collected n removed)) → StandsFor (record db { horizon = n; dead = dead }) (event k seat (Collect to) (Collected n removed) ∷ h)
+stands_collects db h dead k seat to n removed is stands right =
+    let c = collected (effects_of h) k seat to n removed right in
+    record {
+      legal = (right, stands.legal);
+      tied = rw is (tied_collects db (effects_of h) to n removed (legal_allowed h stands.legal) stands.tied c.reached c.died);
+    }
+
+-- another reply does nothing
+pub collect_does_nothing : (seat to : ℕ) (reply : Reply) → ((n removed : ℕ) → reply ≡ Collected n removed → ⊥) → effect seat (Collect to) reply ≡ NoEffect
+collect_does_nothing seat to (Collected n removed) other = absurd (other n removed refl)
+collect_does_nothing seat to _ other = refl

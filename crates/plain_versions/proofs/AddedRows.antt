@@ -1,0 +1,305 @@
+-- Rows that are added up to a number.
+use Rattle.std.proofs.Common.{◌≡◌, ℕ, zero, suc, ◌<◌, ◌≤◌, ◌⊎◌, ◌==◌, Bool, true, false, cond, ◌&&◌, List, [], ◌∷◌, ◌++◌, length, take, Option, Some, None, refl, sym, ◌∙◌, ap, subst, inl, inr, append_assoc, arith}
+use Rattle.std.specs.Prelude.{is_some, min, nat_lt}
+use Rattle.std.specs.BTreeSet.{BTreeSet, IsOrdered, contains}
+use Rattle.std.specs.BTreeMap.Range.{range_contains}
+use Rattle.std.specs.List.{filter}
+use Rattle.std.specs.declared.ops.Bound.TheVariants.{Excluded, Unbounded}
+use Rattle.std.proofs.lemmas.Bool.{and_from, and_parts, both_ways, cases_lt, eqb-true, eq-eqb, lt-ltb, ltb-true, or_cases, or_left, or_right}
+use Rattle.std.proofs.lemmas.List.{length-append}
+use Rattle.timestamps.specs.Bytes.{key_cmp}
+use Rattle.timestamps.specs.declared.row.Row.{Row}
+use Rattle.spans.specs.declared.span.Span.{Span}
+use Rattle.spans.specs.Collection.{VersionName, version_name}
+use Rattle.spans.specs.Effects.{After}
+use Rattle.spans.specs.KeyOrder.{key_lt}
+use Rattle.spans.specs.Keys.{in_span}
+use Rattle.spans.proofs.Ascending.{rising_keys}
+use Rattle.spans.proofs.Keyed.{RisingKeys, filter_rises}
+use Rattle.spans.proofs.Members.{Has, has_filter}
+use Rattle.spans.proofs.Steps.{by_test}
+use Rattle.spans.proofs.StreamOrder.{in_append, rises_append}
+use Rattle.plain_versions.specs.declared.written.Written.{Written}
+use Rattle.plain_versions.specs.Transactions.{Table, transaction_at, committed_in}
+use Rattle.plain_versions.specs.Chains.{Stored, version_at}
+use Rattle.plain_versions.specs.Streams.{IsRowAfter, AreRowsAfter, AreNextRows, AreAdded, names_at, is_wanted, rows_of, row_of, row_with}
+use Rattle.plain_versions.specs.Written.{Listed, listed_in, is_listed, AreBetween, IsTiedTo}
+use Rattle.plain_versions.proofs.Counted.{has_key}
+use Rattle.plain_versions.proofs.Names.{in_names, in_order, in_rows, names_rise, order_same, rows_rise}
+use Rattle.plain_versions.proofs.Listed.{listed_names, listed_rise, between_are}
+
+-- ---- the first of a list
+
+pub take_all : (n : ℕ) (xs : List Row) → length xs ≤ n → take n xs ≡ xs
+take_all zero [] low = refl
+take_all zero (x ∷ xs) low = absurd (omega arith)
+take_all (suc n) [] low = refl
+take_all (suc n) (x ∷ xs) low = ap (λ ys. x ∷ ys) (take_all n xs (omega arith))
+
+pub take_full : (n : ℕ) (xs ys : List Row) → length xs ≡ n → take n (xs ++ ys) ≡ xs
+take_full zero [] ys full = refl
+take_full zero (x ∷ xs) ys full = absurd (omega arith)
+take_full (suc n) [] ys full = absurd (omega arith)
+take_full (suc n) (x ∷ xs) ys full = ap (λ zs. x ∷ zs) (take_full n xs ys (omega arith))
+
+take_again : (n : ℕ) (xs ys : List Row) → take n (take n xs ++ ys) ≡ take n (xs ++ ys)
+take_again zero xs ys = refl
+take_again (suc n) [] ys = refl
+take_again (suc n) (x ∷ xs) ys = ap (λ zs. x ∷ zs) (take_again n xs ys)
+
+take_few : (n : ℕ) (xs : List Row) → length (take n xs) ≤ n
+take_few zero xs = omega arith
+take_few (suc n) [] = omega arith
+take_few (suc n) (x ∷ xs) = omega (arith, take_few n xs)
+
+pub and_none : (xs : List Row) → xs ++ [] ≡ xs
+and_none [] = refl
+and_none (x ∷ xs) = ap (λ ys. x ∷ ys) (and_none xs)
+
+-- ---- the rows of one transaction
+
+none_wanted : (table : Table) (stored : Stored) (span : Span) (t : ℕ) (keys : List (List ℕ)) → committed_in (transaction_at table t) ≡ false → rows_of table stored span (names_at t keys) ≡ []
+none_wanted table stored span t [] open' = refl
+none_wanted table stored span t (x ∷ xs) open' = rw open' (none_wanted table stored span t xs open')
+
+pub open_adds : (table : Table) (stored : Stored) (span : Span) (t max : ℕ) (keys : List (List ℕ)) (rows : List Row) → committed_in (transaction_at table t) ≡ false → length rows ≤ max
+    → rows ≡ take max (rows ++ rows_of table stored span (names_at t keys))
+open_adds table stored span t max keys rows open' few = sym (ap (λ more. take max (rows ++ more)) (none_wanted table stored span t keys open') ∙ ap (take max) (and_none rows) ∙ take_all max rows few)
+
+-- with what is left, all rows are there, as far as max
+pub record AreAdding (table : Table) (stored : Stored) (span : Span) (t max : ℕ) (keys : List (List ℕ)) (rows whole : List Row) : Type 0 where
+  pub few : length rows ≤ max
+  pub left : take max (rows ++ rows_of table stored span (names_at t keys)) ≡ whole
+
+pub adding_full : (table : Table) (stored : Stored) (span : Span) (t max : ℕ) (keys : List (List ℕ)) (rows whole : List Row) → max ≤ length rows → AreAdding table stored span t max keys rows whole → rows ≡ whole
+adding_full table stored span t max keys rows whole full are = let few = are.few in sym (take_full max rows (rows_of table stored span (names_at t keys)) (omega arith)) ∙ are.left
+
+pub adding_ends : (table : Table) (stored : Stored) (span : Span) (t max : ℕ) (keys : List (List ℕ)) (rows whole : List Row) → keys ≡ [] → AreAdding table stored span t max keys rows whole → rows ≡ whole
+adding_ends table stored span t max keys rows whole none are =
+    sym (ap (λ (ks : List (List ℕ)). take max (rows ++ rows_of table stored span (names_at t ks))) none ∙ ap (take max) (and_none rows) ∙ take_all max rows are.few) ∙ are.left
+
+one_row : (stored : Stored) (v : VersionName) → length (row_of stored v) ≤ 1
+one_row stored v = one (version_at stored v.key v.ts)
+  where
+    one : (o : Option After) → length (row_with v o) ≤ 1
+    one None = omega arith
+    one (Some a) = omega arith
+
+pub adding_one : (table : Table) (stored : Stored) (span : Span) (t max : ℕ) (keys rest : List (List ℕ)) (x : List ℕ) (rows rows' whole : List Row) → committed_in (transaction_at table t) ≡ true → in_span span x ≡ true → (max ≤ length rows → ⊥)
+    → keys ≡ x ∷ rest → rows' ≡ rows ++ row_of stored (version_name x t) → AreAdding table stored span t max keys rows whole → AreAdding table stored span t max rest rows' whole
+adding_one table stored span t max keys rest x rows rows' whole done inside room next more are = record {
+  few = rw more (omega (arith, length-append rows (row_of stored (version_name x t)), one_row stored (version_name x t), room));
+  left =
+      ap (λ rs. take max (rs ++ rows_of table stored span (names_at t rest))) more
+      ∙ ap (take max) (append_assoc rows (row_of stored (version_name x t)) (rows_of table stored span (names_at t rest)))
+      ∙ sym (ap (λ (ks : List (List ℕ)). take max (rows ++ rows_of table stored span (names_at t ks))) next ∙ rw (done, inside) refl)
+      ∙ are.left;
+}
+
+pub adding_none : (table : Table) (stored : Stored) (span : Span) (t max : ℕ) (keys rest : List (List ℕ)) (x : List ℕ) (rows whole : List Row) → in_span span x ≡ false → keys ≡ x ∷ rest
+    → AreAdding table stored span t max keys rows whole → AreAdding table stored span t max rest rows whole
+adding_none table stored span t max keys rest x rows whole outside next are = record {
+  few = are.few;
+  left = sym (ap (λ (ks : List (List ℕ)). take max (rows ++ rows_of table stored span (names_at t ks))) next ∙ rw (outside, and_false (committed_in (transaction_at table t))) refl) ∙ are.left;
+}
+  where
+    and_false : (b : Bool) → (b && false) ≡ false
+    and_false true = refl
+    and_false false = refl
+
+-- ---- the rows above a timestamp
+
+settled_there : (b : Bool) (o : Option After) (a : After) → cond b o None ≡ Some a → (b ≡ true) × (o ≡ Some a)
+settled_there true o a e = (refl, e)
+settled_there false o a e = cc
+
+-- the versions that are listed above a timestamp give the rows there
+listed_rows : (table : Table) (stored : Stored) (written : Written) (n : ℕ) (span : Span) (ts through : ℕ) (es : Listed) → IsTiedTo stored written n → AreBetween ts through es
+    → ((y : List ℕ) (i : ℕ) → ts < i → i ≤ through → listed_in es y i ≡ is_listed written y i) → AreRowsAfter table stored span ts None through (rows_of table stored span (listed_names es))
+listed_rows table stored written n span ts through es tied are listed = record {
+  rising = rows_rise table stored span (listed_names es) (listed_rise ts through es are);
+  each = λ r.
+      let rows = in_rows table stored span (listed_names es) r in
+      let names = between_are stored written n ts through es tied are listed (version_name r.key r.ts) in (
+        λ i.
+            let is = rows.0 i in
+            let at = names.0 is.0 in
+            let wanted : (committed_in (transaction_at table r.ts) ≡ true) × (in_span span r.key ≡ true) = and_parts _ _ is.1 in
+            record { there = rw wanted.0 is.2; inside = wanted.1; later = lt-ltb ts r.ts at.0; low = at.1; some = omega (arith, at.0) },
+        λ i.
+            let there = settled_there (committed_in (transaction_at table r.ts)) (version_at stored r.key r.ts) r.after i.there in
+            rows.1 (names.1 (ltb-true ts r.ts i.later, i.low, ap is_some there.1), and_from _ _ there.0 i.inside, there.1),
+      );
+}
+
+-- with what is listed yet, all rows are there, as far as max
+pub record AreGoing (table : Table) (stored : Stored) (span : Span) (ts through max : ℕ) (es : Listed) (rows rows' : List Row) : Type 0 where
+  pub all : List Row
+  pub are : AreRowsAfter table stored span ts None through all
+  pub from : ℕ
+  pub between : AreBetween from through es
+  pub few : length rows' ≤ max
+  pub left : take max (rows' ++ rows_of table stored span (listed_names es)) ≡ take max (rows ++ all)
+
+pub going_starts : (table : Table) (stored : Stored) (written : Written) (n : ℕ) (span : Span) (ts through max : ℕ) (es : Listed) (rows : List Row) → IsTiedTo stored written n → AreBetween ts through es
+    → ((y : List ℕ) (i : ℕ) → ts < i → i ≤ through → listed_in es y i ≡ is_listed written y i) → length rows ≤ max → AreGoing table stored span ts through max es rows rows
+going_starts table stored written n span ts through max es rows tied are listed few = record {
+  all = rows_of table stored span (listed_names es);
+  are = listed_rows table stored written n span ts through es tied are listed;
+  from = ts;
+  between = are;
+  few = few;
+  left = refl;
+}
+
+pub going_full : (table : Table) (stored : Stored) (span : Span) (ts through max : ℕ) (es : Listed) (rows rows' : List Row) → max ≤ length rows' → AreGoing table stored span ts through max es rows rows' → AreAdded table stored span ts None through max rows rows'
+going_full table stored span ts through max es rows rows' full g = record {
+  all = g.all;
+  are = g.are;
+  is = let few = g.few in sym (take_full max rows' (rows_of table stored span (listed_names es)) (omega arith)) ∙ g.left;
+}
+
+pub going_ends : (table : Table) (stored : Stored) (span : Span) (ts through max : ℕ) (es : Listed) (rows rows' : List Row) → es ≡ [] → AreGoing table stored span ts through max es rows rows' → AreAdded table stored span ts None through max rows rows'
+going_ends table stored span ts through max es rows rows' none g = record {
+  all = g.all;
+  are = g.are;
+  is = sym (ap (λ (ds : Listed). take max (rows' ++ rows_of table stored span (listed_names ds))) none ∙ ap (take max) (and_none rows') ∙ take_all max rows' g.few) ∙ g.left;
+}
+
+rows_parted : (table : Table) (stored : Stored) (span : Span) (vs ws : List VersionName) → rows_of table stored span (vs ++ ws) ≡ rows_of table stored span vs ++ rows_of table stored span ws
+rows_parted table stored span [] ws = refl
+rows_parted table stored span (v ∷ vs) ws = let more = rows_parted table stored span vs ws in by_test (is_wanted table span v)
+    (λ on. rw on (ap (λ rs. row_of stored v ++ rs) more ∙ sym (append_assoc (row_of stored v) (rows_of table stored span vs) (rows_of table stored span ws))))
+    (λ off. rw off more)
+
+all_keys : (keys : List (List ℕ)) → filter (range_contains key_cmp Unbounded Unbounded) keys ≡ keys
+all_keys [] = refl
+all_keys (x ∷ xs) = ap (λ ys. x ∷ ys) (all_keys xs)
+
+-- the keys of a set as it is listed
+pub keys_listed : (keys : BTreeSet (List ℕ)) (part : List (List ℕ)) → IsOrdered key_cmp keys → part ≡ filter (range_contains key_cmp Unbounded Unbounded) keys.keys → part ≡ in_order keys.keys
+keys_listed keys part ordered is = is ∙ all_keys keys.keys ∙ sym (order_same keys.keys (rising_keys keys.keys ordered))
+
+pub going_on : (table : Table) (stored : Stored) (span : Span) (ts through max t : ℕ) (keys : BTreeSet (List ℕ)) (part : List (List ℕ)) (es rest : Listed) (rows rows' more : List Row) → es ≡ (t, keys) ∷ rest → part ≡ in_order keys.keys
+    → more ≡ take max (rows' ++ rows_of table stored span (names_at t part)) → AreGoing table stored span ts through max es rows rows' → AreGoing table stored span ts through max rest rows more
+going_on table stored span ts through max t keys part es rest rows rows' more next is added g = record {
+  all = g.all;
+  are = g.are;
+  from = t;
+  between = (subst (AreBetween g.from through) next g.between).2;
+  few = rw added (take_few max (rows' ++ rows_of table stored span (names_at t part)));
+  left =
+      ap (λ rs. take max (rs ++ later)) added
+      ∙ take_again max (rows' ++ rows_of table stored span (names_at t part)) later
+      ∙ ap (take max) (append_assoc rows' (rows_of table stored span (names_at t part)) later)
+      ∙ ap (λ (ks : List (List ℕ)). take max (rows' ++ (rows_of table stored span (names_at t ks) ++ later))) is
+      ∙ ap (λ rs. take max (rows' ++ rs)) (sym (rows_parted table stored span (names_at t (in_order keys.keys)) (listed_names rest)))
+      ∙ ap (λ (ds : Listed). take max (rows' ++ rows_of table stored span (listed_names ds))) (sym next)
+      ∙ g.left;
+}
+  where
+    later : List Row
+    later = rows_of table stored span (listed_names rest)
+
+-- the next timestamp is in range
+pub going_in_range : (table : Table) (stored : Stored) (span : Span) (ts through max t top : ℕ) (keys : BTreeSet (List ℕ)) (es rest : Listed) (rows rows' : List Row) → es ≡ (t, keys) ∷ rest → through ≤ top → AreGoing table stored span ts through max es rows rows'
+    → (1 ≤ t) × (t ≤ top)
+going_in_range table stored span ts through max t top keys es rest rows rows' next low g = let b = subst (AreBetween g.from through) next g.between in (omega (arith, b.0), omega (arith, b.1))
+
+-- ---- the rows beside a place
+
+pub none_beside : (table : Table) (stored : Stored) (span : Span) (ts through : ℕ) (key : List ℕ) → ((r : Row) → IsRowAfter table stored span ts (Some key) (min ts through) r → ⊥) → AreRowsAfter table stored span ts (Some key) (min ts through) []
+none_beside table stored span ts through key none = record { rising = tt; each = λ r. (λ i. absurd i, λ i. none r i) }
+
+beside_at : (table : Table) (stored : Stored) (span : Span) (ts through : ℕ) (key : List ℕ) (r : Row) → IsRowAfter table stored span ts (Some key) (min ts through) r → (r.ts ≡ ts) × (key_lt key r.key ≡ true)
+beside_at table stored span ts through key r i = elim (or_cases (nat_lt ts r.ts) ((ts == r.ts) && key_lt key r.key) i.later) [
+  | inl above ↦ absurd (let lt : ts < r.ts = ltb-true ts r.ts above in omega (arith, i.low))
+  | inr beside ↦ (let both = and_parts _ _ beside in (sym (eqb-true ts r.ts both.0), both.1))
+]
+
+-- where the place is at 0 or past the end
+pub far_beside : (table : Table) (stored : Stored) (span : Span) (ts through max : ℕ) (key : List ℕ) (rows : List Row) → (ts ≡ 0) ⊎ (through < ts) → length rows ≤ max → AreAdded table stored span ts (Some key) (min ts through) max rows rows
+far_beside table stored span ts through max key rows far few = record {
+  all = [];
+  are = none_beside table stored span ts through key (λ r i. let at = (beside_at table stored span ts through key r i).0 in elim far [ inl first ↦ omega (arith, i.some) | inr past ↦ omega (arith, i.low) ]);
+  is = sym (ap (take max) (and_none rows) ∙ take_all max rows few);
+}
+
+-- where nothing is listed there
+pub nothing_beside : (table : Table) (stored : Stored) (span : Span) (ts through max : ℕ) (key : List ℕ) (rows : List Row) → ((y : List ℕ) → false ≡ is_some (version_at stored y ts)) → length rows ≤ max → AreAdded table stored span ts (Some key) (min ts through) max rows rows
+nothing_beside table stored span ts through max key rows none few = record {
+  all = [];
+  are = none_beside table stored span ts through key (λ r i.
+      let at = (beside_at table stored span ts through key r i).0 in
+      let there = settled_there (committed_in (transaction_at table r.ts)) (version_at stored r.key r.ts) r.after i.there in
+      both_ways _ (sym (none r.key)) (ap is_some (subst (λ n. version_at stored r.key n ≡ Some r.after) at there.1)));
+  is = sym (ap (take max) (and_none rows) ∙ take_all max rows few);
+}
+
+pub beside_added : (table : Table) (stored : Stored) (span : Span) (ts through max : ℕ) (key : List ℕ) (keys : BTreeSet (List ℕ)) (part : List (List ℕ)) (rows rows' : List Row) → 1 ≤ ts → ts ≤ through → IsOrdered key_cmp keys
+    → ((y : List ℕ) → contains key_cmp keys y ≡ is_some (version_at stored y ts)) → part ≡ filter (range_contains key_cmp (Excluded key) Unbounded) keys.keys → rows' ≡ take max (rows ++ rows_of table stored span (names_at ts part))
+    → AreAdded table stored span ts (Some key) (min ts through) max rows rows'
+beside_added table stored span ts through max key keys part rows rows' some low ordered listed is added = record {
+  all = rows_of table stored span (names_at ts part);
+  are = record {
+    rising = rows_rise table stored span (names_at ts part) (names_rise ts part (subst RisingKeys (sym is) (filter_rises (range_contains key_cmp (Excluded key) Unbounded) keys.keys (rising_keys keys.keys ordered))));
+    each = λ r.
+        let rows = in_rows table stored span (names_at ts part) r in
+        let names = in_names ts part (version_name r.key r.ts) in
+        let keys' = has_filter (range_contains key_cmp (Excluded key) Unbounded) r.key keys.keys in
+        let any = has_key r.key keys.keys in (
+          λ i.
+              let is' = rows.0 i in
+              let at = names.0 is'.0 in
+              let wanted : (committed_in (transaction_at table r.ts) ≡ true) × (in_span span r.key ≡ true) = and_parts _ _ is'.1 in
+              let above : key_lt key r.key ≡ true = (and_parts _ _ (keys'.0 (subst (Has r.key) is at.1)).0).0 in
+              record { there = rw wanted.0 is'.2; inside = wanted.1; later = or_right _ _ (and_from _ _ (eq-eqb ts r.ts at.0) above); low = omega (arith, at.0); some = omega (arith, at.0) },
+          λ i.
+              let at = beside_at table stored span ts through key r i in
+              let there = settled_there (committed_in (transaction_at table r.ts)) (version_at stored r.key r.ts) r.after i.there in
+              let listed' : contains key_cmp keys r.key ≡ true = listed r.key ∙ ap is_some (subst (λ n. version_at stored r.key n ≡ Some r.after) at.0 there.1) in
+              rows.1 (names.1 (sym at.0, subst (Has r.key) (sym is) (keys'.1 (rw at.1 refl, any.1 listed'))), and_from _ _ there.0 i.inside, there.1),
+        );
+  };
+  is = added;
+}
+
+-- ---- both
+
+pub added_few : (table : Table) (stored : Stored) (span : Span) (ts : ℕ) (key : Option (List ℕ)) (through max : ℕ) (rows rows' : List Row) → AreAdded table stored span ts key through max rows rows' → length rows' ≤ max
+added_few table stored span ts key through max rows rows' a = rw a.is (take_few max (rows ++ a.all))
+
+pub added_both : (table : Table) (stored : Stored) (span : Span) (ts : ℕ) (key : List ℕ) (through max : ℕ) (rows rows' rows'' : List Row) → AreAdded table stored span ts (Some key) (min ts through) max rows rows' → AreAdded table stored span ts None through max rows' rows''
+    → AreAdded table stored span ts (Some key) through max rows rows''
+added_both table stored span ts key through max rows rows' rows'' b a = record {
+  all = b.all ++ a.all;
+  are = record {
+    rising = rises_append b.all a.all b.are.rising a.are.rising (λ r q i j.
+        let here = (beside_at table stored span ts through key r ((b.are.each r).0 i)).0 in
+        let later : ts < q.ts = ltb-true ts q.ts ((a.are.each q).0 j).later in
+        or_left _ _ (lt-ltb r.ts q.ts (omega arith)));
+    each = λ r. let join = in_append r b.all a.all in (
+      λ i. elim (join.0 i) [
+        | inl here ↦ (let is = (b.are.each r).0 here in record { there = is.there; inside = is.inside; later = is.later; low = omega (arith, is.low); some = is.some })
+        | inr there ↦ (let is = (a.are.each r).0 there in record { there = is.there; inside = is.inside; later = or_left _ _ is.later; low = is.low; some = is.some })
+      ],
+      λ i. elim (cases_lt ts r.ts) [
+        | inl above ↦ join.1 (inr ((a.are.each r).1 (record { there = i.there; inside = i.inside; later = lt-ltb ts r.ts above; low = i.low; some = i.some })))
+        | inr at ↦ join.1 (inl ((b.are.each r).1 (record { there = i.there; inside = i.inside; later = i.later; low = omega (arith, i.low); some = i.some })))
+      ],
+    );
+  };
+  is = a.is ∙ ap (λ rs. take max (rs ++ a.all)) b.is ∙ take_again max (rows ++ b.all) a.all ∙ ap (take max) (append_assoc rows b.all a.all);
+}
+
+-- what was added to none is the first
+pub next_of_none : (table : Table) (stored : Stored) (span : Span) (ts : ℕ) (key : Option (List ℕ)) (through max : ℕ) (rows rows' : List Row) → rows ≡ [] → AreAdded table stored span ts key through max rows rows' → AreNextRows table stored span ts key through max rows'
+next_of_none table stored span ts key through max rows rows' none a = record { all = a.all; are = a.are; first = a.is ∙ ap (λ rs. take max (rs ++ a.all)) none }
+
+-- nothing is above the end
+pub nothing_above : (table : Table) (stored : Stored) (span : Span) (ts through max : ℕ) (rows : List Row) → through ≤ ts → length rows ≤ max → AreAdded table stored span ts None through max rows rows
+nothing_above table stored span ts through max rows down few = record {
+  all = [];
+  are = record { rising = tt; each = λ r. (λ i. absurd i, λ i. absurd (let above = ltb-true ts r.ts i.later in omega (arith, i.low))) };
+  is = sym (ap (take max) (and_none rows) ∙ take_all max rows few);
+}

@@ -1,0 +1,226 @@
+-- The index and the count after versions came or went.
+use Rattle.std.proofs.Common.{◌≡◌, ℕ, ◌+◌, ◌-◌, ◌≤◌, ◌==◌, Bool, true, false, cond, ◌&&◌, ◌||◌, ◌⊎◌, List, [], ◌∷◌, length, map, Option, Some, None, refl, sym, ◌∙◌, ap, subst, inl, inr, arith}
+use Rattle.std.specs.Prelude.{◌↔◌, bytes_eq, filter, is_some, not}
+use Rattle.std.specs.BTreeMap.{is_at}
+use Rattle.std.specs.BTreeSet.{BTreeSet, IsOrdered, contains}
+use Rattle.std.specs.List.{list_any}
+use Rattle.std.specs.Map.{keys_of}
+use Rattle.std.proofs.lemmas.Bool.{and_parts, and_from, both_ways, eqb-true, eq-eqb, or_cases, or_left, or_right}
+use Rattle.std.proofs.lemmas.List.{length-map}
+use Rattle.std.proofs.lemmas.List.Filters.{length-filter_both}
+use Rattle.timestamps.specs.Bytes.{key_cmp}
+use Rattle.spans.specs.Collection.{VersionName, version_name}
+use Rattle.spans.specs.Effects.{After}
+use Rattle.spans.proofs.Ascending.{rising_keys}
+use Rattle.spans.proofs.Members.{Has, AreDistinct, distinct_filter, has_filter, same_length, rising_distinct}
+use Rattle.spans.proofs.Steps.{by_test, same_key, key_itself}
+use Rattle.plain_versions.specs.Chains.{Stored, version_at, wrote, IsCleared, IsWritten}
+use Rattle.plain_versions.specs.Counting.{IsCountOf}
+use Rattle.plain_versions.specs.declared.written.Written.{Written}
+use Rattle.plain_versions.specs.Written.{is_among, is_listed, is_version, IsListedToo, IsUnlisted, IsTiedTo}
+use Rattle.plain_versions.proofs.Changes.{other_way}
+
+-- ---- counts
+
+counted_alike : {A : Type 0} (f g : A → Bool) (n : ℕ) → ((x : A) → g x ≡ f x) → IsCountOf f n → IsCountOf g n
+counted_alike f g n same c = record {
+  all = c.all;
+  distinct = c.distinct;
+  each = λ x. (λ i. same x ∙ (c.each x).0 i, λ e. (c.each x).1 (sym (same x) ∙ e));
+  count = c.count;
+}
+
+-- one more passes
+counted_more : {A : Type 0} (f g : A → Bool) (n : ℕ) (y : A) → f y ≡ false → g y ≡ true → ((x : A) → f x ≡ true → g x ≡ true) → ((x : A) → g x ≡ true → (y ≡ x → ⊥) → f x ≡ true) → ((x : A) → (y ≡ x) ⊎ (y ≡ x → ⊥)) → IsCountOf f n → IsCountOf g (n + 1)
+counted_more f g n y none one up down is c = record {
+  all = y ∷ c.all;
+  distinct = (λ i. both_ways _ none ((c.each y).0 i), c.distinct);
+  each = λ x. (
+    λ i. elim i [ inl here ↦ subst (λ z. g z ≡ true) here one | inr there ↦ up x ((c.each x).0 there) ],
+    λ e. elim (is x) [ inl here ↦ inl here | inr other ↦ inr ((c.each x).1 (down x e other)) ],
+  );
+  count = (let before = c.count in omega arith);
+}
+
+-- none that passes another test is left
+counted_less : {A : Type 0} (f g q : A → Bool) (n m : ℕ) → ((x : A) → g x ≡ (not (q x) && f x)) → IsCountOf (λ x. q x && f x) m → IsCountOf f n → (m ≤ n) × IsCountOf g (n - m)
+counted_less f g q n m less d c =
+    let gone : length d.all ≡ length (filter q c.all) = same_length d.all (filter q c.all) d.distinct (distinct_filter q c.all c.distinct) (λ x. let h = has_filter q x c.all in (
+      λ i. let both = and_parts _ _ ((d.each x).0 i) in h.1 (both.0, (c.each x).1 both.1),
+      λ i. let both = h.0 i in (d.each x).1 (and_from _ _ both.0 ((c.each x).0 both.1)),
+    )) in
+    let all = length-filter_both q (λ x. not (q x)) (λ x. refl) c.all in
+    let before = c.count in
+    let went = d.count in (
+      omega arith,
+      record {
+        all = filter (λ x. not (q x)) c.all;
+        distinct = distinct_filter (λ x. not (q x)) c.all c.distinct;
+        each = λ x. let h = has_filter (λ x. not (q x)) x c.all in (
+          λ i. let both = h.0 i in less x ∙ and_from _ _ both.0 ((c.each x).0 both.1),
+          λ e. let both = and_parts _ _ (sym (less x) ∙ e) in h.1 (both.0, (c.each x).1 both.1),
+        );
+        count = omega arith;
+      },
+    )
+
+-- ---- keys of a set
+
+pub has_key : (x : List ℕ) (keys : List (List ℕ)) → Has x keys ↔ (list_any (is_at (key_cmp x)) keys ≡ true)
+has_key x [] = (λ i. absurd i, λ e. cc)
+has_key x (y ∷ ys) = let more = has_key x ys in (
+  λ i. elim i [
+    | inl here ↦ or_left _ _ (other_way y x ∙ subst (λ z. bytes_eq y z ≡ true) here (key_itself y))
+    | inr there ↦ or_right _ _ (more.0 there)
+  ],
+  λ e. elim (or_cases _ _ e) [ inl here ↦ inl (same_key y x (sym (other_way y x) ∙ here)) | inr there ↦ inr (more.1 there) ],
+)
+
+-- the keys of t, where they are listed
+pub counted_keys : (stored : Stored) (keys : BTreeSet (List ℕ)) (t : ℕ) → IsOrdered key_cmp keys → ((y : List ℕ) → contains key_cmp keys y ≡ is_some (version_at stored y t)) → IsCountOf (wrote stored t) (length keys.keys)
+counted_keys stored keys t ordered listed = record {
+  all = keys.keys;
+  distinct = rising_distinct keys.keys (rising_keys keys.keys ordered);
+  each = λ x. let any = has_key x keys.keys in (λ i. sym (listed x) ∙ any.0 i, λ e. any.1 (listed x ∙ e));
+  count = refl;
+}
+
+pub counted_none : (stored : Stored) (t : ℕ) → ((y : List ℕ) → false ≡ is_some (version_at stored y t)) → IsCountOf (wrote stored t) 0
+counted_none stored t none = record {
+  all = [];
+  distinct = tt;
+  each = λ x. (λ i. absurd i, λ e. both_ways _ (sym (none x)) e);
+  count = refl;
+}
+
+-- ---- the versions of t, by name
+
+is_of : ℕ → VersionName → Bool
+is_of t v = t == v.ts
+
+of_keys : (stored : Stored) (t n : ℕ) → IsCountOf (wrote stored t) n → IsCountOf (λ v. is_of t v && is_version stored v) n
+unfolding is_of
+of_keys stored t n c = record {
+  all = map (λ x. version_name x t) c.all;
+  distinct = distinct_named c.all c.distinct;
+  each = λ v. (
+    λ i. let at = named v c.all i in and_from _ _ (eq-eqb t v.ts at.0) (subst (λ k. is_some (version_at stored v.key k) ≡ true) at.0 ((c.each v.key).0 at.1)),
+    λ e. let both = and_parts _ _ e in let same : t ≡ v.ts = eqb-true t v.ts both.0 in has_named v c.all same ((c.each v.key).1 (subst (λ k. is_some (version_at stored v.key k) ≡ true) (sym same) both.1)),
+  );
+  count = length-map c.all (λ x. version_name x t) ∙ c.count;
+}
+  where
+    named : (v : VersionName) (keys : List (List ℕ)) → Has v (map (λ x. version_name x t) keys) → (t ≡ v.ts) × Has v.key keys
+    named v [] i = absurd i
+    named v (x ∷ xs) i = elim i [
+      | inl here ↦ (ap (λ (m : VersionName). m.ts) here, inl (ap (λ (m : VersionName). m.key) here))
+      | inr there ↦ (let more = named v xs there in (more.0, inr more.1))
+    ]
+
+    has_named : (v : VersionName) (keys : List (List ℕ)) → t ≡ v.ts → Has v.key keys → Has v (map (λ x. version_name x t) keys)
+    has_named v [] same i = absurd i
+    has_named v (x ∷ xs) same i = elim i [ inl here ↦ inl (joined x v.key t v.ts here same) | inr there ↦ inr (has_named v xs same there) ]
+      where
+        joined : (x y : List ℕ) (t k : ℕ) → x ≡ y → t ≡ k → version_name x t ≡ version_name y k
+        joined x y t k e h = rw (e, h) refl
+
+    distinct_named : (keys : List (List ℕ)) → AreDistinct keys → AreDistinct (map (λ x. version_name x t) keys)
+    distinct_named [] d = tt
+    distinct_named (x ∷ xs) d = (λ i. d.0 (named (version_name x t) xs i).1, distinct_named xs d.1)
+
+-- ---- a write
+
+at_place : (es : Stored) (x : List ℕ) (t : ℕ) (y : List ℕ) (i : ℕ) → ((t == i) && bytes_eq x y) ≡ true → version_at es x t ≡ version_at es y i
+at_place es x t y i here =
+    let both = and_parts (t == i) (bytes_eq x y) here in
+    ap (λ z. version_at es z t) (same_key x y both.1) ∙ ap (version_at es y) (eqb-true t i both.0)
+
+written_some : (es fs : Stored) (x : List ℕ) (t : ℕ) (a : After) → IsWritten es fs x t a → (y : List ℕ) (i : ℕ) → is_some (version_at fs y i) ≡ (((t == i) && bytes_eq x y) || is_some (version_at es y i))
+written_some es fs x t a w y i = ap is_some (w.version y i) ∙ by_test ((t == i) && bytes_eq x y) (λ here. rw here refl) (λ off. rw off refl)
+
+-- the chains are as they were, and so is the index
+pub tied_still : (es : Stored) (w w' : Written) (n : ℕ) → ((y : List ℕ) (i : ℕ) → is_listed w' y i ≡ is_listed w y i) → IsTiedTo es w n → IsTiedTo es w' n
+tied_still es w w' n same tied = record {
+  listed = λ y i. same y i ∙ tied.listed y i;
+  counted = tied.counted;
+}
+
+-- a version took the place of one
+pub tied_replaced : (es fs : Stored) (w : Written) (x : List ℕ) (t n : ℕ) (a : After) → IsWritten es fs x t a → is_some (version_at es x t) ≡ true → IsTiedTo es w n → IsTiedTo fs w n
+tied_replaced es fs w x t n a written there tied = record {
+  listed = λ y i. tied.listed y i ∙ sym (same y i);
+  counted = counted_alike (is_version es) (is_version fs) n (λ v. same v.key v.ts) tied.counted;
+}
+  where
+    same : (y : List ℕ) (i : ℕ) → is_some (version_at fs y i) ≡ is_some (version_at es y i)
+    same y i = written_some es fs x t a written y i ∙ by_test ((t == i) && bytes_eq x y)
+        (λ here. rw here (sym (ap is_some (sym (at_place es x t y i here)) ∙ there)))
+        (λ off. rw off refl)
+
+-- a version came
+pub tied_more : (es fs : Stored) (w w' : Written) (x : List ℕ) (t n : ℕ) (a : After) → IsWritten es fs x t a → is_some (version_at es x t) ≡ false → IsListedToo w w' t x → IsTiedTo es w n → IsTiedTo fs w' (n + 1)
+tied_more es fs w w' x t n a written none more tied = record {
+  listed = λ y i. more y i ∙ ap (λ b. ((t == i) && bytes_eq x y) || b) (tied.listed y i) ∙ sym (written_some es fs x t a written y i);
+  counted = counted_more (is_version es) (is_version fs) n (version_name x t) none
+      (written_some es fs x t a written x t ∙ or_left _ _ (and_from _ _ (eq-eqb t t refl) (key_itself x)))
+      (λ v e. written_some es fs x t a written v.key v.ts ∙ or_right _ _ e)
+      (λ v e other. elim (or_cases _ _ (sym (written_some es fs x t a written v.key v.ts) ∙ e)) [
+        | inl here ↦ absurd (other (let both = and_parts _ _ here in name_is v (same_key x v.key both.1) (eqb-true t v.ts both.0)))
+        | inr there ↦ there
+      ])
+      (λ v. by_test ((t == v.ts) && bytes_eq x v.key)
+      (λ here. let both = and_parts _ _ here in inl (name_is v (same_key x v.key both.1) (eqb-true t v.ts both.0)))
+      (λ off. inr (λ e. both_ways _ off (and_from _ _ (eq-eqb t v.ts (ap (λ (m : VersionName). m.ts) e)) (subst (λ z. bytes_eq x z ≡ true) (ap (λ (m : VersionName). m.key) e) (key_itself x))))))
+      tied.counted;
+}
+  where
+    name_is : (v : VersionName) → x ≡ v.key → t ≡ v.ts → version_name x t ≡ v
+    name_is v e h = ap (λ k. version_name x k) h ∙ ap (λ y. version_name y v.ts) e
+
+-- a key that was listed where it had no version is unlisted again
+pub listed_again : (es : Stored) (w w' w'' : Written) (x : List ℕ) (t n : ℕ) → is_some (version_at es x t) ≡ false → IsListedToo w w' t x → IsUnlisted w' w'' t x → IsTiedTo es w n → IsTiedTo es w'' n
+listed_again es w w' w'' x t n none more less tied = tied_still es w w'' n
+    (λ y i. less y i ∙ by_test ((t == i) && bytes_eq x y)
+    (λ here. rw here (sym (tied.listed y i ∙ ap is_some (sym (at_place es x t y i here)) ∙ none)))
+    (λ off. rw off (more y i ∙ rw off refl)))
+    tied
+
+-- ---- the versions of t went
+
+unlisted_at : (es fs : Stored) (keys : Option (BTreeSet (List ℕ))) (t : ℕ) → ((y : List ℕ) → is_among keys y ≡ is_some (version_at es y t)) → ((y : List ℕ) (i : ℕ) → version_at fs y i ≡ cond ((t == i) && is_among keys y) None (version_at es y i))
+    → (y : List ℕ) (i : ℕ) → version_at fs y i ≡ cond (t == i) None (version_at es y i)
+unlisted_at es fs keys t listed went y i = went y i ∙ by_test (t == i)
+    (λ same. rw same (by_test (is_among keys y)
+    (λ on. rw on refl)
+    (λ off. rw off (nothing (version_at es y i) (sym (ap is_some (ap (version_at es y) (eqb-true t i same))) ∙ sym (listed y) ∙ off)))))
+    (λ other. rw other refl)
+  where
+    nothing : (o : Option After) → is_some o ≡ false → o ≡ None
+    nothing None e = refl
+    nothing (Some a) e = cc
+
+pub cleared : (es fs : Stored) (keys : Option (BTreeSet (List ℕ))) (t : ℕ) → ((y : List ℕ) → is_among keys y ≡ is_some (version_at es y t)) → ((y : List ℕ) (i : ℕ) → version_at fs y i ≡ cond ((t == i) && is_among keys y) None (version_at es y i))
+    → keys_of fs ≡ keys_of es → IsCleared es fs (λ i. t == i)
+cleared es fs keys t listed went same = record { version = unlisted_at es fs keys t listed went; keys = same }
+
+pub tied_less : (es fs : Stored) (w w' : Written) (t n m : ℕ) → IsCleared es fs (λ i. t == i) → ((y : List ℕ) (i : ℕ) → is_listed w' y i ≡ cond (t == i) false (is_listed w y i)) → IsCountOf (wrote es t) m → IsTiedTo es w n
+    → (m ≤ n) × IsTiedTo fs w' (n - m)
+unfolding is_of
+tied_less es fs w w' t n m went less c tied =
+    let left = counted_less (is_version es) (is_version fs) (is_of t) n m (λ v. gone v.key v.ts) (of_keys es t m c) tied.counted in (
+      left.0,
+      record {
+        listed = λ y i. less y i ∙ ap (λ b. cond (t == i) false b) (tied.listed y i) ∙ sym (ap is_some (went.version y i) ∙ by_test (t == i) (λ same. rw same refl) (λ other. rw other refl));
+        counted = left.1;
+      },
+    )
+  where
+    gone : (y : List ℕ) (i : ℕ) → is_some (version_at fs y i) ≡ (not (t == i) && is_some (version_at es y i))
+    gone y i = ap is_some (went.version y i) ∙ by_test (t == i) (λ same. rw same refl) (λ other. rw other refl)
+
+-- the keys of t were taken out, and their versions went
+pub tied_dropped : (es fs : Stored) (w w' : Written) (keys : BTreeSet (List ℕ)) (t n m : ℕ) → IsOrdered key_cmp keys → ((y : List ℕ) → contains key_cmp keys y ≡ is_listed w y t) → ((y : List ℕ) (i : ℕ) → version_at fs y i ≡ cond ((t == i) && contains key_cmp keys y) None (version_at es y i))
+    → keys_of fs ≡ keys_of es → ((y : List ℕ) (i : ℕ) → is_listed w' y i ≡ cond (t == i) false (is_listed w y i)) → m ≡ length keys.keys → IsTiedTo es w n → (m ≤ n) × IsTiedTo fs w' (n - m)
+tied_dropped es fs w w' keys t n m ordered taken went same less counted tied =
+    let listed : (y : List ℕ) → contains key_cmp keys y ≡ is_some (version_at es y t) = λ y. taken y ∙ tied.listed y t in
+    rw counted (tied_less es fs w w' t n (length keys.keys) (cleared es fs (Some keys) t listed went same) less (counted_keys es keys t ordered listed) tied)

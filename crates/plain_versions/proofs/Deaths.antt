@@ -1,0 +1,256 @@
+-- What a walk of the index counts.
+use Rattle.std.proofs.Common.{◌≡◌, ℕ, suc, ◌+◌, ◌-◌, ◌^◌, ◌<◌, ◌≤◌, ◌==◌, Bool, true, false, cond, ◌&&◌, List, [], ◌∷◌, ◌++◌, length, map, Option, Some, None, refl, sym, ◌∙◌, ap, subst, inl, inr, arith}
+use Rattle.std.specs.Prelude.{◌↔◌, filter, is_some, min, nat_le, nat_lt}
+use Rattle.std.specs.BTreeMap.{is_at}
+use Rattle.std.specs.BTreeSet.{BTreeSet, IsOrdered, contains}
+use Rattle.std.specs.Ordering.{nat_cmp}
+use Rattle.std.proofs.lemmas.Bool.{and_from, and_parts, both_ways, eqb-true, leb-true, le-leb, lt-ltb, ltb-true}
+use Rattle.std.proofs.lemmas.Bool.Decides.{nat_tests}
+use Rattle.std.proofs.lemmas.List.{length-append, length-map}
+use Rattle.timestamps.specs.Bytes.{key_cmp}
+use Rattle.spans.specs.Collection.{VersionName, version_name, is_delete}
+use Rattle.spans.specs.Effects.{After}
+use Rattle.spans.specs.Newest.{newest}
+use Rattle.spans.proofs.Ascending.{rising_keys}
+use Rattle.spans.proofs.Members.{Has, AreDistinct, distinct_append, distinct_filter, has_append, has_filter, rising_distinct}
+use Rattle.spans.proofs.Steps.{by_test}
+use Rattle.plain_versions.specs.Chains.{Stored, version_at}
+use Rattle.plain_versions.specs.Counting.{IsCountOf}
+use Rattle.plain_versions.specs.Dying.{ByKey, IsDeathCount, IsDeathCountAt, deaths_by, deletes, is_between, one_if, replaces}
+use Rattle.plain_versions.specs.Written.{Listed, AreBetween, listed_in}
+use Rattle.plain_versions.proofs.Counted.{has_key}
+
+-- ---- the keys of one timestamp
+
+-- of the keys, those that pass
+counted_keys : (q : List ℕ → Bool) (keys : BTreeSet (List ℕ)) → IsOrdered key_cmp keys → IsCountOf (λ x. contains key_cmp keys x && q x) (length (filter q keys.keys))
+counted_keys q keys ordered = record {
+  all = filter q keys.keys;
+  distinct = distinct_filter q keys.keys (rising_distinct keys.keys (rising_keys keys.keys ordered));
+  each = λ x. let f = has_filter q x keys.keys in let h = has_key x keys.keys in (
+    λ i. and_from _ _ (h.0 (f.0 i).1) (f.0 i).0,
+    λ e. let both : (contains key_cmp keys x ≡ true) × (q x ≡ true) = and_parts _ _ e in f.1 (both.1, h.1 both.0),
+  );
+  count = refl;
+}
+
+-- so many of the keys pass either test, each test counted
+abbrev pub deaths_among : ByKey → ℕ → List (List ℕ) → ℕ
+deaths_among versions t keys = length (filter (λ x. deletes versions x t) keys) + length (filter (λ x. replaces versions x t) keys)
+
+pub deaths_more : (versions : ByKey) (t : ℕ) (x : List ℕ) (keys : List (List ℕ)) → deaths_among versions t (x ∷ keys) ≡ deaths_by versions x t + deaths_among versions t keys
+deaths_more versions t x keys = step (deletes versions x t) (replaces versions x t)
+  where
+    step : (b c : Bool) → length (cond b (x ∷ filter (λ y. deletes versions y t) keys) (filter (λ y. deletes versions y t) keys)) + length (cond c (x ∷ filter (λ y. replaces versions y t) keys) (filter (λ y. replaces versions y t) keys))
+        ≡ (one_if b + one_if c) + deaths_among versions t keys
+    step true true = omega arith
+    step true false = omega arith
+    step false true = omega arith
+    step false false = omega arith
+
+pub counted_at : (versions : ByKey) (t n : ℕ) (keys : BTreeSet (List ℕ)) → IsOrdered key_cmp keys → n ≡ min (deaths_among versions t keys.keys) (2 ^ 64 - 1) → IsDeathCountAt versions t keys n
+counted_at versions t n keys ordered is = record {
+  deleted = length (filter (λ x. deletes versions x t) keys.keys);
+  replaced = length (filter (λ x. replaces versions x t) keys.keys);
+  are_deletes = counted_keys (λ x. deletes versions x t) keys ordered;
+  are_replaced = counted_keys (λ x. replaces versions x t) keys ordered;
+  sum = is;
+}
+
+-- ---- the timestamps, one after another
+
+-- no version lies between
+abbrev pub AreNone : ByKey → (low high : ℕ) → Type 0
+AreNone versions low high = (x : List ℕ) (i : ℕ) → low < i → i < high → versions x i ≡ None
+
+named : (x y : List ℕ) (t k : ℕ) → x ≡ y → t ≡ k → version_name x t ≡ version_name y k
+named x y t k e h = rw (e, h) refl
+
+has_named : (t : ℕ) (v : VersionName) (keys : List (List ℕ)) → Has v (map (λ x. version_name x t) keys) ↔ ((t ≡ v.ts) × Has v.key keys)
+has_named t v [] = (λ i. absurd i, λ i. absurd i.1)
+has_named t v (x ∷ xs) = let more = has_named t v xs in (
+  λ i. elim i [
+    | inl here ↦ (ap (λ (m : VersionName). m.ts) here, inl (ap (λ (m : VersionName). m.key) here))
+    | inr there ↦ (let m = more.0 there in (m.0, inr m.1))
+  ],
+  λ i. elim i.1 [ inl here ↦ inl (named x v.key t v.ts here i.0) | inr there ↦ inr (more.1 (i.0, there)) ],
+)
+
+distinct_named : (t : ℕ) (keys : List (List ℕ)) → AreDistinct keys → AreDistinct (map (λ x. version_name x t) keys)
+distinct_named t [] d = tt
+distinct_named t (x ∷ xs) d = (λ i. d.0 ((has_named t (version_name x t) xs).0 i).1, distinct_named t xs d.1)
+
+-- what passes a test up to low, and at t by the keys there, passes it up to t
+counted_through : (versions : ByKey) (q : List ℕ → ℕ → Bool) (low through t n m : ℕ) (keys : BTreeSet (List ℕ)) → ((x : List ℕ) (i : ℕ) → q x i ≡ true → is_some (versions x i) ≡ true)
+    → low ≤ through → through < t → AreNone versions through t → ((x : List ℕ) → contains key_cmp keys x ≡ is_some (versions x t))
+    → IsCountOf (λ (v : VersionName). is_between low through v.ts && q v.key v.ts) n → IsCountOf (λ x. contains key_cmp keys x && q x t) m → IsCountOf (λ (v : VersionName). is_between low t v.ts && q v.key v.ts) (n + m)
+counted_through versions q low through t n m keys stands under over none listed before here = record {
+  all = before.all ++ map (λ x. version_name x t) here.all;
+  distinct = distinct_append before.all (map (λ x. version_name x t) here.all) before.distinct (distinct_named t here.all here.distinct) (λ v i j.
+      let at : t ≡ v.ts = ((has_named t v here.all).0 j).0 in
+      let was = parts through v ((before.each v).0 i) in
+      omega (arith, was.1));
+  each = λ v. let join = has_append v before.all (map (λ x. version_name x t) here.all) in let name = has_named t v here.all in (
+    λ i. elim (join.0 i) [
+      | inl was ↦ (let p = parts through v ((before.each v).0 was) in passes v p.0 (omega (arith, p.1)) p.2)
+      | inr is ↦ (
+          let m = name.0 is in
+          let both : (contains key_cmp keys v.key ≡ true) × (q v.key t ≡ true) = and_parts _ _ ((here.each v.key).0 m.1) in
+          passes v (omega (arith, m.0)) (omega (arith, m.0)) (subst (λ k. q v.key k ≡ true) m.0 both.1))
+    ],
+    λ e. let p = parts t v e in join.1 (by_test (nat_le v.ts through)
+        (λ low'. inl ((before.each v).1 (and_from _ _ (and_from _ _ (lt-ltb low v.ts p.0) low') p.2)))
+        (λ high'. by_test (v.ts == t)
+        (λ at.
+        let same : v.ts ≡ t = eqb-true v.ts t at in
+        let pass : q v.key t ≡ true = subst (λ k. q v.key k ≡ true) same p.2 in
+        inr (name.1 (sym same, (here.each v.key).1 (and_from _ _ (listed v.key ∙ stands v.key t pass) pass))))
+        (λ off. absurd (
+        let gone : versions v.key v.ts ≡ None = none v.key v.ts (grind (arith, nat_tests)) (grind (arith, nat_tests, p.1)) in
+        both_ways _ (ap is_some gone) (stands v.key v.ts p.2))))),
+  );
+  count = length-append before.all (map (λ x. version_name x t) here.all) ∙ (let as_many = length-map here.all (λ x. version_name x t) in omega (arith, before.count, here.count, as_many));
+}
+  where
+    parts : (high : ℕ) (v : VersionName) → (is_between low high v.ts && q v.key v.ts) ≡ true → (low < v.ts) × (v.ts ≤ high) × (q v.key v.ts ≡ true)
+    parts high v e =
+        let both : (is_between low high v.ts ≡ true) × (q v.key v.ts ≡ true) = and_parts _ _ e in
+        let range : (nat_lt low v.ts ≡ true) × (nat_le v.ts high ≡ true) = and_parts _ _ both.0 in
+        (ltb-true low v.ts range.0, leb-true v.ts high range.1, both.1)
+
+    passes : (v : VersionName) → low < v.ts → v.ts ≤ t → q v.key v.ts ≡ true → (is_between low t v.ts && q v.key v.ts) ≡ true
+    passes v above through' pass = and_from _ _ (and_from _ _ (lt-ltb low v.ts above) (le-leb v.ts t through')) pass
+
+deletes_stand : (versions : ByKey) (x : List ℕ) (i : ℕ) → deletes versions x i ≡ true → is_some (versions x i) ≡ true
+deletes_stand versions x i is = step (versions x i) is
+  where
+    step : (o : Option After) → is_delete o ≡ true → is_some o ≡ true
+    step None e = e
+    step (Some a) e = refl
+
+replaces_stand : (versions : ByKey) (x : List ℕ) (i : ℕ) → replaces versions x i ≡ true → is_some (versions x i) ≡ true
+replaces_stand versions x i is = (and_parts (is_some (versions x i)) (is_some (newest (versions x) (i - 1)).after) is).0
+
+-- those that die up to t
+deaths_through : (versions : ByKey) (low through t n m k : ℕ) (keys : BTreeSet (List ℕ)) → low ≤ through → through < t → AreNone versions through t → ((x : List ℕ) → contains key_cmp keys x ≡ is_some (versions x t))
+    → IsDeathCount versions low through n → IsDeathCountAt versions t keys m → k ≡ min (n + m) (2 ^ 64 - 1) → IsDeathCount versions low t k
+deaths_through versions low through t n m k keys under over none listed before here is = record {
+  deleted = before.deleted + here.deleted;
+  replaced = before.replaced + here.replaced;
+  are_deletes = counted_through versions (deletes versions) low through t before.deleted here.deleted keys (deletes_stand versions) under over none listed before.are_deletes here.are_deletes;
+  are_replaced = counted_through versions (replaces versions) low through t before.replaced here.replaced keys (replaces_stand versions) under over none listed before.are_replaced here.are_replaced;
+  sum = omega (arith, is, before.sum, here.sum);
+}
+
+-- none dies where there is no version
+counted_still : (versions : ByKey) (q : List ℕ → ℕ → Bool) (low through t n : ℕ) → ((x : List ℕ) (i : ℕ) → q x i ≡ true → is_some (versions x i) ≡ true) → through ≤ t → AreNone versions through (suc t)
+    → IsCountOf (λ (v : VersionName). is_between low through v.ts && q v.key v.ts) n → IsCountOf (λ (v : VersionName). is_between low t v.ts && q v.key v.ts) n
+counted_still versions q low through t n stands under none before = record {
+  all = before.all;
+  distinct = before.distinct;
+  each = λ v. (
+    λ i. (let p = parts through v ((before.each v).0 i) in and_from _ _ (and_from _ _ (lt-ltb low v.ts p.0) (le-leb v.ts t (omega (arith, p.1)))) p.2),
+    λ e. (let p = parts t v e in (before.each v).1 (by_test (nat_le v.ts through)
+        (λ low'. and_from _ _ (and_from _ _ (lt-ltb low v.ts p.0) low') p.2)
+        (λ high'. absurd (
+        let gone : versions v.key v.ts ≡ None = none v.key v.ts (grind (arith, nat_tests)) (omega (arith, p.1)) in
+        both_ways _ (ap is_some gone) (stands v.key v.ts p.2))))),
+  );
+  count = before.count;
+}
+  where
+    parts : (high : ℕ) (v : VersionName) → (is_between low high v.ts && q v.key v.ts) ≡ true → (low < v.ts) × (v.ts ≤ high) × (q v.key v.ts ≡ true)
+    parts high v e =
+        let both : (is_between low high v.ts ≡ true) × (q v.key v.ts ≡ true) = and_parts _ _ e in
+        let range : (nat_lt low v.ts ≡ true) × (nat_le v.ts high ≡ true) = and_parts _ _ both.0 in
+        (ltb-true low v.ts range.0, leb-true v.ts high range.1, both.1)
+
+deaths_still : (versions : ByKey) (low through t n : ℕ) → through ≤ t → AreNone versions through (suc t) → IsDeathCount versions low through n → IsDeathCount versions low t n
+deaths_still versions low through t n under none before = record {
+  deleted = before.deleted;
+  replaced = before.replaced;
+  are_deletes = counted_still versions (deletes versions) low through t before.deleted (deletes_stand versions) under none before.are_deletes;
+  are_replaced = counted_still versions (replaces versions) low through t before.replaced (replaces_stand versions) under none before.are_replaced;
+  sum = before.sum;
+}
+
+-- nothing lies between a timestamp and one that isn't above it
+counted_nothing : (q : VersionName → Bool) (low high : ℕ) → high ≤ low → IsCountOf (λ (v : VersionName). is_between low high v.ts && q v) 0
+counted_nothing q low high under = record {
+  all = [];
+  distinct = tt;
+  each = λ v. (
+    λ i. absurd i,
+    λ e. (
+        let both : (is_between low high v.ts ≡ true) × (q v ≡ true) = and_parts _ _ e in
+        let range : (nat_lt low v.ts ≡ true) × (nat_le v.ts high ≡ true) = and_parts _ _ both.0 in
+        omega (arith, ltb-true low v.ts range.0, leb-true v.ts high range.1)),
+  );
+  count = refl;
+}
+
+pub deaths_nothing : (versions : ByKey) (low high : ℕ) → high ≤ low → IsDeathCount versions low high 0
+deaths_nothing versions low high under = record {
+  deleted = 0;
+  replaced = 0;
+  are_deletes = counted_nothing (λ v. deletes versions v.key v.ts) low high under;
+  are_replaced = counted_nothing (λ v. replaces versions v.key v.ts) low high under;
+  sum = refl;
+}
+
+-- ---- the walk
+
+-- so many have died up to some timestamp, and the versions above it are those that are to come
+pub record HasWalked (stored : Stored) (low high count : ℕ) (rest : Listed) : Type 0 where
+  pub through : ℕ
+  pub under : low ≤ through
+  pub within : through ≤ high
+  pub counted : IsDeathCount (version_at stored) low through count
+  pub rising : AreBetween through high rest
+  pub listed : (y : List ℕ) (i : ℕ) → through < i → i ≤ high → listed_in rest y i ≡ is_some (version_at stored y i)
+
+pub walk_starts : (stored : Stored) (low high : ℕ) (rest : Listed) → low ≤ high → AreBetween low high rest → ((y : List ℕ) (i : ℕ) → low < i → i ≤ high → listed_in rest y i ≡ is_some (version_at stored y i)) → HasWalked stored low high 0 rest
+walk_starts stored low high rest under rising listed = record {
+  through = low;
+  under = omega arith;
+  within = under;
+  counted = deaths_nothing (version_at stored) low low (omega arith);
+  rising = rising;
+  listed = listed;
+}
+
+number_at : (t i : ℕ) → is_at (nat_cmp t) i ≡ (t == i)
+number_at t i = grind (arith, nat_tests)
+
+-- nothing is listed at or below where the timestamps begin
+not_listed : (a b : ℕ) (es : Listed) (y : List ℕ) (i : ℕ) → AreBetween a b es → i ≤ a → listed_in es y i ≡ false
+not_listed a b [] y i rising low = refl
+not_listed a b (e ∷ es) y i rising low =
+    let above : a < e.0 = rising.0 in
+    let off : is_at (nat_cmp i) e.0 ≡ false = grind (arith, nat_tests) in
+    rw off (not_listed e.0 b es y i rising.2 (omega arith))
+
+none_of : (o : Option After) → is_some o ≡ false → o ≡ None
+none_of None e = refl
+none_of (Some a) e = cc
+
+pub walk_goes_on : (stored : Stored) (low high count m k t : ℕ) (keys : BTreeSet (List ℕ)) (es : Listed) → HasWalked stored low high count ((t, keys) ∷ es) → IsDeathCountAt (version_at stored) t keys m → k ≡ min (count + m) (2 ^ 64 - 1)
+    → HasWalked stored low high k es
+walk_goes_on stored low high count m k t keys es w here is =
+    let over : w.through < t = w.rising.0 in
+    let end : t ≤ high = w.rising.1 in
+    record {
+      through = t;
+      under = omega (arith, w.under);
+      within = end;
+      counted = deaths_through (version_at stored) low w.through t count m k keys w.under over
+          (λ x i above below. none_of (version_at stored x i) (sym (w.listed x i above (omega arith)) ∙ (let off : is_at (nat_cmp i) t ≡ false = grind (arith, nat_tests) in rw off (not_listed t high es x i w.rising.2 (omega arith)))))
+          (λ x. (let on : is_at (nat_cmp t) t ≡ true = grind (arith, nat_tests) in sym (rw on refl)) ∙ w.listed x t over end)
+          w.counted here is;
+      rising = w.rising.2;
+      listed = λ y i above below. (let off : is_at (nat_cmp i) t ≡ false = grind (arith, nat_tests) in sym (rw off refl)) ∙ w.listed y i (omega arith) below;
+    }
+
+pub walk_ends : (stored : Stored) (low high count : ℕ) → HasWalked stored low high count [] → IsDeathCount (version_at stored) low high count
+walk_ends stored low high count w = deaths_still (version_at stored) low w.through high count w.within
+    (λ x i above below. none_of (version_at stored x i) (sym (w.listed x i above (omega arith)))) w.counted

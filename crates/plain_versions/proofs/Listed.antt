@@ -1,0 +1,70 @@
+-- The versions that an index lists between two timestamps.
+use Rattle.std.proofs.Common.{◌≡◌, ℕ, ◌<◌, ◌≤◌, ◌==◌, true, List, [], ◌∷◌, ◌++◌, sym, ◌∙◌, inl, inr, arith}
+use Rattle.std.specs.Prelude.{◌↔◌}
+use Rattle.std.specs.BTreeMap.{is_at}
+use Rattle.std.specs.Ordering.{nat_cmp}
+use Rattle.std.proofs.lemmas.Bool.{both_ways, eqb-true}
+use Rattle.std.proofs.lemmas.Bool.Decides.{nat_tests}
+use Rattle.spans.specs.Collection.{VersionName}
+use Rattle.spans.proofs.Members.{Has, has_append}
+use Rattle.spans.proofs.Steps.{by_test}
+use Rattle.plain_versions.specs.declared.written.Written.{Written}
+use Rattle.plain_versions.specs.Chains.{Stored}
+use Rattle.plain_versions.specs.Streams.{names_at}
+use Rattle.plain_versions.specs.Written.{Listed, listed_in, is_listed, is_version, AreBetween, IsTiedTo}
+use Rattle.plain_versions.proofs.Counted.{has_key}
+use Rattle.plain_versions.proofs.Names.{RisingNames, in_names, names_rise, names_append, in_order, order_rises, order_has}
+
+-- the versions that are listed, in the order of streams
+abbrev pub listed_names : Listed → List VersionName
+listed_names [] = []
+listed_names (e ∷ es) = names_at e.0 (in_order e.1.keys) ++ listed_names es
+
+in_bounds : (a b : ℕ) (es : Listed) (v : VersionName) → AreBetween a b es → Has v (listed_names es) → (a < v.ts) × (v.ts ≤ b)
+in_bounds a b [] v are i = absurd i
+in_bounds a b (e ∷ es) v are i = elim ((has_append v (names_at e.0 (in_order e.1.keys)) (listed_names es)).0 i) [
+  | inl here ↦ (let at = ((in_names e.0 (in_order e.1.keys) v).0 here).0 in (omega (arith, are.0), omega (arith, are.1)))
+  | inr there ↦ (let more = in_bounds e.0 b es v are.2 there in (omega (arith, are.0, more.0), more.1))
+]
+
+number_at : (t i : ℕ) → is_at (nat_cmp t) i ≡ (t == i)
+number_at t i = grind (arith, nat_tests)
+
+has_listed : (a b : ℕ) (es : Listed) (v : VersionName) → AreBetween a b es → Has v (listed_names es) ↔ (listed_in es v.key v.ts ≡ true)
+has_listed a b [] v are = (λ i. absurd i, λ e. cc)
+has_listed a b (e ∷ es) v are =
+    let join = has_append v (names_at e.0 (in_order e.1.keys)) (listed_names es) in
+    let one = in_names e.0 (in_order e.1.keys) v in
+    let order = order_has e.1.keys v.key in
+    let any = has_key v.key e.1.keys in
+    let more = has_listed e.0 b es v are.2 in
+    by_test (v.ts == e.0)
+    (λ same.
+    let at : v.ts ≡ e.0 = eqb-true v.ts e.0 same in
+    rw (number_at v.ts e.0, same) (
+      λ i. elim (join.0 i) [
+        | inl here ↦ any.0 (order.0 (one.0 here).1)
+        | inr there ↦ absurd (let up = (in_bounds e.0 b es v are.2 there).0 in omega arith)
+      ],
+      λ is. join.1 (inl (one.1 (sym at, order.1 (any.1 is)))),
+    ))
+    (λ other. rw (number_at v.ts e.0, other) (
+      λ i. elim (join.0 i) [
+        | inl here ↦ absurd (let at = (one.0 here).0 in let same : (v.ts == e.0) ≡ true = grind (arith, nat_tests) in both_ways _ other same)
+        | inr there ↦ more.0 there
+      ],
+      λ is. join.1 (inr (more.1 is)),
+    ))
+
+pub listed_rise : (a b : ℕ) (es : Listed) → AreBetween a b es → RisingNames (listed_names es)
+listed_rise a b [] are = tt
+listed_rise a b (e ∷ es) are = names_append (names_at e.0 (in_order e.1.keys)) (listed_names es) (names_rise e.0 (in_order e.1.keys) (order_rises e.1.keys)) (listed_rise e.0 b es are.2)
+    (λ v w i j. let at = ((in_names e.0 (in_order e.1.keys) v).0 i).0 in let up = (in_bounds e.0 b es w are.2 j).0 in omega arith)
+
+-- the versions between the two timestamps are those that are listed there
+pub between_are : (stored : Stored) (written : Written) (n a b : ℕ) (es : Listed) → IsTiedTo stored written n → AreBetween a b es → ((y : List ℕ) (i : ℕ) → a < i → i ≤ b → listed_in es y i ≡ is_listed written y i)
+    → (v : VersionName) → Has v (listed_names es) ↔ ((a < v.ts) × (v.ts ≤ b) × (is_version stored v ≡ true))
+between_are stored written n a b es tied are listed v = let has = has_listed a b es v are in (
+  λ i. let within = in_bounds a b es v are i in (within.0, within.1, sym (tied.listed v.key v.ts) ∙ sym (listed v.key v.ts within.0 within.1) ∙ has.0 i),
+  λ i. has.1 (listed v.key v.ts i.0 i.1 ∙ tied.listed v.key v.ts ∙ i.2),
+)

@@ -1,0 +1,21 @@
+use Rattle.std.proofs.Common.{sym, ◌∙◌, ap, subst, rules}
+use Rattle.plain_versions.specs.InSpans.{AreAhead, within}
+use Rattle.plain_versions.proofs.InSpans.{step_inside, step_past}
+use Rattle.plain_versions.proofs.in_span.InSpanIterator.next.Goals as goal
+
+pub returns-then-not-is_below-clause-steps : goal.returns-then-not-is_below-clause-steps
+returns-then-not-is_below-clause-steps c =
+    let span = c.self.inside.span.now in
+    let step = c.in_ok-key.ensures.steps in
+    let past = step_past span (c.in_ok-key.key.now, c.in_ok-key.versions.now) c.next.new.self (subst (AreAhead span.lo) step c.self.invariant) (sym c.is_below.ensures.below ∙ c.if-not-is_below.true) in
+    (sym c.self.view_is ∙ ap (within span) step ∙ past.0, past.1)
+
+pub returns-clause-steps : goal.returns-clause-steps
+returns-clause-steps c =
+    let span = c.self.inside.span.now in
+    let step = c.in_ok-key.ensures.steps in
+    sym c.self.view_is ∙ ap (within span) step
+    ∙ step_inside span (c.in_ok-key.key.now, c.in_ok-key.versions.now) c.next.new.self (subst (AreAhead span.lo) step c.self.invariant) c.is_below.ensures.in_range (sym c.is_below.ensures.below ∙ c.if-not-is_below.false)
+
+pub returns-clause-goes : goal.returns-clause-goes
+returns-clause-goes c = let h = returns-clause-steps c in search (rules, h)

@@ -1,0 +1,54 @@
+//! Events checked one at a time.
+ghost use Rattle.std.specs.Prelude.{◌≡◌, ◌↔◌, [], true, false, IfOk, OnErr};
+ghost use Rattle.trace_check.specs.Checkers.{HasTaken, JudgesNext, TakesNext};
+ghost use Rattle.trace_check.specs.Traces.{IsInPlace};
+
+use crate::taking::take_in;
+use plain_database::database::Database;
+use spans::calls::Event;
+use std::alloc::{AllocError, Global};
+
+/// The events that were taken so far are legal and have no gap. It holds what they left, and not the events.
+#[derive(Debug, Drop)]
+pub struct Checker {
+    database: Database,
+    /// Where the latest event stands, if there was one.
+    last: Option<u64>,
+}
+
+impl Checker {
+    /// No event was taken yet.
+    pub fn new(alloc: Global) -> Checker
+        ensures { HasTaken result [] }
+    {
+        Checker {
+            database: Database::new(alloc),
+            last: None,
+        }
+    }
+
+    /// Whether the events are still legal and without a gap with this one behind them. Where they are, it is taken.
+    pub fn take(&mut self, event: &Event) -> Result<bool, AllocError>
+        ensures right { IfOk result (JudgesNext self.old event.now) }
+        ensures taken { IfOk result (TakesNext self.old self.new event.now) }
+        ensures refused { IfOk result (λ right. right ≡ false → self.new ≡ self.old) }
+        ensures memory { OnErr result (self.new ≡ self.old) }
+    {
+        if !is_in_place(self.last, event.position) || !take_in(&mut self.database, event)? {
+            return Ok(false);
+        }
+        self.last = Some(event.position);
+        Ok(true)
+    }
+}
+
+/// Whether an event may stand at a position, behind the latest one.
+fn is_in_place(last: Option<u64>, position: u64) -> bool
+    ensures { (result ≡ true) ↔ IsInPlace last position }
+{
+    match last {
+        None => true,
+        // a sum could pass the greatest number, a difference can't
+        Some(last) => position.checked_sub(1) == Some(last),
+    }
+}
