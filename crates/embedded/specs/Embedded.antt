@@ -1,0 +1,84 @@
+-- What an embedded database holds, and what a call of a line does to it (this project's own).
+use Rattle.std.specs.Prelude.{ℕ, List, [], ◌∷◌, ◌++◌, ◌≡◌, ◌⊎◌, length, take, drop, reverse, Option, Some, None, Result, Ok, Err}
+use Rattle.spans.specs.declared.calls.commands.Cmd.{Cmd}
+use Rattle.spans.specs.declared.calls.events.Event.{Event}
+use Rattle.spans.specs.Legal.{IsLegal, IsGapless}
+use Rattle.engine.specs.Engine.{StandsFor, steps_of}
+use Rattle.text_format.specs.declared.Format.TheVariants.{Two}
+use Rattle.word_lines.specs.Commands.{command_line}
+use Rattle.word_lines.specs.Events.{event_text}
+use Rattle.word_lines.specs.Reading.{command_at}
+use Rattle.word_lines.specs.Table.{table}
+use Rattle.embedded.specs.declared.database.Database.{Database}
+use Rattle.embedded.specs.declared.database.CallError.{CallError}
+use Rattle.embedded.specs.declared.database.CallError.TheVariants.{Fault, NoMemory, Spent, Unwritten}
+
+-- the last event of a history, whose newest event stands first
+abbrev pub newest : List Event → Option Event
+newest [] = None
+newest (e ∷ h) = Some e
+
+-- its text; no byte where there is no event
+abbrev pub text_of : Option Event → List ℕ
+text_of None = []
+text_of (Some e) = event_text e
+
+-- the event that a database keeps
+abbrev pub last_of : Database → Option Event
+last_of d = d.last
+
+-- what it has of that event's text
+abbrev pub kept_text : Database → List ℕ
+kept_text d = d.text.items
+
+-- there is an event, so there is a text to write
+abbrev pub HasLast : Database → Type 0
+HasLast d = (e : Event) × (last_of d ≡ Some e)
+
+-- how many calls its engine answered
+abbrev pub steps_in : Database → ℕ
+steps_in d = steps_of d.engine
+
+-- it has all of the text, byte for byte
+abbrev pub IsWritten : Database → Type 0
+IsWritten d = kept_text d ≡ text_of (last_of d)
+
+-- it has none of it
+abbrev pub IsUnwritten : Database → Type 0
+IsUnwritten d = kept_text d ≡ []
+
+-- the database is what a legal history without a gap led to, whose newest event stands first
+pub record Holds (d : Database) (h : List Event) : Type 0 where
+  pub stands : StandsFor d.engine h
+  pub legal : IsLegal h
+  pub gapless : IsGapless 0 (reverse h)
+  pub last : last_of d ≡ newest h
+  pub text : IsWritten d ⊎ IsUnwritten d
+
+-- the event is the line's command, and the database's history goes on by it
+pub record Made (h : List Event) (line : List ℕ) (new : Database) (e : Event) : Type 0 where
+  pub holds : Holds new (e ∷ h)
+  pub position : e.position ≡ length h
+  pub read : command_at Two table 64 line ≡ Ok (e.seat, e.cmd)
+  pub spelled : line ≡ command_line e.seat e.cmd
+
+-- what a call of a line does to a database that holds h
+abbrev pub Called : List Event → List ℕ → Database → Result (Unit {0}) CallError → Database → Type 0
+Called h line old (Ok _) new = ((e : Event) × Made h line new e) × IsWritten new
+Called h line old (Err Unwritten) new = ((e : Event) × Made h line new e) × IsUnwritten new
+Called h line old (Err (Fault f)) new = (new ≡ old) × (command_at Two table 64 line ≡ Err f)
+Called h line old (Err NoMemory) new = new ≡ old
+Called h line old (Err Spent) new = (new ≡ old) × (length h ≡ 18446744073709551615) × ((x : ℕ × Cmd) × (command_at Two table 64 line ≡ Ok x))
+
+-- the database holds an event of a seat's command after h, and has none of its text
+pub record HasStepped (h : List Event) (by : ℕ) (cmd : Cmd) (new : Database) : Type 0 where
+  pub event : Event
+  pub holds : Holds new (event ∷ h)
+  pub position : event.position ≡ length h
+  pub seat : event.seat ≡ by
+  pub command : event.cmd ≡ cmd
+  pub text : IsUnwritten new
+
+-- the text stands at the front of the bytes, as far as there is room, the other bytes are as they were, and its whole length is told
+abbrev pub Copied : List ℕ → (old new : List ℕ) → ℕ → Type 0
+Copied text old new told = (told ≡ length text) × (new ≡ take (length old) text ++ drop (length text) old)

@@ -1,0 +1,131 @@
+//! The database, with the last event that was made.
+
+ghost use Rattle.std.specs.Prelude.{◌≡◌, ◌<◌, ◌≤◌, List, ◌∷◌, [], Some, OnOk, OnErr};
+ghost use Rattle.spans.specs.declared.calls.events.Event.{Event};
+ghost use Rattle.engine.specs.Engine.{StandsFor};
+ghost use Rattle.embedded.specs.Embedded.{Holds, HasLast, HasStepped, IsWritten, IsUnwritten, Called, Copied, last_of, kept_text, steps_in};
+
+use engine::Engine;
+use spans::calls::{Cmd, Event};
+use std::alloc::{AllocError, Global};
+use text_format::Format;
+use word_lines::commands::read_command;
+use word_lines::events::write_event;
+use word_lines::fault::{LineFault, ReadError};
+
+/// A database with the last event that it made.
+#[derive(Drop)]
+pub struct Database {
+    alloc: Global,
+    engine: Engine,
+    last: Option<Event>,
+    /// The last event's text, empty until it is written.
+    text: Vec<u8>,
+}
+
+/// Why a call has no text to show.
+#[derive(Clone, Copy, Debug)]
+pub enum CallError {
+    /// The line is faulty, and no call was made.
+    Fault(LineFault),
+    /// The line found no memory, and no call was made.
+    NoMemory,
+    /// No position is left: the next one would be 18446744073709551615. No call was made.
+    Spent,
+    /// The call was made, and its text found no memory: `Database::write` tries again.
+    Unwritten,
+}
+
+impl Database {
+    /// A database with no event, whose feeds hold up to `ring` rows each, 1 to 65536.
+    pub fn new(alloc: Global, ring: u32) -> Database
+        requires { (1 ≤ ring) × (ring ≤ 65536) }
+        ensures { Holds result [] }
+    {
+        Database {
+            alloc,
+            engine: Engine::new(alloc, ring),
+            last: None,
+            text: Vec::new(alloc),
+        }
+    }
+
+    /// Makes the call of a line, with its newline, by one of 64 seats: a line of format two.
+    ///
+    /// After `Fault`, `NoMemory` and `Spent` all is as it was, the last text too.
+    pub fn call(&mut self, line: &[u8]) -> Result<(), CallError>
+        ensures { (h : List Event) → Holds self.old h → Called h line.now self.old result self.new }
+    {
+        let (seat, cmd) = match read_command(self.alloc, line, 64, Format::Two) {
+            Ok(read) => read,
+            Err(ReadError::Fault(fault)) => return Err(CallError::Fault(fault)),
+            Err(ReadError::NoMemory) => return Err(CallError::NoMemory),
+        };
+        if self.engine.steps() == u64::MAX {
+            return Err(CallError::Spent);
+        }
+        self.step(seat, cmd);
+        match self.write() {
+            Ok(()) => Ok(()),
+            Err(_) => Err(CallError::Unwritten),
+        }
+    }
+
+    /// Makes a seat's command the next event, whose text is still to be written.
+    fn step(&mut self, seat: u8, cmd: Cmd)
+        requires room { steps_in self.old < 18446744073709551615 }
+        ensures { (h : List Event) → Holds self.old h → HasStepped h seat cmd self.new }
+    {
+        let position = self.engine.steps();
+        let reply = self.engine.step(seat, &cmd);
+        self.keep(Event {
+            position,
+            seat,
+            cmd,
+            reply,
+        });
+    }
+
+    /// Keeps an event as the last one, with no text yet.
+    fn keep(&mut self, event: Event)
+        ensures engine { self.new.engine ≡ self.old.engine }
+        ensures last { last_of self.new ≡ Some event }
+        ensures text { IsUnwritten self.new }
+    {
+        self.last = Some(event);
+        self.text.clear();
+    }
+
+    /// Writes the text of the last event, unless it is written.
+    pub fn write(&mut self) -> Result<(), AllocError>
+        ensures same { (h : List Event) → Holds self.old h → Holds self.new h }
+        ensures last { last_of self.new ≡ last_of self.old }
+        ensures ok { (h : List Event) → Holds self.old h → OnOk result (IsWritten self.new) }
+        // What is written stays so, and is never refused.
+        ensures err { OnErr result (IsUnwritten self.old × IsUnwritten self.new) }
+        ensures some { OnErr result (HasLast self.old) }
+    {
+        if !self.text.is_empty() {
+            return Ok(());
+        }
+        match &self.last {
+            None => Ok(()),
+            Some(event) => write_event(&mut self.text, event),
+        }
+    }
+
+    /// Copies the text of the last event as far as there is room, and tells its whole length: 0 where it isn't written, or
+    /// no event was made.
+    pub fn copy_text(&self, out: &mut [u8]) -> usize
+        ensures { Copied (kept_text self.now) out.old out.new result }
+    {
+        let text = self.text.as_slice();
+        let count = if text.len() < out.len() {
+            text.len()
+        } else {
+            out.len()
+        };
+        out[..count].copy_from_slice(&text[..count]);
+        text.len()
+    }
+}

@@ -1,0 +1,31 @@
+//! A database for a program that isn't written in Rattle: the line of a command goes in, the text of its event comes out.
+//!
+//! The static library `ripsawbean` keeps one behind each handle. A call reads its line, makes the command's step and
+//! keeps the event; the event's text is written after that, and copied out as often as it is asked for. So a text that
+//! finds no memory, or no room where it is copied to, loses nothing: its event stays until the next call is made.
+//! Memory is taken for the keys and values of a line, by the engine's step, and for the text, which keeps its room.
+//!
+//! 1. The engine stands for a legal history, whose positions run from 0 without a gap.
+//! 2. The last event is the newest of that history; there is none before the first call.
+//! 3. The text is the last event's, or empty where it isn't written.
+//!
+//! ```text
+//!                          answer            last event                     text
+//! new                                        none                           empty
+//! call "0 begin 10\n"      done              0 0 begin 10 => started        24 bytes
+//! call "0 put 10 a\n"      Fault(WordCount)  (as before)                    (as before)
+//! call "0 put 10 a 1\n"    Unwritten         1 0 put 10 a 1 => written      empty: it found no memory
+//! write                    done              1 0 put 10 a 1 => written      26 bytes
+//! ```
+//!
+//! | Call | Cost |
+//! |---|---|
+//! | `call` | its line, the engine's step, and the text of its event |
+//! | `write` | the text, where it isn't written; else O(1) |
+//! | `copy_text` | the bytes copied |
+//! | `new` | O(1) |
+#![tactic(auto)]
+
+mod database;
+
+pub use database::{CallError, Database};

@@ -1,0 +1,3 @@
+mod Heap
+mod LooseValues
+mod HandleValues

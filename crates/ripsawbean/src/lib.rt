@@ -1,0 +1,202 @@
+//! The database as a static library: four functions that C calls, and by C every language that can.
+//!
+//! A program owns a [`Handle`], all zero bytes at first. `ripsawbean_open` puts a database behind it, and `ripsawbean_close`
+//! frees that again. A call takes the line of a command, and shows the text of its event: all of it or its beginning, and its
+//! whole length. Memory is the program's own `malloc`, `realloc` and `free`.
+//!
+//! 1. A handle that is open owns one database and the right to free it; a closed one owns nothing.
+//! 2. What a function answers is a number, and what the program's memory then holds follows from that number alone.
+//!
+//! ```text
+//!                                             number   length   out              the handle's history
+//! ripsawbean_open   ring 64                   0                                  no event
+//! ripsawbean_call   "0 begin 10\n"   room 4   0        24       0 0              0 0 begin 10 => started
+//! ripsawbean_text                    room 64  0        24       its 24 bytes     (as before)
+//! ripsawbean_call   "0 begin\n"      room 64  1        0        (as before)      (as before)
+//! ripsawbean_close                                                               none: it is closed
+//! ripsawbean_call   "0 begin 20\n"   room 64  16       0        (as before)      none
+//! ```
+//!
+//! | Number | What it says | By |
+//! |---|---|---|
+//! | 0 | done | open, call, text |
+//! | 1 to 11 | the line's fault by its code; no call was made | call |
+//! | 12 | no memory for the line, or for the database; nothing was done | call, open |
+//! | 13 | no position is left; no call was made | call |
+//! | 14 | no memory for the text; the event stands, and `ripsawbean_text` tries again | call, text |
+//! | 15 | the ring is out of range; nothing was done | open |
+//! | 16 | the handle is closed; nothing was done | call, text |
+//! | 17 | the handle is open already; nothing was done | open |
+//!
+//! What a program owes: pointers that aren't null, also to no bytes; slices that don't overlap; a handle that is all zero bytes
+//! or was left by these functions, that isn't copied while it is open, and that no two calls use at once.
+//!
+//! | Call | Cost |
+//! |---|---|
+//! | `ripsawbean_call` | its line, the engine's step, and the text of its event |
+//! | `ripsawbean_text` | the bytes copied, and the text where it wasn't written |
+//! | `ripsawbean_open` | O(1) |
+//! | `ripsawbean_close` | all that the database holds is freed |
+#![tactic(auto)]
+
+ghost use Rattle.std.specs.Prelude.{◌≡◌, None, IfSome, IfNone};
+ghost use Rattle.ripsawbean.specs.Exports.{refusal_of, Opened, Numbered, Called, Asked, Rewritten, Told, ToldOf, number_of};
+
+mod handle;
+mod loose;
+
+use crate::handle::Handle;
+use embedded::{CallError, Database};
+use std::alloc::Global;
+
+/// No memory for a line, or for a database.
+const NO_MEMORY: u8 = 12;
+/// No position is left.
+const SPENT: u8 = 13;
+/// No memory for a text.
+const UNWRITTEN: u8 = 14;
+/// The ring is out of range.
+const RING: u8 = 15;
+/// The handle is closed.
+const CLOSED: u8 = 16;
+/// The handle is open.
+const OPEN: u8 = 17;
+
+/// Opens a closed handle on a database with no event, whose feeds hold up to `ring` rows each, 1 to 65536.
+///
+/// 0: it is open. Else all is as it was. 15: the ring is out of range, which is looked at first. 17: the handle is open. 12:
+/// there is no memory.
+#[unsafe(no_mangle)]
+pub extern "C" fn ripsawbean_open(alloc: Global, handle: &mut Handle, ring: u32) -> u8
+    ensures refused { IfSome (refusal_of ring handle.old.database) (λ n. (result ≡ n) × (handle.new.database ≡ handle.old.database)) }
+    ensures opened { IfNone (refusal_of ring handle.old.database) (Opened result handle.new.database) }
+{
+    if ring == 0 || ring > 65536 {
+        return RING;
+    }
+    if handle.is_open() {
+        return OPEN;
+    }
+    match Box::new(alloc, Database::new(alloc, ring)) {
+        Ok(database) => {
+            handle.put(database);
+            0
+        }
+        Err(_) => NO_MEMORY,
+    }
+}
+
+/// Makes the call of a line, with its newline, and shows the text of its event.
+///
+/// 0: the call was made, `out` begins with as much of the text as there is room for, and `length` is the whole text's. At every
+/// other number `out` is as it was and `length` is 0. 1 to 11: the line's fault by its code. 12: no memory for the line. 13: no
+/// position is left. 14: the call was made, and its text found no memory. 16: the handle is closed.
+#[unsafe(no_mangle)]
+pub extern "C" fn ripsawbean_call(
+    alloc: Global,
+    handle: &mut Handle,
+    line: &[u8],
+    out: &mut [u8],
+    length: &mut usize,
+) -> u8
+    ensures called { Called line.now handle.old.database result handle.new.database }
+    ensures text { Told result handle.old.database handle.new.database out.old out.new length.new }
+{
+    match handle.take(alloc) {
+        None => {
+            *length = 0;
+            CLOSED
+        }
+        Some(database) => {
+            let mut database = database;
+            let number = call(&mut database, line, out, length);
+            handle.put(database);
+            number
+        }
+    }
+}
+
+/// Shows the text of the last event again, as often as it is asked for; no call is made.
+///
+/// 0: `out` begins with as much of the text as there is room for, and `length` is the whole text's, or 0 where no call was made
+/// yet. At every other number `out` is as it was and `length` is 0. 14: the text wasn't written, and finds no memory. 16: the
+/// handle is closed.
+#[unsafe(no_mangle)]
+pub extern "C" fn ripsawbean_text(
+    alloc: Global,
+    handle: &mut Handle,
+    out: &mut [u8],
+    length: &mut usize,
+) -> u8
+    ensures asked { Asked handle.old.database result handle.new.database }
+    ensures text { Told result handle.old.database handle.new.database out.old out.new length.new }
+{
+    match handle.take(alloc) {
+        None => {
+            *length = 0;
+            CLOSED
+        }
+        Some(database) => {
+            let mut database = database;
+            let number = text(&mut database, out, length);
+            handle.put(database);
+            number
+        }
+    }
+}
+
+/// Frees the database of a handle, which is closed afterwards; a closed one stays closed.
+#[unsafe(no_mangle)]
+pub extern "C" fn ripsawbean_close(alloc: Global, handle: &mut Handle)
+    ensures { handle.new.database ≡ None }
+{
+    if let Some(database) = handle.take(alloc) {
+        database.drop();
+    }
+}
+
+/// A call of a line, with the number that tells of it.
+fn call(database: &mut Database, line: &[u8], out: &mut [u8], length: &mut usize) -> u8
+    ensures called { Numbered line.now database.old result database.new }
+    ensures text { ToldOf result database.old database.new out.old out.new length.new }
+{
+    match database.call(line) {
+        Ok(()) => {
+            *length = database.copy_text(out);
+            0
+        }
+        Err(error) => {
+            *length = 0;
+            number(error)
+        }
+    }
+}
+
+/// The last event's text, with the number that tells of it.
+fn text(database: &mut Database, out: &mut [u8], length: &mut usize) -> u8
+    ensures asked { Rewritten database.old result database.new }
+    ensures text { ToldOf result database.old database.new out.old out.new length.new }
+{
+    match database.write() {
+        Ok(()) => {
+            *length = database.copy_text(out);
+            0
+        }
+        Err(_) => {
+            *length = 0;
+            UNWRITTEN
+        }
+    }
+}
+
+/// The number of a call that shows no text.
+fn number(error: CallError) -> u8
+    ensures { result ≡ number_of error }
+{
+    match error {
+        CallError::Fault(fault) => fault.code(),
+        CallError::NoMemory => NO_MEMORY,
+        CallError::Spent => SPENT,
+        CallError::Unwritten => UNWRITTEN,
+    }
+}
