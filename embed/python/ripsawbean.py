@@ -1,0 +1,421 @@
+"""Ripsawbean inside a Python program: an in-memory multiversion timestamp database whose committed changes leave it as feeds.
+
+    from ripsawbean import Database
+
+    with Database() as db:
+        db.call("0 begin 10\\n")                       # a line as in a script; its event's text is returned
+        db.make("put", 10, b"apple", b"3")             # the same for values of Python: bytes are spelled here
+        db.make("commit", 10)
+        db.make("close", 10)
+        feed = db.make("openinitial", None, None, 10, seat=1).number
+        for message in db.messages(feed, 100, seat=1):
+            print(message)                             # Row(key=b'apple', after=b'3', updated=10), then Resolved(timestamp=10)
+
+It stands on ctypes and the shared library, and needs no package. `embed/build` makes the library, and docs/EMBEDDING.md says the
+rest. The library is looked for where the environment variable RIPSAWBEAN_LIBRARY says, then beside this file, then in
+`embed/out`.
+
+Several threads may use one database: its calls take turns. During a call other threads of Python run. A signal handler uses no database
+that the program uses too.
+"""
+
+import base64
+import ctypes
+import os
+import threading
+import warnings
+from typing import Iterator, List, NamedTuple, NoReturn, Optional, Tuple, Union
+
+__all__ = [
+    "Database", "Event", "Row", "Resolved", "spell", "unspell",
+    "Error", "LineFault", "WordCount", "UnknownCommand", "Number", "KeyLength", "ValueLength", "Session", "NoNewline",
+    "LineTooLong", "BadByte", "NoMemory", "Spent", "Unwritten", "RingRange", "Closed", "AlreadyOpen", "Refused",
+]
+
+
+# ---- what can go wrong
+
+
+class Error(Exception):
+    """All that this module raises on the database's part. `status` is the library's number, where it gave one."""
+
+    status: Optional[int] = None
+
+
+class LineFault(Error, ValueError):
+    """The line is faulty. No call was made."""
+
+
+class WordCount(LineFault):
+    """An empty line or word, or the wrong number of words."""
+
+    status = 1
+
+
+class UnknownCommand(LineFault):
+    """No command has this name."""
+
+    status = 2
+
+
+class Number(LineFault):
+    """No number from 0 to 18446744073709551615 stands where one belongs."""
+
+    status = 3
+
+
+class KeyLength(LineFault):
+    """A key of no bytes or above 256, or a bound above 257."""
+
+    status = 4
+
+
+class ValueLength(LineFault):
+    """A value above 65536 bytes."""
+
+    status = 5
+
+
+class Session(LineFault):
+    """The seat is no number from 0 to 63."""
+
+    status = 6
+
+
+class NoNewline(LineFault):
+    """The line doesn't end in a newline."""
+
+    status = 7
+
+
+class LineTooLong(LineFault):
+    """More than 200000 bytes stand before the newline."""
+
+    status = 8
+
+
+class BadByte(LineFault):
+    """A byte outside printable ASCII, or a word that is the spelling of no bytes."""
+
+    status = 9
+
+
+class NoMemory(Error, MemoryError):
+    """There was no memory for the line, or for a database to open. No call was made, and it may be made again."""
+
+    status = 12
+
+
+class Spent(Error):
+    """No position is left. No call was made."""
+
+    status = 13
+
+
+class Unwritten(Error, MemoryError):
+    """The call was made, but there was no memory for its text. `Database.text` asks for it again."""
+
+    status = 14
+
+
+class RingRange(Error, ValueError):
+    """The ring is not 1 to 65536."""
+
+    status = 15
+
+
+class Closed(Error):
+    """The database is closed."""
+
+    status = 16
+
+
+class AlreadyOpen(Error):
+    """The database is open already."""
+
+    status = 17
+
+
+class Refused(Error):
+    """The call was made, and its answer is a refusal. `answer` has its words, and `event` the whole event."""
+
+    def __init__(self, event: "Event"):
+        super().__init__(event.answer)
+        self.event = event
+        self.answer = event.answer
+
+
+_ERRORS = {
+    kind.status: kind
+    for kind in (
+        WordCount, UnknownCommand, Number, KeyLength, ValueLength, Session, NoNewline, LineTooLong, BadByte,
+        NoMemory, Spent, Unwritten, RingRange, Closed, AlreadyOpen,
+    )
+}
+
+
+def _raise(status: int) -> NoReturn:
+    raise _ERRORS.get(status, Error)("the library returned %d" % status)
+
+
+# ---- words: bytes as lines spell them
+
+_HEX = "0123456789ABCDEF"
+_SPELLED = [chr(b) if 0x21 <= b <= 0x7E and b != 0x25 else "%" + _HEX[b >> 4] + _HEX[b & 15] for b in range(256)]
+
+
+def spell(data: bytes) -> str:
+    """The word of some bytes: printable bytes but % as they are, %XX for any other, `-` for no bytes, %2D for a single -."""
+    if not data:
+        return "-"
+    if data == b"-":
+        return "%2D"
+    return "".join([_SPELLED[byte] for byte in data])
+
+
+def unspell(word: str) -> bytes:
+    """The bytes of a word. A word that is the spelling of no bytes is a ValueError: each bytes have one spelling."""
+    data = bytearray()
+    if word != "-":
+        at = 0
+        while at < len(word):
+            if word[at] == "%" and at + 2 < len(word) and word[at + 1] in _HEX and word[at + 2] in _HEX:
+                data.append(int(word[at + 1 : at + 3], 16))
+                at += 3
+            elif "!" <= word[at] <= "~" and word[at] != "%":
+                data.append(ord(word[at]))
+                at += 1
+            else:
+                raise ValueError("no bytes are spelled %r" % word)
+    found = bytes(data)
+    if spell(found) != word:
+        raise ValueError("no bytes are spelled %r" % word)
+    return found
+
+
+def _word_of(argument: Union[int, bytes, None]) -> str:
+    if argument is None:
+        return "-"
+    if isinstance(argument, int) and not isinstance(argument, bool):
+        return str(argument)
+    if isinstance(argument, (bytes, bytearray, memoryview)):
+        return spell(bytes(argument))
+    raise TypeError("an argument is an int, bytes, or None for no bound, and not %r" % (argument,))
+
+
+# ---- events and messages
+
+
+class Row(NamedTuple):
+    """A committed version: the key, its value or None where it was deleted, and the timestamp of its transaction."""
+
+    key: bytes
+    after: Optional[bytes]
+    updated: int
+
+
+class Resolved(NamedTuple):
+    """All rows of the feed at or below this timestamp were told."""
+
+    timestamp: int
+
+
+Message = Union[Row, Resolved]
+
+# What a refusal's answer begins with.
+_REFUSALS = frozenset(
+    "tsrange belowclosed tsused ended notxn notowner blocked toolate notclosed belowhorizon gaprange nofeed feedcancelled "
+    "noprotection nomemory".split()
+)
+
+
+class Event:
+    """One call that was made. `str` of it is its whole text, as it stands in a transcript."""
+
+    __slots__ = ("text",)
+
+    def __init__(self, text: str):
+        self.text = text
+
+    def __str__(self) -> str:
+        return self.text
+
+    def __repr__(self) -> str:
+        return "Event(%r)" % self.text
+
+    @property
+    def answer(self) -> str:
+        """The words behind `=>`: behind the last one with a word after it, since a key or a value may be spelled so too."""
+        line = self.text.split("\n", 1)[0]
+        return line[line.rindex(" => ") + 4 :]
+
+    @property
+    def is_refusal(self) -> bool:
+        """Whether the call was refused. After every refusal but `toolate` the database is as it was."""
+        return self.answer.split(" ", 1)[0] in _REFUSALS
+
+    @property
+    def number(self) -> int:
+        """The first number of the answer: a feed's or a protection's, a timestamp, a count."""
+        return int(self.answer.split(" ")[1])
+
+    @property
+    def value(self) -> Optional[bytes]:
+        """The value that `get` or `readat` found, or None."""
+        words = self.answer.split(" ")
+        return unspell(words[1]) if words[0] == "value" else None
+
+    @property
+    def rows(self) -> List[Tuple[bytes, bytes]]:
+        """The rows of a scan, keys rising."""
+        words = [line.split(" ") for line in self.text.split("\n")[1:-1] if line.startswith("row ")]
+        return [(unspell(key), unspell(value)) for _, key, value in words]
+
+    @property
+    def messages(self) -> List[Message]:
+        """The messages that a poll told, in their order."""
+        return [_message_of(line) for line in self.text.split("\n")[1:-1] if line.startswith("{")]
+
+
+def _message_of(line: str) -> Message:
+    words = line.split('"')
+    if words[1] == "resolved":
+        return Resolved(int(words[3]))
+    if words[2] == ":null,":
+        return Row(base64.b64decode(words[5], validate=True), None, int(words[9]))
+    return Row(base64.b64decode(words[7], validate=True), base64.b64decode(words[3], validate=True), int(words[11]))
+
+
+# ---- the library
+
+
+class _Handle(ctypes.Structure):
+    _fields_ = [("at", ctypes.c_void_p), ("is_open", ctypes.c_bool)]
+
+
+def _find() -> str:
+    named = os.environ.get("RIPSAWBEAN_LIBRARY")
+    if named:
+        return named
+    here = os.path.dirname(os.path.abspath(__file__))
+    for folder in (here, os.path.join(here, os.pardir, "out")):
+        path = os.path.join(folder, "libripsawbean.so")
+        if os.path.exists(path):
+            return path
+    raise OSError("libripsawbean.so is not there: run embed/build, or name it in RIPSAWBEAN_LIBRARY")
+
+
+_library = ctypes.CDLL(_find())
+_open, _call, _text, _close = (getattr(_library, "ripsawbean_" + name) for name in ("open", "call", "text", "close"))
+_handle_at, _bytes_at, _size = ctypes.POINTER(_Handle), ctypes.c_char_p, ctypes.c_size_t
+_open.argtypes, _open.restype = [_handle_at, ctypes.c_uint32], ctypes.c_uint8
+_call.argtypes = [_handle_at, _bytes_at, _size, ctypes.c_void_p, _size, ctypes.POINTER(_size)]
+_call.restype = ctypes.c_uint8
+_text.argtypes, _text.restype = [_handle_at, ctypes.c_void_p, _size, ctypes.POINTER(_size)], ctypes.c_uint8
+_close.argtypes, _close.restype = [_handle_at], None
+
+
+class Database:
+    """One database, open from the start. Each feed keeps up to `ring` rows at hand, 1 to 65536; no answer depends on it.
+
+    A context manager closes it at the end of its block.
+    """
+
+    def __init__(self, ring: int = 1024):
+        # It is held from a call until its text is read, so that calls of several threads take turns.
+        self._turn = threading.Lock()
+        self._handle = _Handle()
+        self._at = ctypes.byref(self._handle)
+        self._length = _size()
+        self._length_at = ctypes.byref(self._length)
+        self._room = 0
+        self.open(ring)
+
+    def open(self, ring: int = 1024) -> None:
+        """Opens it anew after `close`, empty."""
+        if not 0 <= ring < 1 << 32:
+            raise RingRange("the ring is not 1 to 65536")
+        with self._turn:
+            if not self._room:
+                self._make_room(4096)
+            status = _open(self._at, ring)
+        if status:
+            _raise(status)
+
+    @property
+    def is_open(self) -> bool:
+        return self._handle.is_open
+
+    def close(self) -> None:
+        """Frees it. A closed one stays closed."""
+        with self._turn:
+            _close(self._at)
+
+    def __enter__(self) -> "Database":
+        return self
+
+    def __exit__(self, *_: object) -> None:
+        self.close()
+
+    def __del__(self) -> None:
+        if getattr(self, "_handle", None) is not None and self._handle.is_open:
+            warnings.warn("a ripsawbean.Database was not closed", ResourceWarning, source=self)
+            _close(self._at)
+
+    def call(self, line: Union[str, bytes]) -> Event:
+        """Makes the call of a line, with its newline, as "0 put 10 apple 3\\n". It raises where no call was made, and Unwritten."""
+        data = line.encode("utf-8", "surrogatepass") if isinstance(line, str) else bytes(line)
+        with self._turn:
+            status = _call(self._at, data, len(data), self._out_at, self._room, self._length_at)
+            if not status:
+                return self._event()
+        _raise(status)
+
+    def make(self, command: str, *arguments: Union[int, bytes, None], seat: int = 0) -> Event:
+        """Makes a call from values: numbers, bytes for keys and values, and None for no bound. The event may be a refusal."""
+        return self.call(" ".join([str(seat), command, *map(_word_of, arguments)]) + "\n")
+
+    def text(self) -> Optional[Event]:
+        """The last event once more, or None where no call was made yet. It makes no call."""
+        with self._turn:
+            status = _text(self._at, self._out_at, self._room, self._length_at)
+            if not status:
+                return self._event() if self._length.value else None
+        _raise(status)
+
+    def messages(self, feed: int, max: int, seat: int = 0) -> Iterator[Message]:
+        """The messages of a feed, up to where none is due, by polls of at most `max` each.
+
+        A poll is made once the messages of the one before are taken. A message is told once: whoever stops midway in the
+        messages of a poll has lost the others, and its consumer begins anew. A poll that is refused raises Refused.
+        """
+        if max < 1:
+            raise ValueError("a poll of no messages tells nothing")
+        return self._polled(feed, max, seat)
+
+    def _polled(self, feed: int, max: int, seat: int) -> Iterator[Message]:
+        told = max
+        while told == max:
+            event = self.make("poll", feed, max, seat=seat)
+            if event.is_refusal:
+                raise Refused(event)
+            messages = event.messages
+            told = len(messages)
+            yield from messages
+
+    def _event(self) -> Event:
+        # The call is made: its text is asked for again where it found too little room.
+        while self._length.value > self._room:
+            try:
+                self._make_room(2 * self._length.value)
+            except MemoryError:
+                raise Unwritten("Python has no memory for the text") from None
+            status = _text(self._at, self._out_at, self._room, self._length_at)
+            if status:
+                _raise(status)
+        return Event(ctypes.string_at(self._out, self._length.value).decode("ascii"))
+
+    def _make_room(self, room: int) -> None:
+        self._out = ctypes.create_string_buffer(room)
+        self._out_at = ctypes.addressof(self._out)
+        self._room = room

@@ -1,0 +1,298 @@
+"""Tests of the wrapper and of the example's cache: `embed/test` runs them, or python3 -m unittest in this folder."""
+
+import gc
+import random
+import threading
+import unittest
+import warnings
+
+import ripsawbean
+from cache import Cache, NotTaken
+from ripsawbean import Database, Event, Refused, Resolved, Row, spell, unspell
+
+
+class Words(unittest.TestCase):
+    def test_words_of_the_guide(self):
+        for data, word in [
+            (b"", "-"), (b"-", "%2D"), (b"--", "--"), (b"-a", "-a"), (b"%", "%25"), (b" ", "%20"), (b"a b", "a%20b"), (b"A", "A"),
+            (b"\x00\x7f\xff", "%00%7F%FF"), (b"!~", "!~"), ("açaí".encode(), "a%C3%A7a%C3%AD"),
+        ]:
+            self.assertEqual(spell(data), word)
+            self.assertEqual(unspell(word), data)
+
+    def test_any_bytes_come_back(self):
+        dice = random.Random(1)
+        for length in list(range(20)) * 20:
+            data = bytes(dice.choice(b"-%aA9 ~\x00\xff\n") if dice.random() < 0.7 else dice.randrange(256) for _ in range(length))
+            self.assertEqual(unspell(spell(data)), data)
+
+    def test_each_byte_has_one_spelling(self):
+        for byte in range(256):
+            word = spell(bytes([byte]))
+            self.assertEqual(unspell(word), bytes([byte]))
+            other = "%%%02X" % byte
+            if other != word:
+                with self.assertRaises(ValueError):
+                    unspell(other)
+
+    def test_no_spelling(self):
+        for word in ["", "%", "%4", "%4g", "%c3", "a b", "é", "%41", "%2D%2D", "\n", "%%"]:
+            with self.assertRaises(ValueError, msg=word):
+                unspell(word)
+
+
+class Opening(unittest.TestCase):
+    def test_rings(self):
+        for ring in (0, 65537, 1 << 32, -1):
+            with self.assertRaises(ripsawbean.RingRange):
+                Database(ring)
+        for ring in (1, 65536):
+            with Database(ring) as db:
+                self.assertEqual(db.make("stats").answer, "stats 0 0 0 0 0")
+
+    def test_open_and_close_twice(self):
+        db = Database()
+        with self.assertRaises(ripsawbean.AlreadyOpen):
+            db.open()
+        db.make("begin", 10)
+        db.close()
+        db.close()
+        self.assertFalse(db.is_open)
+        for call in (lambda: db.call("0 stats\n"), db.text, lambda: list(db.messages(1, 1))):
+            with self.assertRaises(ripsawbean.Closed):
+                call()
+        db.open(7)
+        self.assertIsNone(db.text())
+        self.assertEqual(db.make("commit", 10).text, "0 0 commit 10 => notxn\n")
+        db.close()
+
+    def test_a_block_that_raises_closes(self):
+        with self.assertRaises(KeyError):
+            with Database() as db:
+                raise KeyError
+        self.assertFalse(db.is_open)
+
+    def test_one_that_is_forgotten_warns_and_is_closed(self):
+        with warnings.catch_warnings(record=True) as told:
+            warnings.simplefilter("always")
+            Database()
+            gc.collect()
+        self.assertEqual([warning.category for warning in told], [ResourceWarning])
+
+    def test_calls_of_several_threads_take_turns(self):
+        seats, each = 8, 200
+        told = [[] for _ in range(seats)]
+
+        def use(seat):
+            for i in range(each):
+                ts = 1 + seat + seats * i
+                told[seat].append((ts, db.make("begin", ts, seat=seat)))
+                # A text that is longer than the buffer of the moment, now and then.
+                db.make("put", ts, b"k%d" % seat, b"v" * (ts * 50 % 30000), seat=seat)
+                told[seat].append((ts, db.make("get", ts, b"k%d" % seat, seat=seat)))
+
+        with Database() as db:
+            threads = [threading.Thread(target=use, args=(seat,)) for seat in range(seats)]
+            for thread in threads:
+                thread.start()
+            for thread in threads:
+                thread.join()
+            self.assertEqual(db.make("stats").answer, "stats %d %d 0 0 0" % (seats * each, seats * each))
+            positions = set()
+            for seat in range(seats):
+                for ts, event in told[seat]:
+                    words = str(event).split(" ")
+                    positions.add(int(words[0]))
+                    self.assertEqual((words[1], int(words[3])), (str(seat), ts))
+                    if words[2] == "get":
+                        self.assertEqual(len(event.value), ts * 50 % 30000)
+            self.assertEqual(len(positions), 2 * seats * each)
+
+    def test_another_thread_closes(self):
+        db = Database()
+        db.make("begin", 1)
+        thread = threading.Thread(target=db.close)
+        thread.start()
+        thread.join()
+        self.assertFalse(db.is_open)
+
+
+class Calls(unittest.TestCase):
+    def setUp(self):
+        self.db = Database()
+        self.addCleanup(self.db.close)
+
+    def test_each_fault_of_a_line(self):
+        self.db.make("begin", 10)
+        last = str(self.db.text())
+        for line, kind in [
+            ("\n", ripsawbean.WordCount), ("0 put 10 a\n", ripsawbean.WordCount), ("0  stats\n", ripsawbean.WordCount),
+            ("0 fly\n", ripsawbean.UnknownCommand), ("0 begin 01\n", ripsawbean.Number),
+            ("0 begin 18446744073709551616\n", ripsawbean.Number), ("0 get 10 -\n", ripsawbean.KeyLength),
+            ("0 get 10 %s\n" % ("k" * 257), ripsawbean.KeyLength), ("0 scan 10 - %s\n" % ("k" * 258), ripsawbean.KeyLength),
+            ("0 put 10 a %s\n" % ("v" * 65537), ripsawbean.ValueLength), ("64 stats\n", ripsawbean.Session),
+            ("0 stats", ripsawbean.NoNewline), ("", ripsawbean.NoNewline), ("0" * 200001 + "\n", ripsawbean.LineTooLong),
+            ("0 get 10 %41\n", ripsawbean.BadByte), ("0 get 10 é\n", ripsawbean.BadByte), (b"0 get 10 \x00\n", ripsawbean.BadByte),
+        ]:
+            with self.assertRaises(kind, msg=line[:40]) as told:
+                self.db.call(line)
+            self.assertEqual(type(told.exception), kind)
+            self.assertIsInstance(told.exception, ripsawbean.LineFault)
+            self.assertEqual(str(self.db.text()), last)
+        self.assertEqual(str(self.db.make("stats")), "1 0 stats => stats 0 1 0 0 0\n")
+
+    def test_the_kinds_name_their_status(self):
+        self.assertEqual(sorted(ripsawbean._ERRORS), [*range(1, 10), *range(12, 18)])
+
+    def test_values_of_python(self):
+        db = self.db
+        self.assertEqual(str(db.make("begin", 10, seat=63)), "0 63 begin 10 => started\n")
+        self.assertEqual(db.make("put", 10, b"a b", b"", seat=63).answer, "written")
+        self.assertEqual(db.make("put", 10, b"-", b"\xff%", seat=63).answer, "written")
+        self.assertEqual(db.make("get", 10, b"a b", seat=63).value, b"")
+        self.assertIsNone(db.make("get", 10, b"none", seat=63).value)
+        self.assertEqual(db.make("scan", 10, None, None, seat=63).rows, [(b"-", b"\xff%"), (b"a b", b"")])
+        self.assertEqual(db.make("scan", 10, b"a", b"a!", seat=63).rows, [(b"a b", b"")])
+        self.assertEqual(db.make("commit", 10, seat=63).number, 2)
+        for argument in ("text", 1.5, True):
+            with self.assertRaises(TypeError):
+                db.make("get", 10, argument)
+
+    def test_a_key_and_a_value_that_are_spelled_as_the_arrow(self):
+        self.db.make("begin", 10)
+        self.assertEqual(self.db.make("put", 10, b"=>", b"=>").answer, "written")
+        self.assertEqual(self.db.make("get", 10, b"=>").value, b"=>")
+        self.assertEqual(self.db.make("scan", 10, b"=>", None).rows, [(b"=>", b"=>")])
+
+    def test_a_refusal_is_an_event(self):
+        event = self.db.make("commit", 10)
+        self.assertTrue(event.is_refusal)
+        self.assertEqual(event.answer, "notxn")
+        self.assertFalse(self.db.make("close", 10).is_refusal)
+
+    def test_the_largest_value_and_a_text_that_outgrows_the_buffer(self):
+        value = bytes(range(256)) * 256
+        self.db.make("begin", 1)
+        self.assertEqual(self.db.make("put", 1, b"k" * 256, value).answer, "written")
+        self.assertEqual(self.db.make("get", 1, b"k" * 256).value, value)
+        for i in range(40):
+            self.db.make("put", 1, b"k%d" % i, b"v" * 65536)
+        event = self.db.make("scan", 1, None, None)
+        self.assertEqual(len(event.rows), 41)
+        self.assertEqual(str(self.db.text()), str(event))
+        self.assertTrue(str(self.db.make("stats")).startswith("44 0 stats => "))
+
+    def test_no_text_before_the_first_call(self):
+        self.assertIsNone(self.db.text())
+
+
+class Feeds(unittest.TestCase):
+    def setUp(self):
+        self.db = Database()
+        self.addCleanup(self.db.close)
+        self.db.make("begin", 10)
+        for i in range(5):
+            self.db.make("put", 10, b"k%d" % i, b"%d" % i)
+        self.db.make("commit", 10)
+        self.db.make("begin", 20)
+        self.db.make("del", 20, b"k3")
+        self.db.make("commit", 20)
+        self.db.make("close", 20)
+        self.all = [Row(b"k%d" % i, b"%d" % i, 10) for i in range(5)] + [Row(b"k3", None, 20), Resolved(20)]
+
+    def test_messages_whatever_the_most_of_a_poll(self):
+        for most in range(1, 10):
+            feed = self.db.make("open", None, None, 0, seat=3).number
+            self.assertEqual(list(self.db.messages(feed, most, seat=3)), self.all)
+            self.assertEqual(list(self.db.messages(feed, most, seat=3)), [])
+
+    def test_polls_are_made_as_messages_are_taken(self):
+        feed = self.db.make("open", None, None, 0).number
+        messages = self.db.messages(feed, 2)
+        self.assertEqual(self.db.text().answer, "opened 1")
+        self.assertEqual([next(messages), next(messages)], self.all[:2])
+        self.assertEqual(self.db.text().answer, "messages 2")
+        self.assertEqual(list(messages), self.all[2:])
+
+    def test_a_poll_that_is_refused(self):
+        for answer in ("nofeed", "notowner"):
+            with self.assertRaises(Refused) as told:
+                list(self.db.messages(1, 10))
+            self.assertEqual(told.exception.answer, answer)
+            self.db.make("open", None, None, 0, seat=1)
+        with self.assertRaises(ValueError):
+            self.db.messages(1, 0)
+
+    def test_bytes_of_messages(self):
+        self.db.make("begin", 30)
+        self.db.make("put", 30, b"\x00\xff\xfe-", b"")
+        self.db.make("commit", 30)
+        self.db.make("close", 30)
+        feed = self.db.make("open", None, None, 20).number
+        self.assertEqual(list(self.db.messages(feed, 10)), [Row(b"\x00\xff\xfe-", b"", 30), Resolved(30)])
+
+
+class TheCache(unittest.TestCase):
+    def refuses(self, cache, message, name):
+        before = (dict(cache.rows), cache.resolved, cache.last, cache.complete)
+        with self.assertRaises(NotTaken) as told:
+            cache.take(message)
+        self.assertEqual(str(told.exception), name)
+        self.assertEqual((cache.rows, cache.resolved, cache.last, cache.complete), before)
+
+    def test_rows_come_by_timestamp_and_key(self):
+        cache = Cache(None, None, 10)
+        self.refuses(cache, Row(b"b", b"1", 9), "notafter")
+        cache.take(Row(b"b", b"1", 10))
+        for row in (Row(b"a", b"1", 10), Row(b"b", b"1", 10), Row(b"z", b"1", 9)):
+            self.refuses(cache, row, "notafter")
+        self.assertIsNone(cache.complete)
+        cache.take(Row(b"a", b"1", 20))
+        self.refuses(cache, Resolved(19), "resolvedback")
+        cache.take(Resolved(20))
+        self.assertEqual((cache.complete, cache.rows), (20, {b"a": b"1", b"b": b"1"}))
+        self.refuses(cache, Row(b"c", b"1", 20), "notafter")
+        self.refuses(cache, Resolved(20), "resolvedback")
+        cache.take(Row(b"a", None, 21))
+        self.assertEqual((cache.complete, cache.rows), (None, {b"b": b"1"}))
+        cache.take(Resolved(30))
+        self.assertEqual(cache.complete, 30)
+
+    def test_the_span(self):
+        cache = Cache(b"b", b"d", 1)
+        for key in (b"a", b"d", b"e"):
+            self.refuses(cache, Row(key, b"1", 1), "outsidespan")
+        cache.take(Row(b"b", b"1", 1))
+        cache.take(Row(b"c\xff", b"1", 1))
+
+    def test_the_cache_of_each_feed_is_the_scan(self):
+        for seed in range(40):
+            dice = random.Random(seed)
+            with Database(dice.choice([1, 2, 1024])) as db:
+                cache, ts = None, 0
+                for _ in range(120):
+                    ts += dice.randrange(1, 4)
+                    if db.make("begin", ts).answer == "started":
+                        for _ in range(dice.randrange(4)):
+                            key = bytes([dice.randrange(97, 105)])
+                            if dice.random() < 0.3:
+                                db.make("del", ts, key)
+                            else:
+                                db.make("put", ts, key, bytes([dice.randrange(256)]))
+                        db.make(dice.choice(["commit", "commit", "abort"]), ts)
+                    if dice.random() < 0.3:
+                        closed = db.make("close", ts).number
+                        if cache is None:
+                            lo, hi = dice.choice([(None, None), (b"b", b"f"), (None, b"d"), (b"c", None)])
+                            feed = db.make("openinitial", lo, hi, closed).number
+                            cache = Cache(lo, hi, closed)
+                    if cache is not None and dice.random() < 0.5:
+                        for message in db.messages(feed, dice.randrange(1, 5)):
+                            cache.take(message)
+                        self.assertIsNotNone(cache.complete)
+                        scan = db.make("scanat", cache.complete, cache.lo, cache.hi).rows
+                        self.assertEqual(scan, sorted(cache.rows.items()))
+
+
+if __name__ == "__main__":
+    unittest.main()

@@ -1,0 +1,63 @@
+//! The Rust part of `embed/speed`: writes `WORKLOAD RATE` a line, in calls or operations a second, the best of so many runs.
+//!
+//! `speed TRANSACTIONS REFUSED RUNS`
+
+use ripsawbean::{CallError, Command, Database, LineFault};
+use std::collections::HashMap;
+use std::error::Error;
+use std::time::Instant;
+
+const KEYS: u64 = 100;
+
+/// begin, put, get and commit of one drawn key each, the lines written by `make`.
+fn transactions(count: u64) -> Result<f64, Box<dyn Error>> {
+    let mut db = Database::open(1024)?;
+    let from = Instant::now();
+    for ts in 1..=count {
+        let (key, value) = (format!("k{}", ts * 7 % KEYS), format!("v{ts}"));
+        let key = key.as_bytes();
+        db.make(0, Command::Begin { ts })?;
+        db.make(0, Command::Put { ts, key, value: value.as_bytes() })?;
+        db.make(0, Command::Get { ts, key })?;
+        db.make(0, Command::Commit { ts })?;
+    }
+    Ok(4.0 * count as f64 / from.elapsed().as_secs_f64())
+}
+
+/// A line with too few words.
+fn refused(count: u64) -> Result<f64, Box<dyn Error>> {
+    let mut db = Database::open(1024)?;
+    let from = Instant::now();
+    for _ in 0..count {
+        assert_eq!(db.call("0 put 10 apple\n").err(), Some(CallError::Line(LineFault::WordCount)));
+    }
+    Ok(count as f64 / from.elapsed().as_secs_f64())
+}
+
+/// A plain map of lists, and a log.
+fn plain(count: u64) -> Result<f64, Box<dyn Error>> {
+    let mut map: HashMap<String, Vec<(u64, String)>> = HashMap::new();
+    let mut log = Vec::new();
+    let from = Instant::now();
+    for ts in 1..=count {
+        let (key, value) = (format!("k{}", ts * 7 % KEYS), format!("v{ts}"));
+        map.entry(key.clone()).or_default().push((ts, value.clone()));
+        log.push((ts, value.clone()));
+        assert_eq!(map[&key].last().map(|(_, last)| last), Some(&value));
+    }
+    let took = from.elapsed();
+    assert_eq!(log.len() as u64, count);
+    Ok(2.0 * count as f64 / took.as_secs_f64())
+}
+
+fn main() -> Result<(), Box<dyn Error>> {
+    let words: Vec<u64> = std::env::args().skip(1).map(|word| word.parse()).collect::<Result<_, _>>()?;
+    let &[made, faulty, runs] = words.as_slice() else { return Err("speed TRANSACTIONS REFUSED RUNS".into()) };
+    let best = |work: fn(u64) -> Result<f64, Box<dyn Error>>, count| -> Result<f64, Box<dyn Error>> {
+        (0..runs).try_fold(0.0, |most: f64, _| Ok(most.max(work(count)?)))
+    };
+    println!("transactions {:.0}", best(transactions, made)?);
+    println!("refused {:.0}", best(refused, faulty)?);
+    println!("plain {:.0}", best(plain, made)?);
+    Ok(())
+}
