@@ -119,8 +119,8 @@ impl Chain {
         self.at(place)
     }
 
-    /// Both of these, by one search.
-    pub(crate) fn around(&self, t: u64) -> (Option<&Version>, Option<&Version>)
+    /// The newest version at or below `t` and the next one above it, by one search.
+    pub fn around(&self, t: u64) -> (Option<&Version>, Option<&Version>)
         ensures newest { MatchOption result.0 (IsNoneUpTo self.now t) (λ v. IsNewestOf self.now t v.now) }
         ensures next { MatchOption result.1 (IsNoneAbove self.now t) (λ v. IsLeastAbove self.now t v.now) }
     {
