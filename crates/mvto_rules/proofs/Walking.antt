@@ -1,6 +1,6 @@
 -- A walk through the entries of a span.
 use Rattle.std.proofs.Common.{Bor, List, None, Option, Some, ap, append_assoc, arith, cond, false, inl, inr, refl, subst, sym, true, ℕ, ◌<◌, ◌≤◌, ◌-◌, ◌++◌, ◌∷◌, ◌≡◌, ◌∙◌, []}
-use Rattle.std.specs.Prelude.{IfSome, MatchOption, bytes_eq, max, min}
+use Rattle.std.specs.Prelude.{IfSome, MatchOption, bytes_eq, is_some, max, min, option_map}
 use Rattle.std.proofs.Math.Nat.{le-max_left, le-max_right, le-min, max-le, min-le_left, min-le_right}
 use Rattle.std.proofs.lemmas.Bool.{both_ways}
 use Rattle.std.specs.List.{AllByRecursion}
@@ -19,7 +19,7 @@ use Rattle.kept.specs.Marks as marking
 use Rattle.read_marks.specs.declared.piece.Piece.{Piece}
 use Rattle.version_chain.specs.Chains.{Entry, chain_of}
 use Rattle.version_chain.specs.Stores.{Stored, after_of, is_committed_in, version_in}
-use Rattle.version_chain.specs.Versions.{IsNewestOf, IsNoneUpTo, version_of}
+use Rattle.version_chain.specs.Versions.{IsLeastAbove, IsNewestOf, IsNoneAbove, IsNoneUpTo, version_of}
 use Rattle.version_chain.specs.declared.chain.Version.{Version}
 use Rattle.version_chain.proofs.InSpans.{chain_among, chain_nowhere, passes_among}
 use Rattle.mvto_rules.specs.Cuts.{IsPassed, IsWhole, narrowed, open_piece}
@@ -36,6 +36,12 @@ use Rattle.mvto_rules.proofs.Seeing.{IsThere, blocked_is, blocker_is, chain_newe
 pub there_at : (s : Stored) (t m : ℕ) (x : List ℕ) (vs : List Version) (o : Option (Bor Version)) → chain_of s x ≡ vs → m ≡ t → MatchOption o (IsNoneUpTo vs m) (λ v. IsNewestOf vs m v.now) → IfSome (option_copied o) (λ v. 1 ≤ v.ts)
     → IsThere (version_in s x) (is_committed_in s x) t (option_copied o)
 there_at s t m x vs o is same newest named = found_there s x t m o same (chain_newest s x vs m o is newest) named
+
+-- what is next above it
+pub next_at : (t m to : ℕ) (vs : List Version) (o : Option (Bor Version)) → m ≡ t → MatchOption o (IsNoneAbove vs m) (λ v. IsLeastAbove vs m v.now) → to ≡ marking.until (option_map (λ (v : Version). v.ts) (option_copied o))
+    → (next : Option ℕ) × IsNextAbove (λ i. after_of (version_of vs i)) t next × (to ≡ marking.until next)
+next_at t m to vs None same none is = (None, λ i l. ap after_of (none i (omega arith)), is)
+next_at t m to vs (Some b) same least is = (Some b.now.ts, (omega (arith, least.above), ap (λ o. is_some (after_of o)) least.one, λ i l h. ap after_of (least.gap i (omega arith) h)), is)
 
 -- it stops the reader
 pub stopped_at : (s : Stored) (t n : ℕ) (x : List ℕ) (xs : List (List ℕ)) (o : Option Version) → 0 < t → IsThere (version_in s x) (is_committed_in s x) t o → sights.Blocked n ≡ sight_of t o → first_blocker s t (x ∷ xs) ≡ Some n

@@ -1,11 +1,9 @@
 //! A walk through the keys of a span that have a version.
-ghost use Rattle.std.specs.Prelude.{◌≡◌, ◌++◌, [], ℕ, Option, None, Some, IfOk, OnOk};
+ghost use Rattle.std.specs.Prelude.{◌≡◌, ◌++◌, [], IfOk, OnOk, option_map};
 ghost use Rattle.std.specs.Option.{option_copied};
 ghost use Rattle.spans.specs.Keys.{with_value};
-ghost use Rattle.kept.specs.Finding.{IsNextAbove};
 ghost use Rattle.kept.specs.Marks as marking;
-ghost use Rattle.version_chain.specs.Stores.{after_of};
-ghost use Rattle.version_chain.specs.Versions.{version_of};
+ghost use Rattle.version_chain.specs.declared.chain.Version.{Version};
 ghost use Rattle.mvto_rules.specs.Sights.{value_in};
 
 use crate::cut::Cut;
@@ -15,7 +13,6 @@ use std::alloc::{AllocError, Global};
 use timestamps::key::Key;
 use timestamps::ts::Ts;
 use timestamps::value::Value;
-use version_chain::Steps;
 use version_chain::chain::{Chain, Version};
 
 /// What a scan has found so far: its rows, and the pieces that it will mark.
@@ -51,7 +48,7 @@ impl Walk {
     ) -> Result<Option<u64>, AllocError>
         ensures { IfOk result (Visits ts (key.now, chain.now) self.old self.new) }
     {
-        let newest = chain.newest_at(ts.get(), &mut Steps::new());
+        let (newest, next) = chain.around(ts.get());
         match Sight::of(newest, ts) {
             Sight::Blocked(by) => Ok(Some(by)),
             Sight::Own => {
@@ -60,7 +57,7 @@ impl Walk {
                 Ok(None)
             }
             Sight::Other(above) => {
-                let until = until_of(chain, ts);
+                let until = until_of(next);
                 self.cut.narrow(above, until);
                 add_row(&mut self.rows, key, newest)?;
                 Ok(None)
@@ -84,11 +81,11 @@ pub(crate) fn add_row(
     Ok(())
 }
 
-/// The timestamp of the next version above `ts`, or one beyond all.
-fn until_of(chain: &Chain, ts: Ts) -> u64
-    ensures { (next : Option ℕ) × IsNextAbove (λ i. after_of (version_of chain.now i)) ts next × (result ≡ marking.until next) }
+/// The timestamp of the next version, or one beyond all.
+fn until_of(next: Option<&Version>) -> u64
+    ensures { result ≡ marking.until (option_map (λ (v : Version). v.ts) (option_copied next.entry)) }
 {
-    match chain.next_above(ts.get(), &mut Steps::new()) {
+    match next {
         None => u64::MAX,
         Some(version) => version.ts.get(),
     }
