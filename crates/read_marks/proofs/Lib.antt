@@ -1,4 +1,3 @@
-pub mod Fronts
 pub mod Words
 pub mod Splitting
 pub mod Between

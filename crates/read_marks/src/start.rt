@@ -17,7 +17,8 @@ ghost use Rattle.std.specs.Cmp.{partial_equiv_from_equiv};
 ghost use Rattle.std.specs.Cmp.Lexicographic.{nat_list_eq_equiv, nat_list_cmp_total, texts_ties, texts_po};
 ghost use Rattle.timestamps.specs.Bytes.{key_cmp};
 ghost use Rattle.spans.specs.Successors.{successor};
-ghost use Rattle.read_marks.specs.Words.{front_of, words_of};
+ghost use Rattle.timestamps.specs.Words.{front_of};
+ghost use Rattle.read_marks.specs.Words.{words_of};
 
 use std::alloc::{AllocError, Global};
 use std::cmp::Ordering;

@@ -60,33 +60,28 @@ impl Bound {
         if bytes.is_empty() || bytes.len() > MAX_BOUND_BYTES {
             return Err(BoundError::BoundLength);
         }
-        match bytes.to_vec(alloc) {
-            Ok(bytes) => Bound::of(alloc, bytes),
+        match Bound::of(alloc, bytes) {
+            Ok(bound) => Ok(bound),
             Err(_) => Err(BoundError::NoMemory),
         }
     }
 
-    /// The bound of these bytes, which it keeps. Where they are one more than a key has, the first of them are copied.
-    fn of(alloc: Global, bytes: Vec<u8>) -> Result<Bound, BoundError>
-        requires some { 1 ≤ length bytes.items }
-        requires few { length bytes.items ≤ MAX_BOUND_BYTES }
-        ensures bytes { IfOk result (λ b. b ≡ bytes.items) }
-        ensures memory { IfErr result (λ e. e ≡ NoMemory) }
+    /// The bound of so many bytes. Where they are one more than a key has, all are kept beside the first.
+    fn of(alloc: Global, bytes: &[u8]) -> Result<Bound, AllocError>
+        requires some { 1 ≤ length bytes.now }
+        requires few { length bytes.now ≤ MAX_BOUND_BYTES }
+        ensures { IfOk result (λ b. b ≡ bytes.now) }
     {
         if bytes.len() <= MAX_KEY_BYTES {
-            return Ok(Bound {
-                first: Key::of(bytes),
-                all: None,
-            });
+            let first = key_of(alloc, bytes)?;
+            return Ok(Bound { first, all: None });
         }
-        let first = &bytes.as_slice()[..MAX_KEY_BYTES];
-        match first.to_vec(alloc) {
-            Ok(first) => Ok(Bound {
-                first: Key::of(first),
-                all: Some(bytes),
-            }),
-            Err(_) => Err(BoundError::NoMemory),
-        }
+        let first = key_of(alloc, &bytes[..MAX_KEY_BYTES])?;
+        let all = bytes.to_vec(alloc)?;
+        Ok(Bound {
+            first,
+            all: Some(all),
+        })
     }
 
     /// The least bound above the key: its bytes and a zero byte.
@@ -94,14 +89,19 @@ impl Bound {
         ensures bytes { IfOk result (λ b. b ≡ successor key.now) }
         ensures least { IfOk result (λ b. (x : List ℕ) → from_low (Some b) x ≡ key_lt key.now x) }
     {
-        let key = key.bytes();
-        let mut bytes = Vec::with_capacity(alloc, key.len() + 1)?;
-        bytes.extend_from_slice(key)?;
-        bytes.push(0)?;
-        match Bound::of(alloc, bytes) {
-            Ok(bound) => Ok(bound),
-            Err(_) => Err(AllocError),
+        let bytes = key.bytes();
+        if bytes.len() < MAX_KEY_BYTES {
+            let first = key.successor(alloc)?;
+            return Ok(Bound { first, all: None });
         }
+        let mut all = Vec::with_capacity(alloc, bytes.len() + 1)?;
+        all.extend_from_slice(bytes)?;
+        all.push(0)?;
+        let first = key.copy()?;
+        Ok(Bound {
+            first,
+            all: Some(all),
+        })
     }
 
     /// Its bytes.
@@ -156,6 +156,18 @@ impl PartialEq for Bound {
 
 impl Eq for Bound {
     ghost laws = { nat_list_eq_equiv };
+}
+
+/// The key of so many bytes.
+fn key_of(alloc: Global, bytes: &[u8]) -> Result<Key, AllocError>
+    requires some { 1 ≤ length bytes.now }
+    requires few { length bytes.now ≤ MAX_KEY_BYTES }
+    ensures { IfOk result (λ k. k ≡ bytes.now) }
+{
+    match Key::new(alloc, bytes) {
+        Ok(key) => Ok(key),
+        Err(_) => Err(AllocError),
+    }
 }
 
 /// Whether the key is at or above the bound, where there is one.

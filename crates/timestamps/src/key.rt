@@ -1,11 +1,12 @@
 //! Keys: 1 to 256 bytes, in byte order.
-ghost use Rattle.std.specs.Prelude.{◌≡◌, ℕ, List, ◌<◌, ◌≤◌, ◌+◌, ◌⊎◌, Some, refl, length, bytes_eq, IfOk, IfErr, OnOk};
+ghost use Rattle.std.specs.Prelude.{◌≡◌, ℕ, List, [], ◌∷◌, ◌++◌, ◌<◌, ◌≤◌, ◌⊎◌, Some, refl, length, bytes_eq, IfOk, IfErr, OnOk};
 ghost use Rattle.std.specs.Cmp.{on_equiv, on_total, on_po, on_per, partial_equiv_from_equiv};
 ghost use Rattle.std.specs.Cmp.Lexicographic.{nat_list_eq_equiv, nat_list_cmp_total, texts_ties, texts_po};
 ghost use Rattle.timestamps.specs.Bytes.{key_cmp};
 ghost use Rattle.timestamps.specs.declared.key.TheConstants.{MAX_KEY_BYTES};
 ghost use Rattle.timestamps.specs.declared.key.KeyError.TheVariants.{KeyLength, NoMemory};
 
+use crate::small_bytes::SmallBytes;
 use std::alloc::{AllocError, Global};
 use std::cmp::Ordering;
 use std::marker::Model;
@@ -14,21 +15,22 @@ use std::marker::Model;
 pub const MAX_KEY_BYTES: usize = 256;
 
 /// What a value is stored under: 1 to [`MAX_KEY_BYTES`] bytes, ordered byte by byte, a beginning
-/// before what it begins.
+/// before what it begins. The bytes of a key of up to 24 lie in the key, and take no memory of their own.
 #[derive(Debug, Drop)]
 pub struct Key {
-    bytes: Vec<u8>,
+    bytes: SmallBytes,
 }
 
 impl Model for Key {
     ghost use Rattle.std.specs.Prelude.{ℕ, List, ◌≤◌, length};
     ghost use Rattle.timestamps.specs.declared.key.TheConstants.{MAX_KEY_BYTES};
+    ghost use Rattle.timestamps.specs.SmallBytes.{bytes_in};
 
     ghost Value = { List ℕ };
 
-    ghost view = { λ k. k.bytes.items };
+    ghost view = { λ k. bytes_in k.bytes };
 
-    ghost invariant = { λ k. (1 ≤ length k.bytes.items) × (length k.bytes.items ≤ MAX_KEY_BYTES) };
+    ghost invariant = { λ k. (1 ≤ length (bytes_in k.bytes)) × (length (bytes_in k.bytes) ≤ MAX_KEY_BYTES) };
 }
 
 /// Why bytes are no key.
@@ -52,19 +54,10 @@ impl Key {
         if bytes.is_empty() || bytes.len() > MAX_KEY_BYTES {
             return Err(KeyError::KeyLength);
         }
-        match bytes.to_vec(alloc) {
+        match SmallBytes::new(alloc, bytes) {
             Ok(bytes) => Ok(Key { bytes }),
             Err(_) => Err(KeyError::NoMemory),
         }
-    }
-
-    /// The key of these bytes, which it keeps.
-    pub fn of(bytes: Vec<u8>) -> Key
-        requires some { 1 ≤ length bytes.items }
-        requires few { length bytes.items ≤ MAX_KEY_BYTES }
-        ensures { result ≡ bytes.items }
-    {
-        Key { bytes }
     }
 
     /// Its bytes.
@@ -79,7 +72,16 @@ impl Key {
     pub fn copy(&self) -> Result<Key, AllocError>
         ensures { IfOk result (λ k. k ≡ self.now) }
     {
-        let bytes = self.bytes.clone()?;
+        let bytes = self.bytes.copy()?;
+        Ok(Key { bytes })
+    }
+
+    /// The least key above this one, its bytes and a zero behind them, where that is no byte too many.
+    pub fn successor(&self, alloc: Global) -> Result<Key, AllocError>
+        requires { length self.now < MAX_KEY_BYTES }
+        ensures { IfOk result (λ k. k ≡ self.now ++ 0 ∷ []) }
+    {
+        let bytes = self.bytes.with_zero(alloc)?;
         Ok(Key { bytes })
     }
 }
@@ -90,7 +92,7 @@ impl PartialEq for Key {
     ghost laws = { partial_equiv_from_equiv nat_list_eq_equiv };
 
     fn eq(&self, other: &Key) -> bool {
-        self.bytes() == other.bytes()
+        self.cmp(other).is_eq()
     }
 }
 
@@ -103,7 +105,7 @@ impl PartialOrd for Key {
 
     ghost laws = { texts_po };
 
-    // by `cmp`, which compares memory, where a derived one would walk the bytes
+    // by `cmp`, which compares numbers, where a derived one would walk the bytes
     fn partial_cmp(&self, other: &Key) -> Option<Ordering> {
         Some(self.cmp(other))
     }
@@ -119,6 +121,6 @@ impl Ord for Key {
     ghost matches_eq = { texts_ties };
 
     fn cmp(&self, other: &Key) -> Ordering {
-        self.bytes().cmp(other.bytes())
+        self.bytes.order(&other.bytes)
     }
 }

@@ -14,17 +14,19 @@
 //! oracle.draw(&mut pass)    Ok([33 ..= 64])       the same pass again       Ok([65 ..= 96])
 //! ```
 //!
-//! Cost: making and copying a key or a value copies its bytes once; comparing two is one comparison
-//! of memory. A draw of 32 timestamps is two steps on one word, and takes no memory. A search reads as
-//! many timestamps as the length of the list has binary digits.
+//! Cost: making and copying a key or a value copies its bytes once. Up to 24 of them lie in place and take no
+//! memory, and keys of so few are compared as at most three numbers. A draw of 32 timestamps is two steps on one word,
+//! and takes no memory. A search reads as many timestamps as the length of the list has binary digits.
 #![tactic(auto)]
 
 pub mod binary_search;
 mod blocks;
+mod few_bytes;
 pub mod key;
 pub mod lease;
 pub mod oracle;
 pub mod row;
+mod small_bytes;
 pub mod ts;
 pub mod ts_key;
 pub mod value;

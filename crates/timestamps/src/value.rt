@@ -5,27 +5,30 @@ ghost use Rattle.std.specs.Cmp.Lexicographic.{nat_list_eq_equiv};
 ghost use Rattle.timestamps.specs.declared.value.TheConstants.{MAX_VALUE_BYTES};
 ghost use Rattle.timestamps.specs.declared.value.ValueError.TheVariants.{ValueLength, NoMemory};
 
+use crate::small_bytes::SmallBytes;
 use std::alloc::{AllocError, Global};
 use std::marker::Model;
 
 /// The most bytes that a value has.
 pub const MAX_VALUE_BYTES: usize = 65536;
 
-/// What is stored under a key: 0 to [`MAX_VALUE_BYTES`] bytes.
+/// What is stored under a key: 0 to [`MAX_VALUE_BYTES`] bytes. Up to 24 lie in the value, and take no memory of their
+/// own.
 #[derive(Debug, Drop)]
 pub struct Value {
-    bytes: Vec<u8>,
+    bytes: SmallBytes,
 }
 
 impl Model for Value {
     ghost use Rattle.std.specs.Prelude.{ℕ, List, ◌≤◌, length};
     ghost use Rattle.timestamps.specs.declared.value.TheConstants.{MAX_VALUE_BYTES};
+    ghost use Rattle.timestamps.specs.SmallBytes.{bytes_in};
 
     ghost Value = { List ℕ };
 
-    ghost view = { λ v. v.bytes.items };
+    ghost view = { λ v. bytes_in v.bytes };
 
-    ghost invariant = { λ v. length v.bytes.items ≤ MAX_VALUE_BYTES };
+    ghost invariant = { λ v. length (bytes_in v.bytes) ≤ MAX_VALUE_BYTES };
 }
 
 /// Why bytes are no value.
@@ -49,7 +52,7 @@ impl Value {
         if bytes.len() > MAX_VALUE_BYTES {
             return Err(ValueError::ValueLength);
         }
-        match bytes.to_vec(alloc) {
+        match SmallBytes::new(alloc, bytes) {
             Ok(bytes) => Ok(Value { bytes }),
             Err(_) => Err(ValueError::NoMemory),
         }
@@ -67,7 +70,7 @@ impl Value {
     pub fn copy(&self) -> Result<Value, AllocError>
         ensures { IfOk result (λ v. v ≡ self.now) }
     {
-        let bytes = self.bytes.clone()?;
+        let bytes = self.bytes.copy()?;
         Ok(Value { bytes })
     }
 }

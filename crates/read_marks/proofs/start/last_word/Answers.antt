@@ -1,8 +1,8 @@
 use Rattle.std.proofs.Common.{◌≡◌, ◌<◌, ◌+◌, ◌-◌, ◌*◌, ◌^◌, ◌%◌, ℕ, List, get_or, take, arith, add-one, ap, sym, ◌∙◌}
 use Rattle.std.proofs.lemmas.List.{take_all}
 use Rattle.std.proofs.lemmas.Nat.{shl_whole}
-use Rattle.read_marks.specs.Words.{AreBytes, front_of}
-use Rattle.read_marks.proofs.Words.{byte_more, front_fits, take_bytes}
+use Rattle.timestamps.specs.Words.{AreBytes, front_of}
+use Rattle.timestamps.proofs.Words.{byte_more, front_fits, take_bytes}
 use Rattle.read_marks.proofs.start.last_word.Goals as goal
 
 -- the next byte at its place, and that nothing of it is shifted out

@@ -1,5 +1,5 @@
 use Rattle.std.proofs.Common.{◌≡◌, ◌+◌, ◌*◌, take}
-use Rattle.read_marks.specs.Words.{front_of}
+use Rattle.timestamps.specs.Words.{front_of}
 use Rattle.read_marks.proofs.start.last_word.Given as goal
 
 abbrev pub invariant-loop-byte : goal.invariant-loop-byte

@@ -1,7 +1,8 @@
 use Rattle.std.proofs.Common.{◌≡◌, ◌+◌, ◌*◌, ◌-◌, ◌<◌, length, length-set, drop, drop-drop, arith, ap, sym, ◌∙◌}
 use Rattle.std.proofs.lemmas.List.{length-drop}
-use Rattle.read_marks.specs.Words.{front_of}
-use Rattle.read_marks.proofs.Words.{all_put, chunk_word, next_put, rest_is, words_made, zeros_put}
+use Rattle.timestamps.specs.Words.{front_of}
+use Rattle.timestamps.proofs.Words.{chunk_word}
+use Rattle.read_marks.proofs.Words.{all_put, next_put, rest_is, words_made, zeros_put}
 use Rattle.read_marks.proofs.start.put_words.Goals as goal
 
 pub loop-at-preserved : goal.loop-at-preserved

@@ -1,5 +1,5 @@
 use Rattle.std.proofs.Common.{◌≡◌, ◌*◌, ◌-◌, ◌<◌, ◌≤◌, ℕ, get_or, length, drop}
-use Rattle.read_marks.specs.Words.{front_of}
+use Rattle.timestamps.specs.Words.{front_of}
 use Rattle.read_marks.proofs.start.put_words.Given as goal
 
 abbrev pub invariant-loop-at : goal.invariant-loop-at

@@ -1,6 +1,6 @@
 use Rattle.std.proofs.Common.{◌≡◌, ◌+◌, ◌*◌, ◌<◌, length, min, arith, sym, ◌∙◌, subst}
-use Rattle.read_marks.specs.Words.{front_from}
-use Rattle.read_marks.proofs.Fronts.{fronts_same, fronts_skip}
+use Rattle.timestamps.specs.Words.{front_from}
+use Rattle.timestamps.proofs.Fronts.{fronts_same, fronts_skip}
 use Rattle.read_marks.proofs.Words.{text_bytes, text_length, text_rest, words_decide, words_go_on}
 use Rattle.read_marks.proofs.start.Start.cmp_behind.Goals as goal
 

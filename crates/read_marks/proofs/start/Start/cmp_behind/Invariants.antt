@@ -1,5 +1,5 @@
 use Rattle.std.proofs.Common.{◌≡◌, ◌≤◌, ◌-◌, ◌*◌}
-use Rattle.read_marks.specs.Words.{front_from}
+use Rattle.timestamps.specs.Words.{front_from}
 use Rattle.read_marks.proofs.start.Start.cmp_behind.Given as goal
 
 abbrev pub invariant-loop-at : goal.invariant-loop-at

@@ -1,6 +1,6 @@
 use Rattle.std.proofs.Common.{◌≡◌, length, refl, arith, sym, ◌∙◌}
-use Rattle.read_marks.specs.Words.{front_from}
-use Rattle.read_marks.proofs.Fronts.{fronts_same}
+use Rattle.timestamps.specs.Words.{front_from}
+use Rattle.timestamps.proofs.Fronts.{fronts_same}
 use Rattle.read_marks.proofs.Words.{text_bytes, text_length, words_decide, words_go_on}
 use Rattle.read_marks.proofs.start.StartOrd.cmp.Goals as goal
 

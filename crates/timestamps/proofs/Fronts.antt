@@ -1,9 +1,9 @@
--- The order of starts that differ in their first bytes, and of those that don't.
+-- The order of byte strings that differ in their first bytes, and of those that don't.
 use Rattle.std.proofs.Common.{ℕ, zero, suc, List, [], ◌∷◌, ◌≡◌, ◌<◌, ◌≤◌, ◌+◌, ◌*◌, refl, sym, ap, ◌∙◌, arith, length, get_or, min, ◌++◌, drop, Ordering, Less, Equal, Greater, nat_cmp}
 use Rattle.std.specs.Cmp.{ranks}
 use Rattle.std.specs.Ordering.{MatchOrdering, ordering_then}
 use Rattle.timestamps.specs.Bytes.{key_cmp}
-use Rattle.read_marks.specs.Words.{AreBytes, front_from}
+use Rattle.timestamps.specs.Words.{AreBytes, front_from}
 
 is_less : (x y : ℕ) (r : Ordering) → MatchOrdering r (x < y) (x ≡ y) (y < x) → x < y → r ≡ Less
 is_less x y Less h l = refl
@@ -106,7 +106,7 @@ longer m n Less l = let t : m < n = l in sym (below (suc m) (suc n) (omega arith
 longer m n Equal e = let t : m ≡ n = e in sym (level (suc m) (suc n) (omega arith))
 longer m n Greater l = let t : n < m = l in sym (above (suc m) (suc n) (omega arith))
 
--- where they are the same, of two starts that aren't both longer the one begins the other
+-- where they are the same, of two strings that aren't both longer the one begins the other
 pub fronts_same : (n a : ℕ) (xs ys : List ℕ) → AreBytes xs → AreBytes ys → front_from n a xs ≡ front_from n a ys → min (length xs) (length ys) ≤ n → key_cmp xs ys ≡ nat_cmp (length xs) (length ys)
 fronts_same n a [] [] h g e short = refl
 fronts_same n a [] (y ∷ ys) h g e short = sym (below 0 (suc (length ys)) (omega arith))

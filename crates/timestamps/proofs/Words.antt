@@ -1,0 +1,118 @@
+-- What the words of some bytes are, and how they decide the order of two lists.
+use Rattle.std.proofs.Common.{ℕ, zero, suc, List, [], ◌∷◌, ◌++◌, ◌≡◌, ◌<◌, ◌≤◌, ◌⊎◌, inl, inr, ◌+◌, ◌*◌, ◌^◌, refl, sym, ap, ◌∙◌, arith, get_or, take, drop, nat_cmp, subst}
+use Rattle.std.proofs.Math.Nat.{mul_assoc}
+use Rattle.std.proofs.Math.Seq.{drop-nil}
+use Rattle.std.proofs.lemmas.List.{get_or-drop, get_or_past, get_or-take, length-take}
+use Rattle.std.proofs.lemmas.Bool.{cases_lt}
+use Rattle.std.proofs.lemmas.Nat.{pow-add}
+use Rattle.timestamps.specs.Bytes.{key_cmp}
+use Rattle.timestamps.specs.Words.{AreBytes, front_from, front_of}
+use Rattle.timestamps.proofs.Fronts.{cmp_on, front_read, fronts_differ, spelt}
+
+-- how many numbers n bytes can be
+abbrev width : ℕ → ℕ
+width zero = 1
+width (suc n) = 256 * width n
+
+width_is : (n : ℕ) → 2 ^ (8 * n) ≡ width n
+width_is zero = refl
+width_is (suc n) = let e : 8 * suc n ≡ 8 + 8 * n = omega arith in rw (e, pow-add 2 8 (8 * n)) (ap (λ t. 256 * t) (width_is n))
+
+-- what stands in front of n bytes
+in_front : (n a b c : ℕ) (xs : List ℕ) → c ≡ a + b → front_from n c xs ≡ a * width n + front_from n b xs
+in_front zero a b c xs e = omega arith
+in_front (suc n) a b c [] e = in_front n (a * 256) (b * 256) (c * 256) [] (omega arith) ∙ ap (λ t. t + front_from n (b * 256) []) (mul_assoc a 256 (width n))
+in_front (suc n) a b c (x ∷ xs) e = in_front n (a * 256) (b * 256 + x) (c * 256 + x) xs (omega arith) ∙ ap (λ t. t + front_from n (b * 256 + x) xs) (mul_assoc a 256 (width n))
+
+-- the bytes of a list go on where its first end
+front_on : (k m n a : ℕ) (xs : List ℕ) → k ≡ m + n → front_from k a xs ≡ front_from n (front_from m a xs) (drop m xs)
+front_on k zero n a xs e = let same : k ≡ n = omega arith in ap (λ t. front_from t a xs) same
+front_on zero (suc m) n a xs e = absurd (omega arith)
+front_on (suc k) (suc m) n a [] e = front_on k m n (a * 256) [] (omega arith) ∙ ap (front_from n (front_from m (a * 256) [])) (drop-nil m)
+front_on (suc k) (suc m) n a (x ∷ xs) e = front_on k m n (a * 256 + x) xs (omega arith)
+
+-- one word more
+last_front : (m : ℕ) (xs : List ℕ) → front_from (m + 8) 0 xs ≡ front_from m 0 xs * width 8 + front_of (drop m xs)
+last_front m xs = let front = front_from m 0 xs in front_on (m + 8) m 8 0 xs refl ∙ in_front 8 front 0 front (drop m xs) (omega arith)
+
+-- one word more that two lists have alike
+pub alike_on : (m : ℕ) (xs ys : List ℕ) → front_from m 0 xs ≡ front_from m 0 ys → front_of (drop m xs) ≡ front_of (drop m ys) → front_from (m + 8) 0 xs ≡ front_from (m + 8) 0 ys
+alike_on m xs ys same next = last_front m xs ∙ rw (same, next) (sym (last_front m ys))
+
+no_more : (front step : ℕ) → front ≡ front + 0 * step
+no_more front step = omega arith
+
+-- one byte more
+byte_on : (k i p a : ℕ) (xs : List ℕ) → k ≡ i + suc p → front_from k a (take (suc i) xs) ≡ front_from k a (take i xs) + get_or xs i 0 * width p
+byte_on zero i p a xs e = absurd (omega arith)
+byte_on (suc k) zero p a [] e = no_more (front_from k (a * 256) []) (width p)
+byte_on (suc k) (suc i) p a [] e = no_more (front_from k (a * 256) []) (width p)
+byte_on (suc k) zero p a (x ∷ xs) e =
+    let same : k ≡ p = omega arith in
+    let front = front_from k (a * 256) [] in
+    let made : front_from k (a * 256 + x) [] ≡ x * width k + front = in_front k x (a * 256) (a * 256 + x) [] (omega arith) in
+    let turned : x * width k + front ≡ front + x * width k = omega arith in
+    made ∙ turned ∙ ap (λ t. front + x * width t) same
+byte_on (suc k) (suc i) p a (x ∷ xs) e = byte_on k i p (a * 256 + x) xs (omega arith)
+
+pub byte_more : (i p : ℕ) (xs : List ℕ) → 8 ≡ i + suc p → front_of (take (suc i) xs) ≡ front_of (take i xs) + get_or xs i 0 * 2 ^ (8 * p)
+byte_more i p xs e = rw (width_is p) (byte_on 8 i p 0 xs e)
+
+-- eight bytes are one word
+pub front_fits : (xs : List ℕ) → AreBytes xs → front_of xs < 2 ^ 64
+front_fits xs h = omega (arith, spelt xs, h 0, h 1, h 2, h 3, h 4, h 5, h 6, h 7)
+
+-- zeros that are left out are read all the same
+pub front_alike : (n a : ℕ) (xs ys : List ℕ) → ((k : ℕ) → get_or xs k 0 ≡ get_or ys k 0) → front_from n a xs ≡ front_from n a ys
+front_alike zero a xs ys same = refl
+front_alike (suc n) a [] [] same = refl
+front_alike (suc n) a [] (y ∷ ys) same = let e : a * 256 ≡ a * 256 + y = omega (arith, same 0) in front_alike n (a * 256) [] ys (λ k. same (suc k)) ∙ ap (λ t. front_from n t ys) e
+front_alike (suc n) a (x ∷ xs) [] same = let e : a * 256 + x ≡ a * 256 = omega (arith, same 0) in ap (λ t. front_from n t xs) e ∙ front_alike n (a * 256) xs [] (λ k. same (suc k))
+front_alike (suc n) a (x ∷ xs) (y ∷ ys) same = let e : a * 256 + x ≡ a * 256 + y = omega (arith, same 0) in ap (λ t. front_from n t xs) e ∙ front_alike n (a * 256 + y) xs ys (λ k. same (suc k))
+
+-- what words spell are bytes, eight of each
+pub bytes_first : (x : ℕ) (xs : List ℕ) → x < 256 → AreBytes xs → AreBytes (x ∷ xs)
+bytes_first x xs l h zero = l
+bytes_first x xs l h (suc k) = h k
+
+pub take_bytes : (n : ℕ) (xs : List ℕ) → AreBytes xs → AreBytes (take n xs)
+take_bytes zero xs h = λ k. omega arith
+take_bytes (suc n) [] h = λ k. omega arith
+take_bytes (suc n) (x ∷ xs) h = bytes_first x (take n xs) (h 0) (take_bytes n xs (λ k. h (suc k)))
+
+pub append_bytes : (xs ys : List ℕ) → AreBytes xs → AreBytes ys → AreBytes (xs ++ ys)
+append_bytes [] ys h g = g
+append_bytes (x ∷ xs) ys h g = bytes_first x (xs ++ ys) (h 0) (append_bytes xs ys (λ k. h (suc k)) g)
+
+-- the first words that differ decide, since what is before them counts more and is the same
+differ_on : (l r a x y : ℕ) → l ≡ a + x → r ≡ a + y → (x ≡ y → ⊥) → l ≡ r → ⊥
+differ_on l r a x y e e' f same = f (omega arith)
+
+pub words_differ : (m : ℕ) (xs ys : List ℕ) → AreBytes xs → AreBytes ys → front_from m 0 xs ≡ front_from m 0 ys → (front_of (drop m xs) ≡ front_of (drop m ys) → ⊥) → key_cmp xs ys ≡ nat_cmp (front_of (drop m xs)) (front_of (drop m ys))
+words_differ m xs ys h g same f =
+    let before = front_from m 0 ys * width 8 in
+    let left : front_from (m + 8) 0 xs ≡ before + front_of (drop m xs) = last_front m xs ∙ ap (λ t. t * width 8 + front_of (drop m xs)) same in
+    let right : front_from (m + 8) 0 ys ≡ before + front_of (drop m ys) = last_front m ys in
+    let differ = fronts_differ (m + 8) 0 xs ys h g (differ_on _ _ before _ _ left right f) in
+    differ ∙ rw (left, right) (cmp_on before (front_of (drop m xs)) (front_of (drop m ys)))
+
+-- a whole word is that of the bytes whose first it was read from
+pub chunk_word : (xs first : List ℕ) → first ≡ take 8 xs → front_of xs
+    ≡ get_or first 0 0 * 72057594037927936 + get_or first 1 0 * 281474976710656 + get_or first 2 0 * 1099511627776 + get_or first 3 0 * 4294967296 + get_or first 4 0 * 16777216 + get_or first 5 0 * 65536 + get_or first 6 0 * 256 + get_or first 7 0
+chunk_word xs first same = front_read xs first (λ k l. ap (λ t. get_or t k 0) same ∙ get_or-take 8 xs k 0 l)
+
+-- zeros behind a text are in no word of it
+pub word_padded : (k len : ℕ) (bytes : List ℕ) → ((j : ℕ) → len ≤ j → get_or bytes j 0 ≡ 0) → front_of (drop k bytes) ≡ front_of (drop k (take len bytes))
+word_padded k len bytes zeros = front_alike 8 0 (drop k bytes) (drop k (take len bytes)) (λ j. get_or-drop k bytes j 0 ∙ cut (k + j) (cases_lt (k + j) len) ∙ sym (get_or-drop k (take len bytes) j 0))
+  where
+    cut : (i : ℕ) → (i < len) ⊎ (len ≤ i) → get_or bytes i 0 ≡ get_or (take len bytes) i 0
+    cut i (inl below) = sym (get_or-take len bytes i 0 below)
+    cut i (inr beyond) = zeros i beyond ∙ sym (get_or_past (take len bytes) i 0 (let size = length-take len bytes in omega arith))
+
+-- Two short texts that are the same up to a word: the words decide where they differ, and the texts are the same up to the next where they don't.
+module _ (text others : List ℕ) (h : AreBytes text) (g : AreBytes others) (i : ℕ) (same : front_from (8 * i) 0 text ≡ front_from (8 * i) 0 others) where
+  pub word_decides : (word word' : ℕ) → word ≡ front_of (drop (8 * i) text) → word' ≡ front_of (drop (8 * i) others) → (word ≡ word' → ⊥) → nat_cmp word word' ≡ key_cmp text others
+  word_decides word word' is is' differ = rw (is, is') (sym (words_differ (8 * i) text others h g same (λ e. differ (is ∙ e ∙ sym is'))))
+
+  pub word_goes_on : (word word' : ℕ) → word ≡ front_of (drop (8 * i) text) → word' ≡ front_of (drop (8 * i) others) → word ≡ word' → front_from (8 * (i + 1)) 0 text ≡ front_from (8 * (i + 1)) 0 others
+  word_goes_on word word' is is' e = let on : 8 * i + 8 ≡ 8 * (i + 1) = omega arith in subst (λ k. front_from k 0 text ≡ front_from k 0 others) on (alike_on (8 * i) text others same (sym is ∙ e ∙ is'))
