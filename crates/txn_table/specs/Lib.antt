@@ -1,4 +1,3 @@
-pub mod Places
 pub mod States
 pub mod TransactionIn
 pub mod Ties

@@ -13,15 +13,14 @@
 //! close 15: forget to 15   20 of 1                                 20
 //! ```
 //!
-//! Cost, where n transactions stand: each call finds its place in O(log n). A key goes to the end of
-//! a write set in O(1) where it is the greatest, and else to a place that is found by halves;
-//! forgetting takes O(log n) for each transaction that goes, and no memory.
+//! Cost, where n transactions stand: each call finds its place in O(log n). The keys of a transaction
+//! are an ordered set: one of w keys is noted or looked up in O(log w), whichever order they come in, and
+//! they are read in turn. Forgetting takes O(log n) for each transaction that goes, and no memory.
 #![tactic(auto)]
 
 mod changes;
 mod transaction;
 mod txns;
-mod write_set;
 
 pub use transaction::Outcome;
 pub use txns::Txns;

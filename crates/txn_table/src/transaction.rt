@@ -6,9 +6,10 @@ ghost use Rattle.spans.proofs.WriteSets.{has};
 ghost use Rattle.kept.specs.Table.{new_transaction};
 ghost use Rattle.txn_table.specs.States.{decided};
 
-use crate::write_set::WriteSet;
 use spans::state::State;
 use std::alloc::{AllocError, Global};
+use std::collections::BTreeSet;
+use std::collections::btree_set::Range;
 use std::marker::Model;
 use timestamps::key::Key;
 
@@ -26,15 +27,18 @@ pub enum Outcome {
 pub(crate) struct Transaction {
     seat: u8,
     state: State,
-    keys: WriteSet,
+    keys: BTreeSet<Key>,
 }
 
 impl Model for Transaction {
+    ghost use Rattle.spans.proofs.Keyed.{RisingKeys};
     ghost use Rattle.spans.specs.Kept as kept;
 
     ghost Value = { kept.Transaction };
 
-    ghost view = { λ t. record { seat = t.seat; state = t.state; keys = t.keys } };
+    ghost view = { λ t. record { seat = t.seat; state = t.state; keys = t.keys.keys } };
+
+    ghost invariant = { λ t. RisingKeys t.keys.keys };
 }
 
 impl Transaction {
@@ -45,7 +49,7 @@ impl Transaction {
         Transaction {
             seat,
             state: State::Undecided,
-            keys: WriteSet::new(alloc),
+            keys: BTreeSet::new(alloc),
         }
     }
 
@@ -56,28 +60,33 @@ impl Transaction {
         (self.seat, self.state)
     }
 
-    /// The keys that it wrote.
-    pub(crate) fn keys(&self) -> &[Key]
-        ensures keys { result.now ≡ self.now.keys }
-        ensures rising { RisingKeys self.now.keys }
+    /// The keys that it wrote, rising.
+    pub(crate) fn keys(&self) -> Range<'_, Key>
+        ensures keys { result ≡ self.now.keys }
+        ensures rising { RisingKeys result }
     {
-        self.keys.as_slice()
+        self.keys.range(..)
     }
 
     /// Whether it wrote the key.
     pub(crate) fn has_key(&self, key: &Key) -> bool
         ensures { result ≡ has key.now self.now.keys }
     {
-        self.keys.has(key)
+        self.keys.contains(key)
     }
 
-    /// Notes that it wrote the key.
+    /// Notes that it wrote the key. A key that is noted is not copied once more.
     pub(crate) fn add_key(&mut self, key: &Key) -> Result<(), AllocError>
         ensures ok { OnOk result (self.new ≡ record self.old { keys = insert_key key.now self.old.keys }) }
         ensures err { OnErr result (self.new ≡ self.old) }
         ensures absent { OnErr result (has key.now self.old.keys ≡ false) }
     {
-        self.keys.add(key)
+        if self.keys.contains(key) {
+            return Ok(());
+        }
+        let key = key.copy()?;
+        self.keys.insert(key)?;
+        Ok(())
     }
 
     /// Ends it.

@@ -1,5 +1,5 @@
 //! The transactions that stand, by timestamp.
-ghost use Rattle.std.specs.Prelude.{◌≡◌, ◌&&◌, ℕ, List, [], Some, None, IfSome, IfOk, OnOk, OnErr, IsSome, false, nat_le, nat_lt, option_map, is_none, if◌then◌else◌, length, ◌<◌, ◌^◌};
+ghost use Rattle.std.specs.Prelude.{◌≡◌, ◌&&◌, ℕ, List, [], Some, None, MatchOption, IfSome, IfOk, OnOk, OnErr, IsSome, false, nat_le, nat_lt, option_map, is_none, if◌then◌else◌, length, ◌<◌, ◌^◌};
 ghost use Rattle.std.specs.List.Sorted.{IsStrictlyIncreasing};
 ghost use Rattle.spans.specs.Kept.{Transaction};
 ghost use Rattle.spans.proofs.Keyed.{RisingKeys};
@@ -81,14 +81,14 @@ impl Txns {
         }
     }
 
-    /// The keys that the transaction of `ts` wrote, rising; none where there is no transaction.
-    pub fn write_set(&self, ts: u64) -> &[Key]
-        ensures keys { result.now ≡ keys_of (transaction_in self.now ts) }
-        ensures rising { RisingKeys result.now }
+    /// The keys that the transaction of `ts` wrote, rising, where there is one.
+    pub fn write_set(&self, ts: u64) -> Option<Range<'_, Key>>
+        ensures keys { MatchOption result (transaction_in self.now ts ≡ None) (λ keys. keys ≡ keys_of (transaction_in self.now ts)) }
+        ensures rising { IfSome result RisingKeys }
     {
         match self.table.get(&TsKey(ts)) {
-            None => &[],
-            Some(transaction) => transaction.keys(),
+            None => None,
+            Some(transaction) => Some(transaction.keys()),
         }
     }
 
