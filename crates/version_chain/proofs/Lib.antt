@@ -2,7 +2,7 @@ pub mod Places
 pub mod BinarySearch
 pub mod Edits
 pub mod Changes
-pub mod Meaning
+pub mod Turns
 pub mod Counts
 pub mod InSpans
 pub mod Indexes

@@ -1,14 +1,13 @@
 //! The versions of all keys, by key.
-ghost use Rattle.std.specs.Prelude.{◌≡◌, ℕ, List, ◌≤◌, None, Some, MatchOption, IfOk, OnOk, OnErr, option_map, bytes_eq, true};
+ghost use Rattle.std.specs.Prelude.{◌≡◌, ℕ, List, [], ◌∷◌, length, ◌<◌, ◌^◌, ◌≤◌, None, Some, MatchOption, IfOk, OnOk, OnErr, bytes_eq, true};
 ghost use Rattle.std.specs.Option.{option_copied};
 ghost use Rattle.std.specs.List.{filter};
 ghost use Rattle.std.specs.Map.{keys_of};
 ghost use Rattle.spans.specs.Keys.{in_span};
 ghost use Rattle.spans.proofs.Keyed.{RisingKeys};
 ghost use Rattle.kept.specs.Finding.{IsNextAbove};
-ghost use Rattle.version_chain.specs.Versions.{as_committed};
 ghost use Rattle.version_chain.specs.Following.{IsFirstFound};
-ghost use Rattle.version_chain.specs.Chains.{Entry, AreFilled, IsChangedAt};
+ghost use Rattle.version_chain.specs.Chains.{Entry, AreFilled};
 ghost use Rattle.spans.proofs.WriteSets.{has};
 ghost use Rattle.version_chain.specs.Dead.{is_dead_in, IsCollectedIn, AreThinned};
 ghost use Rattle.version_chain.specs.Stores.{version_in, IsCountOf, IsNewestIn, IsAsBefore, IsWrittenTo, IsCommittedIn, IsAbortedIn};
@@ -19,6 +18,7 @@ use crate::in_span::InSpan;
 use crate::index::Index;
 use spans::span::Span;
 use std::alloc::{AllocError, Global};
+use std::collections::btree_set;
 use std::marker::Model;
 use std::ops::Bound;
 use timestamps::key::Key;
@@ -181,18 +181,24 @@ impl Store {
         Ok(())
     }
 
-    /// Marks the versions of `ts` at these keys as committed. It takes no memory.
-    pub fn commit(&mut self, ts: Ts, keys: &[Key])
-        ensures { IsCommittedIn self.old self.new ts keys.now }
+    /// Marks the versions of `ts` at these keys as committed, and says how many keys there are. It takes
+    /// no memory.
+    pub fn commit(&mut self, ts: Ts, keys: btree_set::Range<'_, Key>) -> u64
+        requires fits { length keys < 2 ^ 63 }
+        ensures committed { IsCommittedIn self.old self.new ts keys.entry }
+        ensures count { result ≡ length keys.entry }
     {
+        let mut count = 0u64;
         for key in keys {
             self.commit_at(key, ts);
+            count += 1;
         }
+        count
     }
 
     /// Marks a version, where there is one, as committed.
     fn commit_at(&mut self, key: &Key, ts: Ts)
-        ensures { IsChangedAt self.old self.new key.now ts (option_map as_committed) }
+        ensures { IsCommittedIn self.old self.new ts (key.now ∷ []) }
     {
         // a version that commits below it may be dead by it, or make others so
         self.dropped_through = self.dropped_through.min(ts.get() - 1);
@@ -200,17 +206,17 @@ impl Store {
     }
 
     /// Drops the versions of `ts` at these keys. It takes no memory.
-    pub fn abort(&mut self, ts: Ts, keys: &[Key])
-        ensures { IsAbortedIn self.old self.new ts keys.now }
+    pub fn abort(&mut self, ts: Ts, keys: btree_set::Range<'_, Key>)
+        ensures { IsAbortedIn self.old self.new ts keys.entry }
     {
         for key in keys {
-            self.drop_at(key, ts);
+            self.remove(key, ts);
         }
     }
 
-    /// Drops a version, where there is one.
-    fn drop_at(&mut self, key: &Key, ts: Ts)
-        ensures { IsChangedAt self.old self.new key.now ts (λ _. None) }
+    /// Drops the version of `ts` at a key, where there is one. It takes no memory.
+    pub fn remove(&mut self, key: &Key, ts: Ts)
+        ensures { IsAbortedIn self.old self.new ts (key.now ∷ []) }
     {
         if self.chains.remove(key, ts.get()) {
             self.index.remove(ts.get(), key);

@@ -1,8 +1,9 @@
-use Rattle.std.proofs.Common.{take}
-use Rattle.std.specs.Prelude.{option_map}
-use Rattle.version_chain.specs.Versions.{as_committed}
-use Rattle.version_chain.proofs.Meaning.{AreEachDone}
+use Rattle.std.proofs.Common.{length, ◌+◌, ◌≡◌}
+use Rattle.version_chain.proofs.Turns.{IsCommitting}
 use Rattle.version_chain.proofs.store.Store.commit.Given as goal
 
 abbrev pub invariant-loop-key : goal.invariant-loop-key
-invariant-loop-key l = AreEachDone l.fn.self l.self l.ts (take l.key-index l.keys) (option_map as_committed)
+invariant-loop-key l = record {
+  committing : IsCommitting l.fn.self l.self l.ts l.fn.keys l.key-iterator;
+  counted : l.count + length l.key-iterator ≡ length l.fn.keys;
+}

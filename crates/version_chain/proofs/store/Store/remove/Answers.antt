@@ -3,7 +3,7 @@ use Rattle.std.specs.Prelude.{bytes_eq}
 use Rattle.version_chain.specs.Indexes.{is_listed}
 use Rattle.version_chain.proofs.Counts.{counted_less}
 use Rattle.version_chain.proofs.Soundness.{indexed_less, settled_drop, sound_alike, none_went}
-use Rattle.version_chain.proofs.store.Store.drop_at.Goals as goal
+use Rattle.version_chain.proofs.store.Store.remove.Goals as goal
 
 pub overflow_sub-self : goal.overflow_sub-self
 overflow_sub-self c = (counted_less c.self.inside.chains c.remove.new.self c.args.key.now c.get.result c.self.inside.count c.remove.ensures.rest (sym c.if-remove.ensures.was) c.self.invariant.counted).0
