@@ -6,6 +6,7 @@ ghost use Rattle.mvto_rules.specs.Closings.{AreOpenNoted, AreTakenBack, IsCountT
 ghost use Rattle.mvto_rules.specs.Tables.{AreInRange};
 
 use crate::rules::Rules;
+use crate::written::abort_written;
 use std::alloc::AllocError;
 use timestamps::ts::Ts;
 use txn_table::Txns;
@@ -64,7 +65,7 @@ fn take_back_through(store: &mut Store, txns: &Txns, to: u64) -> u64
     for ts in txns.undecided_through(to) {
         // each number in the table is one
         let ts = Ts::new(ts.0).unwrap();
-        store.abort(ts, txns.write_set(ts.get()));
+        abort_written(store, txns, ts);
         count += 1;
     }
     count

@@ -1,5 +1,5 @@
 //! What the rules hold, to be read.
-ghost use Rattle.std.specs.Prelude.{◌≡◌};
+ghost use Rattle.std.specs.Prelude.{◌≡◌, None, IfSome, MatchOption};
 ghost use Rattle.spans.proofs.Keyed.{RisingKeys};
 ghost use Rattle.spans.proofs.WriteSets.{has};
 ghost use Rattle.kept.specs.Table.{IsOldest, is_open, keys_of};
@@ -8,6 +8,7 @@ ghost use Rattle.version_chain.specs.Stores as stores;
 
 use crate::rules::Rules;
 use read_marks::Marks;
+use std::collections::btree_set::Range;
 use timestamps::key::Key;
 use version_chain::Store;
 
@@ -50,13 +51,14 @@ impl Rules {
         self.txns.undecided()
     }
 
-    /// The keys that the transaction of `ts` wrote, rising; none where there is no transaction.
-    pub fn write_set(&self, ts: u64) -> &[Key]
-        ensures keys { result.now ≡ keys_of (transactions_of self.now ts) }
-        ensures rising { RisingKeys result.now }
+    /// The keys that the transaction of `ts` wrote, rising, where there is one.
+    pub fn write_set(&self, ts: u64) -> Option<Range<'_, Key>>
+        ensures keys { MatchOption result (transactions_of self.now ts ≡ None) (λ keys. keys ≡ keys_of (transactions_of self.now ts)) }
+        ensures rising { IfSome result RisingKeys }
     {
         self.txns.write_set(ts)
     }
+
     /// Whether the transaction of `ts` noted the key, as a write asks of a caller.
     pub fn has_key(&self, ts: u64, key: &Key) -> bool
         ensures { result ≡ has key.now (keys_of (transactions_of self.now ts)) }

@@ -55,5 +55,6 @@ mod sight;
 mod snapshots;
 mod spot;
 mod walk;
+mod written;
 
 pub use rules::Rules;

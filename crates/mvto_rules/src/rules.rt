@@ -24,12 +24,12 @@ ghost use Rattle.mvto_rules.specs.Tables.{AreInRange};
 use crate::reading::{Reading, read_span};
 use crate::sight::{Sight, value_of};
 use crate::spot::span_of;
+use crate::written::{abort_written, commit_written};
 use read_marks::{Marks, Piece};
 use spans::calls::{Refusal, Reply, Rows};
 use spans::span::Span;
 use spans::state::State;
 use std::alloc::{AllocError, Global};
-use std::slice;
 use timestamps::key::Key;
 use timestamps::ts::Ts;
 use timestamps::value::Value;
@@ -177,7 +177,7 @@ impl Rules {
     {
         self.store.write(key, ts, after)?;
         if self.txns.add_key(ts, key).is_err() {
-            self.store.abort(ts, slice::from_ref(key));
+            self.store.remove(key, ts);
             return Err(AllocError);
         }
         Ok(())
@@ -223,9 +223,7 @@ impl Rules {
         match self.undecided(closed, seat, ts) {
             Err(refusal) => Reply::Refused(refusal),
             Ok(ts) => {
-                let written = self.txns.write_set(ts.get());
-                let keys = written.len() as u64;
-                self.store.commit(ts, written);
+                let keys = commit_written(&mut self.store, &self.txns, ts);
                 self.txns.decide(ts, Outcome::Committed);
                 Reply::Committed { keys }
             }
@@ -251,8 +249,7 @@ impl Rules {
     fn take_back(&mut self, ts: Ts)
         ensures { Changes self.old self.new (λ k k'. IsAbortedBy k k' ts) }
     {
-        let written = self.txns.write_set(ts.get());
-        self.store.abort(ts, written);
+        abort_written(&mut self.store, &self.txns, ts);
         self.txns.decide(ts, Outcome::Aborted);
     }
 

@@ -1,5 +1,5 @@
 //! One transaction of the table.
-ghost use Rattle.std.specs.Prelude.{◌≡◌, OnOk, OnErr, false};
+ghost use Rattle.std.specs.Prelude.{◌≡◌, ◌<◌, ◌^◌, length, OnOk, OnErr, false};
 ghost use Rattle.spans.specs.Keys.{insert_key};
 ghost use Rattle.spans.proofs.Keyed.{RisingKeys};
 ghost use Rattle.spans.proofs.WriteSets.{has};
@@ -64,6 +64,7 @@ impl Transaction {
     pub(crate) fn keys(&self) -> Range<'_, Key>
         ensures keys { result ≡ self.now.keys }
         ensures rising { RisingKeys result }
+        ensures fits { length result < 2 ^ 63 }
     {
         self.keys.range(..)
     }

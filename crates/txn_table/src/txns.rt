@@ -85,6 +85,7 @@ impl Txns {
     pub fn write_set(&self, ts: u64) -> Option<Range<'_, Key>>
         ensures keys { MatchOption result (transaction_in self.now ts ≡ None) (λ keys. keys ≡ keys_of (transaction_in self.now ts)) }
         ensures rising { IfSome result RisingKeys }
+        ensures fits { IfSome result (λ keys. length keys < 2 ^ 63) }
     {
         match self.table.get(&TsKey(ts)) {
             None => None,

@@ -26,10 +26,9 @@ pub loop-ts-preserved : goal.loop-ts-preserved
 loop-ts-preserved c =
     let taking = subst (IsTakingBack c.args.store.now c.loop-ts.store c.args.txns.now c.args.to) c.in-Some.ensures.steps c.loop-ts.invariant.taking in
     let named : c.unwrap-ts.result ≡ c.in-Some.ts.now = subst (λ o. IfSome o (λ t. t ≡ c.ts.inside.0)) c.unwrap-ts.ensures c.new.ensures.number ∙ c.ts.view_is in
-    let aborted = subst (λ n. IsAbortedIn c.loop-ts.store c.abort.new.self n (keys_of (transaction_in c.args.txns.now n))) named
-    (subst (IsAbortedIn c.loop-ts.store c.abort.new.self c.unwrap-ts.result) (c.write_set.ensures.keys ∙ ap (λ n. keys_of (transaction_in c.args.txns.now n)) c.get.ensures.number) c.abort.ensures) in
+    let aborted = subst (λ n. IsAbortedIn c.loop-ts.store c.abort_written.new.store n (keys_of (transaction_in c.args.txns.now n))) named c.abort_written.ensures in
     record {
-      taking = taking_goes_on c.args.store.now c.loop-ts.store c.abort.new.self c.args.txns.now c.args.to c.in-Some.ts.now c.next.new.self c.requires.noted taking aborted;
+      taking = taking_goes_on c.args.store.now c.loop-ts.store c.abort_written.new.store c.args.txns.now c.args.to c.in-Some.ts.now c.next.new.self c.requires.noted taking aborted;
       counted = omega (arith, c.loop-ts.invariant.counted, ap length c.in-Some.ensures.steps);
     }
 
