@@ -65,6 +65,28 @@ key_more s t xs x h m h' (Some a) is all one = held_more t (rows_at s t xs) (row
 pub keys_more : (s : Stored) (t : ℕ) (xs : List (List ℕ)) (x : List ℕ) (h m h' : holding.Held) → IsHeldAll t (rows_at s t xs) h m → IsKeyHeld m h' t x (version_in s x t) → IsHeldAll t (rows_at s t (xs ++ x ∷ [])) h h'
 keys_more s t xs x h m h' all one = subst (λ l. IsHeldAll t l h h') (sym (rows_append s t xs (x ∷ []) ∙ ap (λ l. rows_at s t xs ++ l) (append-nil (row_list t x (version_in s x t))))) (key_more s t xs x h m h' (version_in s x t) refl all one)
 
+pub none_held : (t : ℕ) (h : holding.Held) → IsHeldAll t [] h h
+none_held t h = record { only = λ q i. inl i; still = λ j e. e; others = λ q off. (λ i. i, λ i. i); own = λ kept none q on. (λ i. cc (none q i), λ i. absurd i) }
+
+-- of the keys the rest is yet to be held
+pub record AreHeldSoFar (s : Stored) (t : ℕ) (keys rest : List (List ℕ)) (h h' : holding.Held) : Type 0 where
+  pub done : List (List ℕ)
+  pub all : done ++ rest ≡ keys
+  pub held : IsHeldAll t (rows_at s t done) h h'
+
+pub first_held : (s : Stored) (t : ℕ) (keys rest : List (List ℕ)) (h : holding.Held) → rest ≡ keys → AreHeldSoFar s t keys rest h h
+first_held s t keys rest h is = record { done = []; all = is; held = none_held t h }
+
+pub next_held : (s : Stored) (t : ℕ) (keys : List (List ℕ)) (x : List ℕ) (rest : List (List ℕ)) (h m h' : holding.Held) → AreHeldSoFar s t keys (x ∷ rest) h m → IsKeyHeld m h' t x (version_in s x t) → AreHeldSoFar s t keys rest h h'
+next_held s t keys x rest h m h' so one = record {
+  done = so.done ++ x ∷ [];
+  all = append_assoc so.done (x ∷ []) rest ∙ so.all;
+  held = keys_more s t so.done x h m h' so.held one;
+}
+
+pub all_held : (s : Stored) (t : ℕ) (keys : List (List ℕ)) (h h' : holding.Held) → AreHeldSoFar s t keys [] h h' → IsHeldAll t (rows_at s t keys) h h'
+all_held s t keys h h' so = subst (λ l. IsHeldAll t (rows_at s t l) h h') (sym (append-nil so.done) ∙ so.all) so.held
+
 -- where every version of t is one of the keys, the commit is what the theorem on held rows asks for
 pub commit_held : (k : Kept) (s : Stored) (t : ℕ) (xs : List (List ℕ)) (h h' : holding.Held) → ((x : List ℕ) → version_in s x t ≡ k.version x t) → ((x : List ℕ) → has x xs ≡ false → k.version x t ≡ None)
     → (RisingRows h.rows → RisingRows h'.rows) → IsHeldAll t (rows_at s t xs) h h' → RisingRows h.rows → (is_lost h.gap t ≡ false → (q : Row) → IsRowIn q h.rows → (q.ts == t) ≡ false) → IsHeldFor k t (is_lost h.gap) (is_lost h'.gap) h.rows h'.rows

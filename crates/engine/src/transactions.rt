@@ -2,7 +2,7 @@
 ghost use Rattle.spans.specs.declared.calls.commands.Cmd.TheVariants.{Abort, Begin, Commit, Del, Get, Put, Scan};
 ghost use Rattle.kept.specs.Answered.{IsStep};
 
-use crate::holding::hold_rows;
+use crate::holding::hold_written;
 use crate::layers::Layers;
 use spans::calls::{Refusal, Reply};
 use spans::span::Span;
@@ -77,13 +77,7 @@ impl Layers {
         let closed = self.closed();
         match self.rules.commit(closed, seat, ts) {
             Reply::Committed { keys } => {
-                let rules = &self.rules;
-                hold_rows(
-                    &mut self.held_back,
-                    rules.versions(),
-                    ts,
-                    rules.write_set(ts),
-                );
+                hold_written(&mut self.held_back, &self.rules, ts);
                 Reply::Committed { keys }
             }
             reply => reply,

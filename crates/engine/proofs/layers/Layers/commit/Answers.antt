@@ -2,8 +2,8 @@ use Rattle.std.proofs.Common.{ap, inl, refl, subst, sym, ◌∙◌}
 use Rattle.spans.specs.declared.calls.commands.Cmd.TheVariants.{Commit}
 use Rattle.spans.proofs.WriteSets.{has}
 use Rattle.kept.specs.Answered.{IsAnswered}
-use Rattle.version_chain.specs.Stores.{version_in}
-use Rattle.mvto_rules.specs.Holding.{holding}
+use Rattle.kept.specs.Table.{keys_of}
+use Rattle.mvto_rules.specs.Holding.{holding, transactions_of, versions_of}
 use Rattle.engine.specs.Layers.{kept_of}
 use Rattle.engine.proofs.HoldingRows.{commit_held, keys_stay}
 use Rattle.engine.proofs.Replies.{commit_answered}
@@ -12,7 +12,7 @@ use Rattle.engine.proofs.layers.Layers.commit.Goals as goal
 
 pub returns-in-Committed-clause-step : goal.returns-in-Committed-clause-step
 returns-in-Committed-clause-step c =
-    let k = kept_of c.args.self.now in let new = c.commit.ensures in let k' = kept_of (record c.args.self.now { rules = c.commit.new.self; held_back = c.hold_rows.new.held }) in
+    let k = kept_of c.args.self.now in let new = c.commit.ensures in let k' = kept_of (record c.args.self.now { rules = c.commit.new.self; held_back = c.hold_written.new.held }) in
     inl (subst (IsAnswered k k' c.args.seat (Commit c.args.ts)) c.in-Committed.is (commit_answered k k' c.args.seat c.args.ts c.commit.result (new.reply k (sym c.closed-closed.ensures)) (new.committed k) (new.refused k)))
 
 pub returns-in-Committed-clause-served : goal.returns-in-Committed-clause-served
@@ -21,8 +21,9 @@ returns-in-Committed-clause-served c = (
   λ rising noted above none.
       let k = kept_of c.args.self.now in
       let done = c.commit.ensures.committed k c.in-Committed.keys c.in-Committed.is in
-      let keys = c.write_set.ensures.keys ∙ keys_stay k (holding k c.commit.new.self) c.args.ts done in
-      commit_held k c.versions.result.now c.args.ts c.write_set.result.now c.args.self.now.held_back c.hold_rows.new.held (λ x. ap (λ s. version_in s x c.args.ts) c.versions.ensures ∙ done.version x c.args.ts) (λ x out. noted x c.args.ts above (ap (has x) (sym keys) ∙ out)) c.hold_rows.ensures.rising c.hold_rows.ensures.held rising none,
+      let rules = c.commit.new.self in
+      let keys = keys_stay k (holding k rules) c.args.ts done in
+      commit_held k (versions_of rules) c.args.ts (keys_of (transactions_of rules c.args.ts)) c.args.self.now.held_back c.hold_written.new.held (λ x. done.version x c.args.ts) (λ x out. noted x c.args.ts above (ap (has x) (sym keys) ∙ out)) c.hold_written.ensures.rising c.hold_written.ensures.held rising none,
 )
 
 pub returns-in_default-clause-step : goal.returns-in_default-clause-step
