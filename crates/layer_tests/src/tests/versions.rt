@@ -1,7 +1,8 @@
 //! Versions of keys: what a write, a commit, an abort and a collection leave, and what a search finds.
 use super::script::{Asked, Words, put_number};
 use std::alloc::Global;
-use std::slice;
+use std::collections::BTreeSet;
+use timestamps::key::Key;
 use timestamps::value::Value;
 use version_chain::Store;
 
@@ -25,7 +26,7 @@ least 29 apple=30
 least 30 apple=none
 least 0 pear=none
 ",
-    // a commit marks, and an abort drops
+    // a commit marks, an abort drops, and so does a removal
     "write 10 apple=
 write 10 pear=
 write 20 apple=
@@ -36,8 +37,11 @@ newest 25 apple=20
 abort 20 apple=
 abort 10 pear=
 abort 30 plum=
+write 30 pear=
+remove 30 pear=
+remove 30 plum=
 newest 25 apple=10 committed
-newest 25 pear=none
+newest 35 pear=none
 versions=1
 ",
     // a later write of a transaction takes the place of an earlier
@@ -198,7 +202,14 @@ impl Asked for Store {
     }
 }
 
-/// Writes, commits or aborts a version of a key.
+/// The set of one key.
+fn set_of(alloc: Global, key: Key) -> Option<BTreeSet<Key>> {
+    let mut keys = BTreeSet::new(alloc);
+    keys.insert(key).ok()?;
+    Some(keys)
+}
+
+/// Writes, commits, aborts or removes a version of a key.
 fn change(alloc: Global, store: &mut Store, letter: u8, words: &mut Words<'_>) -> Option<()> {
     let ts = words.ts()?;
     let key = words.key(alloc)?;
@@ -208,8 +219,17 @@ fn change(alloc: Global, store: &mut Store, letter: u8, words: &mut Words<'_>) -
             let value = Value::new(alloc, words.word()).ok()?;
             store.write(&key, ts, Some(&value)).ok()?;
         }
-        b'c' => store.commit(ts, slice::from_ref(&key)),
-        b'a' => store.abort(ts, slice::from_ref(&key)),
+        b'c' => {
+            let keys = set_of(alloc, key)?;
+            if store.commit(ts, keys.range(..)) != 1 {
+                return None;
+            }
+        }
+        b'a' => {
+            let keys = set_of(alloc, key)?;
+            store.abort(ts, keys.range(..));
+        }
+        b'r' => store.remove(&key, ts),
         _ => return None,
     }
     Some(())
