@@ -25,12 +25,13 @@
 //! any key. Where some keys of a span are written between scans, each other key keeps a reader for each scan until
 //! that is forgotten.
 //!
-//! Costs, where n transactions stand, of k keys with v versions and m readers each, and of s marked spans:
+//! Costs, where n transactions stand that wrote w keys each, of k keys with v versions and m readers each, and of s
+//! marked spans:
 //!
 //! ```text
 //! begin             O(log n)
 //! get               O(log n + log k + log v + log s + log m), and the readers above its own move
-//! write             O(log n + log k + log v + log s + log m), and the versions above its own move
+//! write             O(log n + log w + log k + log v + log s + log m), and the versions above its own move
 //! scan              O(log n + log k + log s), O(log v) for each key and O(m) for each marked span that it meets
 //! commit, abort     O(log n), and O(log k + log v) for each key written
 //! write, too late   the same
