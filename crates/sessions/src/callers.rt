@@ -51,6 +51,7 @@ impl Callers {
     }
 
     /// A call of one of them.
+    #[inline(always)]
     pub(crate) fn call<T: Wait>(&mut self, rt: &T, caller: u8, cmd: Cmd) -> Result<Event, Spent>
         requires there { caller < vec_len self.old.seats }
         ensures count { vec_len self.new.seats ≡ vec_len self.old.seats }

@@ -32,6 +32,7 @@ impl Db {
     ///
     /// `Spent` comes exactly where the next position would be 18446744073709551615, and at each
     /// later call of this seat too. Whether the wait ends is not promised.
+    #[inline(always)]
     pub fn call<R: Wait>(&self, rt: &R, seat: &mut Seat, cmd: Cmd) -> Result<Event, Spent>
         requires own { IsOf self.now seat.old }
         ensures own { IsOf self.now seat.new }
@@ -63,6 +64,7 @@ impl Db {
     }
 
     // What a call does in its turn.
+    #[inline(always)]
     fn make(&self, seat: &mut Seat, mut held: Held<Served>, cmd: Cmd) -> Event
         requires own { IsOwn self.now.lock seat.old }
         requires turn { IsReady (first_of self.now) held.value held.ticket seat.old }

@@ -29,6 +29,7 @@ use text_format::Format;
 /// takes, since every command's text has: so they are looked at and counted only where there is a
 /// fault, before which they may count.
 #[tactic(auto, using(crate::proofs::Counting::counted_right, crate::proofs::Counting::counted_fault), unfolding(crate::specs::Reading::command_at))]
+#[inline(always)]
 pub fn read_command(
     alloc: Global,
     line: &[u8],
@@ -54,6 +55,7 @@ pub fn read_command(
 
 /// Reads a command from the words of a text, which aren't counted before the last was read.
 #[tactic(auto, unfolding(crate::specs::Reading::taken_of))]
+#[inline(always)]
 fn take_command(
     alloc: Global,
     text: &[u8],
