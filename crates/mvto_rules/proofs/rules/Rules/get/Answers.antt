@@ -18,6 +18,13 @@ returns-in-Blocked-clause-reply c = λ k at.
     let low : 0 < c.args.ts = omega (arith, c.get.ensures.in_range.0) in
     reply_is (holding k c.args.self.now) c.args.seat c.args.ts c.args.key.now (option_copied c.around-next.result.0) _ low (c.in-Ok.ensures.none k at) there (c.in-Blocked.ensures.sight ∙ ap (λ t. sight_of t (option_copied c.around-next.result.0)) c.in-Ok.ensures.ok)
 
+pub returns-in_ok-after-in-Own-clause-reply : goal.returns-in_ok-after-in-Own-clause-reply
+returns-in_ok-after-in-Own-clause-reply c = λ k at.
+    let same = c.get.ensures.number ∙ c.in-Ok.ensures.ok in
+    let there = found_there c.args.self.now.store c.args.key.now c.args.ts c.get.result c.around-next.result.0 same c.around-next.ensures.newest c.of.ensures.above in
+    let low : 0 < c.args.ts = omega (arith, c.get.ensures.in_range.0) in
+    ap Found c.in_ok-after-in-Own.ensures ∙ reply_is (holding k c.args.self.now) c.args.seat c.args.ts c.args.key.now (option_copied c.around-next.result.0) _ low (c.in-Ok.ensures.none k at) there (c.in-Own.ensures.sight ∙ ap (λ t. sight_of t (option_copied c.around-next.result.0)) c.in-Ok.ensures.ok)
+
 pub returns-in_ok-after-in-Own-clause-read : goal.returns-in_ok-after-in-Own-clause-read
 returns-in_ok-after-in-Own-clause-read c = λ k v e.
     let same = c.get.ensures.number ∙ c.in-Ok.ensures.ok in
