@@ -13,11 +13,16 @@ use std::collections::btree_set::Range;
 use timestamps::key::Key;
 use version_chain::Store;
 
-/// Holds back what the transaction of `ts` wrote, where there is one.
-pub(crate) fn hold_written(held: &mut HoldBack, rules: &Rules, ts: u64)
+/// Holds back what the transaction of `ts` wrote, where there is one, for so many feeds. Without a feed nothing is
+/// held: one that is opened later finds the rows in the store.
+pub(crate) fn hold_written(held: &mut HoldBack, rules: &Rules, ts: u64, feeds: u64)
     ensures held { IsHeldAll ts (rows_at (versions_of rules.now) ts (keys_of (transactions_of rules.now ts))) held.old held.new }
     ensures rising { RisingRows (rows_in held.old) → RisingRows (rows_in held.new) }
 {
+    if feeds == 0 {
+        held.skip(ts);
+        return;
+    }
     if let Some(keys) = rules.write_set(ts) {
         hold_rows(held, rules.versions(), ts, keys);
     }

@@ -7,7 +7,8 @@
 //!
 //! 1. The layers hold what is kept of some legal history of as many events as there were steps. What a layer asks
 //!    of its caller follows from that history, and no other invariant ties the layers.
-//! 2. Rows that were committed above closed are held back, or the set that holds them knows where one was lost.
+//! 2. Rows that were committed above closed are held back, or the set that holds them knows where one was lost. Where
+//!    no feed lives at a commit, its rows count as lost: a feed that is opened later finds them in the store.
 //! 3. The ring of a feed that isn't behind has the rows at or below closed that it has still to tell.
 //!
 //! ```text

@@ -77,7 +77,7 @@ impl Layers {
         let closed = self.closed();
         match self.rules.commit(closed, seat, ts) {
             Reply::Committed { keys } => {
-                hold_written(&mut self.held_back, &self.rules, ts);
+                hold_written(&mut self.held_back, &self.rules, ts, self.feeds.count());
                 Reply::Committed { keys }
             }
             reply => reply,

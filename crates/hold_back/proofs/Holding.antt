@@ -63,6 +63,15 @@ held_more t added r h m h' at same all one = elim one [
   }
 ]
 
+-- where t was skipped, its rows may all be lost
+pub skipped : (t : ℕ) (added : List Row) (h h' : Held) → h'.rows ≡ h.rows → h'.gap ≡ gap_with h.gap t → IsHeldAll t added h h'
+skipped t added h h' rows gap = record {
+  only = λ q i. inl (subst (IsRowIn q) rows i);
+  still = λ j e. lost_still h.gap t j (ap (λ g. is_lost g j) (sym gap) ∙ e);
+  others = λ q off. (subst (IsRowIn q) rows, subst (IsRowIn q) (sym rows));
+  own = λ e none q on. absurd (both_ways _ (ap (λ g. is_lost g t) (sym gap) ∙ e) (lost_with h.gap t));
+}
+
 -- the theorem on held rows asks for this of a commit of t
 pub held_for : (k : Kept) (t : ℕ) (added : List Row) (h h' : Held) → RisingRows h'.rows → ((q : Row) → IsRowIn q added → q.ts ≡ t) → ((q : Row) → (q.ts == t) ≡ true → IsRowIn q added ↔ (k.version q.key t ≡ Some q.after))
     → (is_lost h.gap t ≡ false → (q : Row) → IsRowIn q h.rows → (q.ts == t) ≡ false) → IsHeldAll t added h h' → IsHeldFor k t (is_lost h.gap) (is_lost h'.gap) h.rows h'.rows

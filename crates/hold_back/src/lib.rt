@@ -2,8 +2,9 @@
 //!
 //! Commits come in any order, and a feed tells rows by timestamp and then by key. So a committed row waits
 //! in a [`HoldBack`], an ordered map, until closed has passed it: by then every row before it is there, and
-//! no other can come between. A row that finds no memory is lost to the set, and the set remembers between
-//! which timestamps rows were lost: there it is incomplete, and a feed has to look its rows up elsewhere.
+//! no other can come between. A row that finds no memory is lost to the set, and so are rows that are skipped
+//! because no feed wants them. The set remembers between which timestamps rows were lost: there it is incomplete,
+//! and a feed has to look its rows up elsewhere.
 //!
 //! ```text
 //!                                    rows                       lost between
@@ -17,7 +18,7 @@
 //! ```
 //!
 //! Cost, where n rows are held: adding and taking one take O(log n), forgetting as much for each row that
-//! goes, and asking whether a timestamp is complete is one comparison. Only adding takes memory, and it never
+//! goes; skipping a timestamp, and asking whether one is complete, is a comparison or two. Only adding takes memory, and it never
 //! refuses.
 #![tactic(auto)]
 

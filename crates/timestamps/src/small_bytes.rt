@@ -7,10 +7,20 @@ use std::alloc::{AllocError, Global};
 use std::cmp::Ordering;
 
 /// Bytes, ordered byte by byte, a beginning before what it begins. Only those that are more than [`FEW`] take memory.
-#[derive(Debug, Drop)]
+#[derive(Debug)]
 pub(crate) enum SmallBytes {
     Few(FewBytes),
     Many(Vec<u8>),
+}
+
+// a call of its own, so that where a key is dropped no proof has a case for each place of its bytes
+impl Drop for SmallBytes {
+    fn drop(self) {
+        match self {
+            SmallBytes::Few(_) => {}
+            SmallBytes::Many(_) => {}
+        }
+    }
 }
 
 impl SmallBytes {
