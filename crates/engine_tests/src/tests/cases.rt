@@ -196,4 +196,19 @@ script
 0 close 50
 0 poll 1 1
 0 poll 1 1
+@ A row was committed before a feed was open
+1 1 ---rrsrrrrr nothing was held for it: the closing that passes it sends the feed to the store, where it finds the row
+1024 1 ---rrsrrrrr
+script
+1 begin 20
+1 put 20 a 2
+1 commit 20
+0 open - - 0
+0 close 10
+0 close 30
+0 poll 1 9
+1 begin 40
+1 put 40 a 3
+1 commit 40
+0 close 50
 ";
