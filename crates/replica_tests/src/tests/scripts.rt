@@ -1,9 +1,9 @@
 //! Scripts of calls, each a line with what it is answered behind `=`. An empty line ends a script.
 
 /// Each script begins with a replica `from` a cursor on, with two bounds, the cursor and the rows to begin with, or `initial`
-/// with two bounds and a cursor; `-` is no bound. A `row` has a timestamp, a key and a value, or `-` for a delete. Where a
-/// replica is made, and a message applied, the answer is 0 or the number of the fault. `at` has the timestamp at which the
-/// replica is complete, and `keys` those that have a value.
+/// with two bounds and a cursor; `-` is no bound. What it may `receive` is a row, with its timestamp, key and value, or `-` for
+/// a delete. Where a replica is made, and a message applied, the answer is 0 or the number of the fault. `at` has the timestamp
+/// at which the replica is complete, and `keys` those that have a value.
 pub(super) const SCRIPTS: &str = "from a c 7 a 1 b 1=0
 at=7
 len=2
@@ -19,19 +19,19 @@ from a c 7 d 1 a 1=1
 from a c 7 a 1 d 1=2
 
 from a c 7 b 1=0
-row 10 b 2=0
-row 7 a 2=1
+receive 10 b 2=0
+receive 7 a 2=1
 at=none
 rows= b2
 keys 1=
 keys 2= b
-row 10 a -=1
+receive 10 a -=1
 rows= b2
 keys 2= b
-row 10 b -=1
+receive 10 b -=1
 rows= b2
 keys 2= b
-row 11 d 2=2
+receive 11 d 2=2
 rows= b2
 keys 2= b
 resolved 7=3
@@ -45,31 +45,31 @@ resolved 10=0
 at=10
 resolved 10=3
 at=10
-row 11 a 1=0
+receive 11 a 1=0
 rows= a1 b2
 
 from - - 0=0
 len=none
-row 1 k 1=0
+receive 1 k 1=0
 rows= k1
 keys 1= k
 keys 2=
-row 2 k 1=0
+receive 2 k 1=0
 rows= k1
 keys 1= k
 keys 2=
-row 3 k 2=0
+receive 3 k 2=0
 rows= k2
 keys 1=
 keys 2= k
-row 4 k -=0
+receive 4 k -=0
 rows=
 keys 1=
 keys 2=
-row 5 k -=0
+receive 5 k -=0
 rows=
 len=none
-row 6 k 2=0
+receive 6 k 2=0
 rows= k2
 keys 1=
 keys 2= k
@@ -77,11 +77,11 @@ len=1
 
 from - - 0=0
 at=0
-row 10 b 1=0
+receive 10 b 1=0
 at=none
-row 10 a 1=1
+receive 10 a 1=1
 at=none
-row 20 a 1=0
+receive 20 a 1=0
 at=none
 keys 1= a b
 resolved 19=3
@@ -90,9 +90,9 @@ resolved 20=0
 at=20
 resolved 20=3
 at=20
-row 20 c 1=1
+receive 20 c 1=1
 at=20
-row 25 b -=0
+receive 25 b -=0
 at=none
 keys 1= a
 rows= a1
@@ -100,38 +100,38 @@ get a=1
 get b=none
 
 from b c 0=0
-row 5 d 1=2
+receive 5 d 1=2
 at=0
-row 5 b 1=0
+receive 5 b 1=0
 at=none
-row 5 a 1=1
+receive 5 a 1=1
 at=none
 
 initial - - 7=0
 at=none
-row 6 a 1=1
+receive 6 a 1=1
 at=none
-row 7 a 1=0
+receive 7 a 1=0
 at=none
-row 7 b 2=0
+receive 7 b 2=0
 at=none
 rows= a1 b2
-row 7 c 3=0
-row 8 b -=0
-row 8 c 4=0
+receive 7 c 3=0
+receive 8 b -=0
+receive 8 c 4=0
 at=none
 resolved 9=0
 at=9
 rows= a1 c4
 
 initial - - 9=0
-row 9 a 1=0
+receive 9 a 1=0
 at=none
-row 9 c 4=0
+receive 9 c 4=0
 at=none
 resolved 8=3
 at=none
 resolved 9=0
 at=9
-row 9 d 1=1
+receive 9 d 1=1
 at=9";
