@@ -1,5 +1,5 @@
 //! Keys: 1 to 256 bytes, in byte order.
-ghost use Rattle.std.specs.Prelude.{◌≡◌, ℕ, List, [], ◌∷◌, ◌++◌, ◌<◌, ◌≤◌, ◌⊎◌, Some, refl, length, bytes_eq, IfOk, IfErr, OnOk};
+ghost use Rattle.std.specs.Prelude.{◌≡◌, ℕ, List, [], ◌∷◌, ◌++◌, ◌<◌, ◌≤◌, ◌⊎◌, Some, refl, length, bytes_eq, IfOk, IfErr, OnErr, OnOk};
 ghost use Rattle.std.specs.Cmp.{on_equiv, on_total, on_po, on_per, partial_equiv_from_equiv};
 ghost use Rattle.std.specs.Cmp.Lexicographic.{nat_list_eq_equiv, nat_list_cmp_total, texts_ties, texts_po};
 ghost use Rattle.timestamps.specs.Bytes.{key_cmp};
@@ -24,13 +24,13 @@ pub struct Key {
 impl Model for Key {
     ghost use Rattle.std.specs.Prelude.{ℕ, List, ◌≤◌, length};
     ghost use Rattle.timestamps.specs.declared.key.TheConstants.{MAX_KEY_BYTES};
-    ghost use Rattle.timestamps.specs.SmallBytes.{bytes_in};
+    ghost use Rattle.timestamps.specs.SmallBytes.{IsPlaced, bytes_in};
 
     ghost Value = { List ℕ };
 
     ghost view = { λ k. bytes_in k.bytes };
 
-    ghost invariant = { λ k. (1 ≤ length (bytes_in k.bytes)) × (length (bytes_in k.bytes) ≤ MAX_KEY_BYTES) };
+    ghost invariant = { λ k. (1 ≤ length (bytes_in k.bytes)) × (length (bytes_in k.bytes) ≤ MAX_KEY_BYTES) × IsPlaced k.bytes };
 }
 
 /// Why bytes are no key.
@@ -50,6 +50,7 @@ impl Key {
         ensures refused { IfErr result (λ e. e ≡ KeyLength → (length bytes.now ≡ 0) ⊎ (MAX_KEY_BYTES < length bytes.now)) }
         ensures limit { MAX_KEY_BYTES ≡ 256 }
         ensures memory { IfErr result (λ e. e ≡ NoMemory → (1 ≤ length bytes.now) × (length bytes.now ≤ MAX_KEY_BYTES)) }
+        ensures many { IfErr result (λ e. e ≡ NoMemory → 24 < length bytes.now) }
     {
         if bytes.is_empty() || bytes.len() > MAX_KEY_BYTES {
             return Err(KeyError::KeyLength);
@@ -70,7 +71,8 @@ impl Key {
 
     /// The same key once more.
     pub fn copy(&self) -> Result<Key, AllocError>
-        ensures { IfOk result (λ k. k ≡ self.now) }
+        ensures bytes { IfOk result (λ k. k ≡ self.now) }
+        ensures many { OnErr result (24 < length self.now) }
     {
         let bytes = self.bytes.copy()?;
         Ok(Key { bytes })
@@ -79,7 +81,8 @@ impl Key {
     /// The least key above this one, its bytes and a zero behind them, where that is no byte too many.
     pub fn successor(&self, alloc: Global) -> Result<Key, AllocError>
         requires { length self.now < MAX_KEY_BYTES }
-        ensures { IfOk result (λ k. k ≡ self.now ++ 0 ∷ []) }
+        ensures bytes { IfOk result (λ k. k ≡ self.now ++ 0 ∷ []) }
+        ensures many { OnErr result (24 ≤ length self.now) }
     {
         let bytes = self.bytes.with_zero(alloc)?;
         Ok(Key { bytes })

@@ -1,6 +1,7 @@
 //! The bytes of a key or a value, in place where they are few.
-ghost use Rattle.std.specs.Prelude.{◌≡◌, ◌<◌, ◌++◌, ◌∷◌, [], length, IfOk};
+ghost use Rattle.std.specs.Prelude.{◌≡◌, ◌<◌, ◌++◌, ◌∷◌, [], ◌≤◌, length, IfOk, OnErr};
 ghost use Rattle.timestamps.specs.Bytes.{key_cmp};
+ghost use Rattle.timestamps.specs.declared.few_bytes.TheConstants.{FEW};
 
 use crate::few_bytes::{FEW, FewBytes};
 use std::alloc::{AllocError, Global};
@@ -24,11 +25,13 @@ impl Drop for SmallBytes {
 }
 
 impl SmallBytes {
-    ghost use Rattle.timestamps.specs.SmallBytes.{bytes_in};
+    ghost use Rattle.timestamps.specs.SmallBytes.{IsPlaced, bytes_in};
 
     /// These bytes. It copies them.
     pub(crate) fn new(alloc: Global, bytes: &[u8]) -> Result<SmallBytes, AllocError>
-        ensures { IfOk result (λ b. bytes_in b ≡ bytes.now) }
+        ensures bytes { IfOk result (λ b. bytes_in b ≡ bytes.now) }
+        ensures placed { IfOk result (λ b. IsPlaced b) }
+        ensures many { OnErr result (FEW < length bytes.now) }
     {
         if bytes.len() <= FEW {
             return Ok(SmallBytes::Few(FewBytes::new(bytes)));
@@ -49,7 +52,10 @@ impl SmallBytes {
 
     /// The same bytes once more.
     pub(crate) fn copy(&self) -> Result<SmallBytes, AllocError>
-        ensures { IfOk result (λ b. bytes_in b ≡ bytes_in self.now) }
+        requires { IsPlaced self.now }
+        ensures bytes { IfOk result (λ b. bytes_in b ≡ bytes_in self.now) }
+        ensures placed { IfOk result (λ b. IsPlaced b) }
+        ensures many { OnErr result (FEW < length (bytes_in self.now)) }
     {
         match self {
             SmallBytes::Few(few) => Ok(SmallBytes::Few(few.copy())),
@@ -62,8 +68,11 @@ impl SmallBytes {
 
     /// The same bytes and a zero behind them.
     pub(crate) fn with_zero(&self, alloc: Global) -> Result<SmallBytes, AllocError>
-        requires { length (bytes_in self.now) < 256 }
-        ensures { IfOk result (λ b. bytes_in b ≡ bytes_in self.now ++ 0 ∷ []) }
+        requires placed { IsPlaced self.now }
+        requires fits { length (bytes_in self.now) < 256 }
+        ensures bytes { IfOk result (λ b. bytes_in b ≡ bytes_in self.now ++ 0 ∷ []) }
+        ensures placed { IfOk result (λ b. IsPlaced b) }
+        ensures many { OnErr result (FEW ≤ length (bytes_in self.now)) }
     {
         if let SmallBytes::Few(few) = self {
             if few.as_slice().len() < FEW {

@@ -1,5 +1,5 @@
 //! Values: 0 to 65536 bytes.
-ghost use Rattle.std.specs.Prelude.{◌≡◌, ℕ, List, ◌<◌, ◌≤◌, length, bytes_eq, IfOk, IfErr, OnOk};
+ghost use Rattle.std.specs.Prelude.{◌≡◌, ℕ, List, ◌<◌, ◌≤◌, length, bytes_eq, IfOk, IfErr, OnErr, OnOk};
 ghost use Rattle.std.specs.Cmp.{partial_equiv_from_equiv};
 ghost use Rattle.std.specs.Cmp.Lexicographic.{nat_list_eq_equiv};
 ghost use Rattle.timestamps.specs.declared.value.TheConstants.{MAX_VALUE_BYTES};
@@ -22,13 +22,13 @@ pub struct Value {
 impl Model for Value {
     ghost use Rattle.std.specs.Prelude.{ℕ, List, ◌≤◌, length};
     ghost use Rattle.timestamps.specs.declared.value.TheConstants.{MAX_VALUE_BYTES};
-    ghost use Rattle.timestamps.specs.SmallBytes.{bytes_in};
+    ghost use Rattle.timestamps.specs.SmallBytes.{IsPlaced, bytes_in};
 
     ghost Value = { List ℕ };
 
     ghost view = { λ v. bytes_in v.bytes };
 
-    ghost invariant = { λ v. length (bytes_in v.bytes) ≤ MAX_VALUE_BYTES };
+    ghost invariant = { λ v. (length (bytes_in v.bytes) ≤ MAX_VALUE_BYTES) × IsPlaced v.bytes };
 }
 
 /// Why bytes are no value.
@@ -48,6 +48,7 @@ impl Value {
         ensures refused { IfErr result (λ e. e ≡ ValueLength → MAX_VALUE_BYTES < length bytes.now) }
         ensures limit { MAX_VALUE_BYTES ≡ 65536 }
         ensures memory { IfErr result (λ e. e ≡ NoMemory → length bytes.now ≤ MAX_VALUE_BYTES) }
+        ensures many { IfErr result (λ e. e ≡ NoMemory → 24 < length bytes.now) }
     {
         if bytes.len() > MAX_VALUE_BYTES {
             return Err(ValueError::ValueLength);
@@ -68,7 +69,8 @@ impl Value {
 
     /// The same value once more.
     pub fn copy(&self) -> Result<Value, AllocError>
-        ensures { IfOk result (λ v. v ≡ self.now) }
+        ensures bytes { IfOk result (λ v. v ≡ self.now) }
+        ensures many { OnErr result (24 < length self.now) }
     {
         let bytes = self.bytes.copy()?;
         Ok(Value { bytes })

@@ -11,7 +11,7 @@ returns-then-is_too_late-clause-ok c = λ seat h n.
 
 pub returns-in_ok-value-in-Written-clause-ok : goal.returns-in_ok-value-in-Written-clause-ok
 returns-in_ok-value-in-Written-clause-ok c =
-    let same : c.in_ok-value-in-Written.value ≡ c.args.value.now = c.in_ok-value-in-Written.ensures in
+    let same : c.in_ok-value-in-Written.value ≡ c.args.value.now = c.in_ok-value-in-Written.ensures.bytes in
     rw c.in-Written.is (on_ok_weaker c.write.result (λ is. λ seat h n stands right. stands_puts c.args.self.now c.write.new.self h n seat c.args.ts c.args.key.now c.args.value.now (rw same at is) stands right) c.write.ensures.ok)
 
 pub returns-in_default : goal.returns-in_default

@@ -20,7 +20,7 @@ pub returns-in_ok-insert-in-Some-clause-ok : goal.returns-in_ok-insert-in-Some-c
 returns-in_ok-insert-in-Some-clause-ok c =
     let found : lookup (is_at (key_cmp c.in_ok-copy.field-0)) c.args.self.now.keys.entries ≡ Some c.in-Some.keys.now = sym c.in-Some.ensures.value in
     let put : ArePutAt c.args.self.now.keys.entries (c.get_mut.follows.lender c.insert.new.self).entries c.in_ok-copy.field-0 (Some c.insert.new.self) = ((c.get_mut.follows.holds c.insert.new.self).3 (ap is_some found)).0 in
-    listed_put c.args.self.now.keys (c.get_mut.follows.lender c.insert.new.self) (c.get_mut.follows.lender c.insert.new.self) c.args.key.now c.in_ok-key.key c.args.value.now c.in_ok-copy.field-0 (Some c.insert.new.self) refl c.in_ok-key.ensures c.in_ok-copy.ensures put
+    listed_put c.args.self.now.keys (c.get_mut.follows.lender c.insert.new.self) (c.get_mut.follows.lender c.insert.new.self) c.args.key.now c.in_ok-key.key c.args.value.now c.in_ok-copy.field-0 (Some c.insert.new.self) refl c.in_ok-key.ensures.bytes c.in_ok-copy.ensures.bytes put
     (λ y. one_more c.in_ok-key.key y _ _ (c.in_ok-insert-in-Some.ensures.updates.0 y) ∙ ap (λ o. bytes_eq c.in_ok-key.key y || is_among o y) (sym found))
 
 pub returns-in_ok-insert-in-None-2-clause-ok : goal.returns-in_ok-insert-in-None-2-clause-ok
@@ -29,6 +29,6 @@ returns-in_ok-insert-in-None-2-clause-ok c =
     let same : c.get_mut.follows.lender-at-none.entries ≡ c.args.self.now.keys.entries = search rules in
     let put : ArePutAt c.args.self.now.keys.entries c.insert-in-None-2.new.self.entries c.in_ok-copy.field-0 (Some c.insert-in-None.new.self) =
     subst (λ es. ArePutAt es c.insert-in-None-2.new.self.entries c.in_ok-copy.field-0 (Some c.insert-in-None.new.self)) same c.in_ok-insert-in-None-2.ensures.updates.0 in
-    listed_put c.args.self.now.keys c.insert-in-None-2.new.self c.insert-in-None-2.new.self c.args.key.now c.in_ok-key.key c.args.value.now c.in_ok-copy.field-0 (Some c.insert-in-None.new.self) refl c.in_ok-key.ensures c.in_ok-copy.ensures put
+    listed_put c.args.self.now.keys c.insert-in-None-2.new.self c.insert-in-None-2.new.self c.args.key.now c.in_ok-key.key c.args.value.now c.in_ok-copy.field-0 (Some c.insert-in-None.new.self) refl c.in_ok-key.ensures.bytes c.in_ok-copy.ensures.bytes put
     (λ y. one_more c.in_ok-key.key y _ _ (c.in_ok-insert-in-None.ensures.updates.0 y)
     ∙ ap (λ b. bytes_eq c.in_ok-key.key y || b) (none_in c.new-keys.result.keys y c.new-keys.ensures.len ∙ sym (ap (λ o. is_among o y) none)))

@@ -7,4 +7,4 @@ use Rattle.replica.proofs.index.Index.keys_of.Goals as goal
 
 pub returns-clause-exact : goal.returns-clause-exact
 returns-clause-exact c = keys_in_set (λ keys. keys.items) c.copies.result c.in-Some.keys.now (lookup (is_at (key_cmp c.args.value.now)) c.args.self.now.keys.entries)
-    (ap (λ v. lookup (is_at (key_cmp v)) c.args.self.now.keys.entries) (sym c.in_ok-copy.ensures) ∙ sym c.in-Some.ensures.value) c.copies.ensures.all
+    (ap (λ v. lookup (is_at (key_cmp v)) c.args.self.now.keys.entries) (sym c.in_ok-copy.ensures.bytes) ∙ sym c.in-Some.ensures.value) c.copies.ensures.all

@@ -9,19 +9,19 @@ pub invariant_of-self-in-Ok-None : goal.invariant_of-self-in-Ok-None
 invariant_of-self-in-Ok-None c =
     let none : value_at c.self.inside.rows.entries c.in_ok-own.own ≡ None = sym c.in-Ok-None.ensures.old ∙ c.in-Ok-None.field-0-is in
     ties_new c.self.inside.rows.entries c.insert.new.self.entries (is_listed c.self.inside.index) (is_listed c.add.new.self) c.in_ok-own.own c.args.key.now c.args.value
-    c.in_ok-own.ensures c.self.invariant none c.in-Ok-None.ensures.updates.0 c.in_ok-add.ensures.ok
+    c.in_ok-own.ensures.bytes c.self.invariant none c.in-Ok-None.ensures.updates.0 c.in_ok-add.ensures.ok
 
 pub invariant_of-self-in-Ok-Some : goal.invariant_of-self-in-Ok-Some
 invariant_of-self-in-Ok-Some c =
     let some : value_at c.self.inside.rows.entries c.in_ok-own.own ≡ Some c.in-Ok-Some.before = sym c.in-Ok-Some.ensures.old ∙ c.in-Ok-Some.field-0-is in
     let apart : has_value (value_at c.self.inside.rows.entries c.args.key.now) c.args.value ≡ false = ap (λ es. has_value (value_at es c.args.key.now) c.args.value) c.self.view_is ∙ sym c.has.ensures ∙ c.if-has.false in
     ties_other c.self.inside.rows.entries c.insert.new.self.entries (is_listed c.self.inside.index) (is_listed c.add.new.self) (is_listed c.remove-in-Ok-Some.new.self) c.in_ok-own.own c.args.key.now c.args.value c.in-Ok-Some.before
-    c.in_ok-own.ensures c.self.invariant some apart c.in-Ok-Some.ensures.updates.0 c.in_ok-add.ensures.ok c.remove-in-Ok-Some.ensures
+    c.in_ok-own.ensures.bytes c.self.invariant some apart c.in-Ok-Some.ensures.updates.0 c.in_ok-add.ensures.ok c.remove-in-Ok-Some.ensures
 
 pub returns-in-Ok-None-clause-ok : goal.returns-in-Ok-None-clause-ok
 returns-in-Ok-None-clause-ok c = rw (← c.self.view_is)
-    (is_put c.self.inside.rows.entries c.insert.new.self.entries c.in_ok-own.own c.args.key.now (Some c.args.value) c.in_ok-own.ensures c.in-Ok-None.ensures.updates.0)
+    (is_put c.self.inside.rows.entries c.insert.new.self.entries c.in_ok-own.own c.args.key.now (Some c.args.value) c.in_ok-own.ensures.bytes c.in-Ok-None.ensures.updates.0)
 
 pub returns-in-Ok-Some-clause-ok : goal.returns-in-Ok-Some-clause-ok
 returns-in-Ok-Some-clause-ok c = rw (← c.self.view_is)
-    (is_put c.self.inside.rows.entries c.insert.new.self.entries c.in_ok-own.own c.args.key.now (Some c.args.value) c.in_ok-own.ensures c.in-Ok-Some.ensures.updates.0)
+    (is_put c.self.inside.rows.entries c.insert.new.self.entries c.in_ok-own.own c.args.key.now (Some c.args.value) c.in_ok-own.ensures.bytes c.in-Ok-Some.ensures.updates.0)

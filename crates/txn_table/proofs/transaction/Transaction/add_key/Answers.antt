@@ -16,7 +16,7 @@ pub returns-in_err-insert-clause-absent : goal.returns-in_err-insert-clause-abse
 returns-in_err-insert-clause-absent c = in_err _ (not_noted _ c.args.self.now c.args.key.now c.contains.result c.self.view_is c.contains.ensures c.if-contains.false)
 
 pub returns-clause-ok : goal.returns-clause-ok
-returns-clause-ok c = noted_more _ c.args.self.now c.args.key.now c.in_ok-key.key c.insert.new.self.keys c.self.view_is c.in_ok-key.ensures c.in_ok-insert.ensures.keys
+returns-clause-ok c = noted_more _ c.args.self.now c.args.key.now c.in_ok-key.key c.insert.new.self.keys c.self.view_is c.in_ok-key.ensures.bytes c.in_ok-insert.ensures.keys
 
 pub invariant_of-self-2 : goal.invariant_of-self-2
 invariant_of-self-2 c = rising_keys c.insert.new.self.keys c.insert.ensures.ordered

@@ -17,7 +17,7 @@ loop-key-preserved-in-Continue-branch-2 c =
       adds = λ y i among top dead. elim (c.loop-key.invariant.adds y i among top dead) [
         | inl e ↦ inl (subst (λ xs. has y xs ≡ true) (sym items) (pushed_keeps c.loop-key.dead.items c.in_ok-key.key y e))
         | inr any ↦ (elim (next_or_rest c.in-Some.key.now y c.loop-key.key-iterator c.next.new.self c.in-Some.ensures.steps any) [
-          | inl e ↦ inl (subst (λ xs. has y xs ≡ true) (sym items) (pushed_has c.loop-key.dead.items c.in_ok-key.key y (e ∙ sym c.in_ok-key.ensures)))
+          | inl e ↦ inl (subst (λ xs. has y xs ≡ true) (sym items) (pushed_has c.loop-key.dead.items c.in_ok-key.key y (e ∙ sym c.in_ok-key.ensures.bytes)))
           | inr rest ↦ inr rest
         ])
       ];
