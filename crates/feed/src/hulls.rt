@@ -18,7 +18,7 @@ ghost use Rattle.feed.specs.Hulls.{AreHulls, AreSameOutside, IsCovering, IsFirst
 
 use crate::slots::{Slot, Source};
 use indexmap::IndexMap;
-use spans::bound::Bound;
+use spans::bound::{Bound, is_below, is_from};
 use std::cmp::Ordering;
 use timestamps::key::Key;
 
@@ -250,24 +250,4 @@ fn is_reached(slots: &IndexMap<u64, Slot>, hull: Option<Hull>, key: &Key) -> boo
         return false;
     };
     is_below(&last.span.hi, key)
-}
-
-/// Whether the lower bound lets the key in.
-fn is_from(low: &Option<Bound>, key: &Key) -> bool
-    ensures { result ≡ from_low low.now key.now }
-{
-    match low {
-        None => true,
-        Some(low) => key.bytes().cmp(low.bytes()) != Ordering::Less,
-    }
-}
-
-/// Whether the upper bound lets the key in.
-fn is_below(high: &Option<Bound>, key: &Key) -> bool
-    ensures { result ≡ below_high high.now key.now }
-{
-    match high {
-        None => true,
-        Some(high) => key.bytes().cmp(high.bytes()) == Ordering::Less,
-    }
 }

@@ -1,5 +1,5 @@
 //! Bounds of spans: 1 to 257 bytes, so that the place just above any key is one.
-ghost use Rattle.std.specs.Prelude.{◌≡◌, ℕ, List, Some, ◌<◌, ◌≤◌, ◌⊎◌, length, bytes_eq, IfOk, IfErr, OnOk};
+ghost use Rattle.std.specs.Prelude.{◌≡◌, ℕ, suc, List, Some, ◌<◌, ◌≤◌, ◌⊎◌, length, take, bytes_eq, IfOk, IfErr, OnOk};
 ghost use Rattle.std.specs.Cmp.{partial_equiv_from_equiv};
 ghost use Rattle.std.specs.Cmp.Lexicographic.{nat_list_eq_equiv};
 ghost use Rattle.spans.specs.KeyOrder.{from_low, below_high, key_lt};
@@ -24,19 +24,44 @@ pub const MAX_BOUND_BYTES: usize = 257;
 /// search makes a key. The few bounds that have one byte more keep all their bytes beside that.
 #[derive(Debug, Drop)]
 pub struct Bound {
-    first: Key,
-    all: Option<Vec<u8>>,
+    bytes: BoundBytes,
 }
 
 impl Model for Bound {
-    ghost use Rattle.std.specs.Prelude.{ℕ, List, option_map, unwrap_or};
-    ghost use Rattle.spans.specs.Starting.{IsCut};
+    ghost use Rattle.std.specs.Prelude.{ℕ, List};
+    ghost use Rattle.spans.specs.Starting.{IsCut, all_bytes};
 
     ghost Value = { List ℕ };
 
-    ghost view = { λ b. unwrap_or (option_map (λ v. v.items) b.all) b.first };
+    ghost view = { λ b. all_bytes b.bytes };
 
-    ghost invariant = { λ b. IsCut b.first (option_map (λ v. v.items) b.all) };
+    ghost invariant = { λ b. IsCut b.bytes };
+}
+
+/// The bytes of a bound. Those of the longest are in a box, since every command of a span has room for two bounds.
+#[derive(Debug)]
+enum BoundBytes {
+    /// As many as a key may have.
+    Short(Key),
+    /// One more.
+    Long(Box<LongBytes>),
+}
+
+/// One byte more than a key has, and the key of all but the last.
+#[derive(Debug, Drop)]
+struct LongBytes {
+    first: Key,
+    all: Vec<u8>,
+}
+
+// a call of its own, so that where a bound is dropped no proof has a case for each place of its bytes
+impl Drop for BoundBytes {
+    fn drop(self) {
+        match self {
+            BoundBytes::Short(_) => {}
+            BoundBytes::Long(_) => {}
+        }
+    }
 }
 
 /// Why bytes are no bound.
@@ -66,22 +91,42 @@ impl Bound {
         }
     }
 
-    /// The bound of so many bytes. Where they are one more than a key has, all are kept beside the first.
+    /// The bound of so many bytes.
     fn of(alloc: Global, bytes: &[u8]) -> Result<Bound, AllocError>
         requires some { 1 ≤ length bytes.now }
         requires few { length bytes.now ≤ MAX_BOUND_BYTES }
         ensures { IfOk result (λ b. b ≡ bytes.now) }
     {
         if bytes.len() <= MAX_KEY_BYTES {
-            let first = key_of(alloc, bytes)?;
-            return Ok(Bound { first, all: None });
+            let key = key_of(alloc, bytes)?;
+            return Ok(Bound::short(key));
         }
         let first = key_of(alloc, &bytes[..MAX_KEY_BYTES])?;
         let all = bytes.to_vec(alloc)?;
-        Ok(Bound {
-            first,
-            all: Some(all),
-        })
+        Bound::long(alloc, first, all)
+    }
+
+    /// The bound of as many bytes as a key may have.
+    fn short(key: Key) -> Bound
+        ensures { result ≡ key }
+    {
+        Bound {
+            bytes: BoundBytes::Short(key),
+        }
+    }
+
+    /// The bound of one byte more. `first` are all but the last.
+    fn long(alloc: Global, first: Key, all: Vec<u8>) -> Result<Bound, AllocError>
+        requires more { length all.items ≡ suc MAX_KEY_BYTES }
+        requires first { first ≡ take MAX_KEY_BYTES all.items }
+        ensures { IfOk result (λ b. b ≡ all.items) }
+    {
+        match Box::new(alloc, LongBytes { first, all }) {
+            Ok(long) => Ok(Bound {
+                bytes: BoundBytes::Long(long),
+            }),
+            Err(_) => Err(AllocError),
+        }
     }
 
     /// The least bound above the key: its bytes and a zero byte.
@@ -91,17 +136,15 @@ impl Bound {
     {
         let bytes = key.bytes();
         if bytes.len() < MAX_KEY_BYTES {
-            let first = key.successor(alloc)?;
-            return Ok(Bound { first, all: None });
+            let above = key.successor(alloc)?;
+            return Ok(Bound::short(above));
         }
         let mut all = Vec::with_capacity(alloc, bytes.len() + 1)?;
         all.extend_from_slice(bytes)?;
         all.push(0)?;
         let first = key.copy()?;
-        Ok(Bound {
-            first,
-            all: Some(all),
-        })
+        let above = Bound::long(alloc, first, all)?;
+        Ok(above)
     }
 
     /// Its bytes.
@@ -109,9 +152,9 @@ impl Bound {
         ensures bytes { result.now ≡ self.now }
         ensures in_range { (1 ≤ length self.now) × (length self.now ≤ MAX_BOUND_BYTES) }
     {
-        match &self.all {
-            None => self.first.bytes(),
-            Some(all) => all.as_slice(),
+        match &self.bytes {
+            BoundBytes::Short(key) => key.bytes(),
+            BoundBytes::Long(long) => long.all.as_slice(),
         }
     }
 
@@ -120,9 +163,19 @@ impl Bound {
     pub fn start(&self) -> ops::Bound<&Key>
         ensures { bound_map (λ k. k.now) result ≡ start_of (Some self.now) }
     {
-        match &self.all {
-            None => ops::Bound::Included(&self.first),
-            Some(_) => ops::Bound::Excluded(&self.first),
+        match &self.bytes {
+            BoundBytes::Short(key) => ops::Bound::Included(key),
+            BoundBytes::Long(long) => ops::Bound::Excluded(&long.first),
+        }
+    }
+
+    /// Whether it is above the key. Few bytes, as most bounds have, are compared in place.
+    pub fn is_above(&self, key: &Key) -> bool
+        ensures { result ≡ key_lt key.now self.now }
+    {
+        match &self.bytes {
+            BoundBytes::Short(bound) => key.cmp(bound) == Ordering::Less,
+            BoundBytes::Long(long) => key.bytes().cmp(long.all.as_slice()) == Ordering::Less,
         }
     }
 
@@ -130,15 +183,15 @@ impl Bound {
     pub fn copy(&self) -> Result<Bound, AllocError>
         ensures { IfOk result (λ b. b ≡ self.now) }
     {
-        let first = self.first.copy()?;
-        match &self.all {
-            None => Ok(Bound { first, all: None }),
-            Some(all) => {
-                let all = all.clone()?;
-                Ok(Bound {
-                    first,
-                    all: Some(all),
-                })
+        match &self.bytes {
+            BoundBytes::Short(key) => {
+                let key = key.copy()?;
+                Ok(Bound::short(key))
+            }
+            BoundBytes::Long(long) => {
+                let first = long.first.copy()?;
+                let all = long.all.clone()?;
+                Bound::long(*Box::allocator(long), first, all)
             }
         }
     }
@@ -171,22 +224,22 @@ fn key_of(alloc: Global, bytes: &[u8]) -> Result<Key, AllocError>
 }
 
 /// Whether the key is at or above the bound, where there is one.
-pub(crate) fn is_from(low: &Option<Bound>, key: &Key) -> bool
+pub fn is_from(low: &Option<Bound>, key: &Key) -> bool
     ensures { result ≡ from_low low.now key.now }
 {
     match low {
         None => true,
-        Some(low) => key.bytes().cmp(low.bytes()) != Ordering::Less,
+        Some(low) => !low.is_above(key),
     }
 }
 
 /// Whether the key is below the bound, where there is one.
-pub(crate) fn is_below(high: &Option<Bound>, key: &Key) -> bool
+pub fn is_below(high: &Option<Bound>, key: &Key) -> bool
     ensures { result ≡ below_high high.now key.now }
 {
     match high {
         None => true,
-        Some(high) => key.bytes().cmp(high.bytes()) == Ordering::Less,
+        Some(high) => high.is_above(key),
     }
 }
 

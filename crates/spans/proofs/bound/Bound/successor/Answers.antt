@@ -5,15 +5,15 @@ use Rattle.spans.proofs.Succeeding.{above_successor}
 use Rattle.spans.proofs.bound.Bound.successor.Goals as goal
 
 pub returns-then-bytes-lt-MAX_KEY_BYTES-clause-least : goal.returns-then-bytes-lt-MAX_KEY_BYTES-clause-least
-returns-then-bytes-lt-MAX_KEY_BYTES-clause-least c = λ x. let bytes : c.in_ok-first.first ≡ successor c.args.key.now = search rules in rw bytes (above_successor c.args.key.now x)
+returns-then-bytes-lt-MAX_KEY_BYTES-clause-least c = λ x. let bytes : c.short.result ≡ successor c.args.key.now = search rules in rw bytes (above_successor c.args.key.now x)
 
-pub invariant_of-result-2 : goal.invariant_of-result-2
-invariant_of-result-2 c =
+pub long-requires-clause-first : goal.long-requires-clause-first
+long-requires-clause-first c =
     let key = c.args.key.now in
     let bytes : c.push.new.self.items ≡ successor key = search rules in
     let read = ap length c.bytes-bytes.ensures.bytes in
     let full : length key ≡ 256 = omega (arith, c.bytes-bytes.ensures.in_range) in
-    (ap length bytes ∙ length-append key (0 ∷ []) ∙ omega (arith, full), c.in_ok-first-2.ensures ∙ sym (ap (take 256) bytes ∙ take_at key (0 ∷ []) 256 full))
+    c.in_ok-first.ensures.bytes ∙ sym (ap (take 256) bytes ∙ take_at key (0 ∷ []) 256 full)
 
 pub returns-clause-least : goal.returns-clause-least
-returns-clause-least c = λ x. let bytes : c.push.new.self.items ≡ successor c.args.key.now = search rules in rw bytes (above_successor c.args.key.now x)
+returns-clause-least c = λ x. let bytes : c.in_ok-above-2.above ≡ successor c.args.key.now = search rules in rw bytes (above_successor c.args.key.now x)
