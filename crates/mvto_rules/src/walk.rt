@@ -13,6 +13,7 @@ use std::alloc::{AllocError, Global};
 use timestamps::key::Key;
 use timestamps::ts::Ts;
 use timestamps::value::Value;
+use version_chain::Steps;
 use version_chain::chain::{Chain, Version};
 
 /// What a scan has found so far: its rows, and the pieces that it will mark.
@@ -48,7 +49,7 @@ impl Walk {
     ) -> Result<Option<u64>, AllocError>
         ensures { IfOk result (Visits ts (key.now, chain.now) self.old self.new) }
     {
-        let (newest, next) = chain.around(ts.get());
+        let (newest, next) = chain.around(ts.get(), &mut Steps::new());
         match Sight::of(newest, ts) {
             Sight::Blocked(by) => Ok(Some(by)),
             Sight::Own => {

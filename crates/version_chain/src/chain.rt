@@ -119,12 +119,14 @@ impl Chain {
         self.at(place)
     }
 
-    /// The newest version at or below `t` and the next one above it, by one search.
-    pub fn around(&self, t: u64) -> (Option<&Version>, Option<&Version>)
+    /// The newest version at or below `t` and the next one above it, by one search. It reads at most as many
+    /// timestamps as the length has binary digits.
+    pub fn around(&self, t: u64, steps: &mut Steps) -> (Option<&Version>, Option<&Version>)
         ensures newest { MatchOption result.0 (IsNoneUpTo self.now t) (λ v. IsNewestOf self.now t v.now) }
         ensures next { MatchOption result.1 (IsNoneAbove self.now t) (λ v. IsLeastAbove self.now t v.now) }
+        ensures steps { (d : ℕ) → length self.now < 2 ^ d → steps.new.count ≤ steps.old.count + d }
     {
-        let place = self.place_above(t, &mut Steps::new());
+        let place = self.place_above(t, steps);
         (self.before(place), self.at(place))
     }
 

@@ -77,7 +77,7 @@ impl Chains {
     {
         match self.map.get(key) {
             None => (None, None),
-            Some(chain) => chain.around(t),
+            Some(chain) => chain.around(t, &mut Steps::new()),
         }
     }
 
