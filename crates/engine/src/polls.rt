@@ -42,7 +42,10 @@ impl Layers {
     {
         let closed = self.closing.closed();
         let versions = self.rules.versions();
-        match self.feeds.poll_behind(versions, feed, closed, max) {
+        match self
+            .feeds
+            .next_messages_in_store(versions, feed, closed, max)
+        {
             Ok(messages) => Reply::Messages(messages),
             Err(_) => Reply::Refused(Refusal::NoMemory),
         }
@@ -57,7 +60,7 @@ impl Layers {
         ensures served { AreServing self.old → IsServed self.old self.new seat (Poll feed max) result }
     {
         let closed = self.closing.closed();
-        match self.feeds.poll_ring(feed, closed, max) {
+        match self.feeds.next_messages_in_ring(feed, closed, max) {
             Ok(messages) => Reply::Messages(messages),
             Err(_) => Reply::Refused(Refusal::NoMemory),
         }

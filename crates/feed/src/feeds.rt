@@ -153,7 +153,12 @@ impl Feeds {
 
     /// The next messages of a feed that is served from its ring, at most `max`. Where memory is wanting,
     /// nothing is told.
-    pub fn poll_ring(&mut self, feed: u64, closed: u64, max: u64) -> Result<Messages, AllocError>
+    pub fn next_messages_in_ring(
+        &mut self,
+        feed: u64,
+        closed: u64,
+        max: u64,
+    ) -> Result<Messages, AllocError>
         requires closed { closed ≤ MAX }
         requires ring { behind_in self.old feed ≡ Some false }
         ensures told { IfOk result (λ ms. (l : Live) → live_in self.old feed ≡ Some l → IsPolled self.old self.new feed closed max l ms) }
@@ -163,7 +168,7 @@ impl Feeds {
         let Some(live) = self.live.get(&feed) else {
             return Err(AllocError);
         };
-        let messages = live.next_in_ring(self.alloc, max)?;
+        let messages = live.rows_of_ring(self.alloc, max)?;
         let told = messages.len() as u64;
         let messages = with_due(messages, live.due(closed), max)?;
         let place = place_behind(live.after(), messages.as_slice())?;
@@ -173,7 +178,7 @@ impl Feeds {
 
     /// The next messages of a feed that is served from the store, at most `max`. A feed for which that leaves no
     /// row is served from its ring again. Where memory is wanting, nothing is told.
-    pub fn poll_behind(
+    pub fn next_messages_in_store(
         &mut self,
         store: &Store,
         feed: u64,
@@ -190,7 +195,7 @@ impl Feeds {
             return Err(AllocError);
         };
         // one more, which tells whether any is left
-        let rows = live.next_in_store(self.alloc, store, closed, max.saturating_add(1))?;
+        let rows = live.rows_of_store(self.alloc, store, closed, max.saturating_add(1))?;
         let more = rows.len() as u64 > max;
         let messages = row_messages(self.alloc, at_most(rows, max))?;
         let messages = with_due(messages, live.due(closed), max)?;

@@ -163,7 +163,7 @@ impl LiveFeed {
     }
 
     /// The next rows from its ring, at most `max`, as messages.
-    pub(crate) fn next_in_ring(&self, alloc: Global, max: u64) -> Result<Vec<Message>, AllocError>
+    pub(crate) fn rows_of_ring(&self, alloc: Global, max: u64) -> Result<Vec<Message>, AllocError>
         ensures { IfOk result (λ ms. ms.items ≡ map Message.Row (take max self.now.ring)) }
     {
         let count = max.min(self.ring.len() as u64) as usize;
@@ -218,7 +218,7 @@ impl LiveFeed {
 
     /// The next rows from the store, at most `n`: what an initial feed has left of its snapshot, and as
     /// many stored rows as those leave room for.
-    pub(crate) fn next_in_store(
+    pub(crate) fn rows_of_store(
         &self,
         alloc: Global,
         store: &Store,

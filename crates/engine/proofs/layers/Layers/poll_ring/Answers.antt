@@ -15,7 +15,7 @@ use Rattle.engine.proofs.layers.Layers.poll_ring.Goals as goal
 
 pub returns-in-Ok-clause-step : goal.returns-in-Ok-clause-step
 returns-in-Ok-clause-step c = λ serving.
-    let e = c.args.self.now in let k = kept_of e in let s' = c.poll_ring.new.self in let l = lives_of e.feeds c.args.feed c.args.seat c.requires.owner in
+    let e = c.args.self.now in let k = kept_of e in let s' = c.next_messages_in_ring.new.self in let l = lives_of e.feeds c.args.feed c.args.seat c.requires.owner in
     let place = place_of_live e.feeds c.args.feed l.0 l.1 in
     let left = subst (AreLeft (version_in (versions_of e.rules)) (is_committed_in (versions_of e.rules)) l.0.place (closed_in e.closing)) (ring_of_live e.feeds c.args.feed l.0 l.1) (serving c.args.feed l.0.place place (behind_of_live e.feeds c.args.feed l.0 false l.1 c.requires.ring)) in
     let told = subst (λ n. IsPolled e.feeds s' c.args.feed n c.args.max l.0 c.in-Ok.messages) c.closed-closed.ensures (c.in-Ok.ensures.told l.0 l.1) in
@@ -25,7 +25,7 @@ returns-in-Ok-clause-step c = λ serving.
 
 pub returns-in-Ok-clause-served : goal.returns-in-Ok-clause-served
 returns-in-Ok-clause-served c = λ serving.
-    let e = c.args.self.now in let s' = c.poll_ring.new.self in let l = lives_of e.feeds c.args.feed c.args.seat c.requires.owner in
+    let e = c.args.self.now in let s' = c.next_messages_in_ring.new.self in let l = lives_of e.feeds c.args.feed c.args.seat c.requires.owner in
     let place = place_of_live e.feeds c.args.feed l.0 l.1 in
     let at = behind_of_live e.feeds c.args.feed l.0 false l.1 c.requires.ring in
     let left = subst (AreLeft (version_in (versions_of e.rules)) (is_committed_in (versions_of e.rules)) l.0.place (closed_in e.closing)) (ring_of_live e.feeds c.args.feed l.0 l.1) (serving c.args.feed l.0.place place at) in
@@ -45,4 +45,4 @@ returns-in-Ok-clause-served c = λ serving.
 pub returns-in-Err-clause-step : goal.returns-in-Err-clause-step
 returns-in-Err-clause-step c = λ serving.
     let e = c.args.self.now in let k = kept_of e in let l = lives_of e.feeds c.args.feed c.args.seat c.requires.owner in
-    inr (refl, poll_wanting k (kept_of (record e { feeds = c.poll_ring.new.self })) c.args.seat c.args.feed c.args.max l.0.place (place_of_live e.feeds c.args.feed l.0 l.1) l.2 (subst (λ s. IsAlike k (kept_of (record e { feeds = s }))) (sym c.in-Err.ensures.err) (alike_self k)))
+    inr (refl, poll_wanting k (kept_of (record e { feeds = c.next_messages_in_ring.new.self })) c.args.seat c.args.feed c.args.max l.0.place (place_of_live e.feeds c.args.feed l.0 l.1) l.2 (subst (λ s. IsAlike k (kept_of (record e { feeds = s }))) (sym c.in-Err.ensures.err) (alike_self k)))

@@ -13,7 +13,7 @@ use Rattle.engine.proofs.layers.Layers.poll_store.Goals as goal
 
 pub returns-in-Ok-clause-step : goal.returns-in-Ok-clause-step
 returns-in-Ok-clause-step c =
-    let e = c.args.self.now in let k = kept_of e in let s' = c.poll_behind.new.self in let l = lives_of e.feeds c.args.feed c.args.seat c.requires.owner in
+    let e = c.args.self.now in let k = kept_of e in let s' = c.next_messages_in_store.new.self in let l = lives_of e.feeds c.args.feed c.args.seat c.requires.owner in
     let told = subst (λ n. IsPolledFrom (versions_of e.rules) e.feeds s' c.args.feed n c.args.max l.0 c.in-Ok.messages) c.closed-closed.ensures (subst (λ s. IsPolledFrom s e.feeds s' c.args.feed c.closed-closed.result c.args.max l.0 c.in-Ok.messages) c.versions-versions.ensures (c.in-Ok.ensures.told l.0 l.1)) in
     let change = is_moved k e.feeds s' c.args.feed c.in-Ok.messages (nat_lt c.args.max (length told.rows)) [] l.0 (λ g. refl) l.1 told.put in
     inl (poll_done k (kept_of (record e { feeds = s' })) c.args.seat c.args.feed c.args.max l.0.place told.rows c.in-Ok.messages (place_of_live e.feeds c.args.feed l.0 l.1) l.2 told.left told.told
@@ -21,7 +21,7 @@ returns-in-Ok-clause-step c =
 
 pub returns-in-Ok-clause-served : goal.returns-in-Ok-clause-served
 returns-in-Ok-clause-served c =
-    let e = c.args.self.now in let s' = c.poll_behind.new.self in let l = lives_of e.feeds c.args.feed c.args.seat c.requires.owner in
+    let e = c.args.self.now in let s' = c.next_messages_in_store.new.self in let l = lives_of e.feeds c.args.feed c.args.seat c.requires.owner in
     let told = subst (λ n. IsPolledFrom (versions_of e.rules) e.feeds s' c.args.feed n c.args.max l.0 c.in-Ok.messages) c.closed-closed.ensures (subst (λ s. IsPolledFrom s e.feeds s' c.args.feed c.closed-closed.result c.args.max l.0 c.in-Ok.messages) c.versions-versions.ensures (c.in-Ok.ensures.told l.0 l.1)) in
     let after : Live = record { place = moved c.in-Ok.messages l.0.place; behind = nat_lt c.args.max (length told.rows); ring = [] } in record {
       place = l.0.place;
@@ -38,4 +38,4 @@ returns-in-Ok-clause-served c =
 pub returns-in-Err-clause-step : goal.returns-in-Err-clause-step
 returns-in-Err-clause-step c =
     let e = c.args.self.now in let k = kept_of e in let l = lives_of e.feeds c.args.feed c.args.seat c.requires.owner in
-    inr (refl, poll_wanting k (kept_of (record e { feeds = c.poll_behind.new.self })) c.args.seat c.args.feed c.args.max l.0.place (place_of_live e.feeds c.args.feed l.0 l.1) l.2 (subst (λ s. IsAlike k (kept_of (record e { feeds = s }))) (sym c.in-Err.ensures.err) (alike_self k)))
+    inr (refl, poll_wanting k (kept_of (record e { feeds = c.next_messages_in_store.new.self })) c.args.seat c.args.feed c.args.max l.0.place (place_of_live e.feeds c.args.feed l.0 l.1) l.2 (subst (λ s. IsAlike k (kept_of (record e { feeds = s }))) (sym c.in-Err.ensures.err) (alike_self k)))

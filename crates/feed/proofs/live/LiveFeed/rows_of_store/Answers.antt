@@ -1,6 +1,6 @@
 use Rattle.std.proofs.Common.{arith, length, ◌-◌, ◌≡◌}
 use Rattle.feed.proofs.Catching.{both_next}
-use Rattle.feed.proofs.live.LiveFeed.next_in_store.Goals as goal
+use Rattle.feed.proofs.live.LiveFeed.rows_of_store.Goals as goal
 
 pub returns : goal.returns
 returns c =

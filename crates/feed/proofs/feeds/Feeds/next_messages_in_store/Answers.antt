@@ -6,7 +6,7 @@ use Rattle.spans.specs.declared.calls.messages.Message.TheVariants as messages
 use Rattle.feed.specs.Live.{Live}
 use Rattle.feed.specs.Standing.{IsPolledFrom, Standing, live_in}
 use Rattle.feed.proofs.Catching.{polled_from}
-use Rattle.feed.proofs.feeds.Feeds.poll_behind.Goals as goal
+use Rattle.feed.proofs.feeds.Feeds.next_messages_in_store.Goals as goal
 
 some_is : (l m : Live) → Some l ≡ Some m → l ≡ m
 some_is l m e = cc

@@ -3,8 +3,8 @@ use Rattle.timestamps.specs.declared.row.Row.{Row}
 use Rattle.spans.specs.declared.calls.messages.Message.TheVariants as messages
 use Rattle.feed.specs.Live.{Live}
 use Rattle.feed.proofs.Rows.{none_at, take_least, told_next, shared_length}
-use Rattle.feed.proofs.live.LiveFeed.next_in_ring.Goals as goal
-use Rattle.feed.proofs.live.LiveFeed.next_in_ring.Goals.{in-Some+in_ok-row+in_ok-push, in_default}
+use Rattle.feed.proofs.live.LiveFeed.rows_of_ring.Goals as goal
+use Rattle.feed.proofs.live.LiveFeed.rows_of_ring.Goals.{in-Some+in_ok-row+in_ok-push, in_default}
 
 pub loop-i-preserved : goal.loop-i-preserved
 loop-i-preserved c = elim c.match-get.branch [

@@ -5,7 +5,7 @@ use Rattle.spans.specs.Kept.{last_name}
 use Rattle.feed.specs.Live.{Live}
 use Rattle.feed.specs.Standing.{IsPolled, Standing, live_in}
 use Rattle.feed.proofs.Telling.{polled}
-use Rattle.feed.proofs.feeds.Feeds.poll_ring.Goals as goal
+use Rattle.feed.proofs.feeds.Feeds.next_messages_in_ring.Goals as goal
 
 some_is : (l m : Live) → Some l ≡ Some m → l ≡ m
 some_is l m e = cc
