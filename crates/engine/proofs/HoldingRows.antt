@@ -1,7 +1,7 @@
 -- A commit holds back the rows of its versions.
 use Rattle.std.proofs.Common.{List, None, Option, Some, [], ap, cond, inl, inr, refl, subst, sym, true, false, ℕ, ◌==◌, ◌≡◌, ◌++◌, ◌∷◌, ◌∙◌, append_assoc}
 use Rattle.std.specs.Prelude.{option_map}
-use Rattle.std.proofs.lemmas.Bool.{and_parts, eq-eqb, eqb-true, or_cases}
+use Rattle.std.proofs.lemmas.Bool.{and_parts, both_ways, eq-eqb, eqb-true, or_cases}
 use Rattle.std.proofs.lemmas.List.{append-nil}
 use Rattle.timestamps.specs.declared.row.Row.{Row}
 use Rattle.spans.specs.Effects.{After}
@@ -19,8 +19,8 @@ use Rattle.version_chain.specs.declared.chain.Version.{Version}
 use Rattle.hold_back.specs.Held as holding
 use Rattle.hold_back.specs.Held.{IsAdded, is_lost, row_at}
 use Rattle.hold_back.specs.HeldAll.{IsHeldAll}
-use Rattle.hold_back.proofs.Holding.{held_for, held_more}
-use Rattle.engine.specs.Holding.{IsKeyHeld, row_list, rows_at}
+use Rattle.hold_back.proofs.Holding.{held_for, held_more, held_none, skipped}
+use Rattle.engine.specs.Holding.{IsKeyHeld, gap_after, row_list, rows_at}
 
 -- the row of a key is that of its version
 in_list : (t : ℕ) (x : List ℕ) (o : Option After) (q : Row) → IsRowIn q (row_list t x o) → (q.ts ≡ t) × (x ≡ q.key) × (o ≡ Some q.after)
@@ -65,9 +65,6 @@ key_more s t xs x h m h' (Some a) is all one = held_more t (rows_at s t xs) (row
 pub keys_more : (s : Stored) (t : ℕ) (xs : List (List ℕ)) (x : List ℕ) (h m h' : holding.Held) → IsHeldAll t (rows_at s t xs) h m → IsKeyHeld m h' t x (version_in s x t) → IsHeldAll t (rows_at s t (xs ++ x ∷ [])) h h'
 keys_more s t xs x h m h' all one = subst (λ l. IsHeldAll t l h h') (sym (rows_append s t xs (x ∷ []) ∙ ap (λ l. rows_at s t xs ++ l) (append-nil (row_list t x (version_in s x t))))) (key_more s t xs x h m h' (version_in s x t) refl all one)
 
-pub none_held : (t : ℕ) (h : holding.Held) → IsHeldAll t [] h h
-none_held t h = record { only = λ q i. inl i; still = λ j e. e; others = λ q off. (λ i. i, λ i. i); own = λ kept none q on. (λ i. cc (none q i), λ i. absurd i) }
-
 -- of the keys the rest is yet to be held
 pub record AreHeldSoFar (s : Stored) (t : ℕ) (keys rest : List (List ℕ)) (h h' : holding.Held) : Type 0 where
   pub done : List (List ℕ)
@@ -75,7 +72,7 @@ pub record AreHeldSoFar (s : Stored) (t : ℕ) (keys rest : List (List ℕ)) (h 
   pub held : IsHeldAll t (rows_at s t done) h h'
 
 pub first_held : (s : Stored) (t : ℕ) (keys rest : List (List ℕ)) (h : holding.Held) → rest ≡ keys → AreHeldSoFar s t keys rest h h
-first_held s t keys rest h is = record { done = []; all = is; held = none_held t h }
+first_held s t keys rest h is = record { done = []; all = is; held = held_none t h }
 
 pub next_held : (s : Stored) (t : ℕ) (keys : List (List ℕ)) (x : List ℕ) (rest : List (List ℕ)) (h m h' : holding.Held) → AreHeldSoFar s t keys (x ∷ rest) h m → IsKeyHeld m h' t x (version_in s x t) → AreHeldSoFar s t keys rest h h'
 next_held s t keys x rest h m h' so one = record {
@@ -84,8 +81,26 @@ next_held s t keys x rest h m h' so one = record {
   held = keys_more s t so.done x h m h' so.held one;
 }
 
+-- where one is left, there are some
+pub has_some : (s : Stored) (t : ℕ) (keys : List (List ℕ)) (x : List ℕ) (rest : List (List ℕ)) (h m : holding.Held) → AreHeldSoFar s t keys (x ∷ rest) h m → keys ≡ [] → ⊥
+has_some s t keys x rest h m so none = some so.done (so.all ∙ none)
+  where
+    some : (done : List (List ℕ)) → done ++ x ∷ rest ≡ [] → ⊥
+    some [] e = cc
+    some (y ∷ ys) e = cc
+
 pub all_held : (s : Stored) (t : ℕ) (keys : List (List ℕ)) (h h' : holding.Held) → AreHeldSoFar s t keys [] h h' → IsHeldAll t (rows_at s t keys) h h'
 all_held s t keys h h' so = subst (λ l. IsHeldAll t (rows_at s t l) h h') (sym (append-nil so.done) ∙ so.all) so.held
+
+-- where the rows of t at these keys were skipped, if there are any, they may all be lost
+pub skipped_keys : (s : Stored) (t : ℕ) (xs : List (List ℕ)) (h h' : holding.Held) → h'.rows ≡ h.rows → h'.gap ≡ gap_after xs t h.gap → IsHeldAll t (rows_at s t xs) h h'
+skipped_keys s t [] h h' rows gap = record {
+  only = λ q i. inl (subst (IsRowIn q) rows i);
+  still = λ j e. ap (λ g. is_lost g j) (sym gap) ∙ e;
+  others = λ q off. (subst (IsRowIn q) rows, subst (IsRowIn q) (sym rows));
+  own = λ e none q on. (λ i. absurd (both_ways _ (none q (subst (IsRowIn q) rows i)) on), λ i. absurd i);
+}
+skipped_keys s t (x ∷ xs) h h' rows gap = skipped t (rows_at s t (x ∷ xs)) h h' rows gap
 
 -- where every version of t is one of the keys, the commit is what the theorem on held rows asks for
 pub commit_held : (k : Kept) (s : Stored) (t : ℕ) (xs : List (List ℕ)) (h h' : holding.Held) → ((x : List ℕ) → version_in s x t ≡ k.version x t) → ((x : List ℕ) → has x xs ≡ false → k.version x t ≡ None)

@@ -20,3 +20,8 @@ rows_at s t (x ∷ xs) = row_list t x (version_in s x t) ++ rows_at s t xs
 abbrev pub IsKeyHeld : holding.Held → holding.Held → ℕ → List ℕ → Option After → Type 0
 IsKeyHeld h h' t x None = h' ≡ h
 IsKeyHeld h h' t x (Some a) = IsAdded h h' (row_at t x a)
+
+-- the gap, where the rows of t at these keys were skipped, if there are any
+abbrev pub gap_after : List (List ℕ) → ℕ → Option holding.Gap → Option holding.Gap
+gap_after [] t gap = gap
+gap_after (x ∷ xs) t gap = holding.gap_with gap t

@@ -1,11 +1,12 @@
 //! What a commit holds back for feeds.
+ghost use Rattle.std.specs.Prelude.{◌≡◌, []};
 ghost use Rattle.spans.proofs.StreamOrder.{RisingRows};
 ghost use Rattle.kept.specs.Table.{keys_of};
 ghost use Rattle.version_chain.specs.Stores.{version_in};
 ghost use Rattle.mvto_rules.specs.Holding.{transactions_of, versions_of};
-ghost use Rattle.hold_back.specs.Held.{rows_in};
+ghost use Rattle.hold_back.specs.Held.{gap_in, rows_in};
 ghost use Rattle.hold_back.specs.HeldAll.{IsHeldAll};
-ghost use Rattle.engine.specs.Holding.{IsKeyHeld, rows_at};
+ghost use Rattle.engine.specs.Holding.{IsKeyHeld, gap_after, rows_at};
 
 use hold_back::HoldBack;
 use mvto_rules::Rules;
@@ -18,13 +19,28 @@ use version_chain::Store;
 pub(crate) fn hold_written(held: &mut HoldBack, rules: &Rules, ts: u64, feeds: u64)
     ensures held { IsHeldAll ts (rows_at (versions_of rules.now) ts (keys_of (transactions_of rules.now ts))) held.old held.new }
     ensures rising { RisingRows (rows_in held.old) → RisingRows (rows_in held.new) }
+    ensures none { feeds ≡ 0 → rows_in held.new ≡ rows_in held.old }
+    ensures gap { feeds ≡ 0 → gap_in held.new ≡ gap_after (keys_of (transactions_of rules.now ts)) ts (gap_in held.old) }
+    ensures empty { keys_of (transactions_of rules.now ts) ≡ [] → held.new ≡ held.old }
 {
-    if feeds == 0 {
-        held.skip(ts);
+    let Some(keys) = rules.write_set(ts) else {
         return;
+    };
+    if feeds == 0 {
+        return skip_rows(held, ts, keys);
     }
-    if let Some(keys) = rules.write_set(ts) {
-        hold_rows(held, rules.versions(), ts, keys);
+    hold_rows(held, rules.versions(), ts, keys);
+}
+
+/// Holds back no row of `ts`, and notes that, where it wrote any of these keys.
+fn skip_rows(held: &mut HoldBack, ts: u64, keys: Range<'_, Key>)
+    ensures rows { rows_in held.new ≡ rows_in held.old }
+    ensures gap { gap_in held.new ≡ gap_after keys.entry ts (gap_in held.old) }
+    ensures empty { keys.entry ≡ [] → held.new ≡ held.old }
+{
+    let mut keys = keys;
+    if let Some(_) = keys.next() {
+        held.skip(ts);
     }
 }
 
@@ -32,6 +48,7 @@ pub(crate) fn hold_written(held: &mut HoldBack, rules: &Rules, ts: u64, feeds: u
 fn hold_rows(held: &mut HoldBack, store: &Store, ts: u64, keys: Range<'_, Key>)
     ensures held { IsHeldAll ts (rows_at store.now ts keys.entry) held.old held.new }
     ensures rising { RisingRows (rows_in held.old) → RisingRows (rows_in held.new) }
+    ensures empty { keys.entry ≡ [] → held.new ≡ held.old }
 {
     for key in keys {
         hold_row(held, store, ts, key);

@@ -1,8 +1,10 @@
+use Rattle.std.proofs.Common.{ap, ◌∙◌}
 use Rattle.kept.specs.Table.{keys_of}
 use Rattle.mvto_rules.specs.Holding.{transactions_of, versions_of}
-use Rattle.hold_back.proofs.Holding.{skipped}
-use Rattle.engine.specs.Holding.{rows_at}
+use Rattle.engine.specs.Holding.{gap_after}
+use Rattle.engine.proofs.HoldingRows.{skipped_keys}
 use Rattle.engine.proofs.holding.hold_written.Goals as goal
 
 pub returns-then-feeds-eq0-clause-held : goal.returns-then-feeds-eq0-clause-held
-returns-then-feeds-eq0-clause-held c = skipped c.args.ts (rows_at (versions_of c.args.rules.now) c.args.ts (keys_of (transactions_of c.args.rules.now c.args.ts))) c.args.held.now c.skip.new.self c.skip.ensures.rows c.skip.ensures.gap
+returns-then-feeds-eq0-clause-held c = skipped_keys (versions_of c.args.rules.now) c.args.ts (keys_of (transactions_of c.args.rules.now c.args.ts)) c.args.held.now c.skip_rows.new.held
+    c.skip_rows.ensures.rows (c.skip_rows.ensures.gap ∙ ap (λ xs. gap_after xs c.args.ts c.args.held.now.gap) c.in-Some.ensures.keys)
