@@ -25,7 +25,7 @@ pub(crate) const ASLEEP: u64 = 1;
 pub(crate) const AWAKE: u64 = 0;
 
 /// How often a seat looks for a free turn before it draws a ticket and waits in line.
-pub(crate) const LOOKS: u64 = 40;
+pub(crate) const LOOKS: u64 = 200;
 
 /// How many turns a seat may be from its own and not sleep at once.
 pub(crate) const NEAR: u64 = 3;
