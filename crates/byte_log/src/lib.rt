@@ -1,4 +1,4 @@
-//! Bytes that only proofs read.
+//! A list of bytes that only proofs read: nothing of it is there at run time.
 //!
 //! A contract that speaks of all that a reader gave, or a writer took, needs those bytes by name, and nothing
 //! at run time keeps them. A [`ByteLog`] is such a list: it grows by a piece, and takes no memory and no step.

@@ -1,5 +1,8 @@
 //! Up to where timestamps are closed, and the protections that hold a collection back.
 //!
+//! At or below the closed timestamp nothing changes any more. A collection drops versions at or below its horizon, without
+//! which each read at or above the horizon is answered as before. A protection keeps the horizon at or below its timestamp.
+//!
 //! The closed timestamp is a number that never falls. A protection has a number, from 1 on in the
 //! order of making, and the timestamp that it protects. They stand in a map by number, where one is
 //! released, and in a set by timestamp, whose first is the least that is protected.

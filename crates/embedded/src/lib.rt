@@ -1,6 +1,7 @@
-//! A database for a program that isn't written in Rattle: the line of a command goes in, the text of its event comes out.
+//! A database that is called by text, as programs in other languages call it: the line of a command goes in, the text
+//! of its event comes out.
 //!
-//! The static library `ripsawbean` keeps one behind each handle. A call reads its line, makes the command's step and
+//! It knows no C: the static library `ripsawbean` keeps one behind each handle, and has the four functions. A call reads its line, makes the command's step and
 //! keeps the event; the event's text is written after that, and copied out as often as it is asked for. So a text that
 //! finds no memory, or no room where it is copied to, loses nothing: its event stays until the next call is made.
 //! Memory is taken for the keys and values of a line, by the engine's step, and for the text, which keeps its room.

@@ -1,5 +1,6 @@
-//! The first example, run by the gate: its input is the text of `examples/first.script`, and it has to
-//! write the text of `examples/first.transcript`. (`examples/check` compares the files.)
+//! A program of thirty lines that serves a script: it reads commands from standard input, makes the calls on a database,
+//! and writes the transcript, by `sessions` alone. The gate runs it on the text of `examples/first.script`, and it has to
+//! write that of `examples/first.transcript`. (`examples/check` compares the files.)
 #![tactic(auto)]
 
 use sessions::{Config, End, Reading, Writing, serve};

@@ -1,4 +1,5 @@
-//! Scripts in which any growth may be refused.
+//! A test for want of memory: scripts during which the refusal of any one growth of memory leaves no other trace than
+//! `nomemory`.
 //!
 //! The test makes the calls of a transcript on an engine, twice. Wherever memory is wanting once, each reply is
 //! that of the transcript, or `nomemory` where the command may lack memory and would have been accepted. Such

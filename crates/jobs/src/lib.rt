@@ -1,5 +1,6 @@
-//! What the program does, over any source and any sink: it runs a script, has a script's sessions race, checks
-//! a transcript, and follows a feed.
+//! The four jobs of the program `mvfeed`, over any source and any sink: it runs a script, has a script's sessions
+//! race, checks a transcript, and follows a feed. Each job is one function, from the first byte read to the last one
+//! written. The loop of a run, line by line, stands in `sessions`; what a race does stands in `races`.
 //!
 //! `mvfeed` calls [`run_io`], [`race_io`], [`check_io`] and [`follow_io`] with its standard input and output.
 //! Another program that has bytes from elsewhere calls them in the same way, and [`verdict`] where it has the

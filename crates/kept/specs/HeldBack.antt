@@ -1,5 +1,5 @@
--- The rows of committed transactions that are held back until they are closed. Some may be lost for want of memory: lost
--- says at which timestamps, and those are looked up in the versions that are kept.
+-- The rows of committed transactions that are held back until they are closed. Some may be lost, for want of memory or because
+-- no feed was open: lost says at which timestamps, and those are looked up in the versions that are kept.
 use Rattle.std.specs.Prelude.{Bool, List, Some, false, filter, nat_le, true, ℕ, ◌<◌, ◌↔◌, ◌∷◌, ◌≡◌, ◌≤◌, ◌⊎◌}
 use Rattle.timestamps.specs.declared.row.Row.{Row}
 use Rattle.spans.specs.Effects.{Closes, Commits, Effect, HardCloses, effect_of, effects_of}

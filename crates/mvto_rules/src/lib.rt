@@ -3,7 +3,8 @@
 //!
 //! A read sees the newest version at or below its timestamp, unless another's undecided one stops it,
 //! and marks itself as a reader. A write is too late where a reader above it has read the version
-//! below it; then its transaction is aborted. [`Rules`] holds the three parts and ties them:
+//! below it; then its transaction is aborted. Marks and transactions at or below what is closed go. [`Rules`] holds
+//! the three parts and ties them:
 //!
 //! ```text
 //!                          versions of "b"    readers of "b"       of "c"

@@ -1,4 +1,5 @@
-//! The database as one plain program: what the definitions say, computed.
+//! The definitions as one plain program, by which transcripts are checked: it computes the one right reply to each
+//! command.
 //!
 //! A [`Database`](database::Database) has a map for each thing that a history is asked about. `answer`
 //! computes the one right reply to a command, and changes nothing. `record` takes in a command with its

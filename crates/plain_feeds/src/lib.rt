@@ -1,4 +1,4 @@
-//! The feeds and the protections of the plain database, as plain lists.
+//! The feeds and the protections of the plain database, by which transcripts are checked, as plain lists.
 //!
 //! A [`FeedBook`] has a record of each feed, in the order of opening: feed n stands at place n - 1. Of the
 //! messages that it was told a feed keeps the name of the last row, the greatest resolved timestamp and the floor:

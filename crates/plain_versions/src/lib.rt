@@ -1,4 +1,4 @@
-//! What transactions wrote: the transactions of the plain database, and the versions of its keys.
+//! The transactions of the plain database, by which transcripts are checked, and the versions that they wrote.
 //!
 //! [`Transactions`] is an ordered map by timestamp, of each transaction's seat and how far it is, and beside it the set
 //! of the timestamps that are undecided. [`Chains`] is an ordered map by key: each key that was ever written, with the

@@ -18,7 +18,7 @@
 //! where it ends, and of a transcript's line up to four times more: for that, whether its bytes are
 //! printable, how many words there are and where `=>` stands.
 //!
-//! What no clause says of it is tested in `worked_texts`, by the tables of the format.
+//! What no clause says of it is tested in `text_tests`, by the tables of the format.
 #![tactic(auto)]
 
 pub mod events;

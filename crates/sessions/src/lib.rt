@@ -1,4 +1,5 @@
-//! Scripts served: lines in, calls made in their order, transcripts out.
+//! A script served while it is read: each line is a call of one session, which is made on a shared database in the
+//! order of the lines, and the text of its event goes out.
 //!
 //! `mvfeed` and the examples call [`serve`], over any reader and any writer ([`Reading`], [`Writing`]) or any
 //! [`Source`] and [`Sink`] of their own. Another front end that reads lines and writes text has the same two

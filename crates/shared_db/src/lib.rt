@@ -1,8 +1,9 @@
-//! One database for many threads: an engine under a ticket lock, and an oracle beside it.
+//! One database for many threads: an engine under a ticket lock, and beside it an oracle, which leases timestamps that
+//! no two threads share.
 //!
-//! A thread has a seat, and perhaps a pass. A call takes the turn of a ticket, makes one step of the
-//! engine, raises the floor to the timestamp that is then closed, and ends the turn with an event
-//! whose position is the ticket. All events make one legal history. What a seat has `seen` is the
+//! A thread has a seat, by which it calls, and perhaps a pass, by which it draws from the oracle. A call takes the turn
+//! of a ticket, makes one step of the engine, raises the floor to the timestamp that is then closed, and ends the turn
+//! with an event whose position is the ticket. All events make one legal history. What a seat has `seen` is the
 //! beginning of it up to its last call, and what is `mine` are its own events.
 //!
 //! ```text

@@ -1,4 +1,5 @@
-//! The two formats of texts: how long a key, a value, a bound and a line may be, and how a transcript begins.
+//! The two formats of scripts, transcripts and messages as texts: how long a key, a value, a bound and a line may be,
+//! and how a transcript begins.
 //!
 //! Readers of texts take a [`Format`] and ask it for its limits. Writers need none: they write what they are given.
 //! Every script, command and message of format one is one of format two. What is longer than format one allows is

@@ -18,7 +18,7 @@
 //! Cost: each byte of a line is looked at twice to read it, as words are cut and read, and once to
 //! write it.
 //!
-//! What no clause says of it is tested in `worked_texts`, by the tables of the format.
+//! What no clause says of it is tested in `text_tests`, by the tables of the format.
 #![tactic(auto)]
 
 pub mod arguments;
