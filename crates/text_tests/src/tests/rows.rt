@@ -465,8 +465,9 @@ pub(super) const BYTES: [&[u8]; 8] = [b"", b"a", b"-", b"--", b" ", b"%", b"\x00
 
 pub(super) const SPELLED: &str = "- a %2D -- %20 %25 %00%FF => ";
 
-/// The test vectors of RFC 4648, section 10, and the last symbols of the alphabet; and the lines of their deletes.
-pub(super) const KEYS: [&[u8]; 7] = [
+/// The test vectors of RFC 4648, section 10, the last symbols of the alphabet, and then all 64 in their order; and the lines of
+/// their deletes.
+pub(super) const KEYS: [&[u8]; 8] = [
     b"f",
     b"fo",
     b"foo",
@@ -474,10 +475,11 @@ pub(super) const KEYS: [&[u8]; 7] = [
     b"fooba",
     b"foobar",
     b"\xfb\xff\xbf",
+    b"\x00\x10\x83\x10Q\x87 \x92\x8b0\xd3\x8fA\x14\x93QU\x97a\x96\x9bq\xd7\x9f\x82\x18\xa3\x92Y\xa7\xa2\x9a\xab\xb2\xdb\xaf\xc3\x1c\xb3\xd3]\xb7\xe3\x9e\xbb\xf3\xdf\xbf",
 ];
 
 pub(super) const VECTORS: &str =
-    "before {'after':null,'key':'Zg==','updated':'7'}|{'after':null,'key':'Zm8=','updated':'7'}|{'after':null,'key':'Zm9v','updated':'7'}|{'after':null,'key':'Zm9vYg==','updated':'7'}|{'after':null,'key':'Zm9vYmE=','updated':'7'}|{'after':null,'key':'Zm9vYmFy','updated':'7'}|{'after':null,'key':'+/+/','updated':'7'}|";
+    "before {'after':null,'key':'Zg==','updated':'7'}|{'after':null,'key':'Zm8=','updated':'7'}|{'after':null,'key':'Zm9v','updated':'7'}|{'after':null,'key':'Zm9vYg==','updated':'7'}|{'after':null,'key':'Zm9vYmE=','updated':'7'}|{'after':null,'key':'Zm9vYmFy','updated':'7'}|{'after':null,'key':'+/+/','updated':'7'}|{'after':null,'key':'ABCDEFGHIJKLMNOPQRSTUVWXYZabcdefghijklmnopqrstuvwxyz0123456789+/','updated':'7'}|";
 
 pub(super) const FAULTS: &str = "fault 1 1 wordcount
 wordcount wordcount
