@@ -1,8 +1,9 @@
-//! Where a feed is served from, line by line of a script.
+//! Tests of an engine: where each feed is served from, after each line of a script, and that it runs a list of calls.
 //!
-//! A feed is behind while it is served from the store. It falls behind where its ring is full, or where it opens
-//! with rows below closed that it may have to tell; a poll that leaves no row brings it back. A feed that is behind
-//! for longer than that would still tell the same, so no contract sees it: the tests ask after each line.
+//! A feed is behind while it is served from the store. It falls behind where its ring is full, where it opens with
+//! rows below closed that it may have to tell, or where rows are closed that were committed while no feed was open. A
+//! poll that leaves no row brings it back. A feed that is behind for longer than that would still tell the same, so no
+//! contract sees it: the tests ask after each line.
 //!
 //! ```text
 //!                  feed 1 with a ring of 1    with a ring of 2
@@ -17,6 +18,8 @@
 //! poll 1 1         store                      ring
 //! poll 1 1         ring                       ring
 //! ```
+//!
+//! The contract of a run lets it end for want of memory whatever it is given. So a test runs the first example.
 #![tactic(auto)]
 
 #[cfg(test)]

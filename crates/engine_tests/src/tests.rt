@@ -1,7 +1,9 @@
-//! Cases, and what is asked of each.
+//! Cases, and what is asked of each; and a run of calls.
 mod cases;
+mod running;
 mod serving;
 
+use running::{FIRST, steps};
 use serving::is_served;
 
 #[test]
@@ -15,4 +17,9 @@ fn feeds_are_served_from_where_they_should_be(rt: HostRuntime) {
             );
         }
     }
+}
+
+#[test]
+fn a_run_gives_the_events_of_the_first_example(rt: HostRuntime) {
+    assert!(rt; steps(rt.alloc(), FIRST) == Some(10));
 }

@@ -211,4 +211,14 @@ script
 1 put 40 a 3
 1 commit 40
 0 close 50
+@ Transactions that wrote nothing commit before a feed is open, and while it is
+1 1 --rrrrr no row was missed
+script
+1 begin 20
+1 commit 20
+0 open - - 0
+0 close 30
+1 begin 40
+1 commit 40
+0 close 50
 ";
