@@ -101,8 +101,13 @@ fault 1 4 keylength
 fault 3 4 keylength
 ";
 
-/// Numbers of seats, rings and first positions. A database that is not opened reads nothing.
-pub(super) const OPTIONS: &str = "@ run 64 1024 18446744073709551613
+/// Numbers of seats, rings and first positions. Where no line comes nothing is written, also where no position is left. A
+/// database that is not opened reads nothing.
+pub(super) const OPTIONS: &str = "@ run 64 1024 0
+= done
+@ run 64 1024 18446744073709551615
+= done
+@ run 64 1024 18446744073709551613
 0 begin 10
 0 commit 10
 0 stats
