@@ -3,10 +3,11 @@
 ghost use Rattle.std.specs.Prelude.{All};
 ghost use Rattle.timestamps.specs.Passes.{IsOf as IsPassOf};
 
+use super::texts::put_form;
 use races::{Open, lists_of, race, settle_checked};
 use script::scripts::read_script;
 use shared_db::{Config, Db};
-use std::alloc::{AllocError, Global};
+use std::alloc::Global;
 use std::test::Fail;
 use text_format::Format;
 use timestamps::lease::Lease;
@@ -72,29 +73,6 @@ fn form_of(turn: u64) -> &'static str {
             .unwrap_or("A poll 2 9");
     }
     FORMS.lines().nth((turn % 25) as usize).unwrap_or("A stats")
-}
-
-/// Puts a form with its capital letters replaced, and ends the line.
-fn put_form(
-    alloc: Global,
-    out: &mut Vec<u8>,
-    form: &str,
-    numbers: &[u64],
-) -> Result<(), AllocError> {
-    for byte in form.as_bytes() {
-        match *byte {
-            letter @ b'A'..=b'E' => {
-                let number = numbers
-                    .get(usize::from(letter.saturating_sub(b'A')))
-                    .copied()
-                    .unwrap_or(0);
-                out.extend_from_slice(format!(in alloc; "{number}")?.as_bytes())?;
-            }
-            other => out.push(other)?,
-        }
-    }
-    out.push(b'\n')?;
-    Ok(())
 }
 
 /// The script of one session, written behind what is there.

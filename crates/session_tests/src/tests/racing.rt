@@ -1,9 +1,9 @@
 //! Sessions that race, held by gates so that their calls come in a wanted order.
-use races::{Gate, Open, race_calls, race_fresh};
+use super::texts::{Lines, text_of, transcript_of};
+use races::{Gate, race_calls};
 use script::scripts::read_script;
-use sessions::Config;
-use spans::calls::{Cmd, Event};
-use std::alloc::{AllocError, Global};
+use spans::calls::Event;
+use std::alloc::Global;
 use std::sync::Wait;
 use std::sync::atomic::Ordering::SeqCst;
 use std::sync::atomic::{AtomicBool, AtomicU64};
@@ -11,34 +11,37 @@ use std::test::Fail;
 use std::thread::{Threads, yield_now};
 use text_format::Format;
 use trace_check::{Verdict, check};
-use word_lines::events::write_event;
 
 /// How often a held session looks whether it may go on, giving way between two looks.
 const PATIENCE: u64 = 1_000_000;
 
 /// A session, and which of its calls comes next.
-type Place = (u8, u64);
+pub(super) type Place = (u8, u64);
 
 /// Holds the first two sessions at some places until the other has reached another place.
 #[derive(Drop)]
-struct Holds<'a> {
+pub(super) struct Holds<'a> {
     /// Who is held, and until which place is reached.
     holds: &'a [(Place, Place)],
     /// One more than the call before which each session stood last.
     first: AtomicU64,
     second: AtomicU64,
-    /// A session went on since it had waited too long.
     late: AtomicBool,
 }
 
 impl<'a> Holds<'a> {
-    fn new(holds: &'a [(Place, Place)]) -> Holds<'a> {
+    pub(super) fn new(holds: &'a [(Place, Place)]) -> Holds<'a> {
         Holds {
             holds,
             first: AtomicU64::new(0),
             second: AtomicU64::new(0),
             late: AtomicBool::new(false),
         }
+    }
+
+    /// Whether a session went on since it had waited too long.
+    pub(super) fn is_late(&self) -> bool {
+        self.late.load(SeqCst)
     }
 
     fn stands(&self, session: u8) -> &AtomicU64 {
@@ -84,40 +87,25 @@ fn raced<R: Threads + Wait + Sync, G: Gate + Sync>(
     race_calls(rt, alloc, 2, 1024, calls, gate).ok()
 }
 
-/// Whether the race of a script, whose sessions are held so, is right, begins so, and nobody waits in vain.
-fn begins<R: Threads + Wait + Sync>(
+/// The transcript of a script whose sessions race, held so, if it is right and nobody waited in vain.
+fn held<R: Threads + Wait + Sync>(
     rt: &R,
     alloc: Global,
     script: &[u8],
     holds: &[(Place, Place)],
-    wanted: &[u8],
-) -> Option<bool> {
+) -> Option<Vec<u8>> {
     let gate = Holds::new(holds);
     let events = raced(rt, alloc, script, &gate)?;
-    let mut out = Vec::new(alloc);
-    for event in &events {
-        write_event(&mut out, event).ok()?;
+    if gate.is_late() || check(alloc, &events).ok()? != Verdict::Yes {
+        return None;
     }
-    let is_right = check(alloc, &events).ok()? == Verdict::Yes;
-    Some(is_right && out.starts_with(wanted) && !gate.late.load(SeqCst))
+    transcript_of(alloc, &events).ok()
 }
 
 /// Two sessions, of which each waits for the other's first call.
 const BOTH: &[u8] = b"0 stats\n0 stats\n1 stats\n1 stats\n";
 
 const BOTH_BEGIN: &[u8] = b"0 0 stats => stats 0 0 0 0 0\n1 1 stats => stats 0 0 0 0 0\n";
-
-/// A feed that is cancelled between its polls.
-const CANCELLED: &[u8] =
-    b"1 cancel 1\n0 open - - 0\n0 poll 1 1\n0 poll 1 1\n0 poll 1 1\n0 poll 1 1\n";
-
-const CANCELLED_ALL: &[u8] = b"0 0 open - - 0 => opened 1
-1 0 poll 1 1 => messages 0
-2 0 poll 1 1 => messages 0
-3 1 cancel 1 => cancelled
-4 0 poll 1 1 => feedcancelled
-5 0 poll 1 1 => feedcancelled
-";
 
 /// A hard closing that comes between a transaction's calls.
 const CLOSED: &[u8] = b"0 begin 10\n0 put 10 a 1\n0 commit 10\n1 closehard 20\n";
@@ -129,37 +117,36 @@ const CLOSED_ALL: &[u8] = b"0 0 begin 10 => started
 ";
 
 #[test]
-fn calls_of_sessions_come_in_a_wanted_order(rt: HostRuntime) {
-    let alloc = rt.alloc();
+fn calls_of_sessions_come_in_a_wanted_order(rt: HostRuntime) -> Result<(), Fail> {
     let holds = [((0, 1), (1, 1)), ((1, 0), (0, 1))];
-    assert!(rt; begins(&rt, alloc, BOTH, &holds, BOTH_BEGIN) == Some(true));
-    let holds = [((1, 0), (0, 3)), ((0, 3), (1, 1))];
-    assert!(rt; begins(&rt, alloc, CANCELLED, &holds, CANCELLED_ALL) == Some(true));
+    let both = held(&rt, rt.alloc(), BOTH, &holds).ok_or("no right transcript")?;
+    assert!(rt; both.starts_with(BOTH_BEGIN));
     let holds = [((1, 0), (0, 2)), ((0, 2), (1, 1))];
-    assert!(rt; begins(&rt, alloc, CLOSED, &holds, CLOSED_ALL) == Some(true));
+    let closed = held(&rt, rt.alloc(), CLOSED, &holds).ok_or("no right transcript")?;
+    assert!(rt; closed.as_slice() == CLOSED_ALL);
+    Ok(())
 }
 
-/// Four lists of twenty calls.
-fn lists(alloc: Global) -> Result<Vec<Vec<Cmd>>, AllocError> {
-    let mut lists = Vec::new(alloc);
-    for _ in 0..4 {
-        let mut list = Vec::new(alloc);
-        for _ in 0..20 {
-            list.push(Cmd::Stats)?;
-        }
-        lists.push(list)?;
-    }
-    Ok(lists)
-}
+/// A feed that is cancelled between its polls.
+const CANCELLED: [Lines; 3] = [
+    ("1 cancel 1", 0, 1),
+    ("0 open - - 0", 0, 1),
+    ("0 poll 1 1", 0, 100),
+];
+
+const CANCELLED_ALL: [Lines; 4] = [
+    ("A 0 open - - 0 => opened 1", 0, 1),
+    ("A 0 poll 1 1 => messages 0", 1, 51),
+    ("A 1 cancel 1 => cancelled", 51, 52),
+    ("A 0 poll 1 1 => feedcancelled", 52, 102),
+];
 
 #[test]
-fn positions_are_used_up_in_a_race(rt: HostRuntime) -> Result<(), Fail> {
-    let config = Config {
-        seats: 4,
-        ring: 16,
-        first: 18446744073709551605,
-    };
-    let settled = race_fresh(&rt, rt.alloc(), config, lists(rt.alloc())?, &Open)?;
-    assert!(rt; settled.events.len() == 10 && settled.engine.steps() == 10);
+fn a_feed_is_cancelled_between_its_polls(rt: HostRuntime) -> Result<(), Fail> {
+    let script = text_of(rt.alloc(), &CANCELLED)?;
+    let wanted = text_of(rt.alloc(), &CANCELLED_ALL)?;
+    let holds = [((1, 0), (0, 51)), ((0, 51), (1, 1))];
+    let found = held(&rt, rt.alloc(), script.as_slice(), &holds).ok_or("no right transcript")?;
+    assert!(rt; found.as_slice() == wanted.as_slice());
     Ok(())
 }

@@ -1,5 +1,6 @@
 //! Seats and passes of a database with no other thread beside them: calls that wait for nobody, floors, and leases.
 ghost use Rattle.shared_db.specs.Seats.{AllNew, IsOf};
+ghost use Rattle.races.specs.Playing.{IsIdle};
 ghost use Rattle.timestamps.specs.Passes.{IsOf as IsPassOf};
 
 use shared_db::{Config, Db, Seat};
@@ -9,10 +10,11 @@ use std::test::Fail;
 use timestamps::oracle::OraclePass;
 
 /// The last of the new seats.
-fn last(rt: &impl Abort, db: &Db, seats: &mut Vec<Seat>) -> Seat
+pub(super) fn last(rt: &impl Abort, db: &Db, seats: &mut Vec<Seat>) -> Seat
     requires new { AllNew db.now seats.old.items }
     ensures new { AllNew db.now seats.new.items }
     ensures own { IsOf db.now result }
+    ensures idle { IsIdle result }
 {
     let Some(seat) = seats.pop() else {
         panic!(rt; "a seat is missing");

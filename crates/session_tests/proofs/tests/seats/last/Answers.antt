@@ -10,3 +10,8 @@ returns-clause-new g c = λ k s e. c.requires.new k s (ap (λ l. get_elem? l k) 
 pub returns-clause-own : goal.returns-clause-own
 returns-clause-own g c = let items = c.args.seats.now.items in
     (c.requires.new (length c.pop.new.self.items) c.in-Some.seat (at_middle c.pop.new.self.items [] c.in-Some.seat items items (sym (append-nil items)) c.in-Some.ensures.items)).own
+
+pub returns-clause-idle : goal.returns-clause-idle
+returns-clause-idle g c = let items = c.args.seats.now.items in
+    let new = c.requires.new (length c.pop.new.self.items) c.in-Some.seat (at_middle c.pop.new.self.items [] c.in-Some.seat items items (sym (append-nil items)) c.in-Some.ensures.items) in
+    record { unseen = new.unseen; none = new.idle }

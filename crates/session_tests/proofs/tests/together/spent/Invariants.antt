@@ -1,0 +1,7 @@
+use Rattle.std.proofs.Common.{All}
+use Rattle.std.specs.Vec.Iter.{into_iter_items}
+use Rattle.shared_db.specs.Seats.{IsOf}
+use Rattle.session_tests.proofs.tests.together.spent.Given as goal
+
+abbrev pub invariant-loop-one : goal.invariant-loop-one
+invariant-loop-one g l = All (IsOf l.db) l.seats.items × All (λ e. IsOf l.db e.seat) (into_iter_items l.one-iterator)

@@ -1,0 +1,107 @@
+//! A turn, during which another thread is refused.
+ghost use Rattle.std.specs.Prelude.{◌≡◌, None};
+ghost use Rattle.ticket_lock.specs.Seats.{AllNew, IsOf, ticket};
+
+use super::counter::{Counter, Mark};
+use std::process::Abort;
+use std::sync::Wait;
+use std::test::Fail;
+use std::thread::{Threads, join};
+use ticket_lock::{Denied, Seat, TicketLock};
+
+/// The last of the new seats.
+fn last(
+    rt: &impl Abort,
+    lock: &TicketLock<Counter>,
+    seats: &mut Vec<Seat<Counter>>,
+) -> Seat<Counter>
+    requires new { AllNew lock.now seats.old.items }
+    ensures new { AllNew lock.now seats.new.items }
+    ensures own { IsOf lock.now result × (ticket result ≡ None) }
+{
+    let Some(seat) = seats.pop() else {
+        panic!(rt; "a seat is missing");
+    };
+    seat
+}
+
+/// One turn, which adds a mark, without waiting. The ticket that it had.
+fn try_tick(lock: &TicketLock<Counter>, seat: &mut Seat<Counter>) -> Result<u64, Denied>
+    requires own { IsOf lock.now seat.old × (ticket seat.old ≡ None) }
+    ensures own { IsOf lock.now seat.new × (ticket seat.new ≡ None) }
+{
+    let mut held = lock.try_turn(seat)?;
+    let ticket = held.ticket();
+    held.value.count += 1;
+    let mark = Mark {
+        seat: seat.number(),
+    };
+    lock.end(seat, held, &mark);
+    Ok(ticket)
+}
+
+/// Whether a call that doesn't wait is refused, since ticket 0 has its turn and ticket 1 is the next.
+fn is_busy(lock: &TicketLock<Counter>, seat: &mut Seat<Counter>) -> bool
+    requires own { IsOf lock.now seat.old × (ticket seat.old ≡ None) }
+    ensures own { IsOf lock.now seat.new × (ticket seat.new ≡ None) }
+{
+    match try_tick(lock, seat) {
+        Err(Denied::Busy { served, next }) => served == 0 && next == 1,
+        _ => false,
+    }
+}
+
+/// How many of a thousand calls are refused.
+fn refused(lock: &TicketLock<Counter>, mut seat: Seat<Counter>) -> (Seat<Counter>, u64)
+    requires own { IsOf lock.now seat × (ticket seat ≡ None) }
+    ensures own { IsOf lock.now result.0 × (ticket result.0 ≡ None) }
+{
+    let mut count = 0u64;
+    for _place in 0..1000 {
+        if is_busy(lock, &mut seat) {
+            count = count.saturating_add(1);
+        }
+    }
+    (seat, count)
+}
+
+/// A turn of one seat, during which the other is refused in another thread.
+fn refused_meanwhile<R: Threads + Wait + Sync>(
+    rt: &R,
+    lock: &TicketLock<Counter>,
+    seat: &mut Seat<Counter>,
+    other: Seat<Counter>,
+) -> (Seat<Counter>, u64)
+    requires own { IsOf lock.now seat.old × (ticket seat.old ≡ None) }
+    requires others { IsOf lock.now other × (ticket other ≡ None) }
+    ensures others { IsOf lock.now result.0 × (ticket result.0 ≡ None) }
+{
+    let Ok(mut held) = lock.turn(rt, seat) else {
+        return (other, 0);
+    };
+    held.value.count += 1;
+    let (after, ()) = join(
+        rt,
+        || -> (Seat<Counter>, u64)
+            requires { IsOf lock.now other × (ticket other ≡ None) }
+            ensures { IsOf lock.entry.now result.0 × (ticket result.0 ≡ None) }
+        { refused(lock, other) },
+        || (),
+    );
+    let mark = Mark {
+        seat: seat.number(),
+    };
+    lock.end(seat, held, &mark);
+    after
+}
+
+#[test]
+fn another_thread_is_refused_until_a_turn_ends(rt: HostRuntime) -> Result<(), Fail> {
+    let (lock, mut seats) = TicketLock::new(rt.alloc(), Counter { count: 0 }, 0, 2)?;
+    let second = last(&rt, &lock, &mut seats);
+    let mut first = last(&rt, &lock, &mut seats);
+    let (mut second, count) = refused_meanwhile(&rt, &lock, &mut first, second);
+    assert!(rt; count == 1000);
+    assert!(rt; try_tick(&lock, &mut second).ok() == Some(1));
+    Ok(())
+}
