@@ -15,9 +15,9 @@ start_of (Some low) = if nat_le (length low) MAX_KEY_BYTES then Included low els
 -- the bytes of a bound
 abbrev pub all_bytes : BoundBytes → List ℕ
 all_bytes (Short key) = key
-all_bytes (Long long) = long.value.all.items
+all_bytes (Long long) = long.value.all
 
 -- they are as many as a key may have, or one more
 abbrev pub IsCut : BoundBytes → Type 0
 IsCut (Short key) = (1 ≤ length key) × (length key ≤ MAX_KEY_BYTES)
-IsCut (Long long) = (length long.value.all.items ≡ suc MAX_KEY_BYTES) × (long.value.first ≡ take MAX_KEY_BYTES long.value.all.items)
+IsCut (Long long) = (length long.value.all ≡ suc MAX_KEY_BYTES) × (long.value.first ≡ take MAX_KEY_BYTES long.value.all)

@@ -10,10 +10,10 @@ ghost use Rattle.spans.specs.declared.bound.TheConstants.{MAX_BOUND_BYTES};
 ghost use Rattle.spans.specs.declared.bound.BoundError.TheVariants.{BoundLength, NoMemory};
 
 use std::alloc::{AllocError, Global};
-use std::cmp::Ordering;
 use std::marker::Model;
 use std::ops;
 use timestamps::key::{Key, MAX_KEY_BYTES};
+use timestamps::small_bytes::SmallBytes;
 
 /// The most bytes that a bound has: one more than a key.
 pub const MAX_BOUND_BYTES: usize = 257;
@@ -51,7 +51,7 @@ enum BoundBytes {
 #[derive(Debug, Drop)]
 struct LongBytes {
     first: Key,
-    all: Vec<u8>,
+    all: SmallBytes,
 }
 
 // a call of its own, so that where a bound is dropped no proof has a case for each place of its bytes
@@ -102,7 +102,7 @@ impl Bound {
             return Ok(Bound::short(key));
         }
         let first = key_of(alloc, &bytes[..MAX_KEY_BYTES])?;
-        let all = bytes.to_vec(alloc)?;
+        let all = SmallBytes::new(alloc, bytes)?;
         Bound::long(alloc, first, all)
     }
 
@@ -116,10 +116,10 @@ impl Bound {
     }
 
     /// The bound of one byte more. `first` are all but the last.
-    fn long(alloc: Global, first: Key, all: Vec<u8>) -> Result<Bound, AllocError>
-        requires more { length all.items ≡ suc MAX_KEY_BYTES }
-        requires first { first ≡ take MAX_KEY_BYTES all.items }
-        ensures { IfOk result (λ b. b ≡ all.items) }
+    fn long(alloc: Global, first: Key, all: SmallBytes) -> Result<Bound, AllocError>
+        requires more { length all ≡ suc MAX_KEY_BYTES }
+        requires first { first ≡ take MAX_KEY_BYTES all }
+        ensures { IfOk result (λ b. b ≡ all) }
     {
         match Box::new(alloc, LongBytes { first, all }) {
             Ok(long) => Ok(Bound {
@@ -134,15 +134,12 @@ impl Bound {
         ensures bytes { IfOk result (λ b. b ≡ successor key.now) }
         ensures least { IfOk result (λ b. (x : List ℕ) → from_low (Some b) x ≡ key_lt key.now x) }
     {
-        let bytes = key.bytes();
-        if bytes.len() < MAX_KEY_BYTES {
+        if key.bytes().len() < MAX_KEY_BYTES {
             let above = key.successor(alloc)?;
             return Ok(Bound::short(above));
         }
-        let mut all = Vec::with_capacity(alloc, bytes.len() + 1)?;
-        all.extend_from_slice(bytes)?;
-        all.push(0)?;
         let first = key.copy()?;
+        let all = key.as_small_bytes().with_zero(alloc)?;
         let above = Bound::long(alloc, first, all)?;
         Ok(above)
     }
@@ -155,6 +152,17 @@ impl Bound {
         match &self.bytes {
             BoundBytes::Short(key) => key.bytes(),
             BoundBytes::Long(long) => long.all.as_slice(),
+        }
+    }
+
+    /// Its bytes, as maps that are ordered by bytes are searched by them.
+    #[inline]
+    pub fn as_small_bytes(&self) -> &SmallBytes
+        ensures { result.now ≡ self.now }
+    {
+        match &self.bytes {
+            BoundBytes::Short(key) => key.as_small_bytes(),
+            BoundBytes::Long(long) => &long.all,
         }
     }
 
@@ -173,10 +181,7 @@ impl Bound {
     pub fn is_above(&self, key: &Key) -> bool
         ensures { result ≡ key_lt key.now self.now }
     {
-        match &self.bytes {
-            BoundBytes::Short(bound) => key.cmp(bound) == Ordering::Less,
-            BoundBytes::Long(long) => key.bytes().cmp(long.all.as_slice()) == Ordering::Less,
-        }
+        key.as_small_bytes().cmp(self.as_small_bytes()).is_lt()
     }
 
     /// The same bound once more.
@@ -190,7 +195,7 @@ impl Bound {
             }
             BoundBytes::Long(long) => {
                 let first = long.first.copy()?;
-                let all = long.all.clone()?;
+                let all = long.all.copy()?;
                 Bound::long(*Box::allocator(long), first, all)
             }
         }

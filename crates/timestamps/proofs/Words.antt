@@ -101,13 +101,17 @@ pub chunk_word : (xs first : List ℕ) → first ≡ take 8 xs → front_of xs
     ≡ get_or first 0 0 * 72057594037927936 + get_or first 1 0 * 281474976710656 + get_or first 2 0 * 1099511627776 + get_or first 3 0 * 4294967296 + get_or first 4 0 * 16777216 + get_or first 5 0 * 65536 + get_or first 6 0 * 256 + get_or first 7 0
 chunk_word xs first same = front_read xs first (λ k l. ap (λ t. get_or t k 0) same ∙ get_or-take 8 xs k 0 l)
 
--- zeros behind a text are in no word of it
-pub word_padded : (k len : ℕ) (bytes : List ℕ) → ((j : ℕ) → len ≤ j → get_or bytes j 0 ≡ 0) → front_of (drop k bytes) ≡ front_of (drop k (take len bytes))
-word_padded k len bytes zeros = front_alike 8 0 (drop k bytes) (drop k (take len bytes)) (λ j. get_or-drop k bytes j 0 ∙ cut (k + j) (cases_lt (k + j) len) ∙ sym (get_or-drop k (take len bytes) j 0))
+-- zeros behind a text are read as if it had ended
+pub read_padded : (len : ℕ) (bytes : List ℕ) → ((j : ℕ) → len ≤ j → get_or bytes j 0 ≡ 0) → (i : ℕ) → get_or bytes i 0 ≡ get_or (take len bytes) i 0
+read_padded len bytes zeros i = cut (cases_lt i len)
   where
-    cut : (i : ℕ) → (i < len) ⊎ (len ≤ i) → get_or bytes i 0 ≡ get_or (take len bytes) i 0
-    cut i (inl below) = sym (get_or-take len bytes i 0 below)
-    cut i (inr beyond) = zeros i beyond ∙ sym (get_or_past (take len bytes) i 0 (let size = length-take len bytes in omega arith))
+    cut : (i < len) ⊎ (len ≤ i) → get_or bytes i 0 ≡ get_or (take len bytes) i 0
+    cut (inl below) = sym (get_or-take len bytes i 0 below)
+    cut (inr beyond) = zeros i beyond ∙ sym (get_or_past (take len bytes) i 0 (let size = length-take len bytes in omega arith))
+
+-- and are in no word of it
+pub word_padded : (k len : ℕ) (bytes : List ℕ) → ((j : ℕ) → len ≤ j → get_or bytes j 0 ≡ 0) → front_of (drop k bytes) ≡ front_of (drop k (take len bytes))
+word_padded k len bytes zeros = front_alike 8 0 (drop k bytes) (drop k (take len bytes)) (λ j. get_or-drop k bytes j 0 ∙ read_padded len bytes zeros (k + j) ∙ sym (get_or-drop k (take len bytes) j 0))
 
 -- Two short texts that are the same up to a word: the words decide where they differ, and the texts are the same up to the next where they don't.
 module _ (text others : List ℕ) (h : AreBytes text) (g : AreBytes others) (i : ℕ) (same : front_from (8 * i) 0 text ≡ front_from (8 * i) 0 others) where

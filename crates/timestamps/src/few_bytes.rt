@@ -1,5 +1,5 @@
 //! A few bytes, which lie in place.
-ghost use Rattle.std.specs.Prelude.{◌≡◌, ◌<◌, ◌≤◌, ◌*◌, ◌++◌, ◌∷◌, [], length, drop};
+ghost use Rattle.std.specs.Prelude.{◌≡◌, ◌<◌, ◌≤◌, ◌*◌, ◌++◌, ◌∷◌, ◌↔◌, [], length, drop, IsTrue};
 ghost use Rattle.timestamps.specs.Bytes.{key_cmp};
 ghost use Rattle.timestamps.specs.Words.{AreBytes, front_of};
 
@@ -77,6 +77,13 @@ impl FewBytes {
             len: self.len + 1,
             bytes: self.bytes,
         }
+    }
+
+    /// Whether they are others and a zero behind them. Zeros stand behind all of them, so that the lengths tell.
+    pub(crate) fn is_successor_of(&self, other: &FewBytes) -> bool
+        ensures { IsTrue result ↔ (self.now ≡ other.now ++ 0 ∷ []) }
+    {
+        self.len == other.len + 1 && self.bytes == other.bytes
     }
 
     /// How they compare with others.

@@ -24,13 +24,12 @@ pub struct Key {
 impl Model for Key {
     ghost use Rattle.std.specs.Prelude.{ℕ, List, ◌≤◌, length};
     ghost use Rattle.timestamps.specs.declared.key.TheConstants.{MAX_KEY_BYTES};
-    ghost use Rattle.timestamps.specs.SmallBytes.{IsPlaced, bytes_in};
 
     ghost Value = { List ℕ };
 
-    ghost view = { λ k. bytes_in k.bytes };
+    ghost view = { λ k. k.bytes };
 
-    ghost invariant = { λ k. (1 ≤ length (bytes_in k.bytes)) × (length (bytes_in k.bytes) ≤ MAX_KEY_BYTES) × IsPlaced k.bytes };
+    ghost invariant = { λ k. (1 ≤ length k.bytes) × (length k.bytes ≤ MAX_KEY_BYTES) };
 }
 
 /// Why bytes are no key.
@@ -69,6 +68,14 @@ impl Key {
         self.bytes.as_slice()
     }
 
+    /// Its bytes, as maps that are ordered by bytes are searched by them.
+    #[inline]
+    pub fn as_small_bytes(&self) -> &SmallBytes
+        ensures { result.now ≡ self.now }
+    {
+        &self.bytes
+    }
+
     /// The same key once more.
     pub fn copy(&self) -> Result<Key, AllocError>
         ensures bytes { IfOk result (λ k. k ≡ self.now) }
@@ -95,7 +102,7 @@ impl PartialEq for Key {
     ghost laws = { partial_equiv_from_equiv nat_list_eq_equiv };
 
     fn eq(&self, other: &Key) -> bool {
-        self.cmp(other).is_eq()
+        self.bytes == other.bytes
     }
 }
 
@@ -124,6 +131,6 @@ impl Ord for Key {
     ghost matches_eq = { texts_ties };
 
     fn cmp(&self, other: &Key) -> Ordering {
-        self.bytes.order(&other.bytes)
+        self.bytes.cmp(&other.bytes)
     }
 }

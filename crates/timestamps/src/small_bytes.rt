@@ -1,98 +1,177 @@
-//! The bytes of a key or a value, in place where they are few.
-ghost use Rattle.std.specs.Prelude.{◌≡◌, ◌<◌, ◌++◌, ◌∷◌, [], ◌≤◌, length, IfOk, OnErr};
+//! Bytes of any length, in place where they are few.
+ghost use Rattle.std.specs.Prelude.{◌≡◌, ◌<◌, ◌++◌, ◌∷◌, ◌↔◌, [], ◌≤◌, Some, refl, length, bytes_eq, IfOk, OnErr, IsTrue};
+ghost use Rattle.std.specs.Cmp.{partial_equiv_from_equiv};
+ghost use Rattle.std.specs.Cmp.Lexicographic.{nat_list_eq_equiv, nat_list_cmp_total, texts_ties, texts_po};
 ghost use Rattle.timestamps.specs.Bytes.{key_cmp};
-ghost use Rattle.timestamps.specs.declared.few_bytes.TheConstants.{FEW};
 
 use crate::few_bytes::{FEW, FewBytes};
 use std::alloc::{AllocError, Global};
 use std::cmp::Ordering;
+use std::marker::Model;
 
-/// Bytes, ordered byte by byte, a beginning before what it begins. Only those that are more than [`FEW`] take memory.
+/// Bytes of any length, ordered byte by byte, a beginning before what it begins. Up to 24 lie in place. Only more
+/// take memory.
+#[derive(Debug, Drop)]
+pub struct SmallBytes {
+    place: Place,
+}
+
+impl Model for SmallBytes {
+    ghost use Rattle.std.specs.Prelude.{ℕ, List};
+    ghost use Rattle.timestamps.specs.SmallBytes.{IsPlaced, bytes_in};
+
+    ghost Value = { List ℕ };
+
+    ghost view = { λ b. bytes_in b.place };
+
+    ghost invariant = { λ b. IsPlaced b.place };
+}
+
+/// Where bytes lie.
 #[derive(Debug)]
-pub(crate) enum SmallBytes {
+enum Place {
     Few(FewBytes),
     Many(Vec<u8>),
 }
 
-// a call of its own, so that where a key is dropped no proof has a case for each place of its bytes
-impl Drop for SmallBytes {
+// a call of its own, so that where bytes are dropped no proof has a case for each place of them
+impl Drop for Place {
     fn drop(self) {
         match self {
-            SmallBytes::Few(_) => {}
-            SmallBytes::Many(_) => {}
+            Place::Few(_) => {}
+            Place::Many(_) => {}
         }
     }
 }
 
 impl SmallBytes {
-    ghost use Rattle.timestamps.specs.SmallBytes.{IsPlaced, bytes_in};
+    /// No byte. It takes no memory.
+    #[inline]
+    pub fn empty() -> SmallBytes
+        ensures { result ≡ [] }
+    {
+        SmallBytes {
+            place: Place::Few(FewBytes::new(&[])),
+        }
+    }
 
     /// These bytes. It copies them.
-    pub(crate) fn new(alloc: Global, bytes: &[u8]) -> Result<SmallBytes, AllocError>
-        ensures bytes { IfOk result (λ b. bytes_in b ≡ bytes.now) }
-        ensures placed { IfOk result (λ b. IsPlaced b) }
-        ensures many { OnErr result (FEW < length bytes.now) }
+    pub fn new(alloc: Global, bytes: &[u8]) -> Result<SmallBytes, AllocError>
+        ensures bytes { IfOk result (λ b. b ≡ bytes.now) }
+        ensures many { OnErr result (24 < length bytes.now) }
     {
         if bytes.len() <= FEW {
-            return Ok(SmallBytes::Few(FewBytes::new(bytes)));
+            return Ok(SmallBytes {
+                place: Place::Few(FewBytes::new(bytes)),
+            });
         }
         let bytes = bytes.to_vec(alloc)?;
-        Ok(SmallBytes::Many(bytes))
+        Ok(SmallBytes {
+            place: Place::Many(bytes),
+        })
     }
 
     /// The bytes.
-    pub(crate) fn as_slice(&self) -> &[u8]
-        ensures { result.now ≡ bytes_in self.now }
+    #[inline]
+    pub fn as_slice(&self) -> &[u8]
+        ensures { result.now ≡ self.now }
     {
-        match self {
-            SmallBytes::Few(few) => few.as_slice(),
-            SmallBytes::Many(many) => many.as_slice(),
+        match &self.place {
+            Place::Few(few) => few.as_slice(),
+            Place::Many(many) => many.as_slice(),
         }
     }
 
     /// The same bytes once more.
-    pub(crate) fn copy(&self) -> Result<SmallBytes, AllocError>
-        requires { IsPlaced self.now }
-        ensures bytes { IfOk result (λ b. bytes_in b ≡ bytes_in self.now) }
-        ensures placed { IfOk result (λ b. IsPlaced b) }
-        ensures many { OnErr result (FEW < length (bytes_in self.now)) }
+    pub fn copy(&self) -> Result<SmallBytes, AllocError>
+        ensures bytes { IfOk result (λ b. b ≡ self.now) }
+        ensures many { OnErr result (24 < length self.now) }
     {
-        match self {
-            SmallBytes::Few(few) => Ok(SmallBytes::Few(few.copy())),
-            SmallBytes::Many(many) => {
+        let place = match &self.place {
+            Place::Few(few) => Place::Few(few.copy()),
+            Place::Many(many) => {
                 let many = many.clone()?;
-                Ok(SmallBytes::Many(many))
+                Place::Many(many)
             }
-        }
+        };
+        Ok(SmallBytes { place })
     }
 
     /// The same bytes and a zero behind them.
-    pub(crate) fn with_zero(&self, alloc: Global) -> Result<SmallBytes, AllocError>
-        requires placed { IsPlaced self.now }
-        requires fits { length (bytes_in self.now) < 256 }
-        ensures bytes { IfOk result (λ b. bytes_in b ≡ bytes_in self.now ++ 0 ∷ []) }
-        ensures placed { IfOk result (λ b. IsPlaced b) }
-        ensures many { OnErr result (FEW ≤ length (bytes_in self.now)) }
+    pub fn with_zero(&self, alloc: Global) -> Result<SmallBytes, AllocError>
+        ensures bytes { IfOk result (λ b. b ≡ self.now ++ 0 ∷ []) }
+        ensures many { OnErr result (24 ≤ length self.now) }
     {
-        if let SmallBytes::Few(few) = self {
+        if let Place::Few(few) = &self.place {
             if few.as_slice().len() < FEW {
-                return Ok(SmallBytes::Few(few.with_zero()));
+                return Ok(SmallBytes {
+                    place: Place::Few(few.with_zero()),
+                });
             }
         }
         let bytes = self.as_slice();
         let mut longer = Vec::with_capacity(alloc, bytes.len() + 1)?;
         longer.extend_from_slice(bytes)?;
         longer.push(0)?;
-        Ok(SmallBytes::Many(longer))
+        Ok(SmallBytes {
+            place: Place::Many(longer),
+        })
     }
 
-    /// How they compare with others. Few bytes, as most keys have, are compared in place.
-    #[inline]
-    pub(crate) fn order(&self, other: &SmallBytes) -> Ordering
-        ensures { result ≡ key_cmp (bytes_in self.now) (bytes_in other.now) }
+    /// Whether they are others and a zero behind them.
+    pub fn is_successor_of(&self, other: &SmallBytes) -> bool
+        ensures { IsTrue result ↔ (self.now ≡ other.now ++ 0 ∷ []) }
     {
-        match (self, other) {
-            (SmallBytes::Few(few), SmallBytes::Few(others)) => few.order(others),
+        if let (Place::Few(few), Place::Few(others)) = (&self.place, &other.place) {
+            return few.is_successor_of(others);
+        }
+        match self.as_slice().strip_prefix(other.as_slice()) {
+            None => false,
+            Some(behind) => behind.len() == 1 && behind[0] == 0,
+        }
+    }
+}
+
+impl PartialEq for SmallBytes {
+    ghost eq = { bytes_eq };
+
+    ghost laws = { partial_equiv_from_equiv nat_list_eq_equiv };
+
+    #[inline]
+    fn eq(&self, other: &SmallBytes) -> bool {
+        self.cmp(other).is_eq()
+    }
+}
+
+impl Eq for SmallBytes {
+    ghost laws = { nat_list_eq_equiv };
+}
+
+impl PartialOrd for SmallBytes {
+    ghost partial_cmp = { λ a b. Some (key_cmp a b) };
+
+    ghost laws = { texts_po };
+
+    // by `cmp`, which compares numbers, where a derived one would walk the bytes
+    fn partial_cmp(&self, other: &SmallBytes) -> Option<Ordering> {
+        Some(self.cmp(other))
+    }
+}
+
+impl Ord for SmallBytes {
+    ghost cmp = { key_cmp };
+
+    ghost total = { nat_list_cmp_total };
+
+    ghost matches_partial_cmp = { λ a b. refl };
+
+    ghost matches_eq = { texts_ties };
+
+    // few bytes, as most keys have, are compared in place
+    #[inline]
+    fn cmp(&self, other: &SmallBytes) -> Ordering {
+        match (&self.place, &other.place) {
+            (Place::Few(few), Place::Few(others)) => few.order(others),
             _ => self.as_slice().cmp(other.as_slice()),
         }
     }

@@ -22,13 +22,12 @@ pub struct Value {
 impl Model for Value {
     ghost use Rattle.std.specs.Prelude.{ℕ, List, ◌≤◌, length};
     ghost use Rattle.timestamps.specs.declared.value.TheConstants.{MAX_VALUE_BYTES};
-    ghost use Rattle.timestamps.specs.SmallBytes.{IsPlaced, bytes_in};
 
     ghost Value = { List ℕ };
 
-    ghost view = { λ v. bytes_in v.bytes };
+    ghost view = { λ v. v.bytes };
 
-    ghost invariant = { λ v. (length (bytes_in v.bytes) ≤ MAX_VALUE_BYTES) × IsPlaced v.bytes };
+    ghost invariant = { λ v. length v.bytes ≤ MAX_VALUE_BYTES };
 }
 
 /// Why bytes are no value.
