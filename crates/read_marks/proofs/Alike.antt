@@ -15,7 +15,7 @@ use Rattle.read_marks.specs.Patches.{AreEdited, HaveGaps, holds}
 use Rattle.read_marks.specs.Editing.{picks}
 use Rattle.read_marks.specs.Joining.{EditsAs, GoesOn, IsFree, IsWithin, RunsForward, RunForward, in_widest_gap, joined}
 use Rattle.read_marks.specs.declared.extent.Extent.{Extent}
-use Rattle.read_marks.specs.declared.patch.Patch.{Patch}
+use Rattle.read_marks.specs.Patch.{Patch}
 use Rattle.read_marks.specs.declared.segments.Segments.{Segments}
 use Rattle.read_marks.proofs.Merging.{same_test}
 

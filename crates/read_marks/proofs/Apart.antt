@@ -14,7 +14,7 @@ use Rattle.std.proofs.lemmas.Map.Text.{is_eq-slice_cmp}
 use Rattle.std.proofs.lemmas.Slice.Eq.{bytes_eq-Decides}
 use Rattle.timestamps.specs.Bytes.{key_cmp}
 use Rattle.read_marks.specs.Editing.{Entries, IsStart, IsEnd, IsSegment, picks}
-use Rattle.read_marks.specs.declared.patch.Patch.{Patch}
+use Rattle.read_marks.specs.Patch.{Patch}
 use Rattle.read_marks.proofs.Picking.{starts_to, picked_from, below-last, sorted_filter}
 use Rattle.read_marks.proofs.Steps.{before_last, last_is, some_last}
 

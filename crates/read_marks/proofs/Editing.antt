@@ -14,7 +14,7 @@ use Rattle.read_marks.specs.Readers.{is_kept}
 use Rattle.read_marks.specs.Segments.{step_at}
 use Rattle.read_marks.specs.Patches.{AreEdited}
 use Rattle.read_marks.specs.Editing.{Entries, picks, puts, puts_parts, AreFresh, AreParts}
-use Rattle.read_marks.specs.declared.patch.Patch.{Patch}
+use Rattle.read_marks.specs.Patch.{Patch}
 
 -- the same starts; the readers of each edited by the patches that it lies in
 abbrev pub AreMade : (forgotten ts : ℕ) → List Patch → Entries → Entries → Type 0

@@ -15,7 +15,7 @@ use Rattle.read_marks.specs.Patches.{holds}
 use Rattle.read_marks.specs.Editing.{Entries, picks}
 use Rattle.read_marks.specs.Joining.{IsInside, IsPartOf, IsWithin}
 use Rattle.read_marks.specs.declared.extent.Extent.{Extent}
-use Rattle.read_marks.specs.declared.patch.Patch.{Patch}
+use Rattle.read_marks.specs.Patch.{Patch}
 use Rattle.read_marks.proofs.Alike.{holds_is_picks, reaches_is, less_of}
 use Rattle.read_marks.proofs.Steps.{less-from}
 

@@ -1,4 +1,4 @@
-pub mod Words
+pub mod Lent
 pub mod Splitting
 pub mod Between
 pub mod Merging
@@ -11,4 +11,3 @@ pub mod Keeping
 pub mod Alike
 pub mod Extents
 pub mod Pieces
-pub mod Succeeding

@@ -13,7 +13,7 @@ use Rattle.spans.specs.KeyOrder.{key_lt}
 use Rattle.spans.specs.Successors.{successor}
 use Rattle.spans.proofs.Succeeding.{above_successor}
 use Rattle.read_marks.specs.Editing.{Entries, IsStart, IsSegment, picks}
-use Rattle.read_marks.specs.declared.patch.Patch.{Patch}
+use Rattle.read_marks.specs.Patch.{Patch}
 use Rattle.read_marks.proofs.Apart.{alike}
 
 -- from a key on and below the next text is that key

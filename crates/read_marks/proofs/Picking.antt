@@ -22,7 +22,7 @@ use Rattle.read_marks.specs.Readers.{is_kept}
 use Rattle.read_marks.specs.Segments.{reaches, step_at}
 use Rattle.read_marks.specs.Patches.{AreEdited, holds}
 use Rattle.read_marks.specs.Editing.{Entries, IsStart, IsEnd, IsSegment, HasEnds, IsPart, AreStarts, AreParts, picks, puts_parts}
-use Rattle.read_marks.specs.declared.patch.Patch.{Patch}
+use Rattle.read_marks.specs.Patch.{Patch}
 use Rattle.read_marks.proofs.Editing.{AreMade, picked_at, none_made, parts_made, puts_made, step_made}
 use Rattle.read_marks.proofs.Steps.{before_last, less-from, none-found}
 

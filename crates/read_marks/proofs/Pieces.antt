@@ -11,7 +11,7 @@ use Rattle.read_marks.proofs.Keeping.{piece_alike}
 use Rattle.read_marks.specs.Patches as patching
 use Rattle.read_marks.specs.Patches.{AreEdited, holds, own_piece, patch_of}
 use Rattle.read_marks.specs.Marks.{AreApart, in_any}
-use Rattle.read_marks.specs.declared.patch.Patch.{Patch}
+use Rattle.read_marks.specs.Patch.{Patch}
 use Rattle.read_marks.specs.declared.piece.Piece.{Piece}
 
 -- a patch holds the keys of its piece's span

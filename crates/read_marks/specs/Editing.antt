@@ -10,7 +10,7 @@ use Rattle.std.specs.declared.ops.Bound.TheVariants.{Included, Excluded, Unbound
 use Rattle.timestamps.specs.Bytes.{key_cmp}
 use Rattle.kept.specs.Marks.{IsPiece}
 use Rattle.read_marks.specs.Readers.{is_kept}
-use Rattle.read_marks.specs.declared.patch.Patch.{Patch}
+use Rattle.read_marks.specs.Patch.{Patch}
 
 -- starts, each with its readers
 abbrev pub Entries : Type 0

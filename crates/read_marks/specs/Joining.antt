@@ -8,7 +8,7 @@ use Rattle.read_marks.specs.Readers.{is_kept}
 use Rattle.read_marks.specs.Segments.{readers_at}
 use Rattle.read_marks.specs.declared.segments.Segments.{Segments}
 use Rattle.read_marks.specs.declared.extent.Extent.{Extent}
-use Rattle.read_marks.specs.declared.patch.Patch.{Patch}
+use Rattle.read_marks.specs.Patch.{Patch}
 
 -- what the one list makes of the readers m of a key, the other makes of them too
 abbrev pub EditsAs : (x : List ℕ) (ts : ℕ) (m : ℕ → Bool) → List Patch → List Patch → Type 0

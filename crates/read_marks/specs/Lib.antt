@@ -1,4 +1,5 @@
-pub mod Words
+pub mod Patch
+pub mod Lent
 pub mod Readers
 pub mod Segments
 pub mod Patches

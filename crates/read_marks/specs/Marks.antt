@@ -7,7 +7,7 @@ use Rattle.spans.specs.declared.span.Span.{Span}
 use Rattle.read_marks.specs.Readers.{is_kept}
 use Rattle.read_marks.specs.Segments.{readers_at, segment_count}
 use Rattle.read_marks.specs.declared.marks.Marks.{Marks}
-use Rattle.read_marks.specs.declared.patch.Patch.{Patch}
+use Rattle.read_marks.specs.Patch.{Patch}
 use Rattle.read_marks.specs.declared.piece.Piece.{Piece}
 use Rattle.read_marks.specs.Patches.{AreEdited, holds}
 

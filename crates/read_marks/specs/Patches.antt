@@ -7,7 +7,7 @@ use Rattle.spans.specs.declared.span.Span.{Span}
 use Rattle.kept.specs.Marks.{IsPiece}
 use Rattle.read_marks.specs.Readers.{is_kept}
 use Rattle.read_marks.specs.Segments.{reaches, readers_at}
-use Rattle.read_marks.specs.declared.patch.Patch.{Patch}
+use Rattle.read_marks.specs.Patch.{Patch}
 use Rattle.read_marks.specs.declared.piece.Piece.{Piece}
 use Rattle.read_marks.specs.declared.segments.Segments.{Segments}
 

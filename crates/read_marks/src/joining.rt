@@ -1,7 +1,7 @@
 //! Few patches for what is asked. A patch that holds no key is left out. Neighbours that do the same become
 //! one. A patch gets the widest gap where no reader of its keys is outside its own gap: that does the same, and
 //! more neighbours are alike.
-ghost use Rattle.std.specs.Prelude.{◌<◌, ◌≤◌, ℕ, IfOk, IsTrue, OnOk, map};
+ghost use Rattle.std.specs.Prelude.{◌≡◌, [], ◌<◌, ◌≤◌, ℕ, IfOk, IsTrue, OnOk, map};
 ghost use Rattle.read_marks.specs.Marks as marking;
 ghost use Rattle.read_marks.specs.Patches.{HaveGaps, own_piece, patch_of};
 ghost use Rattle.read_marks.specs.Joining.{AddsPatch, EditAnyAs, EditReadersAs, IsExtentOf, IsFree, RunForward};
@@ -12,13 +12,14 @@ use crate::piece::Piece;
 use crate::segments::Segments;
 use spans::span::Span;
 use std::alloc::{AllocError, Global};
+use timestamps::small_bytes::SmallBytes;
 
 /// Adds a patch, or makes the last one longer by it.
-fn push(patches: &mut Vec<Patch>, patch: Patch) -> Result<(), AllocError>
+fn push<'a>(patches: &mut Vec<Patch<'a>>, patch: Patch<'a>) -> Result<(), AllocError>
     requires forward { RunForward patches.old.items }
     ensures forward { OnOk result (RunForward patches.new.items) }
-    ensures edits { OnOk result (AddsPatch patches.old.items patch patches.new.items) }
-    ensures gaps { OnOk result ((ts : ℕ) → HaveGaps ts patches.old.items → patch.above < ts → ts ≤ patch.until → HaveGaps ts patches.new.items) }
+    ensures edits { OnOk result (AddsPatch patches.old.items patch.entry patches.new.items) }
+    ensures gaps { OnOk result ((ts : ℕ) → HaveGaps ts patches.old.items → patch.entry.above < ts → ts ≤ patch.entry.until → HaveGaps ts patches.new.items) }
 {
     if !patch.runs_forward() {
         return Ok(());
@@ -34,12 +35,16 @@ fn push(patches: &mut Vec<Patch>, patch: Patch) -> Result<(), AllocError>
 }
 
 /// From the beginning of the first piece to the end of the last. Without pieces it holds no key.
-fn around(alloc: Global, pieces: &[Piece]) -> Result<Patch, AllocError> {
-    let mut around = Patch::new(alloc);
-    if let (Some(first), Some(last)) = (pieces.first(), pieces.last()) {
-        around.set_ends(alloc, &first.span.lo, &last.span.hi)?;
+fn around<'a>(pieces: &'a [Piece], least: &'a SmallBytes) -> Patch<'a>
+    requires { least.now ≡ [] }
+{
+    match (pieces.first(), pieces.last()) {
+        (Some(first), Some(last)) => Patch::between(&first.span.lo, &last.span.hi, least),
+        _ => Patch {
+            hi: Some(least),
+            ..Patch::of_all_keys(least)
+        },
     }
-    Ok(around)
 }
 
 /// Whether the gap of a patch holds `ts` and each reader of its keys. What is known of the keys around it
@@ -62,23 +67,25 @@ fn is_free(
 }
 
 /// The patches of pieces.
-pub(crate) fn patches_of(
+pub(crate) fn patches_of<'a>(
     alloc: Global,
     segments: &Segments,
-    pieces: &[Piece],
+    pieces: &'a [Piece],
+    least: &'a SmallBytes,
     ts: u64,
     forgotten: u64,
-) -> Result<Vec<Patch>, AllocError>
+) -> Result<Vec<Patch<'a>>, AllocError>
+    requires least { least.now ≡ [] }
     requires low { 0 < ts }
     requires gaps { marking.HaveGaps ts pieces.now }
     ensures edits { IfOk result (λ patches. EditReadersAs segments.now forgotten ts patches.items (map patch_of pieces.now)) }
     ensures gaps { IfOk result (λ patches. HaveGaps ts patches.items) }
 {
-    let around = around(alloc, pieces)?;
+    let around = around(pieces, least);
     let known = segments.extent(&around, ts, forgotten);
     let mut patches = Vec::new(alloc);
     for piece in pieces {
-        let mut patch = Patch::of(alloc, piece)?;
+        let mut patch = Patch::of(piece, least);
         if is_free(segments, &patch, &around, known, ts, forgotten) {
             patch.widen();
         }
@@ -88,14 +95,20 @@ pub(crate) fn patches_of(
 }
 
 /// The patches of spans, each in the gap that holds `ts` alone.
-pub(crate) fn own_patches(alloc: Global, spans: &[Span], ts: u64) -> Result<Vec<Patch>, AllocError>
-    requires { 0 < ts }
+pub(crate) fn own_patches<'a>(
+    alloc: Global,
+    spans: &'a [Span],
+    least: &'a SmallBytes,
+    ts: u64,
+) -> Result<Vec<Patch<'a>>, AllocError>
+    requires least { least.now ≡ [] }
+    requires ts { 0 < ts }
     ensures edits { IfOk result (λ patches. EditAnyAs ts patches.items (map (λ span. patch_of (own_piece ts span)) spans.now)) }
     ensures gaps { IfOk result (λ patches. HaveGaps ts patches.items) }
 {
     let mut patches = Vec::new(alloc);
     for span in spans {
-        let patch = Patch::own(alloc, span, ts)?;
+        let patch = Patch::own(span, least, ts);
         push(&mut patches, patch)?;
     }
     Ok(patches)

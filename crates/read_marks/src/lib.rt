@@ -35,10 +35,10 @@
 //!   reader comes that counts as forgotten
 //! - `spans`: O(n)
 //!
-//! What adds marks takes memory: for a new segment, for copied readers and for a new reader. Of a start the
-//! first 48 bytes lie in place, and only a longer one takes memory of its own. `any_between` takes memory only
-//! for a key of more than 48 bytes, and where that is refused a walk over all starts answers. A sweep copies one
-//! start at a time. Where the copy of a long one is refused, it leaves the other segments to the next sweep.
+//! What adds marks takes memory: for a new segment, for copied readers and for a new reader. A start of up to 24
+//! bytes lies in its segment, and a longer one takes memory of its own. `any_between` takes no memory: it searches
+//! by the bytes that the key holds. A sweep copies one start at a time. Where the copy of a long start is refused,
+//! the sweep leaves the other segments to the next sweep.
 #![tactic(auto)]
 
 mod extent;
@@ -48,7 +48,6 @@ mod patch;
 mod piece;
 mod readers;
 mod segments;
-mod start;
 #[cfg(test)]
 mod tests;
 

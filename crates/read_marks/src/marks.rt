@@ -16,6 +16,7 @@ use spans::span::Span;
 use std::alloc::{AllocError, Global};
 use std::slice;
 use timestamps::key::Key;
+use timestamps::small_bytes::SmallBytes;
 use timestamps::ts::Ts;
 
 // Fewer starts are never swept for their number.
@@ -49,7 +50,7 @@ impl Marks {
         ensures { IsTrue result ↔ IsBetween (is_marked_in self.now key.now) above to }
     {
         let above = above.max(self.forgotten);
-        match self.segments.readers_of(key.bytes()) {
+        match self.segments.readers(key.as_small_bytes()) {
             None => false,
             Some(readers) => readers.any_between(above, to),
         }
@@ -68,8 +69,8 @@ impl Marks {
         ensures err { OnErr result ((x : List ℕ) (j : ℕ) → is_marked_in self.new x j ≡ is_marked_in self.old x j) }
     {
         let ts = ts.get();
-        let mut patch = Patch::new(self.alloc);
-        patch.set_own(self.alloc, span, ts)?;
+        let least = SmallBytes::empty();
+        let patch = Patch::own(span, &least, ts);
         self.edit(slice::from_ref(&patch), ts)
     }
 
@@ -79,7 +80,8 @@ impl Marks {
         ensures err { OnErr result ((x : List ℕ) (j : ℕ) → is_marked_in self.new x j ≡ is_marked_in self.old x j) }
     {
         let ts = ts.get();
-        let patches = own_patches(self.alloc, spans, ts)?;
+        let least = SmallBytes::empty();
+        let patches = own_patches(self.alloc, spans, &least, ts)?;
         self.edit(&patches, ts)
     }
 
@@ -97,11 +99,19 @@ impl Marks {
             return self.add_piece(piece, ts);
         }
         self.make_room_for(ts);
-        let patches = patches_of(self.alloc, &self.segments, pieces, ts, self.forgotten)?;
+        let least = SmallBytes::empty();
+        let patches = patches_of(
+            self.alloc,
+            &self.segments,
+            pieces,
+            &least,
+            ts,
+            self.forgotten,
+        )?;
         self.segments.edit(&patches, ts, self.forgotten)
     }
 
-    // Adds one piece, as the read of a key or of a span has. Its patch takes memory only for long bounds.
+    // Adds one piece, as the read of a key or of a span has.
     fn add_piece(&mut self, piece: &Piece, ts: u64) -> Result<(), AllocError>
         requires ts { 0 < ts }
         requires low { piece.now.above < ts }
@@ -109,8 +119,8 @@ impl Marks {
         ensures ok { OnOk result (AreMarksEdited ts (patch_of piece.now ∷ []) self.old self.new) }
         ensures err { OnErr result ((x : List ℕ) (j : ℕ) → is_marked_in self.new x j ≡ is_marked_in self.old x j) }
     {
-        let mut patch = Patch::new(self.alloc);
-        patch.set(self.alloc, piece)?;
+        let least = SmallBytes::empty();
+        let patch = Patch::of(piece, &least);
         self.edit(slice::from_ref(&patch), ts)
     }
 

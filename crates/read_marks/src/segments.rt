@@ -14,20 +14,20 @@ mod neighbours;
 use crate::extent::Extent;
 use crate::patch::Patch;
 use crate::readers::Readers;
-use crate::start::Start;
 use neighbours::Neighbours;
 use std::alloc::{AllocError, Global};
 use std::collections::BTreeMap;
 use std::ops::Bound;
+use timestamps::small_bytes::SmallBytes;
 
 /// New readers for some starts.
-type Part = Vec<(Start, Readers)>;
+type Part = Vec<(SmallBytes, Readers)>;
 
 /// The readers of each key: those of the greatest start that is not above it.
 #[derive(Debug, Drop)]
 pub(crate) struct Segments {
     alloc: Global,
-    starts: BTreeMap<Start, Readers>,
+    starts: BTreeMap<SmallBytes, Readers>,
 }
 
 impl Segments {
@@ -43,7 +43,7 @@ impl Segments {
 
     /// The readers of the key. A key that was read by itself mostly starts a segment. To find that costs half of
     /// what it costs to find the last start of a range.
-    pub(crate) fn readers(&self, key: &Start) -> Option<&Readers>
+    pub(crate) fn readers(&self, key: &SmallBytes) -> Option<&Readers>
         ensures { AreReadersOf self.now key.now result }
     {
         self.see_order();
@@ -54,7 +54,7 @@ impl Segments {
     }
 
     // The readers of the key, by the last start that is not above it.
-    fn readers_below(&self, key: &Start) -> Option<&Readers>
+    fn readers_below(&self, key: &SmallBytes) -> Option<&Readers>
         ensures { AreReadersOf self.now key.now result }
     {
         let (_, readers) = self
@@ -64,35 +64,8 @@ impl Segments {
         Some(readers)
     }
 
-    /// The readers of the key of these bytes. The search for a key of more than 48 bytes takes memory. Where that
-    /// is refused, a walk stands in.
-    pub(crate) fn readers_of(&self, key: &[u8]) -> Option<&Readers>
-        ensures { AreReadersOf self.now key.now result }
-    {
-        let mut start = Start::new(self.alloc);
-        match start.set(key) {
-            Ok(()) => self.readers(&start),
-            Err(_) => self.walk_to(key),
-        }
-    }
-
-    // The readers of the key of these bytes, by a walk over the starts up to it. It takes no memory.
-    #[inline(never)]
-    fn walk_to(&self, key: &[u8]) -> Option<&Readers>
-        ensures { AreReadersOf self.now key.now result }
-    {
-        let mut found = None;
-        for (start, readers) in &self.starts {
-            if start.order_of(key).is_lt() {
-                return found;
-            }
-            found = Some(readers);
-        }
-        found
-    }
-
     // The extent, made wide enough for the readers of a key that are not forgotten.
-    fn extend_at(&self, key: &Start, extent: Extent, forgotten: u64) -> Extent
+    fn extend_at(&self, key: &SmallBytes, extent: Extent, forgotten: u64) -> Extent
         ensures has { IsWithin result (is_kept forgotten (readers_at self.now key.now)) }
         ensures keeps { IsPartOf extent result }
     {
@@ -109,19 +82,15 @@ impl Segments {
         if !patch.runs_forward() {
             return Extent::of(ts);
         }
-        let mut extent = self.extend_at(&patch.lo, Extent::of(ts), forgotten);
-        let end = match &patch.hi {
-            None => Bound::Unbounded,
-            Some(high) => Bound::Excluded(high),
-        };
-        for (_, readers) in self.starts.range((Bound::Included(&patch.lo), end)) {
+        let mut extent = self.extend_at(patch.lo, Extent::of(ts), forgotten);
+        for (_, readers) in self.starts.range(patch.keys()) {
             extent = readers.extend(extent, forgotten);
         }
         extent
     }
 
     // A copy of the readers of the key. No segment starts there when it is asked, and so none is looked for.
-    fn copy_of(&self, key: &Start) -> Result<Readers, AllocError>
+    fn copy_of(&self, key: &SmallBytes) -> Result<Readers, AllocError>
         ensures { IfOk result (λ r. r ≡ readers_at self.now key.now) }
     {
         match self.readers_below(key) {
@@ -131,7 +100,7 @@ impl Segments {
     }
 
     // Sees that a segment starts at the key.
-    fn split_at(&mut self, key: &Start) -> Result<(), AllocError>
+    fn split_at(&mut self, key: &SmallBytes) -> Result<(), AllocError>
         ensures readers { KeepsReaders self.old self.new }
         ensures starts { OnOk result (IsStart self.new.starts key.now) }
         ensures keeps { (q : List ℕ) → IsStart self.old.starts q → IsStart self.new.starts q }
@@ -151,8 +120,8 @@ impl Segments {
         ensures ends { OnOk result (HasEnds self.new.starts patch.now) }
         ensures keeps { (q : List ℕ) → IsStart self.old.starts q → IsStart self.new.starts q }
     {
-        self.split_at(&patch.lo)?;
-        match &patch.hi {
+        self.split_at(patch.lo)?;
+        match patch.hi {
             None => Ok(()),
             Some(hi) => self.split_at(hi),
         }
@@ -187,11 +156,7 @@ impl Segments {
         if !patch.runs_forward() {
             return Ok(part);
         }
-        let end = match &patch.hi {
-            None => Bound::Unbounded,
-            Some(hi) => Bound::Excluded(hi),
-        };
-        for (start, readers) in self.starts.range((Bound::Included(&patch.lo), end)) {
+        for (start, readers) in self.starts.range(patch.keys()) {
             let readers = readers.edited(patch, ts, forgotten)?;
             let start = start.copy()?;
             part.push((start, readers))?;
@@ -291,7 +256,7 @@ impl Segments {
         let Some(neighbours) = self.find_segment(patch)? else {
             return Ok(false);
         };
-        let Some(readers) = self.starts.get_mut(&patch.lo) else {
+        let Some(readers) = self.starts.get_mut(patch.lo) else {
             return Ok(false);
         };
         readers.edit(patch, ts, forgotten)?;
@@ -352,7 +317,7 @@ impl Segments {
         ensures { (x : List ℕ) → readers_at self.new x ≡ filter (nat_lt through) (readers_at self.old x) }
     {
         self.forget_each(through);
-        self.join(&Patch::of_all_keys(self.alloc));
+        self.join(&Patch::of_all_keys(&SmallBytes::empty()));
     }
 
     /// How many segments have readers. It walks all of them.

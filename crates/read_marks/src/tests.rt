@@ -8,6 +8,7 @@ use spans::bound::Bound;
 use spans::span::Span;
 use std::alloc::Global;
 use std::test::Fail;
+use timestamps::small_bytes::SmallBytes;
 
 /// The bound of these bytes; no byte means none.
 fn bound(alloc: Global, bytes: &[u8]) -> Result<Option<Bound>, Fail> {
@@ -30,8 +31,9 @@ fn patches_of_scan(alloc: Global, above: u64, until: u64, forgotten: u64) -> Res
         return Err(Fail::new("no gap"));
     }
     let mut segments = Segments::new(alloc);
-    segments.edit(&[Patch::own(alloc, &span(alloc, b"b", b"b\0")?, 2)?], 2, 0)?;
-    segments.edit(&[Patch::own(alloc, &span(alloc, b"", b"")?, 5)?], 5, 0)?;
+    let least = SmallBytes::empty();
+    segments.edit(&[Patch::own(&span(alloc, b"b", b"b\0")?, &least, 2)], 2, 0)?;
+    segments.edit(&[Patch::own(&span(alloc, b"", b"")?, &least, 5)], 5, 0)?;
     let pieces = [
         Piece {
             span: span(alloc, b"a", b"b")?,
@@ -54,7 +56,7 @@ fn patches_of_scan(alloc: Global, above: u64, until: u64, forgotten: u64) -> Res
             until: u64::MAX,
         },
     ];
-    let patches = patches_of(alloc, &segments, &pieces, 7, forgotten)?;
+    let patches = patches_of(alloc, &segments, &pieces, &least, 7, forgotten)?;
     Ok(patches.len())
 }
 

@@ -8,8 +8,8 @@ ghost use Rattle.read_marks.specs.Editing.{TellsSegment, TellsSegmentAt};
 use super::Segments;
 use crate::patch::Patch;
 use crate::readers::Readers;
-use crate::start::Start;
 use std::ops::Bound;
+use timestamps::small_bytes::SmallBytes;
 
 /// The latest reader of the segment before one, and of the segment after it. None stands for a segment without
 /// readers, for no segment, and for one that was not asked.
@@ -20,7 +20,7 @@ pub(super) struct Neighbours {
 }
 
 // The latest reader of a segment, where there is one and it has any.
-fn latest_of(segment: Option<(&Start, &Readers)>) -> Option<u64> {
+fn latest_of(segment: Option<(&SmallBytes, &Readers)>) -> Option<u64> {
     let (_, readers) = segment?;
     readers.latest()
 }
@@ -54,7 +54,7 @@ impl Segments {
         ensures { TellsSegment self.now.starts patch.now result }
     {
         let mut back = self.starts.range((Bound::Unbounded, patch.up_to_end()));
-        let after = match &patch.hi {
+        let after = match patch.hi {
             None => None,
             Some(hi) => {
                 let (end, readers) = back.next_back()?;
@@ -65,7 +65,7 @@ impl Segments {
             }
         };
         let (start, _) = back.next_back()?;
-        if *start != patch.lo {
+        if start != patch.lo {
             return None;
         }
         let before = latest_of(back.next_back());
@@ -73,7 +73,7 @@ impl Segments {
     }
 
     // Whether the readers of a start are those of the segment before it.
-    fn is_repeated(&self, start: &Start) -> bool
+    fn is_repeated(&self, start: &SmallBytes) -> bool
         ensures { IsTrue result → get key_cmp self.now.starts start.now ≡ Some (readers_before self.now start.now) }
     {
         let mut back = self
@@ -92,7 +92,7 @@ impl Segments {
     }
 
     // Joins a segment with the one before it, where their readers are the same.
-    fn join_at(&mut self, start: &Start)
+    fn join_at(&mut self, start: &SmallBytes)
         ensures { KeepsReaders self.old self.new }
     {
         self.see_order();
@@ -107,20 +107,20 @@ impl Segments {
     pub(super) fn join_beside(&mut self, patch: &Patch, neighbours: Neighbours, latest: Option<u64>)
         ensures { KeepsReaders self.old self.new }
     {
-        if let Some(hi) = &patch.hi {
+        if let Some(hi) = patch.hi {
             if neighbours.after == latest {
                 self.join_at(hi);
             }
         }
         if neighbours.before == latest {
-            self.join_at(&patch.lo);
+            self.join_at(patch.lo);
         }
     }
 
     // The greatest start from `lo` on and up to `end` whose readers are those of the segment before it. It finds
     // none where the copy of a long start is refused. A later sweep joins that segment.
-    fn last_repeated(&self, lo: &Start, end: Bound<&Start>) -> Option<Start> {
-        let mut later: Option<(&Start, &Readers)> = None;
+    fn last_repeated(&self, lo: &SmallBytes, end: Bound<&SmallBytes>) -> Option<SmallBytes> {
+        let mut later: Option<(&SmallBytes, &Readers)> = None;
         for (start, readers) in self.starts.range((Bound::Unbounded, end)).rev() {
             if let Some((next, next_readers)) = later {
                 if next_readers.is_same(readers) {
@@ -143,13 +143,13 @@ impl Segments {
     pub(super) fn join(&mut self, patch: &Patch)
         ensures { KeepsReaders self.old self.new }
     {
-        let mut found = self.last_repeated(&patch.lo, patch.up_to_end());
+        let mut found = self.last_repeated(patch.lo, patch.up_to_end());
         for _ in 0..self.starts.len() {
             let Some(start) = found else {
                 return;
             };
             self.join_at(&start);
-            found = self.last_repeated(&patch.lo, Bound::Excluded(&start));
+            found = self.last_repeated(patch.lo, Bound::Excluded(&start));
         }
     }
 

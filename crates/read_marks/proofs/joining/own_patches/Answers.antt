@@ -2,7 +2,7 @@ use Rattle.std.proofs.Common.{◌∷◌, arith, subst}
 use Rattle.spans.specs.declared.span.Span.{Span}
 use Rattle.read_marks.specs.Patches.{own_piece, patch_of}
 use Rattle.read_marks.specs.Joining.{EditsAs}
-use Rattle.read_marks.specs.declared.patch.Patch.{Patch}
+use Rattle.read_marks.specs.Patch.{Patch}
 use Rattle.read_marks.proofs.Alike.{edits_end, edits_next}
 use Rattle.read_marks.proofs.joining.own_patches.Goals as goal
 
@@ -11,9 +11,9 @@ loop-span-preserved c =
     let own : Span → Patch = λ span. patch_of (own_piece c.args.ts span) in
     record {
       forward = c.in_ok-push.ensures.forward;
-      gaps = c.in_ok-push.ensures.gaps c.args.ts c.loop-span.invariant.gaps (rw c.in_ok-patch.ensures (omega arith)) (rw c.in_ok-patch.ensures (omega arith));
-      edits = λ x m. edits_next own x c.args.ts m c.args.spans.now c.loop-span.span-index c.span-item.result c.loop-span.patches.items c.push.new.patches.items c.in_ok-patch.patch (omega arith) c.span-item.is
-          (c.loop-span.invariant.edits x m) (λ more. subst (λ (p : Patch). EditsAs x c.args.ts m (c.in_ok-patch.patch ∷ more) (p ∷ more)) c.in_ok-patch.ensures (λ m' h. h)) (c.in_ok-push.ensures.edits x c.args.ts m);
+      gaps = c.in_ok-push.ensures.gaps c.args.ts c.loop-span.invariant.gaps (rw c.own-patch.ensures (omega arith)) (rw c.own-patch.ensures (omega arith));
+      edits = λ x m. edits_next own x c.args.ts m c.args.spans.now c.loop-span.span-index c.span-item.result c.loop-span.patches.items c.push.new.patches.items c.own-patch.result (omega arith) c.span-item.is
+          (c.loop-span.invariant.edits x m) (λ more. subst (λ (p : Patch). EditsAs x c.args.ts m (c.own-patch.result ∷ more) (p ∷ more)) c.own-patch.ensures (λ m' h. h)) (c.in_ok-push.ensures.edits x c.args.ts m);
     }
 
 pub returns-clause-edits : goal.returns-clause-edits

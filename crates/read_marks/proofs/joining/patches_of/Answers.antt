@@ -4,7 +4,7 @@ use Rattle.read_marks.specs.Readers.{is_kept}
 use Rattle.read_marks.specs.Segments.{readers_at}
 use Rattle.read_marks.specs.Patches.{patch_of}
 use Rattle.read_marks.specs.Joining.{EditsAs}
-use Rattle.read_marks.specs.declared.patch.Patch.{Patch}
+use Rattle.read_marks.specs.Patch.{Patch}
 use Rattle.read_marks.specs.declared.piece.Piece.{Piece}
 use Rattle.read_marks.proofs.Alike.{edits_end, edits_next, edits_widened}
 use Rattle.read_marks.proofs.joining.patches_of.Goals as goal
@@ -24,15 +24,15 @@ has_gap : (c : goal.In_ok-push) → HasGap c.args.ts c.if-is_free.patch
 has_gap c =
     elim c.if-is_free.branch [
       | then-is_free w ↦ subst (HasGap c.args.ts) (sym (w.patch-is ∙ w.widen.ensures)) (c.requires.low, omega arith)
-      | else-is_free w ↦ subst (HasGap c.args.ts) (sym (w.patch-is ∙ c.in_ok-patch.ensures.is)) (own_gap c)
+      | else-is_free w ↦ subst (HasGap c.args.ts) (sym (w.patch-is ∙ c.of-patch.ensures.is)) (own_gap c)
     ]
 
 alike : (c : goal.In_ok-push) (x : List ℕ) (more : List Patch) → EditsAs x c.args.ts (is_kept c.args.forgotten (readers_at c.args.segments.now x)) (c.if-is_free.patch ∷ more) (patch_of c.piece-item.result ∷ more)
 alike c x more =
     let m = is_kept c.args.forgotten (readers_at c.args.segments.now x) in
-    let from = λ (p : Patch). EditsAs x c.args.ts m (p ∷ more) (c.in_ok-patch.patch ∷ more) in
-    subst (λ (p : Patch). EditsAs x c.args.ts m (c.if-is_free.patch ∷ more) (p ∷ more)) c.in_ok-patch.ensures.is (elim c.if-is_free.branch [
-      | then-is_free w ↦ subst from (sym (w.patch-is ∙ w.widen.ensures)) (edits_widened c.args.segments.now x c.args.ts c.args.forgotten c.in_ok-patch.patch more c.in_ok-patch.ensures.in_range (c.is_free.ensures w.if-is_free.true))
+    let from = λ (p : Patch). EditsAs x c.args.ts m (p ∷ more) (c.of-patch.result ∷ more) in
+    subst (λ (p : Patch). EditsAs x c.args.ts m (c.if-is_free.patch ∷ more) (p ∷ more)) c.of-patch.ensures.is (elim c.if-is_free.branch [
+      | then-is_free w ↦ subst from (sym (w.patch-is ∙ w.widen.ensures)) (edits_widened c.args.segments.now x c.args.ts c.args.forgotten c.of-patch.result more c.of-patch.ensures.in_range (c.is_free.ensures w.if-is_free.true))
       | else-is_free w ↦ subst from (sym w.patch-is) (λ m' h. h)
     ])
 

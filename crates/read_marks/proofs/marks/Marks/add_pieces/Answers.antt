@@ -2,7 +2,7 @@ use Rattle.std.proofs.Common.{ℕ, List, [], ◌∷◌, Bool, ◌≡◌, arith, 
 use Rattle.std.proofs.lemmas.Result.{on_ok_weaker}
 use Rattle.read_marks.specs.Marks.{HaveGaps, is_marked_in}
 use Rattle.read_marks.specs.Patches.{AreEdited, holds, patch_of}
-use Rattle.read_marks.specs.declared.patch.Patch.{Patch}
+use Rattle.read_marks.specs.Patch.{Patch}
 use Rattle.read_marks.specs.declared.piece.Piece.{Piece}
 use Rattle.read_marks.proofs.Alike.{only}
 use Rattle.read_marks.proofs.Pieces.{edit_alike, piece_in, piece_out}
@@ -33,7 +33,7 @@ returns-in-len1-clause-outside c =
     piece_out c.get-ts.result x (is_marked_in c.args.self.now x) (is_marked_in c.add_piece.new.self x) c.args.pieces.now (edited-alone c x (edited x)) out j) c.add_piece.ensures.ok
 
 -- several
-edited-several : (c : goal.After-drop-patches) (x : List ℕ) (m' : ℕ → Bool) → AreEdited (λ p. holds p x) c.get-ts.result c.deref.result.now (is_marked_in c.make_room_for.new.self x) m'
+edited-several : (c : goal.After-drop-least-inside-2) (x : List ℕ) (m' : ℕ → Bool) → AreEdited (λ p. holds p x) c.get-ts.result c.deref.result.now (is_marked_in c.make_room_for.new.self x) m'
     → AreEdited (λ p. holds p x) c.get-ts.result (map patch_of c.args.pieces.now) (is_marked_in c.args.self.now x) m'
 edited-several c x m' edited =
     let m = is_marked_in c.make_room_for.new.self x in

@@ -8,5 +8,5 @@ returns-then-not-runs_forward c = empty_part c.args.forgotten c.args.patch.now c
 
 pub returns : goal.returns
 returns c =
-    let last : AreFresh c.args.forgotten c.args.patch.now.above c.args.patch.now.until c.args.ts c.loop-start.start-iterator [] = rw c.in-None-2.ensures.steps.0 tt in
+    let last : AreFresh c.args.forgotten c.args.patch.now.above c.args.patch.now.until c.args.ts c.loop-start.start-iterator [] = rw c.in-None.ensures.steps.0 tt in
     simp append-nil at (c.loop-start.invariant [] last)

@@ -18,4 +18,4 @@ returns-clause-readers c = λ x.
     let old = c.args.self.now.starts.entries in
     let absent : lookup (is_at (key_cmp key)) old ≡ None = none_of _ (sym c.contains_key.ensures ∙ c.if-contains_key.false) in
     let value : c.in_ok-readers.readers ≡ readers_at c.args.self.now key = c.in_ok-readers.ensures in
-    rw (c.in_ok-insert.ensures.entries, c.in_ok-start.ensures) (step-insert nat_list_cmp_total key c.in_ok-readers.readers [] x old (none_passes_from_lookup _ old absent) value)
+    rw (c.in_ok-insert.ensures.entries, c.in_ok-start.ensures.bytes) (step-insert nat_list_cmp_total key c.in_ok-readers.readers [] x old (none_passes_from_lookup _ old absent) value)

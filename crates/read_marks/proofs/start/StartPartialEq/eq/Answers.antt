@@ -1,6 +1,0 @@
-use Rattle.std.proofs.Common.{ap, sym, ◌∙◌, is_eq}
-use Rattle.std.specs.Cmp.Lexicographic.{texts_ties}
-use Rattle.read_marks.proofs.start.StartPartialEq.eq.Goals as goal
-
-pub returns : goal.returns
-returns c = c.is_eq.ensures ∙ ap is_eq c.cmp.ensures ∙ sym (texts_ties c.args.self.now c.args.other.now)
