@@ -1,5 +1,5 @@
 -- The order of byte strings that differ in their first bytes, and of those that don't.
-use Rattle.std.proofs.Common.{ℕ, zero, suc, List, [], ◌∷◌, ◌≡◌, ◌<◌, ◌≤◌, ◌+◌, ◌*◌, refl, sym, ap, ◌∙◌, arith, length, get_or, min, ◌++◌, drop, Ordering, Less, Equal, Greater, nat_cmp}
+use Rattle.std.proofs.Common.{ℕ, zero, suc, List, [], ◌∷◌, ◌≡◌, ◌<◌, ◌≤◌, ◌+◌, ◌*◌, refl, sym, ap, ◌∙◌, arith, length, get_or, min, ◌++◌, Ordering, Less, Equal, Greater, nat_cmp}
 use Rattle.std.specs.Cmp.{ranks}
 use Rattle.std.specs.Ordering.{MatchOrdering, ordering_then}
 use Rattle.timestamps.specs.Bytes.{key_cmp}
@@ -140,12 +140,3 @@ pub padded : (xs zs : List ℕ) (k : ℕ) → ((j : ℕ) → get_or zs j 0 ≡ 0
 padded [] zs k zeros = zeros k
 padded (x ∷ xs) zs zero zeros = refl
 padded (x ∷ xs) zs (suc k) zeros = padded xs zs k zeros
-
--- where they are the same, and both are as long, what is behind decides
-pub fronts_skip : (n a : ℕ) (xs ys : List ℕ) → AreBytes xs → AreBytes ys → front_from n a xs ≡ front_from n a ys → n ≤ length xs → n ≤ length ys → key_cmp xs ys ≡ key_cmp (drop n xs) (drop n ys)
-fronts_skip zero a xs ys h g e p q = refl
-fronts_skip (suc n) a [] ys h g e p q = absurd (omega arith)
-fronts_skip (suc n) a (x ∷ xs) [] h g e p q = absurd (omega arith)
-fronts_skip (suc n) a (x ∷ xs) (y ∷ ys) h g e p q =
-    same-turn n a x y xs ys (nat_cmp x y) (ranks x y) (λ k. h (suc k)) (λ k. g (suc k)) e _
-    (λ same. fronts_skip n (a * 256 + x) xs ys (λ k. h (suc k)) (λ k. g (suc k)) (e ∙ sym (same-byte n a x y xs ys same)) (omega arith) (omega arith))

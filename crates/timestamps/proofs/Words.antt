@@ -1,22 +1,17 @@
 -- What the words of some bytes are, and how they decide the order of two lists.
-use Rattle.std.proofs.Common.{ℕ, zero, suc, List, [], ◌∷◌, ◌++◌, ◌≡◌, ◌<◌, ◌≤◌, ◌⊎◌, inl, inr, ◌+◌, ◌*◌, ◌^◌, refl, sym, ap, ◌∙◌, arith, get_or, take, drop, nat_cmp, subst}
+use Rattle.std.proofs.Common.{ℕ, zero, suc, List, [], ◌∷◌, ◌≡◌, ◌<◌, ◌≤◌, ◌⊎◌, inl, inr, ◌+◌, ◌*◌, refl, sym, ap, ◌∙◌, arith, get_or, take, drop, nat_cmp, subst}
 use Rattle.std.proofs.Math.Nat.{mul_assoc}
 use Rattle.std.proofs.Math.Seq.{drop-nil}
 use Rattle.std.proofs.lemmas.List.{get_or-drop, get_or_past, get_or-take, length-take}
 use Rattle.std.proofs.lemmas.Bool.{cases_lt}
-use Rattle.std.proofs.lemmas.Nat.{pow-add}
 use Rattle.timestamps.specs.Bytes.{key_cmp}
 use Rattle.timestamps.specs.Words.{AreBytes, front_from, front_of}
-use Rattle.timestamps.proofs.Fronts.{cmp_on, front_read, fronts_differ, spelt}
+use Rattle.timestamps.proofs.Fronts.{cmp_on, front_read, fronts_differ}
 
 -- how many numbers n bytes can be
 abbrev width : ℕ → ℕ
 width zero = 1
 width (suc n) = 256 * width n
-
-width_is : (n : ℕ) → 2 ^ (8 * n) ≡ width n
-width_is zero = refl
-width_is (suc n) = let e : 8 * suc n ≡ 8 + 8 * n = omega arith in rw (e, pow-add 2 8 (8 * n)) (ap (λ t. 256 * t) (width_is n))
 
 -- what stands in front of n bytes
 in_front : (n a b c : ℕ) (xs : List ℕ) → c ≡ a + b → front_from n c xs ≡ a * width n + front_from n b xs
@@ -39,29 +34,6 @@ last_front m xs = let front = front_from m 0 xs in front_on (m + 8) m 8 0 xs ref
 pub alike_on : (m : ℕ) (xs ys : List ℕ) → front_from m 0 xs ≡ front_from m 0 ys → front_of (drop m xs) ≡ front_of (drop m ys) → front_from (m + 8) 0 xs ≡ front_from (m + 8) 0 ys
 alike_on m xs ys same next = last_front m xs ∙ rw (same, next) (sym (last_front m ys))
 
-no_more : (front step : ℕ) → front ≡ front + 0 * step
-no_more front step = omega arith
-
--- one byte more
-byte_on : (k i p a : ℕ) (xs : List ℕ) → k ≡ i + suc p → front_from k a (take (suc i) xs) ≡ front_from k a (take i xs) + get_or xs i 0 * width p
-byte_on zero i p a xs e = absurd (omega arith)
-byte_on (suc k) zero p a [] e = no_more (front_from k (a * 256) []) (width p)
-byte_on (suc k) (suc i) p a [] e = no_more (front_from k (a * 256) []) (width p)
-byte_on (suc k) zero p a (x ∷ xs) e =
-    let same : k ≡ p = omega arith in
-    let front = front_from k (a * 256) [] in
-    let made : front_from k (a * 256 + x) [] ≡ x * width k + front = in_front k x (a * 256) (a * 256 + x) [] (omega arith) in
-    let turned : x * width k + front ≡ front + x * width k = omega arith in
-    made ∙ turned ∙ ap (λ t. front + x * width t) same
-byte_on (suc k) (suc i) p a (x ∷ xs) e = byte_on k i p (a * 256 + x) xs (omega arith)
-
-pub byte_more : (i p : ℕ) (xs : List ℕ) → 8 ≡ i + suc p → front_of (take (suc i) xs) ≡ front_of (take i xs) + get_or xs i 0 * 2 ^ (8 * p)
-byte_more i p xs e = rw (width_is p) (byte_on 8 i p 0 xs e)
-
--- eight bytes are one word
-pub front_fits : (xs : List ℕ) → AreBytes xs → front_of xs < 2 ^ 64
-front_fits xs h = omega (arith, spelt xs, h 0, h 1, h 2, h 3, h 4, h 5, h 6, h 7)
-
 -- zeros that are left out are read all the same
 pub front_alike : (n a : ℕ) (xs ys : List ℕ) → ((k : ℕ) → get_or xs k 0 ≡ get_or ys k 0) → front_from n a xs ≡ front_from n a ys
 front_alike zero a xs ys same = refl
@@ -79,10 +51,6 @@ pub take_bytes : (n : ℕ) (xs : List ℕ) → AreBytes xs → AreBytes (take n 
 take_bytes zero xs h = λ k. omega arith
 take_bytes (suc n) [] h = λ k. omega arith
 take_bytes (suc n) (x ∷ xs) h = bytes_first x (take n xs) (h 0) (take_bytes n xs (λ k. h (suc k)))
-
-pub append_bytes : (xs ys : List ℕ) → AreBytes xs → AreBytes ys → AreBytes (xs ++ ys)
-append_bytes [] ys h g = g
-append_bytes (x ∷ xs) ys h g = bytes_first x (xs ++ ys) (h 0) (append_bytes xs ys (λ k. h (suc k)) g)
 
 -- the first words that differ decide, since what is before them counts more and is the same
 differ_on : (l r a x y : ℕ) → l ≡ a + x → r ≡ a + y → (x ≡ y → ⊥) → l ≡ r → ⊥
