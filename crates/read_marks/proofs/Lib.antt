@@ -8,6 +8,5 @@ pub mod Picking
 pub mod Apart
 pub mod OneKey
 pub mod Keeping
-pub mod Alike
-pub mod Extents
+pub mod Holding
 pub mod Pieces

@@ -10,7 +10,7 @@ use Rattle.read_marks.specs.Segments.{reaches}
 use Rattle.read_marks.proofs.Keeping.{piece_alike}
 use Rattle.read_marks.specs.Patches as patching
 use Rattle.read_marks.specs.Patches.{AreEdited, holds, own_piece, patch_of}
-use Rattle.read_marks.specs.Marks.{AreApart, in_any}
+use Rattle.read_marks.specs.Marks.{AreApart, HaveGaps, in_any}
 use Rattle.read_marks.specs.Patch.{Patch}
 use Rattle.read_marks.specs.declared.piece.Piece.{Piece}
 
@@ -100,3 +100,7 @@ one_span_edit ts x m m' span low h j =
 pub own_gaps : (ts : ℕ) (spans : List Span) → 0 < ts → patching.HaveGaps ts (map (λ span. patch_of (own_piece ts span)) spans)
 own_gaps ts [] low = tt
 own_gaps ts (span ∷ spans) low = ((omega arith, omega arith), own_gaps ts spans low)
+
+pub piece_gaps : (ts : ℕ) (ps : List Piece) → HaveGaps ts ps → patching.HaveGaps ts (map patch_of ps)
+piece_gaps ts [] gaps = tt
+piece_gaps ts (p ∷ ps) gaps = (gaps.0, piece_gaps ts ps gaps.1)

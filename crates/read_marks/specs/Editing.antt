@@ -1,10 +1,10 @@
 -- The steps of an edit: starts at the bounds, new readers for the starts between them, and their putting in.
-use Rattle.std.specs.Prelude.{ℕ, List, [], ◌∷◌, Bool, ◌≡◌, Vec, IsSome, Option, Some, None, MatchOption}
+use Rattle.std.specs.Prelude.{ℕ, List, [], ◌∷◌, Bool, ◌≡◌, Vec, IsSome, IfSome, Option, Some, None, MatchOption}
 use Rattle.std.specs.Global.{Global}
 use Rattle.std.specs.List.{AllByRecursion, filter}
 use Rattle.std.specs.Map.{set_value}
 use Rattle.std.specs.BTreeMap.{BTreeMap, is_at, get}
-use Rattle.std.specs.BTreeMap.Range.{range_contains}
+use Rattle.std.specs.BTreeMap.Range.{IsLtBy, range_contains}
 use Rattle.std.specs.declared.ops.Bound.{Bound}
 use Rattle.std.specs.declared.ops.Bound.TheVariants.{Included, Excluded, Unbounded}
 use Rattle.timestamps.specs.Bytes.{key_cmp}
@@ -40,6 +40,10 @@ HasEnds m p = IsStart m p.lo × IsEnd m p.hi
 
 abbrev pub AreStarts : BTreeMap (List ℕ) (List ℕ) → List Patch → Type 0
 AreStarts m ps = AllByRecursion (HasEnds m) ps
+
+-- the patch ends above where it begins
+abbrev pub RunsForward : Patch → Type 0
+RunsForward p = IfSome p.hi (λ hi. IsLtBy key_cmp p.lo hi)
 
 -- the start lies in the patch
 abbrev pub picks : Patch → List ℕ → Bool

@@ -4,5 +4,4 @@ pub mod Readers
 pub mod Segments
 pub mod Patches
 pub mod Editing
-pub mod Joining
 pub mod Marks

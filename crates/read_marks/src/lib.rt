@@ -1,7 +1,7 @@
 //! Which transactions read which keys.
 //!
-//! A [`Marks`] is seen as pairs of a key and a reader. A reader is the timestamp of a transaction. The read
-//! rule adds marks, and the write rule asks whether a later reader stands in the way of a version.
+//! A [`Marks`] is seen as pairs of a key and a reader. A reader is the timestamp of a transaction. `mvto_rules` calls
+//! it: the read rule adds marks, and the write rule asks whether a later reader stands in the way of a version.
 //!
 //! Marks are kept as a step function: an ordered map from starts to lists of readers. A start and its readers
 //! are a segment. To mark a span, segments are split at its two bounds, and those between them are edited.
@@ -18,14 +18,14 @@
 //! forget through 10                  the same, and beside it the bound 10: c has the reader 20 alone
 //! ```
 //!
-//! A piece is what a read marks. Of a key's readers above the version that was read and up to the next version,
-//! only the greatest can refuse a write, so that one stands for all. Where no reader lies outside that gap, the
-//! widest gap does the same. So most pieces of a scan become one before anything is split. Neighbours with the
-//! same readers are joined. A key with a segment of its own is joined with what is before it only by a sweep.
+//! A piece is what a read marks: a get marks its key, and a scan its span, cut at keys of which the reader has its own
+//! version. Of a key's readers above the version that was read and up to the next version, only the greatest can
+//! refuse a write, so that one stands for all. Neighbours with the same readers are joined. A key with a segment of
+//! its own is joined with the segment before it only by a sweep.
 //!
 //! Costs, with n starts and m readers of one segment:
 //!
-//! - `any_between`: O(log n + log m)
+//! - `any_between`: O(log n + log m); it takes no memory, since it searches by the bytes that the key holds
 //! - `forget_through`: O(1)
 //! - `add` of keys that are one segment: O(log n + log m), in place; the readers above the gap move, and a
 //!   neighbour with the same latest reader is compared whole
@@ -35,21 +35,17 @@
 //!   reader comes that counts as forgotten
 //! - `spans`: O(n)
 //!
-//! What adds marks takes memory: for a new segment, for copied readers and for a new reader. A start of up to 24
-//! bytes lies in its segment, and a longer one takes memory of its own. `any_between` takes no memory: it searches
-//! by the bytes that the key holds. A sweep copies one start at a time. Where the copy of a long start is refused,
-//! the sweep leaves the other segments to the next sweep.
+//! A call that adds marks takes memory: for a new segment, for copied readers, for a new reader, and for a list of
+//! several pieces. A start of up to 24 bytes lies in its segment, and a longer one takes memory of its own. A sweep
+//! copies one start at a time. Where the copy of a long start is refused, it leaves the other segments to the next
+//! sweep.
 #![tactic(auto)]
 
-mod extent;
-mod joining;
 mod marks;
 mod patch;
 mod piece;
 mod readers;
 mod segments;
-#[cfg(test)]
-mod tests;
 
 pub use marks::Marks;
 pub use piece::Piece;

@@ -8,8 +8,7 @@ ghost use Rattle.read_marks.specs.Marks.{AddsInside, AreApart, AreMarksEdited, H
 ghost use Rattle.read_marks.specs.Patches as patching;
 ghost use Rattle.read_marks.specs.Patches.{patch_of};
 
-use crate::joining::{own_patches, patches_of};
-use crate::patch::Patch;
+use crate::patch::{Patch, own_patches, patches_of};
 use crate::piece::Piece;
 use crate::segments::Segments;
 use spans::span::Span;
@@ -23,7 +22,7 @@ use timestamps::ts::Ts;
 const LEAST_SWEEP: usize = 64;
 
 /// Pairs of a key and a reader. They are those of the segments, less the pairs whose reader is forgotten.
-#[derive(Debug, Drop)]
+#[derive(Drop)]
 pub struct Marks {
     alloc: Global,
     segments: Segments,
@@ -95,20 +94,13 @@ impl Marks {
         ensures err { OnErr result ((x : List ℕ) (j : ℕ) → is_marked_in self.new x j ≡ is_marked_in self.old x j) }
     {
         let ts = ts.get();
+        // one piece, as reads mark it, takes no list
         if let [piece] = pieces {
             return self.add_piece(piece, ts);
         }
-        self.make_room_for(ts);
         let least = SmallBytes::empty();
-        let patches = patches_of(
-            self.alloc,
-            &self.segments,
-            pieces,
-            &least,
-            ts,
-            self.forgotten,
-        )?;
-        self.segments.edit(&patches, ts, self.forgotten)
+        let patches = patches_of(self.alloc, pieces, &least)?;
+        self.edit(&patches, ts)
     }
 
     // Adds one piece, as the read of a key or of a span has.

@@ -1,23 +1,22 @@
 //! A piece whose bounds are lent as starts.
-ghost use Rattle.std.specs.Prelude.{◌≡◌, ◌<◌, ◌≤◌, IsTrue, List, [], ℕ, MatchOption, Some, false, true, unwrap_or};
+ghost use Rattle.std.specs.Prelude.{◌≡◌, ◌<◌, IsTrue, IfOk, List, [], ℕ, MatchOption, Some, false, map, unwrap_or};
 ghost use Rattle.std.specs.Range.Bound.{bound_map};
 ghost use Rattle.std.specs.declared.ops.Bound.TheVariants.{Included};
-ghost use Rattle.spans.specs.KeyOrder.{below_high};
 ghost use Rattle.spans.specs.Successors.{successor};
-ghost use Rattle.read_marks.specs.Patches.{IsOneKey, holds, patch_of, own_piece};
-ghost use Rattle.read_marks.specs.Editing.{end_at, end_in, picks};
-ghost use Rattle.read_marks.specs.Joining.{GoesOn, IsInside, RunsForward, in_widest_gap};
+ghost use Rattle.read_marks.specs.Patches.{IsOneKey, patch_of, own_piece};
+ghost use Rattle.read_marks.specs.Editing.{RunsForward, end_at, end_in, picks};
 
 use crate::piece::Piece;
 use spans::bound;
 use spans::span::Span;
+use std::alloc::{AllocError, Global};
 use std::marker::Model;
 use std::ops::Bound;
 use timestamps::small_bytes::SmallBytes;
 
 /// From `lo` on, and below `hi` where that is given, the readers above `above` and up to `until`
 /// become one.
-#[derive(Debug, Drop)]
+#[derive(Drop)]
 pub(crate) struct Patch<'a> {
     pub(crate) lo: &'a SmallBytes,
     pub(crate) hi: Option<&'a SmallBytes>,
@@ -38,8 +37,7 @@ impl<'a> Patch<'a> {
     /// The patch of a piece. `least` has no byte: a span without a lower bound begins there.
     pub(crate) fn of(piece: &'a Piece, least: &'a SmallBytes) -> Patch<'a>
         requires { least.now ≡ [] }
-        ensures is { result ≡ patch_of piece.now }
-        ensures in_range { result.until ≤ 18446744073709551615 }
+        ensures { result ≡ patch_of piece.now }
     {
         let Piece { span, above, until } = piece;
         Patch {
@@ -63,7 +61,7 @@ impl<'a> Patch<'a> {
     }
 
     /// The keys between two bounds, without a gap.
-    pub(crate) fn between(
+    fn between(
         low: &'a Option<bound::Bound>,
         high: &'a Option<bound::Bound>,
         least: &'a SmallBytes,
@@ -95,14 +93,6 @@ impl<'a> Patch<'a> {
             above: 0,
             until: 0,
         }
-    }
-
-    /// Its gap becomes the widest.
-    pub(crate) fn widen(&mut self)
-        ensures { self.new ≡ in_widest_gap self.old }
-    {
-        self.above = 0;
-        self.until = u64::MAX;
     }
 
     /// Whether its end is above where it begins.
@@ -147,32 +137,38 @@ impl<'a> Patch<'a> {
             Some(hi) => Bound::Included(hi),
         }
     }
+}
 
-    /// Whether the next patch begins where this one ends, and has the same gap.
-    pub(crate) fn goes_on_in(&self, next: &Patch) -> bool
-        ensures { IsTrue result → GoesOn self.now next.now }
-    {
-        match self.hi {
-            None => false,
-            Some(hi) => self.above == next.above && self.until == next.until && hi == next.lo,
-        }
+/// The patches of pieces, in their order. `least` has no byte.
+pub(crate) fn patches_of<'a>(
+    alloc: Global,
+    pieces: &'a [Piece],
+    least: &'a SmallBytes,
+) -> Result<Vec<Patch<'a>>, AllocError>
+    requires { least.now ≡ [] }
+    ensures { IfOk result (λ patches. patches.items ≡ map patch_of pieces.now) }
+{
+    let mut patches = Vec::new(alloc);
+    for piece in pieces {
+        patches.push(Patch::of(piece, least))?;
     }
+    Ok(patches)
+}
 
-    // Whether another patch ends where this one does, or above.
-    fn ends_inside(&self, other: &Patch) -> bool
-        ensures { IsTrue result → (x : List ℕ) → below_high self.now.hi x ≡ true → below_high other.now.hi x ≡ true }
-    {
-        match (self.hi, other.hi) {
-            (_, None) => true,
-            (None, Some(_)) => false,
-            (Some(hi), Some(end)) => hi.cmp(end).is_le(),
-        }
+/// The patches of spans, in their order, each in the gap that holds `ts` alone.
+pub(crate) fn own_patches<'a>(
+    alloc: Global,
+    spans: &'a [Span],
+    least: &'a SmallBytes,
+    ts: u64,
+) -> Result<Vec<Patch<'a>>, AllocError>
+    requires least { least.now ≡ [] }
+    requires ts { 0 < ts }
+    ensures { IfOk result (λ patches. patches.items ≡ map (λ span. patch_of (own_piece ts span)) spans.now) }
+{
+    let mut patches = Vec::new(alloc);
+    for span in spans {
+        patches.push(Patch::own(span, least, ts))?;
     }
-
-    /// Whether another patch holds all its keys.
-    pub(crate) fn is_inside(&self, other: &Patch) -> bool
-        ensures { IsTrue result → IsInside self.now other.now }
-    {
-        self.ends_inside(other) && other.lo.cmp(self.lo).is_le()
-    }
+    Ok(patches)
 }

@@ -3,16 +3,14 @@ ghost use Rattle.std.specs.Prelude.{◌≡◌, ℕ, List, [], ◌<◌, ◌≤◌
 ghost use Rattle.std.specs.List.Sorted.{IsNonDecreasing};
 ghost use Rattle.kept.specs.Marks.{IsBetween, IsPiece};
 ghost use Rattle.read_marks.specs.Readers.{is_kept, is_reader, SplitsAt};
-ghost use Rattle.read_marks.specs.Joining.{IsPartOf, IsWithin};
 
-use crate::extent::Extent;
 use crate::patch::Patch;
 use std::alloc::{AllocError, Global};
 use std::marker::Model;
 use timestamps::binary_search::BinarySearch;
 
 /// Timestamps that rise.
-#[derive(Debug, Drop)]
+#[derive(Drop)]
 pub(crate) struct Readers {
     list: Vec<u64>,
 }
@@ -124,21 +122,6 @@ impl Readers {
         };
         let at = self.count_through(above);
         self.list[at] <= top
-    }
-
-    /// The extent, made wide enough for the readers above `forgotten`.
-    pub(crate) fn extend(&self, extent: Extent, forgotten: u64) -> Extent
-        ensures has { IsWithin result (is_kept forgotten self.now) }
-        ensures keeps { IsPartOf extent result }
-    {
-        let at = self.count_through(forgotten);
-        if at == self.list.len() {
-            return extent;
-        }
-        Extent {
-            least: extent.least.min(self.list[at]),
-            greatest: extent.greatest.max(self.list[self.list.len() - 1]),
-        }
     }
 
     // The readers above `above` and up to `until`, and `ts`, become one: the greatest of them.

@@ -6,12 +6,10 @@ ghost use Rattle.timestamps.specs.Bytes.{key_cmp};
 ghost use Rattle.read_marks.specs.Readers.{is_kept};
 ghost use Rattle.read_marks.specs.Segments.{AreReadersOf, KeepsReaders, readers_at, segment_count};
 ghost use Rattle.read_marks.specs.Patches.{AreReadersEdited, HaveGaps};
-ghost use Rattle.read_marks.specs.Joining.{IsExtentOf, IsPartOf, IsWithin};
 ghost use Rattle.read_marks.specs.Editing.{AreParts, AreStarts, HasEnds, IsPart, IsSegment, IsStart, TellsSegment, TellsSegmentAt, puts, puts_parts};
 
 mod neighbours;
 
-use crate::extent::Extent;
 use crate::patch::Patch;
 use crate::readers::Readers;
 use neighbours::Neighbours;
@@ -24,7 +22,7 @@ use timestamps::small_bytes::SmallBytes;
 type Part = Vec<(SmallBytes, Readers)>;
 
 /// The readers of each key: those of the greatest start that is not above it.
-#[derive(Debug, Drop)]
+#[derive(Drop)]
 pub(crate) struct Segments {
     alloc: Global,
     starts: BTreeMap<SmallBytes, Readers>,
@@ -62,31 +60,6 @@ impl Segments {
             .range((Bound::Unbounded, Bound::Included(key)))
             .next_back()?;
         Some(readers)
-    }
-
-    // The extent, made wide enough for the readers of a key that are not forgotten.
-    fn extend_at(&self, key: &SmallBytes, extent: Extent, forgotten: u64) -> Extent
-        ensures has { IsWithin result (is_kept forgotten (readers_at self.now key.now)) }
-        ensures keeps { IsPartOf extent result }
-    {
-        match self.readers(key) {
-            None => extent,
-            Some(readers) => readers.extend(extent, forgotten),
-        }
-    }
-
-    /// From the least to the greatest of `ts` and the readers of a patch's keys, less those that are forgotten.
-    pub(crate) fn extent(&self, patch: &Patch, ts: u64, forgotten: u64) -> Extent
-        ensures { IsExtentOf result self.now patch.now ts forgotten }
-    {
-        if !patch.runs_forward() {
-            return Extent::of(ts);
-        }
-        let mut extent = self.extend_at(patch.lo, Extent::of(ts), forgotten);
-        for (_, readers) in self.starts.range(patch.keys()) {
-            extent = readers.extend(extent, forgotten);
-        }
-        extent
     }
 
     // A copy of the readers of the key. No segment starts there when it is asked, and so none is looked for.

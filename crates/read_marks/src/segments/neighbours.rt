@@ -13,7 +13,7 @@ use timestamps::small_bytes::SmallBytes;
 
 /// The latest reader of the segment before one, and of the segment after it. None stands for a segment without
 /// readers, for no segment, and for one that was not asked.
-#[derive(Debug, Clone, Copy)]
+#[derive(Clone, Copy)]
 pub(super) struct Neighbours {
     before: Option<u64>,
     after: Option<u64>,

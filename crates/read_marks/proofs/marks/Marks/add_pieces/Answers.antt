@@ -1,11 +1,12 @@
-use Rattle.std.proofs.Common.{ℕ, List, [], ◌∷◌, Bool, ◌≡◌, arith, map, subst, sym}
+use Rattle.std.proofs.Common.{ℕ, List, [], ◌∷◌, Bool, ◌≡◌, ◌∙◌, arith, map, subst, sym}
 use Rattle.std.proofs.lemmas.Result.{on_ok_weaker}
 use Rattle.read_marks.specs.Marks.{HaveGaps, is_marked_in}
+use Rattle.read_marks.specs.Patches as patching
 use Rattle.read_marks.specs.Patches.{AreEdited, holds, patch_of}
 use Rattle.read_marks.specs.Patch.{Patch}
 use Rattle.read_marks.specs.declared.piece.Piece.{Piece}
-use Rattle.read_marks.proofs.Alike.{only}
-use Rattle.read_marks.proofs.Pieces.{edit_alike, piece_in, piece_out}
+use Rattle.read_marks.proofs.Holding.{only}
+use Rattle.read_marks.proofs.Pieces.{piece_gaps, piece_in, piece_out}
 use Rattle.read_marks.proofs.marks.Marks.add_pieces.Goals as goal
 
 -- a piece alone
@@ -33,12 +34,14 @@ returns-in-len1-clause-outside c =
     piece_out c.get-ts.result x (is_marked_in c.args.self.now x) (is_marked_in c.add_piece.new.self x) c.args.pieces.now (edited-alone c x (edited x)) out j) c.add_piece.ensures.ok
 
 -- several
-edited-several : (c : goal.After-drop-least-inside-2) (x : List ℕ) (m' : ℕ → Bool) → AreEdited (λ p. holds p x) c.get-ts.result c.deref.result.now (is_marked_in c.make_room_for.new.self x) m'
+pub edit-requires : goal.edit-requires
+edit-requires c =
+    let gaps : HaveGaps c.get-ts.result c.args.pieces.now = rw c.get-ts.ensures.number c.requires.gaps in
+    record { low = omega arith; gaps = subst (patching.HaveGaps c.get-ts.result) (sym (c.deref.ensures.value ∙ c.in_ok-patches.ensures)) (piece_gaps c.get-ts.result c.args.pieces.now gaps) }
+
+edited-several : (c : goal.After-drop-least-inside-2) (x : List ℕ) (m' : ℕ → Bool) → AreEdited (λ p. holds p x) c.get-ts.result c.deref.result.now (is_marked_in c.args.self.now x) m'
     → AreEdited (λ p. holds p x) c.get-ts.result (map patch_of c.args.pieces.now) (is_marked_in c.args.self.now x) m'
-edited-several c x m' edited =
-    let m = is_marked_in c.make_room_for.new.self x in
-    edit_alike (λ p. holds p x) c.get-ts.result (map patch_of c.args.pieces.now) (is_marked_in c.args.self.now x) m m' (c.make_room_for.ensures.marks x)
-    (c.in_ok-patches.ensures.edits x m' (subst (λ (ps : List Patch). AreEdited (λ p. holds p x) c.get-ts.result ps m m') c.deref.ensures.value edited))
+edited-several c x m' edited = subst (λ (ps : List Patch). AreEdited (λ p. holds p x) c.get-ts.result ps (is_marked_in c.args.self.now x) m') (c.deref.ensures.value ∙ c.in_ok-patches.ensures) edited
 
 pub returns-clause-inside : goal.returns-clause-inside
 returns-clause-inside c =

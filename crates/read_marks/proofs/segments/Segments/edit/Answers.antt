@@ -1,5 +1,5 @@
 use Rattle.std.proofs.Common.{◌∙◌, rules}
-use Rattle.read_marks.proofs.Alike.{edits_nothing, holds_is_picks, only}
+use Rattle.read_marks.proofs.Holding.{edits_nothing, holds_is_picks, only}
 use Rattle.read_marks.proofs.segments.Segments.edit.Goals as goal
 
 pub returns-then-not-runs_forward-clause-ok : goal.returns-then-not-runs_forward-clause-ok
