@@ -1,11 +1,14 @@
-//! Up to where timestamps are closed, and the protections that hold a collection back.
+//! Up to where timestamps are closed, and the protections that hold a collection back. `engine` is the caller.
 //!
-//! At or below the closed timestamp nothing changes any more. A collection drops versions at or below its horizon, without
-//! which each read at or above the horizon is answered as before. A protection keeps the horizon at or below its timestamp.
+//! At or below the closed timestamp nothing changes any more. A collection drops versions at or below its horizon. It
+//! drops only those that no read at or above the horizon needs. A protection keeps the horizon at or below its
+//! timestamp.
 //!
-//! The closed timestamp is a number that never falls. A protection has a number, from 1 on in the
-//! order of making, and the timestamp that it protects. They stand in a map by number, where one is
-//! released, and in a set by timestamp, whose first is the least that is protected.
+//! 1. The closed timestamp never falls.
+//! 2. A protection has a number, from 1 on in the order of making, and the timestamp that it protects. No number is
+//!    given twice.
+//! 3. The protections stand in a map by number, where one is released, and in a set by timestamp, whose first is the
+//!    least protected timestamp. Both have the same protections.
 //!
 //! ```text
 //!                             closed   by number          by timestamp
@@ -17,8 +20,12 @@
 //! close 10, none undecided    28       1: 25              (25, 1)
 //! ```
 //!
-//! Cost, where n protections stand: protecting, releasing and the least take O(log n), and closing
-//! O(1). Only protecting takes memory.
+//! Costs, where n protections stand:
+//!
+//! - `close`, `close_hard`, `closed`, `made`: O(1)
+//! - `protect`, `release`, `least_protection`: O(log n)
+//!
+//! Only `protect` takes memory, for a place in the map and one in the set. Where it finds none, nothing is protected.
 #![tactic(auto)]
 
 mod closing;

@@ -1,22 +1,37 @@
-//! The language of the database: spans of keys, and the commands, replies, messages and events that
-//! cross its edge. In `specs/` beside it stands what they mean.
+//! The language of the database: spans of keys, and the commands, replies, messages and events that cross its edge.
 //!
-//! A history is a list of events. What it says is defined by what its events did, their effects:
+//! The definitions in `specs/` give each of them its meaning. Every crate that handles keys of a span or a command
+//! calls it: the layers of `engine`, the plain database, the readers of texts, and the front ends. Only `timestamps`
+//! lies below.
+//!
+//! 1. A bound has 1 to 257 bytes, so that the place just above any key is one.
+//! 2. A span holds the keys at or above its lower bound and below its upper bound. It may hold no key.
+//!
+//! A history is a list of events. The definitions speak of their effects:
 //!
 //! ```text
 //! event                                effect                 after it
 //! 0 0 begin 10 => started              Begins 10 0            10 is undecided, and seat 0's
 //! 1 0 put 10 a 1 => written            Writes 10 a (Some 1)   version 10 of a
-//! 2 1 begin 20 => started              Begins 20 1
+//! 2 1 begin 20 => started              Begins 20 1            20 is undecided, and seat 1's
 //! 3 1 get 20 a => blocked 10           NoEffect               no trace: 10 is undecided
 //! 4 0 commit 10 => committed 1         Commits 10             version 10 is committed
 //! 5 1 get 20 a => value 1              Reads 20 a (Some 1)    a write of a at 11..=19 is too late
 //! ```
 //!
-//! Read `specs/` in the order of its `Lib.antt`: effects, transactions, versions and reads, streams and
-//! feeds, collection; then the answer to each command and which histories are legal; then what a legal
-//! history is like, which [`law::law_of_histories`] states. Two seats' histories are compared nowhere
-//! here. Cost: a span looks at a key's bytes at most twice; a copy copies the bytes it has.
+//! Read `specs/` in the order of its `Lib.antt`: effects, transactions, versions and reads, streams and feeds,
+//! collection; then the answer to each command, and which histories are legal. [`law::law_of_histories`] states the law
+//! of legal histories.
+//!
+//! Costs, where a bound or a key has b bytes:
+//!
+//! - `Span::contains`: O(b), two comparisons at most
+//! - `Bound::new`, `Bound::copy`, `Bound::successor`, `Span::copy`: O(b), the bytes copied
+//! - `Span::without`: O(b) for each key given, and two copies of each key of the span
+//! - `Kind::start`, `Kind::is_due`, `Rows::from_vec`, `Messages::from_vec`: O(1)
+//!
+//! A bound of up to 24 bytes lies in place. A longer one takes memory, in the four calls that copy bytes.
+//! `Span::without` takes it also for its list. The other calls take none.
 #![tactic(auto)]
 
 pub mod bound;

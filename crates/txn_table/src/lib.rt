@@ -1,8 +1,11 @@
-//! The table of transactions: of each that began and isn't forgotten, its owner, how it stands, and
-//! the keys that it wrote.
+//! The table of transactions: of each that began and isn't forgotten, its owner, how it stands, and the keys that it
+//! wrote.
 //!
-//! An ordered map by timestamp, and beside it an ordered set of the timestamps that are undecided.
-//! Deciding only removes from that set, so it takes no memory; the oldest undecided is its first.
+//! `mvto_rules` is the caller: it begins, reads and ends transactions here, and notes each key that a write touches.
+//!
+//! 1. The table is an ordered map by timestamp. Beside it an ordered set has exactly the timestamps that are undecided.
+//! 2. The keys of a transaction are an ordered set, and each is noted once.
+//! 3. A call that finds no memory changes nothing.
 //!
 //! ```text
 //!                          table                                   undecided
@@ -13,9 +16,18 @@
 //! close 15: forget to 15   20 of 1                                 20
 //! ```
 //!
-//! Cost, where n transactions stand: each call finds its place in O(log n). The keys of a transaction
-//! are an ordered set: one of w keys is noted or looked up in O(log w), whichever order they come in, and
-//! they are read in turn. Forgetting takes O(log n) for each transaction that goes, and no memory.
+//! Costs, where n transactions stand and one of them wrote w keys:
+//!
+//! - `begin`, `decide`, `standing`, `oldest_undecided`: O(log n)
+//! - `add_key`, `has_key`: O(log n + log w), whichever order the keys come in
+//! - `write_set`: O(log n), and the keys that are read, in turn
+//! - `undecided_through`: O(log n), and the timestamps that are read, in turn
+//! - `undecided`: O(1)
+//! - `forget_through`: O(log n) for each transaction that goes, and for the first that stays
+//!
+//! `begin` takes memory for a place in the map and one in the set, and none where the timestamp has a transaction.
+//! `add_key` takes it for a copy of the key and its place, and none where the key is noted. The other calls take none.
+//! Ending a transaction only removes it from the set of the undecided, so it can't be refused.
 #![tactic(auto)]
 
 mod changes;
