@@ -1,10 +1,12 @@
-//! The rows of committed transactions, held back until they are closed.
+//! The rows of committed transactions, held back until they are closed. `engine` is the caller.
 //!
-//! Commits come in any order, and a feed tells rows by timestamp and then by key. So a committed row waits
-//! in a [`HoldBack`], an ordered map, until closed has passed it: by then every row before it is there, and
-//! no other can come between. A row that finds no memory is lost to the set, and so are rows that are skipped
-//! because no feed wants them. The set remembers between which timestamps rows were lost: there it is incomplete,
-//! and a feed has to look its rows up elsewhere.
+//! Commits come in any order, and a feed tells rows by timestamp and then by key. So a committed row waits in a
+//! [`HoldBack`] until closed has passed it: by then every row before it is there, and no other can come between. A row
+//! that finds no memory is lost to the set. So is a row that is skipped because no feed wants it.
+//!
+//! 1. The rows stand in an ordered map, by timestamp and then by key.
+//! 2. Every row that was lost, and isn't forgotten, lies between two timestamps that the set remembers.
+//! 3. From the first of these on the set may be incomplete, and a feed has to look its rows up elsewhere.
 //!
 //! ```text
 //!                                    rows                       lost between
@@ -17,9 +19,14 @@
 //! forget through 15                  20 a                                     complete again
 //! ```
 //!
-//! Cost, where n rows are held: adding and taking one take O(log n), forgetting as much for each row that
-//! goes; skipping a timestamp, and asking whether one is complete, is a comparison or two. Only adding takes memory, and it never
-//! refuses.
+//! Costs, where n rows are held:
+//!
+//! - `add`, `take_first_through`: O(log n)
+//! - `skip`, `complete_through`: O(1)
+//! - `forget_through`: O(log n) for each row that goes, and for the first that stays
+//!
+//! Only `add` takes memory: for a copy of the key and of the value, and for the row's place. It never refuses: a row
+//! that finds none is lost, and the set remembers that.
 #![tactic(auto)]
 
 mod hold_back;

@@ -1,10 +1,14 @@
 //! One database for many threads: an engine under a ticket lock, and beside it an oracle, which leases timestamps that
-//! no two threads share.
+//! no two threads share. `sessions` and `races` are the callers.
 //!
 //! A thread has a seat, by which it calls, and perhaps a pass, by which it draws from the oracle. A call takes the turn
 //! of a ticket, makes one step of the engine, raises the floor to the timestamp that is then closed, and ends the turn
-//! with an event whose position is the ticket. All events make one legal history. What a seat has `seen` is the
-//! beginning of it up to its last call, and what is `mine` are its own events.
+//! with an event whose position is the ticket.
+//!
+//! 1. All events make one legal history, and the engine stands for it.
+//! 2. A seat's `seen` is the history up to its last call, or further where it met a seat that has seen more. Its `mine`
+//!    are its own events.
+//! 3. No two passes are leased the same timestamp.
 //!
 //! ```text
 //! Db::open, first 5, two seats        history, the oldest first
@@ -18,11 +22,18 @@
 //! finish with both seats              the engine, which stands for the whole history
 //! ```
 //!
-//! Cost: a call costs what its step of the engine does, and seven steps on the lock's words where no
-//! other seat calls: two on the ticket word, three on the serving word, one on the floor word, and a
-//! look at a bed. A granted `try_call` makes as many, and one that is `Busy` two or three in all.
-//! `floor` is one load, `draw` a load and a compare-exchange, `meet` six loads and `meet_passes` five;
-//! none of them waits. Only `open` and the engine's steps take memory, and only `call` waits.
+//! Costs, in steps on words of the lock and of the oracle, beside the engine's step:
+//!
+//! - `call`, where no other seat calls: seven. Two are on the ticket word, three on the serving word and one on the
+//!   floor word, and one looks at a bed
+//! - `try_call`: seven, or two or three where it is `Busy`
+//! - `floor`: one
+//! - `meet`: six
+//! - `draw`: two
+//! - `meet_passes`: five
+//! - `open`, `finish`: some for each seat
+//!
+//! Only `open` and the engine's steps take memory, and only `call` waits.
 #![tactic(auto)]
 
 mod calls;

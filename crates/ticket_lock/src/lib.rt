@@ -1,12 +1,14 @@
-//! A ticket lock over one value, and the history that its turns make.
+//! A ticket lock over one value, and the history that its turns make. `shared_db` is the caller.
 //!
-//! Each caller has a `Seat`. A turn gives its seat the value, and ends with an entry that names the
-//! seat. The entries of all turns, in the order of their tickets, are the one history that the
-//! value stands for. It exists in the contracts alone, as do the lists that a seat keeps: the
-//! beginning of the history that it has `seen`, and the entries that are `mine`.
+//! Each caller has a `Seat`. A turn gives its seat the value, and ends with an entry that names the seat. Three words
+//! say whose turn it is, and one slot has the value while nobody has a turn.
 //!
-//! Three words say whose turn it is, and one slot has the value while nobody has a turn. Two seats
-//! on a lock that began at 5:
+//! 1. The entries of all turns, in the order of their tickets, are the one history that the value stands for. It exists
+//!    in the contracts alone.
+//! 2. A seat has `seen` a beginning of that history. Its own entries there are `mine`.
+//! 3. A floor that a seat reads is at least each floor that it knew.
+//!
+//! Two seats on a lock that began at 5:
 //!
 //! ```text
 //!                    ticket serving floor  value    history
@@ -15,16 +17,22 @@
 //! seat 1 waits          7      5      0    seat 0   (none)
 //! raise_floor to 40     7      5     40    seat 0   (none)       seat 1: floor is 40
 //! end with entry a      7      6     40    at home  a            seat 0 has seen a, mine is a
-//! seat 1 has its turn   7      6     40    seat 1   a            what it found: a
+//! seat 1 has its turn   7      6     40    seat 1   a            it has found a
 //! ```
 //!
-//! Where no other seat draws, a turn costs a load and a compare-exchange of the ticket word and two
-//! loads of the serving word, and its end a store of that word and a look at the bed of the next
-//! ticket. Where others draw, it looks a number of times for a turn that is free before it draws a
-//! ticket and waits in line. Each seat in line has a bed, a word of its own to sleep on. It sleeps
-//! there while its turn is far, or when it has waited for long, and is woken when the turn before its
-//! own ends. `try_turn` makes four steps, or two or three where it is `Busy`; `floor` and `raise_floor`
-//! one each, and `meet` six loads. Only `new` takes memory, and only `turn` waits.
+//! Costs, in steps on words of the lock:
+//!
+//! - `turn`, where no other seat draws: a load and a compare-exchange of the ticket word, two loads of the serving word
+//! - `turn`, where others draw: it looks a number of times for a free turn, and else draws a ticket and waits in line
+//! - `end`: a store of the serving word and a look at the next ticket's bed; a store and a wake more, where a seat
+//!   sleeps there
+//! - `try_turn`: four, or two or three where it is `Busy`
+//! - `floor`, `raise_floor`: one
+//! - `meet`: six
+//! - `new`, `finish`: some for each seat
+//!
+//! Each seat in line has a bed, a word of its own to sleep on. It sleeps there while its turn is far, or when it has
+//! waited for long, and is woken when the turn before its own ends. Only `new` takes memory, and only `turn` waits.
 #![tactic(auto)]
 
 mod chronicle;
