@@ -1,15 +1,14 @@
 //! The definitions as one plain program, by which transcripts are checked: it computes the one right reply to each
-//! command.
+//! command. `trace_check` is the caller.
 //!
-//! A [`Database`](database::Database) has a map for each thing that a history is asked about. `answer`
-//! computes the one right reply to a command, and changes nothing. `record` takes in a command with its
-//! right reply. So a checker of transcripts can ask and compare before it goes on. Nothing is ever forgotten, but for
-//! the messages that feeds were told: of these a feed keeps its place.
+//! `answer` computes the reply to a command, and changes nothing. `record` takes in a command with its right reply. So
+//! a checker can ask and compare before it goes on. Transactions and chains of versions are in `plain_versions`,
+//! protections and feeds in `plain_feeds`. Reads of keys and of spans are here, each with the timestamps that it read
+//! from.
 //!
-//! The transactions and the chains of versions are those of `plain_versions`. The protections and feeds are
-//! those of `plain_feeds`. The reads of keys (`reads`, and of one key `readers`) and of spans (`span_reads`) are
-//! here, each with the timestamps that it read from. Each other file has one topic: what a command is answered
-//! there, and how it is taken in.
+//! 1. A [`Database`](database::Database) has a map for each thing that a history is asked about.
+//! 2. A closing forgets no transaction and no read, and a collection drops no version. Only an abort drops versions.
+//! 3. It forgets the messages told to feeds. It keeps each feed's place.
 //!
 //! ```text
 //!                    transactions      chains           reads          closed
@@ -22,23 +21,21 @@
 //! begin 25, put b    toolate: 30 read across 25, since it read every key and found no b
 //! ```
 //!
-//! Costs, of n transactions. The place of a key is found by the logarithms of the keys and of its versions; so are its
-//! readers, and the readers of spans:
+//! Costs of `answer` and `record`, where n transactions began and P finds a key's version or readers, by two
+//! logarithms:
 //!
-//! ```text
-//! begin, commit, close    log n
-//! get, readat             log n, the place of the key, and a copy of the value
-//! put, del                log n, the place of the key, and the readers above of it and of spans; an abort where it is too late
-//! abort                   log n, and the place of each key that was written
-//! closehard               an abort of each transaction that it ends
-//! scan                    the place of each key of the span, and a copy of each key and row
-//! scanat                  the same, and log n for each version that it passes over
-//! protect, release        the protections
-//! collect                 the place of each version between the two horizons, the feeds and the protections
-//! stats                   the feeds
-//! open, cancel            one record
-//! poll                    log n for each row between the feed's place and the last that it tells, whatever span they are of
-//! ```
+//! - `begin`, `commit`, `close`: O(log n)
+//! - `get`, `readat`: O(log n + P), and a copy of the value
+//! - `put`, `del`: O(log n + P), and the readers above, of the key and of spans; an abort where it is too late
+//! - `abort`: O(log n), and P for each key written; `closehard`: an abort of each transaction that it ends
+//! - `scan`, `scanat`: O(log n + P) for each version that they look at in the span, and a copy of each key and row
+//! - `collect`: P for each version between the two horizons, the feeds and the protections
+//! - `poll`: O(log n) for each row from the feed's place to the last that it tells, of all spans; P for each key of a
+//!   snapshot
+//! - `protect`, `open`, `cancel`: O(1); `release`: the protections that stand; `stats`: the feeds
+//!
+//! `answer` takes memory for rows, values and messages. `record` takes it for a begin, get, scan, put, del, protect,
+//! opening or poll that is accepted, and none for other commands.
 #![tactic(auto)]
 
 mod closings;

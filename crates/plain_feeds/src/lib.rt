@@ -1,8 +1,13 @@
 //! The feeds and the protections of the plain database, by which transcripts are checked, as plain lists.
+//! `plain_database` is the caller.
 //!
-//! A [`FeedBook`] has a record of each feed, in the order of opening: feed n stands at place n - 1. Of the
-//! messages that it was told a feed keeps the name of the last row, the greatest resolved timestamp and the floor:
-//! they say at which [`Place`] its next rows begin. [`Protections`] has those that stand, and how many were made.
+//! A [`FeedBook`] has a record of each feed that was opened, also of one that was cancelled. [`Protections`] has those
+//! that stand, and how many were made.
+//!
+//! 1. Records stand in the order of opening: feed n stands at place n - 1.
+//! 2. Of the messages that it was told a feed keeps the name of the last row, the greatest resolved timestamp and the
+//!    floor. They say at which [`Place`] its next rows begin.
+//! 3. A call that finds no memory changes nothing.
 //!
 //! ```text
 //! open from 5                    told nothing           place: above 5        floor 5
@@ -11,17 +16,17 @@
 //! cancel                                                                      none: it holds no horizon back
 //! ```
 //!
-//! Costs, of f feeds and p protections:
+//! Costs, where f feeds were opened and p protections stand:
 //!
-//! ```text
-//! next_messages, tell                     the messages
-//! live_count, least_floor                 f
-//! release, is_standing, least             p
-//! horizon_reached                         f and p
-//! open, opened, feed, place, cancel,
-//!     protect, made, poll_refusal,
-//!     cancel_refusal                      one record
-//! ```
+//! - `open`, `opened`, `feed`, `place`, `cancel`, `poll_refusal`, `cancel_refusal`: O(1), one record
+//! - `next_messages`, `tell`: the messages, once
+//! - `live_count`, `least_floor`: O(f)
+//! - `protect`, `made`: O(1)
+//! - `release`, `is_standing`, `least`: O(p)
+//! - `horizon_reached`: O(f + p)
+//!
+//! `open` takes memory for the record and its span, `protect` for a place in its list, `next_messages` for the list of
+//! messages, and `tell` for the key of the last row. The other calls take none.
 #![tactic(auto)]
 
 mod book;

@@ -1,9 +1,11 @@
 //! The transactions of the plain database, by which transcripts are checked, and the versions that they wrote.
+//! `plain_database` is the caller.
 //!
-//! [`Transactions`] is an ordered map by timestamp, of each transaction's seat and how far it is, and beside it the set
-//! of the timestamps that are undecided. [`Chains`] is an ordered map by key: each key that was ever written, with the
-//! versions of the transactions that wrote it and aren't aborted, by their timestamps. Beside the chains an index has
-//! the keys that each transaction wrote. Nothing is ever forgotten: only aborts and hard closings drop versions.
+//! 1. [`Transactions`] is an ordered map by timestamp, of each transaction's seat and state. Beside it a set has
+//!    exactly the timestamps that are undecided.
+//! 2. [`Chains`] is an ordered map by key. Each key that was ever written has the versions of the transactions that
+//!    wrote it and aren't aborted, by timestamp. Beside the chains an index has the keys that each transaction wrote.
+//! 3. No transaction, key or committed version is ever forgotten. Only aborts and hard closings drop versions.
 //!
 //! ```text
 //!                    transactions                  chains                       index
@@ -15,24 +17,23 @@
 //! abort 20           10 committed, 20 aborted      a:           b: 10 "1"       10 b
 //! ```
 //!
-//! Costs, of n transactions, k keys, and v versions of one key:
+//! Costs, where n transactions began, and k keys have v versions each:
 //!
-//! ```text
-//! begin, find, has_committed, decide, decided_through     log n
-//! abort_through                                           log n for each that it aborts
-//! undecided_through                                       log n, and those that it counts
-//! undecided_count, version_count                          1
-//! newest                                                  log k + log v
-//! write                                                   log k + log v + log n
-//! count_of                                                log n
-//! drop_of                                                 log n, and log k + log v for each key that it wrote
-//! drop_undecided                                          the same for each transaction that is dropped
-//! blocker, visible_rows, sources                          log k, and log v for each key of the span
-//! committed_rows, value_rows_after                        the same, and log n for each version that is passed over
-//! rows_after                                              log n, and log k + log v for each row that is told; what lies
-//!                                                         between and isn't told is passed over, key by key
-//! died_between                                            log k + log v for each version between
-//! ```
+//! - `begin`, `find`, `has_committed`, `decide`, `decided_through`, `count_of`: O(log n)
+//! - `abort_through`: O(log n) for each transaction that it aborts
+//! - `undecided_through`: O(log n), and those that it counts
+//! - `undecided_count`, `version_count`: O(1)
+//! - `newest`: O(log k + log v)
+//! - `write`: O(log k + log v + log n)
+//! - `drop_of`, `drop_undecided`: O(log n), and O(log k + log v) for each key written, for each transaction dropped
+//! - `visible_rows`, `sources`: O(log k), and O(log v) for each key of the span
+//! - `blocker`, `committed_rows`, `value_rows_after`: O(log k), and O(log v + log n) for each version that they look at
+//! - `rows_after`: O(log n), and O(log k + log v) for each row told; rows in between that aren't told are passed over,
+//!   key by key
+//! - `died_between`: O(log k + log v) for each version between
+//!
+//! `begin` and `write` take memory for their places, and change nothing where they find none. `visible_rows`,
+//! `committed_rows`, `value_rows_after`, `rows_after` and `sources` take it for their lists. The other calls take none.
 #![tactic(auto)]
 
 mod chain_map;

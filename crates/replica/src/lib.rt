@@ -1,14 +1,13 @@
 //! A consumer of one feed that keeps the rows of its span, and knows at which timestamp it has all of them.
 //!
-//! A [`Replica`] begins with what a span holds at a cursor, or empty for an initial feed. It takes the
-//! messages of a feed one at a time, and refuses what no feed tells: a row or a resolved timestamp that
-//! comes too early, or a row outside its span. Its rows and its value index change together, so that both
-//! ways to read it agree:
+//! `jobs` is the caller, where it follows a feed. Any other program that consumes a feed may call it so too. A
+//! [`Replica`] begins with the rows of a span at a cursor, or empty for an initial feed. It takes the messages of a
+//! feed one at a time, and refuses those that no feed tells: a row or a resolved timestamp that comes too early, or a
+//! row outside its span.
 //!
-//! 1. the index has a key under a value exactly where the rows have that value at the key;
-//! 2. a message that is refused changes nothing, also where memory is wanting: what may want memory is
-//!    asked for before anything changes;
-//! 3. after a resolved message the rows are those of the database at its timestamp, for the whole span.
+//! 1. The index has a key under a value exactly where the rows have that value at the key.
+//! 2. A message that is refused changes nothing, also where memory is wanting.
+//! 3. After a resolved message of its feed the rows are those of the database at its timestamp, for the whole span.
 //!
 //! ```text
 //! message                 rows                 by value           resolved   complete at
@@ -22,12 +21,18 @@
 //! a deleted at 26         b 2                  2: b               20         -
 //! ```
 //!
-//! What a replica holds after some messages is said by `Follows` in `specs/`, and that this is right for
-//! every feed of every legal history by [`law::law_of_replicas`].
+//! `Follows` in `specs/` says which rows a replica has after some messages. [`law::law_of_replicas`] says that they are
+//! right, for every feed of every legal history.
 //!
-//! Cost, where the replica has n rows: `new` is O(n log n); a message, `get` and each step of `rows` are
-//! O(log n) at most; `keys_with` is O(log n) and a copy of each key that it answers. A row takes memory for
-//! its key twice and for its value once more where no other key has it; a delete takes none.
+//! Costs, where the replica has n rows:
+//!
+//! - `new`: O(n log n)
+//! - `apply`, `get`, each step of `rows`: O(log n)
+//! - `keys_with`: O(log n), and a copy of each key that it answers
+//! - `new_initial`, `at_resolved`, `span`, `len`, `is_empty`: O(1)
+//!
+//! A row takes memory for its key twice, and for its value once more where no other key has it. `new` and `apply` take
+//! that, and `keys_with` takes it for its answer. A delete and a resolved message take none, nor do the other calls.
 #![tactic(auto)]
 
 mod content;

@@ -1,11 +1,14 @@
 //! The independent checker: whether a list of events is one that the definitions allow.
 //!
-//! A [`Checker`](checker::Checker) is handed the events one by one, the oldest first. It asks the
-//! [`Database`](plain_database::database::Database), which is the definitions as one plain program, for the
-//! one right answer after the events so far, compares the reply with it exactly, and then has the
-//! database take the event in. A reply may also be want of memory, in the place of an answer that is no
-//! refusal, where the command may want memory. An event has to stand one place further than the one before.
-//! [`check`] hands over a list of events, and names the first that isn't right.
+//! `jobs` and `races` are the callers. A [`Checker`](checker::Checker) is handed the events one by one, the oldest
+//! first. It asks the [`Database`](plain_database::database::Database), which is the definitions as one plain program,
+//! for the one right answer after the events so far, and compares the reply with it exactly. [`check`] hands over a
+//! list of events, and names the first that isn't right.
+//!
+//! 1. The database stands for the events taken so far, which are legal and have no gap.
+//! 2. An event has to stand one place further than the event before. It is right where its reply is the answer.
+//!    `nomemory` is right too, where the answer is no refusal and the command may want memory.
+//! 3. An event that isn't right, or that finds no memory, leaves the checker as it was.
 //!
 //! ```text
 //! 7 0 begin 10 => started           right           10 is undecided
@@ -17,8 +20,13 @@
 //! 2 0 abort 10 => aborted           a gap           No { position: 2 }
 //! ```
 //!
-//! Cost: an event costs a walk or two of what the database then holds, and one comparison of replies.
-//! It takes memory for what the events before it left, and for one answer at a time: a checker keeps no event.
+//! Costs:
+//!
+//! - `Checker::new`: O(1)
+//! - `Checker::take`: `answer` and `record` of `plain_database`, and one comparison of two replies
+//! - `check`: a `take` for each event, up to the first that isn't right
+//!
+//! `take` takes memory for one answer at a time, and for the event's trace in the database. A checker keeps no event.
 #![tactic(auto)]
 
 pub mod checker;
