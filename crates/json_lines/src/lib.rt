@@ -1,8 +1,11 @@
 //! Messages of a feed as lines of JSON, and back.
 //!
-//! A line is one object and a newline. Its members stand in byte order of their names, there are no
-//! spaces, a timestamp is a number word in quotes, and bytes are base64 (RFC 4648, with padding). So
-//! each message has one line, and only that line is read.
+//! `script` reads the messages of a transcript by it, and `jobs` those of a feed that is followed. `word_lines` writes
+//! messages, and shares its number words and its buffers.
+//!
+//! A line is one object and a newline. Its members stand in byte order of their names, there are no spaces, a timestamp
+//! is a number word in quotes, and bytes are base64 (RFC 4648, with padding). So each message has one line, and only
+//! that line is read.
 //!
 //! ```text
 //! {"after":"MQ==","key":"Yg==","updated":"10"}      Row { ts: 10, key: "b", after: Some("1") }
@@ -12,12 +15,21 @@
 //! { "resolved":"30"}                                shape: the line of no message
 //! ```
 //!
-//! A line that is written so is taken apart in place: `texts_written` lends the members' texts, and
-//! `message_of` copies their bytes. Only a line that isn't is handed to `serde_json`, which tells what
-//! is wrong with it; the tests and their order stand in `specs/Tests.antt`.
+//! A message's line is taken apart in place: `texts_written` lends the members' texts, and `message_of` copies their
+//! bytes. Only a line that isn't read so is handed to `serde_json`, to find its first fault. The tests of a line and
+//! their order stand in `specs/Tests.antt`.
 //!
-//! Cost: each byte of a message's line is looked at twice to read it, and once to write it; its key
-//! and its value are copied twice. A tree is built of a faulty line alone.
+//! Costs, where a line has b bytes:
+//!
+//! - `read_message`: O(b); each byte of a message's line is looked at twice, and its key and value are copied twice. A
+//!   faulty line has a tree built of it as well
+//! - `write_message`, `write_message_line`: O(b), each byte once
+//! - `number_of`, `put_number`: O(b), each digit once
+//! - `or_undo`: O(1)
+//!
+//! `read_message` takes memory for a key and a value, at most twice each, and for the tree of a faulty line. The
+//! writers take it where the buffer has to grow, and leave that as it was where they find none. `number_of` and
+//! `or_undo` take none.
 #![tactic(auto)]
 
 mod base64_text;

@@ -1,8 +1,14 @@
 //! Whole scripts and transcripts, read line by line.
 //!
-//! A script is lines of commands. A transcript is its format's header and the texts of events: a first line with the position,
-//! the command and its reply, and then the rows or messages that the reply counts, a line each. What
-//! is read is all of the text, byte for byte, or its first fault with the number of its line.
+//! `jobs` is the caller: a race reads its script by it, and a check its transcript. The tests of engines and sessions
+//! read their cases by it.
+//!
+//! A script is lines of commands. A transcript is its format's header and the texts of events: a first line with the
+//! position, the command and its reply, and then the rows or messages that the reply counts, a line each.
+//!
+//! 1. All of the text is read, byte for byte, or its first fault is told, with the number of its line, unless memory
+//!    runs out.
+//! 2. Memory is taken for lines that came, and never for lines that a count promises.
 //!
 //! ```text
 //! 1  0 0 begin 10 => started       Event { position: 0, seat: 0, cmd: Begin { ts: 10 }, reply: Started }
@@ -11,14 +17,19 @@
 //! 4  2 0 commit 10 => written 1    reply at line 4: `written` takes no number
 //! ```
 //!
-//! The words of a line, and the commands, are read by `word_lines`. Memory is taken for what came, and
-//! never for what a count promises.
+//! `word_lines` reads the words of a line, and the commands.
 //!
-//! Cost: each byte is looked at twice, as words are cut and read; of a script's line once more, to find
-//! where it ends, and of a transcript's line up to four times more: for that, whether its bytes are
-//! printable, how many words there are and where `=>` stands.
+//! Costs, in looks at each byte:
 //!
-//! What no clause says of it is tested in `text_tests`, by the tables of the format.
+//! - words, as they are cut and read: twice
+//! - a script's line: once more, to find its end
+//! - a transcript's line: up to four times more, for its end, printable bytes, the number of words, and the place of
+//!   `=>`
+//!
+//! `read_script` and `read_transcript` take memory for all calls or events. `Events::next` takes it for one event at a
+//! time, and `Events::new` takes none.
+//!
+//! Facts that no clause states are tested in `text_tests`, by the tables of the format.
 #![tactic(auto)]
 
 pub mod events;

@@ -1,9 +1,11 @@
 //! The two formats of scripts, transcripts and messages as texts: how long a key, a value, a bound and a line may be,
 //! and how a transcript begins.
 //!
-//! Readers of texts take a [`Format`] and ask it for its limits. Writers need none: they write what they are given.
-//! Every script, command and message of format one is one of format two. What is longer than format one allows is
-//! refused there, by the same faults.
+//! Readers of texts take a [`Format`] and ask it for its limits: `json_lines`, `word_lines`, `script` and `sessions`.
+//! `jobs`, `embedded`, `mvfeed` and the examples choose one. Writers need none: they write all that they are given.
+//!
+//! 1. Every script, command and message of format one is one of format two.
+//! 2. Format one refuses a longer text, by the fault by which format two refuses a text beyond its own limit.
 //!
 //! ```text
 //!                 key      value     bound     line      a transcript begins with
@@ -11,9 +13,12 @@
 //! Format::Two     1..=256  0..=65536 1..=257   200000    the line "mvfeed 2"
 //! ```
 //!
-//! | Call | Cost |
-//! |---|---|
-//! | all | O(1), and no memory |
+//! Costs:
+//!
+//! - `of_transcript`: O(1), a comparison with the header of format two
+//! - all other calls: O(1)
+//!
+//! No call takes memory.
 #![tactic(auto)]
 
 ghost use Rattle.std.specs.Prelude.{◌≡◌, ◌≤◌, ◌+◌};

@@ -1,8 +1,11 @@
 //! Commands, replies and events as lines of words: all of them written, and commands read.
 //!
-//! A line is words with one space between two, and a newline. A number is decimal digits without a
-//! leading zero; a key, a value or a bound is spelled: a printable byte as itself, any other as `%`
-//! and two digits, no bytes as `-`. So each value has one text, and only that text is read.
+//! `sessions` and `embedded` read commands and write events by it. `script` takes the words of an event by its calls,
+//! and `jobs` writes faults and spells keys by them.
+//!
+//! A line is words with one space between two, and a newline. A number is decimal digits without a leading zero; a key,
+//! a value or a bound is spelled: a printable byte as itself, any other as `%` and two digits, no bytes as `-`. So each
+//! value has one text, and only that text is read.
 //!
 //! ```text
 //! 0 put 10 a -             Ok((0, Put { ts: 10, key: "a", value: "" }))
@@ -11,14 +14,18 @@
 //! 7 0 get 10 a => none     the text of event 7
 //! ```
 //!
-//! A writer pushes into the caller's buffer, and where memory runs out leaves it as it was. A reader
-//! takes the words of a line that it is lent, and allocates for keys, values and bounds alone. Whole
-//! scripts and transcripts are read in `script`, which takes the words of an event by the same calls.
+//! Costs, where a line has b bytes:
 //!
-//! Cost: each byte of a line is looked at twice to read it, as words are cut and read, and once to
-//! write it.
+//! - `read_command`: O(b); each byte is looked at twice, as words are cut and read. Those of a faulty line are looked
+//!   at again, for the first fault
+//! - `text_of`: O(1); `words_of`: O(b), each byte once
+//! - `take_number`, `take_key`, `take_value`, `take_form` and their like: the bytes of their words, twice
+//! - `write_command`, `write_reply`, `write_event`, `write_fault`, `write_spent`: O(b), for the lines that they write
 //!
-//! What no clause says of it is tested in `text_tests`, by the tables of the format.
+//! A reader takes the words of a line that it is lent, and takes memory for keys, values and bounds alone. A writer
+//! pushes into the caller's buffer, takes memory where that has to grow, and where it finds none leaves that as it was.
+//!
+//! Facts that no clause states are tested in `text_tests`, by the tables of the format.
 #![tactic(auto)]
 
 pub mod arguments;
