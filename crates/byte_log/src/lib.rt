@@ -1,12 +1,12 @@
 //! A list of bytes that only proofs read: nothing of it is there at run time.
 //!
-//! A contract that speaks of all that a reader gave, or a writer took, needs those bytes by name, and nothing
-//! at run time keeps them. A [`ByteLog`] is such a list: it grows by a piece, and takes no memory and no step.
-//! The adapters of `sessions` over any reader and writer are its callers.
+//! A contract that speaks of all bytes that a reader gave, or a writer took, needs those bytes by name, and nothing at
+//! run time keeps them. A [`ByteLog`] is such a list: it grows by a piece. The adapters of `sessions` over any reader
+//! and writer are its callers.
 //!
 //! 1. The log of `new` is empty. `and` gives a log that is longer by exactly the bytes of the piece.
-//! 2. Nothing ties a log to a device. What ties it is the contract of who grows it: one that says of the
-//!    bytes of each read, or each write, that they are the piece.
+//! 2. A log by itself says nothing of a device. The function that grows the log ties it to the device: its contract
+//!    says that the piece is the bytes of that read or write.
 //!
 //! ```text
 //! let log = ByteLog::new();                          bytes: []
@@ -14,10 +14,12 @@
 //! let log = log.and(&Piece { bytes: b"c" });         bytes: [97, 98, 99]
 //! ```
 //!
-//! ```text
-//! new  nothing
-//! and  nothing
-//! ```
+//! Costs, at run time:
+//!
+//! - `new`: nothing
+//! - `and`: nothing
+//!
+//! Neither takes memory.
 #![tactic(auto)]
 
 ghost use Rattle.std.specs.Prelude.{◌≡◌, ◌++◌, [], List, ℕ};

@@ -1,10 +1,10 @@
 //! A database that is called by text, as programs in other languages call it: the line of a command goes in, the text
 //! of its event comes out.
 //!
-//! It knows no C: the static library `ripsawbean` keeps one behind each handle, and has the four functions. A call reads its line, makes the command's step and
-//! keeps the event; the event's text is written after that, and copied out as often as it is asked for. So a text that
-//! finds no memory, or no room where it is copied to, loses nothing: its event stays until the next call is made.
-//! Memory is taken for the keys and values of a line, by the engine's step, and for the text, which keeps its room.
+//! It knows no C. The static library `ripsawbean` is the caller: it keeps one behind each handle, and has the four
+//! functions. A call reads its line, makes the command's step and keeps the event. The event's text is written after
+//! that, and copied out as often as it is asked for. A text may find no memory, or no room where it is copied to. That
+//! loses nothing: its event stays until the next call is made.
 //!
 //! 1. The engine stands for a legal history, whose positions run from 0 without a gap.
 //! 2. The last event is the newest of that history; there is none before the first call.
@@ -19,12 +19,15 @@
 //! write                    done              1 0 put 10 a 1 => written      26 bytes
 //! ```
 //!
-//! | Call | Cost |
-//! |---|---|
-//! | `call` | its line, the engine's step, and the text of its event |
-//! | `write` | the text, where it isn't written; else O(1) |
-//! | `copy_text` | the bytes copied |
-//! | `new` | O(1) |
+//! Costs:
+//!
+//! - `new`: O(1)
+//! - `call`: its line, the engine's step, and the text of its event
+//! - `write`: the text, where it isn't written; else O(1)
+//! - `copy_text`: the bytes copied
+//!
+//! `call` takes memory for the keys and values of its line, by the engine's step, and for the text, which keeps its
+//! room. `write` takes it for the text. `new` and `copy_text` take none.
 #![tactic(auto)]
 
 mod database;

@@ -1,32 +1,36 @@
-//! The four jobs of the program `mvfeed`, over any source and any sink: it runs a script, has a script's sessions
-//! race, checks a transcript, and follows a feed. Each job is one function, from the first byte read to the last one
-//! written. The loop of a run, line by line, stands in `sessions`; what a race does stands in `races`.
+//! The four jobs of the program `mvfeed`, over any source and any sink: it runs a script, has a script's sessions race,
+//! checks a transcript, and follows a feed. Each job is one function, from the first byte read to the last one written.
+//! The loop of a run, line by line, stands in `sessions`, and the threads of a race in `races`.
 //!
-//! `mvfeed` calls [`run_io`], [`race_io`], [`check_io`] and [`follow_io`] with its standard input and output.
-//! Another program that has bytes from elsewhere calls them in the same way, and [`verdict`] where it has the
-//! text already. Each ends with an [`End`].
+//! `mvfeed` calls [`run_io`], [`race_io`], [`check_io`] and [`follow_io`] with its standard input and output. Another
+//! program that has bytes from elsewhere calls them in the same way, and [`verdict`] where it has the text already.
+//! Each ends with an [`End`].
 //!
-//! 1. What was read, what was written and the end say together what was done: the contracts of the first three go
+//! 1. The bytes read, the bytes written and the end say together how the job went: the contracts of the first three go
 //!    from bytes to bytes.
-//! 2. A run and a follower answer line by line. A race and a check answer once they have read everything, and
-//!    write nothing before that.
-//! 3. A read that failed is the end `Input`, and a write that failed is the end `Output`; there are no others.
+//! 2. A run and a follower answer line by line. A race and a check answer once they have read everything, and write
+//!    nothing before that.
+//! 3. A read that failed is the end `Input`, and a write that failed is the end `Output`. No other end comes of a
+//!    failed read or write.
 //!
 //! ```text
-//! job      reads                                      writes                                           ends
-//! run      0 begin 10\n0 jump\n                       0 0 begin 10 => started\nfault 2 2 unknowncommand\n   Faulty
-//! race     0 begin 10\n1 begin 20\n                   0 1 begin 20 => started\n1 0 begin 10 => started\n    Done
-//! check    0 0 stats => started\n                     no 0\n                                                No
-//! follow   {"resolved":"5"}\n{"resolved":"5"}\n       resolved 5 0\nfault 2 23 resolvedback\n                Faulty
+//! job      reads                                  writes
+//! run      0 begin 10\n0 jump\n                   0 0 begin 10 => started\nfault 2 2 unknowncommand\n    ends Faulty
+//! race     0 begin 10\n1 begin 20\n               0 1 begin 20 => started\n1 0 begin 10 => started\n     ends Done
+//! check    0 0 stats => started\n                 no 0\n                                                 ends No
+//! follow   {"resolved":"5"}\n{"resolved":"5"}\n   resolved 5 0\nfault 2 23 resolvedback\n                ends Faulty
 //! ```
 //!
-//! ```text
-//! run_io      each line costs its bytes, and what the database's call does; memory as the database takes it
-//! race_io     the whole script is kept, a thread for each session, and all events until the end
-//! check_io    the whole transcript is kept, what the checker holds, and one event at a time; each costs what the checker does
-//! follow_io   the rows are kept, and a block of input and of output; a message costs its bytes and a look-up, and
-//!             a resolved one each row where they are told
-//! ```
+//! Costs:
+//!
+//! - `run_io`: for each line its bytes, and the database's call
+//! - `race_io`: the script's bytes, for each call the database's call, and a sort of all events by position
+//! - `check_io`, `verdict`: the transcript's bytes, and for each event the checker's `take`
+//! - `follow_io`: for each message its bytes and a look-up; for a resolved one also each row, where rows are told
+//!
+//! All take memory. A run keeps the database, and a block of input and of output. A race keeps the whole script, a
+//! thread for each session, and all events until the end. A check keeps the whole transcript, the checker, and one
+//! event at a time. A follower keeps the rows, and a block of input and of output.
 #![tactic(auto)]
 
 mod answer;

@@ -1,8 +1,8 @@
 //! Sessions that race, each in a thread of its own, and the one history that they leave.
 //!
-//! `mvfeed race` and tests call [`race_calls`], with the calls of a script, or [`race_fresh`], with a list of
+//! `jobs` and tests call [`race_calls`], with the calls of a script, or [`race_fresh`], with a list of
 //! commands for each session. Beneath stand [`race`], for a database that is there already, [`merge`], which
-//! puts the events of sessions together, and [`settle`], which does both with what a race left.
+//! puts the events of sessions together, and [`settle`], which ends the database and merges its sessions' events.
 //!
 //! Memory is taken for the lists, and by each session for all of its events before its first call; then by the
 //! database's calls, and by the sort of the events.
@@ -26,12 +26,12 @@
 //! ended: [0, 3]       ended: [1, 2]        merge: [0, 1, 2, 3]
 //! ```
 //!
-//! ```text
-//! race        a thread for each session; each call costs what the database's call does
-//! merge       as a sort by position of all events
-//! settle      as merge, and the meeting of the seats
-//! lists_of    the calls, once
-//! ```
+//! Costs:
+//!
+//! - `race`: a thread for each session, and the database's call for each call
+//! - `merge`: as a sort by position of all events
+//! - `settle`: as `merge`, and the end of the database; `settle_checked`: also a check of the history
+//! - `lists_of`: the calls, once
 //!
 //! Whether a race returns is not promised, nor in which way the calls of sessions mix.
 #![tactic(auto)]

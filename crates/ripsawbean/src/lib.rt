@@ -1,11 +1,11 @@
 //! The database as a static library: four functions that C calls, and by C every language that can.
 //!
-//! A program owns a [`Handle`], all zero bytes at first. `ripsawbean_open` puts a database behind it, and `ripsawbean_close`
-//! frees that again. A call takes the line of a command, and shows the text of its event: all of it or its beginning, and its
-//! whole length. Memory is the program's own `malloc`, `realloc` and `free`.
+//! A program owns a [`Handle`], all zero bytes at first. `ripsawbean_open` puts a database behind it, and
+//! `ripsawbean_close` frees that again. A call takes the line of a command, and shows the text of its event: all of it
+//! or its beginning, and its whole length. The wrappers in `embed` call it, and any program that can call C.
 //!
 //! 1. A handle that is open owns one database and the right to free it; a closed one owns nothing.
-//! 2. What a function answers is a number, and what the program's memory then holds follows from that number alone.
+//! 2. A function that answers gives a number. The program's memory then follows from that number alone.
 //!
 //! ```text
 //!                                             number   length   out              the handle's history
@@ -20,7 +20,7 @@
 //! | Number | What it says | By |
 //! |---|---|---|
 //! | 0 | done | open, call, text |
-//! | 1 to 11 | the line's fault by its code; no call was made | call |
+//! | 1 to 9 | the line's fault by its code; no call was made | call |
 //! | 12 | no memory for the line, or for the database; nothing was done | call, open |
 //! | 13 | no position is left; no call was made | call |
 //! | 14 | no memory for the text; the event stands, and `ripsawbean_text` tries again | call, text |
@@ -28,15 +28,16 @@
 //! | 16 | the handle is closed; nothing was done | call, text |
 //! | 17 | the handle is open already; nothing was done | open |
 //!
-//! What a program owes: pointers that aren't null, also to no bytes; slices that don't overlap; a handle that is all zero bytes
-//! or was left by these functions, that isn't copied while it is open, and that no two calls use at once.
+//! A program owes pointers that aren't null, also to no bytes, and slices that don't overlap. Its handle is all zero
+//! bytes or was left by these functions, isn't copied while it is open, and is used by one call at a time.
 //!
-//! | Call | Cost |
-//! |---|---|
-//! | `ripsawbean_call` | its line, the engine's step, and the text of its event |
-//! | `ripsawbean_text` | the bytes copied, and the text where it wasn't written |
-//! | `ripsawbean_open` | O(1) |
-//! | `ripsawbean_close` | all that the database holds is freed |
+//! Costs:
+//!
+//! - `ripsawbean_open`: O(1); `ripsawbean_close`: all that the database holds is freed
+//! - `ripsawbean_call`: its line, the engine's step, and the text of its event
+//! - `ripsawbean_text`: the bytes copied, and the text where it wasn't written
+//!
+//! Memory is the program's own `malloc`, `realloc` and `free`. All but `ripsawbean_close` may take it.
 #![tactic(auto)]
 
 ghost use Rattle.std.specs.Prelude.{◌≡◌, None, IfSome, IfNone};
@@ -64,8 +65,8 @@ const OPEN: u8 = 17;
 
 /// Opens a closed handle on a database with no event, whose feeds hold up to `ring` rows each, 1 to 65536.
 ///
-/// 0: it is open. Else all is as it was. 15: the ring is out of range, which is looked at first. 17: the handle is open. 12:
-/// there is no memory.
+/// 0: it is open. Else all is as it was. 15: the ring is out of range, which is looked at first. 17: the handle is
+/// open. 12: there is no memory.
 #[unsafe(no_mangle)]
 pub extern "C" fn ripsawbean_open(alloc: Global, handle: &mut Handle, ring: u32) -> u8
     ensures refused { IfSome (refusal_of ring handle.old.database) (λ n. (result ≡ n) × (handle.new.database ≡ handle.old.database)) }
@@ -88,9 +89,9 @@ pub extern "C" fn ripsawbean_open(alloc: Global, handle: &mut Handle, ring: u32)
 
 /// Makes the call of a line, with its newline, and shows the text of its event.
 ///
-/// 0: the call was made, `out` begins with as much of the text as there is room for, and `length` is the whole text's. At every
-/// other number `out` is as it was and `length` is 0. 1 to 11: the line's fault by its code. 12: no memory for the line. 13: no
-/// position is left. 14: the call was made, and its text found no memory. 16: the handle is closed.
+/// 0: the call was made, `out` begins with as much of the text as there is room for, and `length` is the whole text's.
+/// At every other number `out` is as it was and `length` is 0. 1 to 9: the line's fault by its code. 12: no memory for
+/// the line. 13: no position is left. 14: the call was made, and its text found no memory. 16: the handle is closed.
 #[unsafe(no_mangle)]
 pub extern "C" fn ripsawbean_call(
     alloc: Global,
@@ -118,9 +119,9 @@ pub extern "C" fn ripsawbean_call(
 
 /// Shows the text of the last event again, as often as it is asked for; no call is made.
 ///
-/// 0: `out` begins with as much of the text as there is room for, and `length` is the whole text's, or 0 where no call was made
-/// yet. At every other number `out` is as it was and `length` is 0. 14: the text wasn't written, and finds no memory. 16: the
-/// handle is closed.
+/// 0: `out` begins with as much of the text as there is room for, and `length` is the whole text's, or 0 where no call
+/// was made yet. At every other number `out` is as it was and `length` is 0. 14: the text wasn't written, and finds no
+/// memory. 16: the handle is closed.
 #[unsafe(no_mangle)]
 pub extern "C" fn ripsawbean_text(
     alloc: Global,

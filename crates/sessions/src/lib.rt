@@ -1,18 +1,16 @@
 //! A script served while it is read: each line is a call of one session, which is made on a shared database in the
 //! order of the lines, and the text of its event goes out.
 //!
-//! `mvfeed` and the examples call [`serve`], over any reader and any writer ([`Reading`], [`Writing`]) or any
-//! [`Source`] and [`Sink`] of their own. Another front end that reads lines and writes text has the same two
-//! ends in [`Lines`] and [`Output`]; a program that answers once it has read everything has [`read_whole`] and
-//! [`write_whole`]. Sessions that race stand in `races`.
+//! `jobs` and the examples call [`serve`], over any reader and any writer ([`Reading`], [`Writing`]) or any [`Source`]
+//! and [`Sink`] of their own. Another front end that reads lines and writes text has the same two ends in [`Lines`] and
+//! [`Output`]; a program that answers once it has read everything has [`read_whole`] and [`write_whole`]. Sessions that
+//! race stand in `races`.
 //!
-//! Memory is taken at the start, for a block of input and one of output and the database; then for each line's
-//! keys and values, for the answer, and where the text of answers outgrows its block.
-//!
-//! 1. What was read is the lines of the calls made, at most one line more, and what waits in the block.
-//! 2. What was written, and what waits to be, is the text of the events so far.
-//! 3. The seat that called last has seen all events: another seat meets it before its own call, so that the
-//!    order of the calls is the order of the history.
+//! 1. The bytes that were read are the lines of the calls made, at most one line more, and those that wait in the
+//!    block.
+//! 2. The bytes that were written, and those that wait to be, are the text of the events so far.
+//! 3. The seat that called last has seen all events: another seat meets it before its own call, so that the order of
+//!    the calls is the order of the history.
 //!
 //! ```text
 //! read                  waits in the block             waits to be written             written
@@ -24,15 +22,19 @@
 //! (the end)                                                                            .. 1 0 put 10 a 1 => written\n
 //! ```
 //!
-//! ```text
-//! serve, a line              its bytes, and what the database's call costs; six loads more where another seat called before
-//! serve, a read              for 65536 bytes and a line at most; what waits of a line is moved to the front, and looked
-//!                            through again for its end: a line that comes in many pieces costs its length for each
-//! serve, a write             one for each 65536 bytes at least, one before each read and one at the end
-//! read_whole, write_whole    the bytes, once
-//! ```
+//! Costs:
 //!
-//! A read or a write that fails in any way, an interrupted one too, is not tried again.
+//! - `serve`, a line: its bytes, and the database's call; six loads more where another seat called before
+//! - `serve`, a read: for 65536 bytes at least, and a line more at most; the waiting bytes of a line are moved to the
+//!   front once at most, and only new bytes are searched for its end
+//! - `serve`, a write: one where 65536 bytes or more wait, one before each read and one at the end
+//! - `read_whole`, `write_whole`: the bytes, once
+//! - `write_transcript`: the bytes of its text, once
+//!
+//! `serve` takes memory at the start, for a block of input and one of output and the database; then for each line's
+//! keys and values, for the answer, and where the text of answers outgrows its block. `read_whole` takes it for a block
+//! and all bytes, `write_transcript` for a block, `write_whole` none. A read or a write that fails in any way, an
+//! interrupted one too, is not tried again.
 #![tactic(auto)]
 
 mod callers;
