@@ -1,6 +1,21 @@
-//! A program of thirty lines that serves a script: it reads commands from standard input, makes the calls on a database,
-//! and writes the transcript, by `sessions` alone. The gate runs it on the text of `examples/first.script`, and it has to
-//! write that of `examples/first.transcript`. (`examples/check` compares the files.)
+//! A program of thirty lines that serves a script: it reads commands from standard input, makes the calls on a
+//! database, and writes the transcript, by `sessions` alone. Nothing depends on this crate.
+//!
+//! The gate runs it on the text of `examples/first.script`, and it has to write the text of
+//! `examples/first.transcript`. (`examples/check` compares the files.) Two transactions share a key there, and a third
+//! comes too late:
+//!
+//! ```text
+//! read                  written
+//! 0 begin 10            0 0 begin 10 => started
+//! 0 put 10 apple 3      1 0 put 10 apple 3 => written
+//! ..
+//! 1 begin 20            4 1 begin 20 => started
+//! 1 get 20 apple        5 1 get 20 apple => value 3           20 has read version 10
+//! ..
+//! 0 begin 15            7 0 begin 15 => started
+//! 0 put 15 apple 4      8 0 put 15 apple 4 => toolate         20 read below 15
+//! ```
 #![tactic(auto)]
 
 use sessions::{Config, End, Reading, Writing, serve};

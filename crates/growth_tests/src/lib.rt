@@ -1,11 +1,11 @@
 //! A test for want of memory: scripts during which the refusal of any one growth of memory leaves no other trace than
 //! `nomemory`.
 //!
-//! The test makes the calls of a transcript on an engine, twice. Wherever memory is wanting once, each reply is
-//! that of the transcript, or `nomemory` where the command may lack memory and would have been accepted. Such
-//! a command is made again at once, and then its reply and all later ones are those of the transcript: so a
-//! refused growth has changed nothing. In both turns together memory is wanting once at most, so an engine that
-//! answers `nomemory` by itself fails, also where no growth is refused.
+//! The test makes the calls of a transcript on an engine, twice. Wherever memory is wanting once, each reply is the
+//! transcript's, or `nomemory` where the command may lack memory and would have been accepted. Such a command is made
+//! again at once, and then its reply and all later ones are the transcript's: so a refused growth has changed nothing.
+//! Memory is refused at most once in both turns. So an engine that answers `nomemory` unasked in both fails. Nothing
+//! depends on this crate.
 //!
 //! ```text
 //!                      the growth that is refused is this call's      and the reply again

@@ -1,7 +1,31 @@
-//! Tests of the layers of storage and rules: that calls succeed where memory is there, and that what their
-//! clauses say is what was meant, by small worked cases. Versions of keys, marks of readers, transactions,
-//! what is closed and protected, and the read and write rules over them. They stand apart from the crates
-//! that they test, since the gate proves a crate that has tests two times.
+//! Tests of the layers of storage and rules. They show that calls succeed where memory is there, and that the answers
+//! are the intended ones, by small worked cases. Nothing depends on this crate.
+//!
+//! They stand apart from the crates that they test, since the gate proves a crate that has tests two times. `txn_table`
+//! is tested by the rules that use it.
+//!
+//! ```text
+//! closings    `closing`: closed, the protections that stand, and the least of them
+//! versions    `version_chain`: writes, commits, aborts, collections, and searches
+//! marks       `read_marks`: spans that overlap, neighbours that are joined, pieces, readers that are forgotten
+//! rules       `mvto_rules`: who is blocked, who comes too late, which spans are marked
+//! script      the reading of a script
+//! ```
+//!
+//! A script has a line for each call, with the answer that is wanted behind `=`. The first lines of `closings`, and
+//! some further ones:
+//!
+//! ```text
+//! line                 the call                      the answer wanted
+//! close 30 20=19       close to 30, 20 undecided     19: closed stops just below 20
+//! close 10 -=19        close to 10                   19: closed never falls
+//! hard 50=50           close hard to 50              50
+//! protect 25=1         protect 25                    1, the number of the protection
+//! protect 12=2         protect 12                    2
+//! least=12             the least protection          12
+//! release 2=yes        release protection 2          it stood
+//! release 2=no         release it once more          it doesn't stand
+//! ```
 #![tactic(auto)]
 
 #[cfg(test)]
