@@ -114,8 +114,8 @@ impl Database {
         }
     }
 
-    /// Copies the text of the last event as far as there is room, and tells its whole length: 0 where it isn't written, or
-    /// no event was made.
+    /// Copies the text of the last event as far as there is room, and tells its whole length: 0 where it isn't written,
+    /// or no event was made.
     pub fn copy_text(&self, out: &mut [u8]) -> usize
         ensures { Copied (kept_text self.now) out.old out.new result }
     {

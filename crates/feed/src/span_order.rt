@@ -150,8 +150,8 @@ impl SpanOrder {
         self.make_anew();
     }
 
-    /// Before an opening: makes the order anew where most slots have come or turned since, so that those of feeds that have
-    /// ended don't pile up.
+    /// Before an opening: makes the order anew where most slots have come or turned since, so that those of feeds that
+    /// have ended don't pile up.
     pub(crate) fn shed(&mut self)
         ensures { (f : ℕ) → IsKept (slot_of self.old f) (slot_of self.new f) }
     {

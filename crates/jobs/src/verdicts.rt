@@ -41,7 +41,8 @@ pub fn verdict(alloc: Global, text: &[u8]) -> Result<(End, Vec<u8>), AllocError>
     }
 }
 
-/// What is said of the events of a transcript, in the format that it is in. A fault anywhere in it is told before a wrong event.
+/// What is said of the events of a transcript, in the format that it is in. A fault anywhere in it is told before a
+/// wrong event.
 fn judge(alloc: Global, text: &[u8]) -> Result<Verdict, TranscriptError>
     ensures { MatchResult result (IsJudged (transcript_at (format_of text.now) text.now)) (λ e. Fails e (transcript_at (format_of text.now) text.now)) }
 {

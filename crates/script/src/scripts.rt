@@ -24,8 +24,8 @@ use std::alloc::Global;
 use text_format::Format;
 use word_lines::commands::read_command;
 
-/// Reads a script of a format, which has no header: the session, below `seats`, and the command of each line, or the first line that
-/// is faulty. Lines are counted from 1, and the last one has to end in a newline too.
+/// Reads a script of a format, which has no header: the session, below `seats`, and the command of each line, or the
+/// first line that is faulty. Lines are counted from 1, and the last one has to end in a newline too.
 pub fn read_script(
     alloc: Global,
     text: &[u8],

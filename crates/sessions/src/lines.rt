@@ -43,7 +43,8 @@ pub struct Lines {
     block: Vec<u8>,
     start: usize,
     end: usize,
-    /// Where the first newline stands among what waits. Each byte is looked at once, whether or not a read completes a line.
+    /// Where the first newline stands among what waits. Each byte is looked at once, whether or not a read completes a
+    /// line.
     newline: Option<usize>,
     /// Whether the latest read found the end.
     ended: bool,
@@ -57,7 +58,8 @@ pub struct Lines {
 impl Lines {
     ghost use Rattle.sessions.specs.Waiting.{waiting, has_ended, format_of, IsNext, IsRead, IsMoved};
 
-    /// No bytes yet. Its block has room for one line of the format, and for the bytes that are asked for at once behind it.
+    /// No bytes yet. Its block has room for one line of the format, and for the bytes that are asked for at once behind
+    /// it.
     pub fn new(alloc: Global, format: Format) -> Result<Lines, AllocError>
         ensures nothing { IfOk result (λ lines. (waiting lines ≡ []) × (has_ended lines ≡ false)) }
         ensures format { IfOk result (λ lines. format_of lines ≡ format) }

@@ -19,8 +19,8 @@ use text_format::Format;
 use word_lines::commands::read_command;
 use word_lines::fault::ReadError;
 
-/// Opens a database, makes the calls of a script of a format in their order, and writes the transcript. Once the database
-/// is open the output begins with the format's header.
+/// Opens a database, makes the calls of a script of a format in their order, and writes the transcript. Once the
+/// database is open the output begins with the format's header.
 ///
 /// A line is the call of the seat that it names. A faulty line ends the transcript with its fault,
 /// and so does one for which no position is left; what was answered before it stands. The output is

@@ -1,5 +1,5 @@
-//! Turns of a lock over a counter: their tickets, who is refused meanwhile, the floor; and what no caller sees, that a seat
-//! which waits for long sleeps.
+//! Turns of a lock over a counter: their tickets, who is refused meanwhile, the floor; and what no caller sees, that a
+//! seat which waits for long sleeps.
 ghost use Rattle.std.specs.Prelude.{◌≡◌, length, None};
 ghost use Rattle.ticket_lock.specs.Seats.{AllNew, IsOf, number, ticket};
 
@@ -218,8 +218,8 @@ fn all_sleep(lock: &TicketLock<Counter>, sleepers: u64) -> bool {
     false
 }
 
-/// The first turn, which lasts until the seats that follow sleep. Then they have to be woken. Before that, one more seat is
-/// told how many tickets are out.
+/// The first turn, which lasts until the seats that follow sleep. Then they have to be woken. Before that, one more
+/// seat is told how many tickets are out.
 fn lead<R: Wait + Abort>(
     rt: &R,
     lock: &TicketLock<Counter>,

@@ -21,7 +21,8 @@ pub fn spellings()
     ensures written { (bytes : List ℕ) → AreBytes bytes → bytes_of (spelling bytes) ≡ Some bytes }
 {}
 
-/// What was written of a command is read as this command in a format whose limits it keeps, for whatever number of seats.
+/// What was written of a command is read as this command in a format whose limits it keeps, for whatever number of
+/// seats.
 pub fn commands()
     ensures { (f : Format) (n seat : ℕ) (c : Cmd) → n < 2 ^ 8 → seat < n → IsCommand f c → command_at f table n (command_line seat c) ≡ Ok (seat, c) }
 {}

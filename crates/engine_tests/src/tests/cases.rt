@@ -1,7 +1,8 @@
 //! Where feeds are served from, worked out by hand.
 //!
-//! Each case begins at `@`, with what it is about. Then come rows of the length of the rings, a feed, and where it is served from
-//! after each line of the script: `r` its ring, `s` the store, `-` none where it doesn't live. Behind `script` it stands.
+//! Each case begins at `@`, with what it is about. Then come rows of the length of the rings, a feed, and where it is
+//! served from after each line of the script: `r` its ring, `s` the store, `-` none where it doesn't live. Behind
+//! `script` it stands.
 
 /// The cases.
 pub(super) const CASES: &str = "@ Two rows, whose commits come in another order

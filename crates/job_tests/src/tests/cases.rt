@@ -1,10 +1,10 @@
 //! Cases of runs, checks and races: what is asked, the input, the end and the output.
 //!
-//! A case begins at `@`. Its first line asks for a run with its seats, its ring and its first position, for a check, for a
-//! race with its sessions and its ring, or, as `cache`, to run a script and to follow a feed of what is written. Then the
-//! texts are of a format, which else is one, and reads fail behind so many bytes, or the output has room for so many. The
-//! input ends at `=`. In both texts `'` is a quotation mark, `~3*ab;` is `ababab`, and `$` at the end takes the last newline
-//! away.
+//! A case begins at `@`. Its first line asks for a run with its seats, its ring and its first position, for a check,
+//! for a race with its sessions and its ring, or, as `cache`, to run a script and to follow a feed of what is written.
+//! Then the texts are of a format, which else is one, and reads fail behind so many bytes, or the output has room for
+//! so many. The input ends at `=`. In both texts `'` is a quotation mark, `~3*ab;` is `ababab`, and `$` at the end
+//! takes the last newline away.
 
 /// Faulty lines, the last of them behind others, whose events are kept.
 pub(super) const FAULTS: &str = "@ run 64 1024 0
@@ -101,8 +101,8 @@ fault 1 4 keylength
 fault 3 4 keylength
 ";
 
-/// Numbers of seats, rings and first positions. Where no line comes nothing is written, also where no position is left. A
-/// database that is not opened reads nothing.
+/// Numbers of seats, rings and first positions. Where no line comes nothing is written, also where no position is left.
+/// A database that is not opened reads nothing.
 pub(super) const OPTIONS: &str = "@ run 64 1024 0
 = done
 @ run 64 1024 18446744073709551615
@@ -252,8 +252,8 @@ fault 2 7 nonewline
 = ring
 ";
 
-/// What checks say: of no event, of events that begin anywhere, of faults, of a value that was never written, of an event
-/// that is not there, and of want of memory where it may be and where it may not.
+/// What checks say: of no event, of events that begin anywhere, of faults, of a value that was never written, of an
+/// event that is not there, and of want of memory where it may be and where it may not.
 pub(super) const VERDICTS: &str = "@ check
 = done
 yes

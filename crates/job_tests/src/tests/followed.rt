@@ -1,5 +1,5 @@
-//! Cases of feeds that are followed, as in `cases`: `follow` with the bounds of its span, how it starts, its cursor, the feed
-//! or `-` for every message, and whether the rows are told.
+//! Cases of feeds that are followed, as in `cases`: `follow` with the bounds of its span, how it starts, its cursor,
+//! the feed or `-` for every message, and whether the rows are told.
 
 /// Inputs that end with a fault, and lines of the greatest length and of a byte more.
 pub(super) const NOT_FOLLOWED: &str = "@ follow a c cursor 5 - no
@@ -138,8 +138,8 @@ fault 1 1 notjson
 fault 1 8 linetoolong
 ";
 
-/// Inputs that are followed to their end; an initial feed alone tells a row of its cursor; and the polls of one feed of a
-/// transcript, with lines that look like polls.
+/// Inputs that are followed to their end; an initial feed alone tells a row of its cursor; and the polls of one feed of
+/// a transcript, with lines that look like polls.
 pub(super) const FOLLOWED: &str = "@ follow - - cursor 5 - yes
 = done
 @ follow - - cursor 5 - yes

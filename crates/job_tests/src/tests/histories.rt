@@ -8,8 +8,9 @@ use std::alloc::{AllocError, Global};
 use std::sync::Wait;
 use text_format::Format;
 
-/// The forms of lines: a seat at A and a timestamp at B, one that is about closed at C and one just before it at D, a feed at
-/// E, a small number at F, a cursor at G, a gap at H; a key at V, another at W and a value at X, and bounds at Y and Z.
+/// The forms of lines: a seat at A and a timestamp at B, one that is about closed at C and one just before it at D, a
+/// feed at E, a small number at F, a cursor at G, a gap at H; a key at V, another at W and a value at X, and bounds at
+/// Y and Z.
 const FORMS: &str =
     "A begin B\nA del B V\nA put B W X\nA commit B,A begin B\nA del B V\nA put B W X\nA commit B,A begin B\nA put B V X\nA put B W X,A begin B\nA put B V X\nA put B W X,A begin B\nA put B V X\nA put B W 2\nA commit B,A begin B\nA put B V X\nA put B W 2\nA commit B,A commit B,A commit B,A commit B,A abort B,1 close C,1 close C,2 closehard C,0 poll E F,0 poll E F,0 poll E F,0 poll E F,opening,opening,rarer";
 
@@ -160,8 +161,8 @@ fn put_told(sink: &mut Sink, alloc: Global, transcript: &str, feed: Opened<'_>) 
     Some(())
 }
 
-/// How much is told of the feeds of a script, if it is the rows of the database at each timestamp that a feed resolved, one
-/// feed after the other.
+/// How much is told of the feeds of a script, if it is the rows of the database at each timestamp that a feed resolved,
+/// one feed after the other.
 pub(super) fn told_right<R: Wait>(rt: &R, alloc: Global, script: &[u8]) -> Option<u64> {
     let output = ran(rt, alloc, 1024, script)?;
     let transcript = std::str::from_utf8(&output).ok()?;

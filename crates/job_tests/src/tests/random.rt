@@ -29,8 +29,8 @@ impl Dice {
     }
 }
 
-/// Puts a form with its capital letters replaced, and ends the line: `A` by the first of the numbers and so on, and `V` by
-/// the first of the words.
+/// Puts a form with its capital letters replaced, and ends the line: `A` by the first of the numbers and so on, and `V`
+/// by the first of the words.
 pub(crate) fn put_form(
     alloc: Global,
     out: &mut Vec<u8>,

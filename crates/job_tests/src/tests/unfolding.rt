@@ -1,8 +1,8 @@
 //! Texts as cases write them, and their words.
 use std::alloc::{AllocError, Global};
 
-/// The text that a case's text stands for: `'` is a quotation mark, `~3*ab;` is `ababab`, and `$` at the end takes the last
-/// newline away.
+/// The text that a case's text stands for: `'` is a quotation mark, `~3*ab;` is `ababab`, and `$` at the end takes the
+/// last newline away.
 pub(super) fn unfolded(alloc: Global, text: &str) -> Result<Vec<u8>, AllocError> {
     let text = text.strip_suffix("$\n").unwrap_or(text);
     let mut out = Vec::new(alloc);

@@ -6,8 +6,8 @@ use spans::bound::Bound;
 use spans::span::Span;
 use std::alloc::Global;
 
-/// Scripts, each of marks. `add` marks a span by a reader, `together` up to three spans by one, `each` keys of one byte each,
-/// and `piece` a span by the greatest reader above a timestamp and up to another. `of` has the readers of a key.
+/// Scripts, each of marks. `add` marks a span by a reader, `together` up to three spans by one, `each` keys of one byte
+/// each, and `piece` a span by the greatest reader above a timestamp and up to another. `of` has the readers of a key.
 pub(super) const SCRIPTS: [&str; 12] = [
     // spans overlap; one whose end is not above its beginning holds no key, and leaves nothing
     "add b d 10=

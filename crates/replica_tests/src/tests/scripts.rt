@@ -1,9 +1,9 @@
 //! Scripts of calls, each a line with what it is answered behind `=`. An empty line ends a script.
 
-/// Each script begins with a replica `from` a cursor on, with two bounds, the cursor and the rows to begin with, or `initial`
-/// with two bounds and a cursor; `-` is no bound. What it may `receive` is a row, with its timestamp, key and value, or `-` for
-/// a delete. Where a replica is made, and a message applied, the answer is 0 or the number of the fault. `at` has the timestamp
-/// at which the replica is complete, and `keys` those that have a value.
+/// Each script begins with a replica `from` a cursor on, with two bounds, the cursor and the rows to begin with, or
+/// `initial` with two bounds and a cursor; `-` is no bound. What it may `receive` is a row, with its timestamp, key and
+/// value, or `-` for a delete. Where a replica is made, and a message applied, the answer is 0 or the number of the
+/// fault. `at` has the timestamp at which the replica is complete, and `keys` those that have a value.
 pub(super) const SCRIPTS: &str = "from a c 7 a 1 b 1=0
 at=7
 len=2

@@ -29,8 +29,8 @@ fn next_timestamp(db: &Db, pass: &mut OraclePass, lease: &mut Lease) -> Option<u
     lease.next().map(|ts| ts.get())
 }
 
-/// The forms of a session's lines, in turn: the session stands at A, its timestamp at B, the number of the turn at C, half of
-/// the timestamp at D and a quarter at E.
+/// The forms of a session's lines, in turn: the session stands at A, its timestamp at B, the number of the turn at C,
+/// half of the timestamp at D and a quarter at E.
 const FORMS: &str = "A begin B
 A get B a
 A put B a C

@@ -10,7 +10,8 @@ use word_lines::events::write_event;
 /// The form of lines, with the first number that they are written for, and the one behind the last.
 pub(super) type Lines = (&'static str, u64, u64);
 
-/// Puts a form with its capital letters replaced: the first number stands at A, the second at B, and so on. Ends the line.
+/// Puts a form with its capital letters replaced: the first number stands at A, the second at B, and so on. Ends the
+/// line.
 pub(super) fn put_form(
     alloc: Global,
     out: &mut Vec<u8>,

@@ -94,7 +94,8 @@ fn is_spent<R: Wait>(rt: &R, db: &Db, seat: &mut Seat) -> bool
     db.call(rt, seat, Cmd::Stats).is_err()
 }
 
-/// The seats of sessions that ended since no position was left, which is so at the next call too, and how many events they have.
+/// The seats of sessions that ended since no position was left, which is so at the next call too, and how many events
+/// they have.
 fn spent<R: Wait>(
     rt: &R,
     alloc: Global,

@@ -28,8 +28,8 @@ const MESSAGE_FAULTS: [MessageFault; 6] = [
     MessageFault::NoMemory,
 ];
 
-/// The line that ends a run with each fault, its text and that of its error; then each fault of a message, with its number
-/// and its text.
+/// The line that ends a run with each fault, its text and that of its error; then each fault of a message, with its
+/// number and its text.
 pub(super) fn faults(alloc: Global) -> Result<Vec<u8>, AllocError> {
     let mut out = Vec::new(alloc);
     for fault in LINE_FAULTS {

@@ -1,8 +1,9 @@
 //! Texts, a row each: what is read, how many seats there are, the line and the code of its fault, and the text.
 //!
-//! What is read is a command (`c`), a script (`s`), a transcript (`t`), a message (`j`) or a word that spells bytes (`w`), in
-//! format one, or in format two where that is a capital letter. A text without a fault, at 0 0, comes back as it was once it is written again. In a text `|` ends a line, `'` is a quotation
-//! mark, `^` the byte 255, and `~3*ab;` is `ababab`.
+//! What is read is a command (`c`), a script (`s`), a transcript (`t`), a message (`j`) or a word that spells bytes
+//! (`w`), in format one, or in format two where that is a capital letter. A text without a fault, at 0 0, comes back as
+//! it was once it is written again. In a text `|` ends a line, `'` is a quotation mark, `^` the byte 255, and `~3*ab;`
+//! is `ababab`.
 
 /// Lines of commands. The last of them have two faults, of which the first is told.
 pub(super) const COMMANDS: &str = "c 64 0 0 0 begin 10|
@@ -372,8 +373,8 @@ J - 0 0 {'resolved':'30'}|
 J - 1 2 {'resolved':'30'}
 ";
 
-/// Keys, values and lines of the greatest length that is read, and of a byte more. Four letters `a` or `A` are the base64
-/// of three bytes; one more byte stands in `aQ==` or `AA==`, and two in `aaY=` or `AAA=`.
+/// Keys, values and lines of the greatest length that is read, and of a byte more. Four letters `a` or `A` are the
+/// base64 of three bytes; one more byte stands in `aQ==` or `AA==`, and two in `aaY=` or `AAA=`.
 pub(super) const LIMITS: &str = "c 64 1 4 0 get 1 -|
 c 64 0 0 0 get 1 a|
 c 64 0 0 0 get 1 ~64*a;|
@@ -465,8 +466,8 @@ pub(super) const BYTES: [&[u8]; 8] = [b"", b"a", b"-", b"--", b" ", b"%", b"\x00
 
 pub(super) const SPELLED: &str = "- a %2D -- %20 %25 %00%FF => ";
 
-/// The test vectors of RFC 4648, section 10, the last symbols of the alphabet, and then all 64 in their order; and the lines of
-/// their deletes.
+/// The test vectors of RFC 4648, section 10, the last symbols of the alphabet, and then all 64 in their order; and the
+/// lines of their deletes.
 pub(super) const KEYS: [&[u8]; 8] = [
     b"f",
     b"fo",

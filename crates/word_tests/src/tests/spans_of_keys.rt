@@ -51,8 +51,8 @@ fn count_of(spans: &[Span], key: &Key) -> usize {
     count
 }
 
-/// Bounds of a span, how many pieces it has without the keys b and d, and the keys of `a b b%0 c d e` that these hold, in the
-/// places of the others a point.
+/// Bounds of a span, how many pieces it has without the keys b and d, and the keys of `a b b%0 c d e` that these hold,
+/// in the places of the others a point.
 const HELD: &str = ",=3 a.xc.e
 b,d=2 ..xc..
 b,da=3 ..xc..
