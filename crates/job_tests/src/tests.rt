@@ -2,6 +2,7 @@
 
 mod cases;
 mod closings;
+mod command_lines;
 mod devices;
 mod feeds;
 mod followed;

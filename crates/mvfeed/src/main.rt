@@ -15,16 +15,11 @@
 //! ```
 //!
 //! What each command does is a function of the crate `jobs`, over its options, a source and a sink, that
-//! answers an `End`. Here the command line is read, and the end becomes the exit status and the word on
-//! standard error.
+//! answers an `End`. Which job the words ask for, and which status and word an end leaves, is said by the crate
+//! `command_line`. Here they meet standard input and output.
 #![tactic(auto)]
 
-mod command_line;
-mod status;
-#[cfg(test)]
-mod tests;
-
-use command_line::{Job, command, job_in};
+use command_line::{Job, command, job_in, status};
 use jobs::{End, check_io, follow_io, race_io, run_io};
 use races::Open;
 use sessions::{Reading, Sink, Source, Writing};

@@ -1,7 +1,7 @@
 //! What the program's command lines ask for, and what it leaves its caller.
 
-use crate::command_line::{Job, command, job_in};
-use crate::status::{status_of, word_of};
+use command_line::status::{status_of, word_of};
+use command_line::{Job, command, job_in};
 use jobs::{End, FollowOptions, span_of};
 use sessions::OpenError;
 use std::alloc::{AllocError, Global};

@@ -13,7 +13,7 @@ use text_format::Format;
 use word_lines::fault::ReadError;
 
 /// What the program's command line may be.
-pub(crate) fn command<'a>(alloc: Global) -> Result<Command<'a>, AllocError> {
+pub fn command<'a>(alloc: Global) -> Result<Command<'a>, AllocError> {
     let command = with_subcommand(program(alloc), run_command(alloc)?)?;
     let command = with_subcommand(command, race_command(alloc)?)?;
     let command = with_subcommand(command, check_command(alloc))?;
@@ -165,7 +165,7 @@ fn with_subcommand<'a>(
 
 /// What the program is asked to do.
 #[derive(Drop)]
-pub(crate) enum Job {
+pub enum Job {
     /// To run a script of a format on a database that is opened so.
     Run(Config, Format),
     /// To have the sessions of a script race.
@@ -177,7 +177,7 @@ pub(crate) enum Job {
 }
 
 /// What the words of a command line ask for.
-pub(crate) fn job_in<'a, S: AsStr>(
+pub fn job_in<'a, S: AsStr>(
     alloc: Global,
     command: Command<'a>,
     words: &'a [S],

@@ -6,13 +6,13 @@ use sessions::OpenError;
 use std::process::ExitCode;
 
 /// The word where a growth of memory was refused.
-pub(crate) const MEMORY: &str = "memory";
+pub const MEMORY: &str = "memory";
 
 /// The word where standard output took no more.
 const OUTPUT: &str = "output";
 
 /// The words where an argument of the command line is other bytes than text.
-pub(crate) const NO_TEXT: &str = "an argument is not UTF-8";
+pub const NO_TEXT: &str = "an argument is not UTF-8";
 
 /// The exit status where the program failed.
 const FAILED: u8 = 1;
@@ -21,7 +21,7 @@ const FAILED: u8 = 1;
 const NO: u8 = 3;
 
 /// The exit status of an end: 0 where all was done, 2 for a faulty line, 3 for what is not right, else 1.
-pub(crate) fn status_of(end: End) -> u8 {
+pub fn status_of(end: End) -> u8 {
     match end {
         End::Done => 0,
         End::Faulty => 2,
@@ -31,7 +31,7 @@ pub(crate) fn status_of(end: End) -> u8 {
 }
 
 /// The word that standard error is told, at status 1.
-pub(crate) fn word_of(end: End) -> Option<&'static str> {
+pub fn word_of(end: End) -> Option<&'static str> {
     match end {
         End::Done | End::Faulty | End::No => None,
         End::Open(OpenError::SeatCount) => Some("seats"),
@@ -45,7 +45,7 @@ pub(crate) fn word_of(end: End) -> Option<&'static str> {
 }
 
 /// The exit status of an end, of which standard error is told where it is a failure.
-pub(crate) fn told(rt: &impl Eprint, end: End) -> ExitCode {
+pub fn told(rt: &impl Eprint, end: End) -> ExitCode {
     if let Some(word) = word_of(end) {
         tell(rt, word);
     }
@@ -53,14 +53,14 @@ pub(crate) fn told(rt: &impl Eprint, end: End) -> ExitCode {
 }
 
 /// The exit status of a failure, of which standard error is told.
-pub(crate) fn failed(rt: &impl Eprint, word: &str) -> ExitCode {
+pub fn failed(rt: &impl Eprint, word: &str) -> ExitCode {
     tell(rt, word);
     ExitCode::from(FAILED)
 }
 
 /// The exit status of a command line that asks for no run: for help, which is printed, or for what
 /// the program doesn't do.
-pub(crate) fn refused<R: Print + Eprint>(rt: &R, error: &Error) -> ExitCode {
+pub fn refused<R: Print + Eprint>(rt: &R, error: &Error) -> ExitCode {
     let printed = error.print(rt);
     if error.exit_code() != 0 {
         return ExitCode::from(FAILED);

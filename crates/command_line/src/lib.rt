@@ -1,0 +1,23 @@
+//! The command line of `mvfeed`: which job its words ask for, and which exit status and word the job's end leaves the
+//! caller.
+//!
+//! `mvfeed` hands [`job_in`] its words, does the [`Job`], and hands [`status`] the end. Nothing here reads or writes
+//! but the words on standard error.
+//!
+//! ```text
+//! words                          asked for                                status, standard error
+//! mvfeed run --seats 2           a run of 2 seats, ring 1024, first 0     0 at Done, 2 at Faulty, else 1 and a word
+//! mvfeed race 2 --format 2       a race of 2 sessions, in format two      the same
+//! mvfeed check                   a check                                  3 at No
+//! mvfeed follow --cursor 0       a follower of all keys that starts at 0  the same
+//! mvfeed run --seats 0           refused                                  1, and clap's text
+//! ```
+//!
+//! No clause says what a command line asks for: `clap` promises no more than that its calls are safe. Tests in
+//! `job_tests` do. Memory is taken for the words and what they ask for.
+#![tactic(auto)]
+
+mod arguments;
+pub mod status;
+
+pub use arguments::{Job, command, job_in};
