@@ -22,7 +22,7 @@ impl Layers {
         }
         let oldest = self.rules.oldest_undecided();
         let at = self.closing.close(to, oldest);
-        self.rules.close(at);
+        self.rules.forget_through(at);
         release_through(&mut self.feeds, &mut self.held_back, at);
         Reply::Closed { at, aborted: 0 }
     }
@@ -36,7 +36,7 @@ impl Layers {
             return Reply::Refused(Refusal::TsRange);
         }
         let at = self.closing.close_hard(to);
-        let aborted = self.rules.close_hard(to, at);
+        let aborted = self.rules.abort_through(to, at);
         release_through(&mut self.feeds, &mut self.held_back, at);
         Reply::Closed { at, aborted }
     }

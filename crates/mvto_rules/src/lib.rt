@@ -30,7 +30,7 @@
 //! - `write`: O(log n + log w + log k + log v + log s + log m), and the versions above its own move, or as `abort`
 //! - `scan`: O(log n + log k + log s), O(log v) for each key and O(m) for each span that it meets
 //! - `commit`, `abort`: O(log n), and O(log k + log v) for each key written
-//! - `close`: O(log n) for each transaction that goes; `close_hard`: also an abort of each that it takes back
+//! - `forget_through`: O(log n) for each transaction that goes; `abort_through`: also an abort of each that it takes back
 //! - `collect`: as `version_chain` says of `drop_dead`
 //! - `read_at`: O(log k + log v); `scan_at`: O(log k), and O(log v) for each key that it meets
 //!
@@ -39,8 +39,8 @@
 //! others take none.
 #![tactic(auto)]
 
-mod closings;
 mod cut;
+mod forgetting;
 mod holdings;
 mod reading;
 mod rules;

@@ -5,7 +5,7 @@ use Rattle.kept.specs.Table.{keys_of}
 use Rattle.txn_table.specs.TransactionIn.{transaction_in}
 use Rattle.version_chain.specs.Stores.{IsAbortedIn}
 use Rattle.mvto_rules.proofs.Closing.{IsTakingBack, taken_in_range, taking_begins, taking_ends, taking_goes_on}
-use Rattle.mvto_rules.proofs.closings.take_back_through.Goals as goal
+use Rattle.mvto_rules.proofs.forgetting.take_back_through.Goals as goal
 
 pub unwrap-ts-requires : goal.unwrap-ts-requires
 unwrap-ts-requires c =

@@ -1,4 +1,4 @@
-//! What closing and collecting do to the versions, the marks and the transactions.
+//! What a closing and a collection let go: transactions, readers, and versions.
 ghost use Rattle.std.specs.Prelude.{◌≤◌, IfOk, OnErr};
 ghost use Rattle.spans.specs.Kept.{Kept};
 ghost use Rattle.kept.specs.Changes.{IsClosedAt, IsHardClosedAt};
@@ -17,14 +17,7 @@ impl Rules {
     ghost use Rattle.mvto_rules.specs.Closings.{AreAllNoted, IsCollected, TakesBack};
 
     /// Forgets the transactions and the readers at or below what is now closed. It takes no memory.
-    pub fn close(&mut self, closed: u64)
-        ensures { Changes self.old self.new (λ k k'. IsClosedAt k (with_closed closed k') closed) }
-    {
-        self.forget_through(closed);
-    }
-
-    /// Forgets the transactions and the readers at or below what is now closed.
-    fn forget_through(&mut self, closed: u64)
+    pub fn forget_through(&mut self, closed: u64)
         ensures { Changes self.old self.new (λ k k'. IsClosedAt k (with_closed closed k') closed) }
     {
         self.marks.forget_through(closed);
@@ -32,8 +25,8 @@ impl Rules {
     }
 
     /// Takes back what the undecided transactions at or below `to` wrote, and says how many they are;
-    /// then it forgets as `close` does. It takes no memory.
-    pub fn close_hard(&mut self, to: u64, closed: u64) -> u64
+    /// then it forgets through what is now closed. It takes no memory.
+    pub fn abort_through(&mut self, to: u64, closed: u64) -> u64
         requires noted { AreAllNoted self.old }
         requires reached { to ≤ closed }
         ensures count { TakesBack self.old to result }

@@ -1,6 +1,6 @@
 use Rattle.std.proofs.Common.{length, ◌+◌, ◌≡◌}
 use Rattle.mvto_rules.proofs.Closing.{IsTakingBack}
-use Rattle.mvto_rules.proofs.closings.take_back_through.Given as goal
+use Rattle.mvto_rules.proofs.forgetting.take_back_through.Given as goal
 
 abbrev pub invariant-loop-ts : goal.invariant-loop-ts
 invariant-loop-ts l = record {
