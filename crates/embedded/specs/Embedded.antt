@@ -3,7 +3,8 @@ use Rattle.std.specs.Prelude.{ℕ, List, [], ◌∷◌, ◌++◌, ◌≡◌, ◌
 use Rattle.spans.specs.declared.calls.commands.Cmd.{Cmd}
 use Rattle.spans.specs.declared.calls.events.Event.{Event}
 use Rattle.spans.specs.Legal.{IsLegal, IsGapless}
-use Rattle.engine.specs.Engine.{StandsFor, steps_of}
+use Rattle.engine.specs.Engine.{steps_of}
+use Rattle.engine.specs.Engine as engines
 use Rattle.text_format.specs.declared.Format.TheVariants.{Two}
 use Rattle.word_lines.specs.Commands.{command_line}
 use Rattle.word_lines.specs.Events.{event_text}
@@ -48,8 +49,8 @@ abbrev pub IsUnwritten : Database → Type 0
 IsUnwritten d = kept_text d ≡ []
 
 -- the database is what a legal history without a gap led to, whose newest event stands first
-pub record Holds (d : Database) (h : List Event) : Type 0 where
-  pub stands : StandsFor d.engine h
+pub record StandsFor (d : Database) (h : List Event) : Type 0 where
+  pub stands : engines.StandsFor d.engine h
   pub legal : IsLegal h
   pub gapless : IsGapless 0 (reverse h)
   pub last : last_of d ≡ newest h
@@ -57,7 +58,7 @@ pub record Holds (d : Database) (h : List Event) : Type 0 where
 
 -- the event is the line's command, and the database's history goes on by it
 pub record Made (h : List Event) (line : List ℕ) (new : Database) (e : Event) : Type 0 where
-  pub holds : Holds new (e ∷ h)
+  pub holds : StandsFor new (e ∷ h)
   pub position : e.position ≡ length h
   pub read : command_at Two table 64 line ≡ Ok (e.seat, e.cmd)
   pub spelled : line ≡ command_line e.seat e.cmd
@@ -73,7 +74,7 @@ Called h line old (Err Spent) new = (new ≡ old) × (length h ≡ 1844674407370
 -- the database holds an event of a seat's command after h, and has none of its text
 pub record HasStepped (h : List Event) (by : ℕ) (cmd : Cmd) (new : Database) : Type 0 where
   pub event : Event
-  pub holds : Holds new (event ∷ h)
+  pub holds : StandsFor new (event ∷ h)
   pub position : event.position ≡ length h
   pub seat : event.seat ≡ by
   pub command : event.cmd ≡ cmd

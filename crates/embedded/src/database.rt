@@ -2,8 +2,7 @@
 
 ghost use Rattle.std.specs.Prelude.{◌≡◌, ◌<◌, ◌≤◌, List, ◌∷◌, [], Some, OnOk, OnErr};
 ghost use Rattle.spans.specs.declared.calls.events.Event.{Event};
-ghost use Rattle.engine.specs.Engine.{StandsFor};
-ghost use Rattle.embedded.specs.Embedded.{Holds, HasLast, HasStepped, IsWritten, IsUnwritten, Called, Copied, last_of, kept_text, steps_in};
+ghost use Rattle.embedded.specs.Embedded.{StandsFor, HasLast, HasStepped, IsWritten, IsUnwritten, Called, Copied, last_of, kept_text, steps_in};
 
 use engine::Engine;
 use spans::calls::{Cmd, Event};
@@ -40,7 +39,7 @@ impl Database {
     /// A database with no event, whose feeds hold up to `ring` rows each, 1 to 65536.
     pub fn new(alloc: Global, ring: u32) -> Database
         requires { (1 ≤ ring) × (ring ≤ 65536) }
-        ensures { Holds result [] }
+        ensures { StandsFor result [] }
     {
         Database {
             alloc,
@@ -54,7 +53,7 @@ impl Database {
     ///
     /// After `Fault`, `NoMemory` and `Spent` all is as it was, the last text too.
     pub fn call(&mut self, line: &[u8]) -> Result<(), CallError>
-        ensures { (h : List Event) → Holds self.old h → Called h line.now self.old result self.new }
+        ensures { (h : List Event) → StandsFor self.old h → Called h line.now self.old result self.new }
     {
         let (seat, cmd) = match read_command(self.alloc, line, 64, Format::Two) {
             Ok(read) => read,
@@ -74,7 +73,7 @@ impl Database {
     /// Makes a seat's command the next event, whose text is still to be written.
     fn step(&mut self, seat: u8, cmd: Cmd)
         requires room { steps_in self.old < 18446744073709551615 }
-        ensures { (h : List Event) → Holds self.old h → HasStepped h seat cmd self.new }
+        ensures { (h : List Event) → StandsFor self.old h → HasStepped h seat cmd self.new }
     {
         let position = self.engine.steps();
         let reply = self.engine.step(seat, &cmd);
@@ -98,9 +97,9 @@ impl Database {
 
     /// Writes the text of the last event, unless it is written.
     pub fn write(&mut self) -> Result<(), AllocError>
-        ensures same { (h : List Event) → Holds self.old h → Holds self.new h }
+        ensures same { (h : List Event) → StandsFor self.old h → StandsFor self.new h }
         ensures last { last_of self.new ≡ last_of self.old }
-        ensures ok { (h : List Event) → Holds self.old h → OnOk result (IsWritten self.new) }
+        ensures ok { (h : List Event) → StandsFor self.old h → OnOk result (IsWritten self.new) }
         // What is written stays so, and is never refused.
         ensures err { OnErr result (IsUnwritten self.old × IsUnwritten self.new) }
         ensures some { OnErr result (HasLast self.old) }

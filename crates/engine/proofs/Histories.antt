@@ -21,7 +21,7 @@ use Rattle.spans.proofs.WriteSets.{has, has_written}
 use Rattle.kept.specs.StandsFor as keeping
 use Rattle.kept.specs.Table.{is_open, keys_of}
 use Rattle.mvto_rules.specs.Closings.{AreAllNoted}
-use Rattle.engine.specs.Layers.{AreNoted, HasHistory, IsHistory, kept_of}
+use Rattle.engine.specs.Layers.{AreNoted, HasHistory, StandsFor, kept_of}
 use Rattle.kept.specs.Answered.{IsStep}
 use Rattle.kept.proofs.Answering.{step_stands}
 use Rattle.spans.specs.declared.calls.commands.Cmd.{Cmd}
@@ -185,7 +185,7 @@ pub closed_in_range : (e : Layers) (steps : ℕ) → ∥ HasHistory e steps ∥�
 closed_in_range e steps some = ∥∥₁_elim some (hlevel props) (λ h. subst (λ n. n ≤ MAX) (sym h.1.kept.fits.closed_at) (closed_low h.0 h.1.kept.legal))
 
 -- a step leads on
-pub history_step : (e e' : Layers) (steps : ℕ) (h : List Event) (n seat : ℕ) (cmd : Cmd) (r : Reply) → IsHistory e steps h → (AreServing e → IsStep (kept_of e) (kept_of e') seat cmd r) → (AreServing e → IsServed e e' seat cmd r) → IsHistory e' (steps + 1) (event n seat cmd r ∷ h)
+pub history_step : (e e' : Layers) (steps : ℕ) (h : List Event) (n seat : ℕ) (cmd : Cmd) (r : Reply) → StandsFor e steps h → (AreServing e → IsStep (kept_of e) (kept_of e') seat cmd r) → (AreServing e → IsServed e e' seat cmd r) → StandsFor e' (steps + 1) (event n seat cmd r ∷ h)
 history_step e e' steps h n seat cmd r is step served =
     let told = serving e h is.kept is.rings in
     let stands = step_stands (kept_of e) (kept_of e') h n seat cmd r is.kept (step told) in

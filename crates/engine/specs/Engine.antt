@@ -5,7 +5,7 @@ use Rattle.spans.specs.Effects.{effects_of}
 use Rattle.spans.specs.Transactions.{closed_of}
 use Rattle.closing.specs.Standing.{closed_in}
 use Rattle.feed.specs.Standing.{behind_in}
-use Rattle.engine.specs.Layers.{IsHistory}
+use Rattle.engine.specs.Layers as layers
 use Rattle.engine.specs.declared.Engine.{Engine}
 
 -- how many commands were answered
@@ -21,7 +21,7 @@ behind_of e f = behind_in e.layers.feeds f
 
 -- the engine holds what is kept of a legal history, whose newest event stands first
 abbrev pub StandsFor : Engine → List Event → Type 0
-StandsFor e h = IsHistory e.layers e.steps h
+StandsFor e h = layers.StandsFor e.layers e.steps h
 
 -- the closed timestamp is that of the history
 pub closed_timestamp_is : (e : Engine) (h : List Event) → StandsFor e h → closed_timestamp e ≡ closed_of (effects_of h)

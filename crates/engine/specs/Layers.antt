@@ -36,7 +36,7 @@ AreNoted k = (x : List ℕ) (t : ℕ) → k.closed < t → has x (keys_of (k.tra
 
 -- the layers hold what is kept of a legal history of so many events, and the rings and the rows that are held back are
 -- those of it
-pub record IsHistory (e : Layers) (steps : ℕ) (h : List Event) : Type 0 where
+pub record StandsFor (e : Layers) (steps : ℕ) (h : List Event) : Type 0 where
   pub kept : keeping.StandsFor (kept_of e) h
   pub counted : steps ≡ length h
   pub rings : AreRings (ring_of e.feeds) (is_behind e.feeds) (effects_of h)
@@ -44,4 +44,4 @@ pub record IsHistory (e : Layers) (steps : ℕ) (h : List Event) : Type 0 where
 
 -- of some history
 abbrev pub HasHistory : Layers → ℕ → Type 0
-HasHistory e steps = (h : List Event) × IsHistory e steps h
+HasHistory e steps = (h : List Event) × StandsFor e steps h

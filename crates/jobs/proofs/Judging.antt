@@ -8,7 +8,7 @@ use Rattle.script.specs.Transcripts.{Fault, Fails, Transcript, nothing_left, out
 use Rattle.script.proofs.TakeLines.{behind, reads_more, reads_fail, reads_end}
 use Rattle.trace_check.specs.declared.checker.Checker.{Checker}
 use Rattle.trace_check.specs.declared.Verdict.TheVariants.{Yes, No}
-use Rattle.trace_check.specs.Checkers.{HasTaken, JudgesNext, TakesNext}
+use Rattle.trace_check.specs.Checkers.{StandsFor, JudgesNext, TakesNext}
 use Rattle.trace_check.specs.Traces.{IsTrace, IsFirstWrong}
 use Rattle.jobs.specs.Verdicts.{IsJudged}
 use Rattle.jobs.specs.Judging.{IsAhead}
@@ -17,11 +17,11 @@ use Rattle.jobs.specs.Judging.{IsAhead}
 pub record IsJudging (total : Result (List Event) Fault) (left : Transcript) (checker : Checker) : Type 0 where
   pub taken : List Event
   pub so_far : total ≡ behind taken left
-  pub trace : HasTaken checker taken
+  pub trace : StandsFor checker taken
   pub few : length taken + length left.events < 18446744073709551616
 
 -- no event was read yet
-pub judging_all : (left : Transcript) (checker : Checker) → HasTaken checker [] → length left.events < 18446744073709551616 → IsJudging (outcome left) left checker
+pub judging_all : (left : Transcript) (checker : Checker) → StandsFor checker [] → length left.events < 18446744073709551616 → IsJudging (outcome left) left checker
 judging_all left checker trace few = record { taken = []; so_far = refl; trace = trace; few = omega arith }
 
 -- no event is left

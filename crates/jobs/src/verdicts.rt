@@ -2,7 +2,7 @@
 ghost use Rattle.std.specs.Prelude.{◌≡◌, ◌<◌, ◌++◌, [], length, IfOk, OnOk, MatchResult, None, decimal, codes};
 ghost use Rattle.text_format.specs.Limits.{format_of};
 ghost use Rattle.script.specs.Transcripts.{Fails, IsFaulty, outcome, transcript_at};
-ghost use Rattle.trace_check.specs.Checkers.{HasTaken};
+ghost use Rattle.trace_check.specs.Checkers.{StandsFor};
 ghost use Rattle.jobs.specs.Verdicts.{IsJudged, IsVerdict};
 ghost use Rattle.jobs.specs.Judging.{IsNext};
 
@@ -62,7 +62,7 @@ fn judge_all(
     checker: &mut Checker,
 ) -> Result<Verdict, TranscriptError>
     requires few { length events.old.events < 18446744073709551616 }
-    requires fresh { HasTaken checker.old [] }
+    requires fresh { StandsFor checker.old [] }
     ensures { MatchResult result (IsJudged (outcome events.old)) (λ e. Fails e (outcome events.old)) }
 {
     loop {

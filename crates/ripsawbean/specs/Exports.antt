@@ -3,7 +3,7 @@ use Rattle.std.specs.Prelude.{ℕ, zero, suc, List, [], ◌≡◌, ◌⊎◌, na
 use Rattle.spans.specs.declared.calls.events.Event.{Event}
 use Rattle.word_lines.specs.Faults.{code_of}
 use Rattle.embedded.specs.Embedded as db
-use Rattle.embedded.specs.Embedded.{Holds, HasLast, Copied, IsUnwritten, last_of, text_of}
+use Rattle.embedded.specs.Embedded.{StandsFor, HasLast, Copied, IsUnwritten, last_of, text_of}
 use Rattle.embedded.specs.declared.database.Database.{Database}
 use Rattle.embedded.specs.declared.database.CallError.{CallError}
 use Rattle.embedded.specs.declared.database.CallError.TheVariants.{Fault, NoMemory, Spent, Unwritten}
@@ -18,7 +18,7 @@ refusal_of ring old = if is_ring ring then (if is_some old then Some 17 else Non
 
 -- a handle that was closed is open on a database with no event, or there was no memory and it still is closed
 abbrev pub Opened : ℕ → Option Database → Type 0
-Opened zero (Some d) = Holds d []
+Opened zero (Some d) = StandsFor d []
 Opened zero None = ⊥
 Opened (suc n) new = (suc n ≡ 12) × (new ≡ None)
 
@@ -37,7 +37,7 @@ outcome_number (Err error) = number_of error
 -- one call of the line was made on the database, or none, by an outcome that has the number
 pub record Numbered (line : List ℕ) (old : Database) (number : ℕ) (new : Database) : Type 0 where
   pub outcome : Result (Unit {0}) CallError
-  pub called : (h : List Event) → Holds old h → db.Called h line old outcome new
+  pub called : (h : List Event) → StandsFor old h → db.Called h line old outcome new
   pub told : number ≡ outcome_number outcome
 
 -- the same of a handle
@@ -52,7 +52,7 @@ FoundNoMemory old new = HasLast old × IsUnwritten old × IsUnwritten new
 
 -- no call was made; only an event's text that isn't written finds no memory
 abbrev pub Rewritten : Database → ℕ → Database → Type 0
-Rewritten old number new = ((h : List Event) → Holds old h → Holds new h) × ((number ≡ 0) ⊎ ((number ≡ 14) × FoundNoMemory old new))
+Rewritten old number new = ((h : List Event) → StandsFor old h → StandsFor new h) × ((number ≡ 0) ⊎ ((number ≡ 14) × FoundNoMemory old new))
 
 -- the same of a handle
 abbrev pub Asked : Option Database → ℕ → Option Database → Type 0
@@ -62,12 +62,12 @@ Asked None number new = (number ≡ 16) × (new ≡ None)
 
 -- at 0 the text of the last event is shown, and its whole length told; at any other number nothing is
 abbrev pub ToldOf : ℕ → (old new : Database) → (before after : List ℕ) → ℕ → Type 0
-ToldOf zero old new before after length = (h : List Event) → Holds old h → Copied (text_of (last_of new)) before after length
+ToldOf zero old new before after length = (h : List Event) → StandsFor old h → Copied (text_of (last_of new)) before after length
 ToldOf (suc n) old new before after length = (length ≡ 0) × (after ≡ before)
 
 -- the same of a handle, which is open at 0
 abbrev pub Told : ℕ → (old new : Option Database) → (before after : List ℕ) → ℕ → Type 0
-Told zero (Some old) (Some new) before after length = (h : List Event) → Holds old h → Copied (text_of (last_of new)) before after length
+Told zero (Some old) (Some new) before after length = (h : List Event) → StandsFor old h → Copied (text_of (last_of new)) before after length
 Told zero (Some old) None before after length = ⊥
 Told zero None new before after length = ⊥
 Told (suc n) old new before after length = (length ≡ 0) × (after ≡ before)

@@ -11,14 +11,14 @@ use Rattle.ticket_lock.specs.Lists.{of_seat}
 use Rattle.ticket_lock.specs.Seats.{number, seen, mine, known, met_spent, found, IsSame, KeepsTurn}
 use Rattle.ticket_lock.specs.Turns.{HasTurn}
 use Rattle.shared_db.specs.declared.served.Served.{Served}
-use Rattle.shared_db.specs.History.{Stands, closed_after}
+use Rattle.shared_db.specs.History.{StandsFor, closed_after}
 use Rattle.shared_db.specs.Calls.{IsAnswered, IsReady, IsMade}
 use Rattle.shared_db.specs.Standing.{legal_of, closed_is}
 use Rattle.shared_db.proofs.Turning.{others_only, none_of}
 
 module _ {C : Ghosts Served Event} where
   abbrev Turn : ℕ → Seat Served Event C → Served → ℕ → Seat Served Event C → Type 0
-  Turn = HasTurn (λ (s : Served) (n : ℕ) (h : List Event). Stands s.engine.value n h) (λ (s : Served). closed_timestamp s.engine.value)
+  Turn = HasTurn (λ (s : Served) (n : ℕ) (h : List Event). StandsFor s.engine.value n h) (λ (s : Served). closed_timestamp s.engine.value)
 
   pub ready : (first : ℕ) (old turn : Seat Served Event C) (value : Served) (t : ℕ) → Turn first old value t turn → IsReady first value t turn
   ready first old turn value t h = record { turn = h.ticket; stood = h.stood; place = h.place; unraised = h.unraised }
@@ -48,7 +48,7 @@ module _ {C : Ghosts Served Event} where
       }
 
   -- the turn ended with the event, after the floor was raised to what the engine has closed
-  pub made : (first t : ℕ) (old raised new : Seat Served Event C) (engine : Engine) (cmd : Cmd) (event : Event) → Stands engine first (found old ++ event ∷ []) → KeepsTurn old raised → seen new ≡ found raised ++ event ∷ [] → mine new ≡ mine raised ++ event ∷ []
+  pub made : (first t : ℕ) (old raised new : Seat Served Event C) (engine : Engine) (cmd : Cmd) (event : Event) → StandsFor engine first (found old ++ event ∷ []) → KeepsTurn old raised → seen new ≡ found raised ++ event ∷ [] → mine new ≡ mine raised ++ event ∷ []
       → mine new ≡ of_seat (λ (e : Event). e.seat) (number new) (seen new) → event.seat ≡ number old → event.cmd ≡ cmd → event.position ≡ t → known old ≤ known raised → closed_timestamp engine ≤ known raised → known raised ≤ closed_timestamp engine
       → known new ≡ known raised → met_spent new ≡ met_spent raised → IsMade first old t cmd event new
   made first t old raised new engine cmd event stood kept saw grew owned by asked at rose reached capped knows met = let h : List Event = found old ++ event ∷ [] in

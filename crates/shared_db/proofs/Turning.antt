@@ -7,15 +7,15 @@ use mathlib.Core.Logic.{dite}
 use native.Mathlib.Decide.{ℕ_discrete}
 use Rattle.spans.specs.declared.calls.events.Event.{Event}
 use Rattle.engine.specs.declared.Engine.{Engine}
-use Rattle.engine.specs.Engine.{StandsFor}
+use Rattle.engine.specs.Engine as engines
 use Rattle.spans.proofs.Histories.{gapless_more, turned_more}
 use Rattle.ticket_lock.specs.Lists.{of_seat}
 use Rattle.ticket_lock.proofs.ListFacts.{of_more}
-use Rattle.shared_db.specs.History.{Stands}
+use Rattle.shared_db.specs.History.{StandsFor}
 
 -- after its step the engine stands for the history with the event
-pub stands_more : (x y : Engine) (first : ℕ) (h : List Event) (e : Event) → Stands x first h → (StandsFor x (reverse h) → StandsFor y (e ∷ reverse h)) → e.position ≡ first + length h → Stands y first (h ++ e ∷ [])
-stands_more x y first h e stood steps at = record { history = subst (StandsFor y) (sym (turned_more h e)) (steps stood.history); gapless = gapless_more first h e stood.gapless at }
+pub stands_more : (x y : Engine) (first : ℕ) (h : List Event) (e : Event) → StandsFor x first h → (engines.StandsFor x (reverse h) → engines.StandsFor y (e ∷ reverse h)) → e.position ≡ first + length h → StandsFor y first (h ++ e ∷ [])
+stands_more x y first h e stood steps at = record { history = subst (engines.StandsFor y) (sym (turned_more h e)) (steps stood.history); gapless = gapless_more first h e stood.gapless at }
 
 -- where the entries of a seat grew by its own alone, what came between is of others
 pub others_only : (n : ℕ) (old between : List Event) (e : Event) (new mine mine' : List Event) → e.seat ≡ n → new ≡ (old ++ between) ++ e ∷ [] → mine ≡ of_seat (λ (x : Event). x.seat) n old → mine' ≡ mine ++ e ∷ [] → mine' ≡ of_seat (λ (x : Event). x.seat) n new

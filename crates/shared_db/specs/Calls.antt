@@ -12,7 +12,7 @@ use Rattle.ticket_lock.specs.Turns.{IsBusy, IsSpent}
 use Rattle.shared_db.specs.declared.served.Served.{Served}
 use Rattle.shared_db.specs.declared.calls.CallDenied.{CallDenied}
 use Rattle.shared_db.specs.declared.calls.CallDenied.TheVariants.{Busy, Spent}
-use Rattle.shared_db.specs.History.{Stands, closed_after}
+use Rattle.shared_db.specs.History.{StandsFor, closed_after}
 
 -- The event is the last of one legal history, without a gap from first on. The history goes on from
 -- what the seat had seen, with events of other seats, to this one.
@@ -43,7 +43,7 @@ IsDenied first old cmd (Spent back) new = (back ≡ cmd) × IsSpent old new
 -- the seat has the turn t, and the value stands for what it found
 pub record IsReady {C : Ghosts Served Event} (first : ℕ) (value : Served) (t : ℕ) (s : Seat Served Event C) : Type 0 where
   pub turn : ticket s ≡ Some t
-  pub stood : Stands value.engine.value first (found s)
+  pub stood : StandsFor value.engine.value first (found s)
   pub place : first + length (found s) ≡ t
   pub unraised : raised s ≡ 0
 

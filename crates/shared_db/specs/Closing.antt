@@ -10,7 +10,7 @@ use Rattle.spans.proofs.Legal.{right_allowed}
 use Rattle.spans.proofs.Copies.{closed_grows}
 use Rattle.engine.specs.declared.Engine.{Engine}
 use Rattle.engine.specs.Engine.{closed_timestamp}
-use Rattle.shared_db.specs.History.{Stands}
+use Rattle.shared_db.specs.History.{StandsFor}
 use Rattle.shared_db.specs.Standing.{legal_of, closed_is}
 
 -- later events leave what was closed closed
@@ -19,7 +19,7 @@ closed_later [] earlier legal = le_refl (closed_of (effects_of earlier))
 closed_later (e ∷ es) earlier legal = le_trans (closed_later es earlier legal.1) (closed_grows (effects_of (es ++ earlier)) (effect_of e) (right_allowed (effects_of (es ++ earlier)) e legal.0))
 
 -- of two engines the one that stands for more has no lower closed timestamp
-pub closed_rises : (x y : Engine) (first : ℕ) (before after : List Event) → Stands x first before → Stands y first (before ++ after) → closed_timestamp x ≤ closed_timestamp y
+pub closed_rises : (x y : Engine) (first : ℕ) (before after : List Event) → StandsFor x first before → StandsFor y first (before ++ after) → closed_timestamp x ≤ closed_timestamp y
 closed_rises x y first before after p q =
     subst (λ (n : ℕ × ℕ). n.0 ≤ n.1)
     (λ i. (sym (closed_is x (reverse before) p.history) i, sym (closed_is y (reverse (before ++ after)) q.history ∙ ap (λ (h : List Event). closed_of (effects_of h)) (reverse-append before after)) i))

@@ -6,11 +6,11 @@ use Rattle.spans.specs.Effects.{effects_of}
 use Rattle.spans.specs.Transactions.{closed_of}
 use Rattle.spans.specs.Legal.{IsGapless}
 use Rattle.engine.specs.declared.Engine.{Engine}
-use Rattle.engine.specs.Engine.{StandsFor}
+use Rattle.engine.specs.Engine as engines
 
 -- the engine stands for the events, the oldest first, and their positions run from first on
-pub record Stands (engine : Engine) (first : ℕ) (events : List Event) : Type 0 where
-  pub history : StandsFor engine (reverse events)
+pub record StandsFor (engine : Engine) (first : ℕ) (events : List Event) : Type 0 where
+  pub history : engines.StandsFor engine (reverse events)
   pub gapless : IsGapless first events
 
 -- the timestamp that the events, the oldest first, leave closed

@@ -14,12 +14,12 @@ pub struct Served {
 
 impl Chronicle for Served {
     ghost use Rattle.engine.specs.Engine.{closed_timestamp};
-    ghost use Rattle.shared_db.specs.History.{Stands};
+    ghost use Rattle.shared_db.specs.History.{StandsFor};
     ghost use Rattle.shared_db.specs.Closing.{closed_rises};
 
     type Entry = Event;
 
-    ghost stands = { λ served first events. Stands served.engine.value first events };
+    ghost stands = { λ served first events. StandsFor served.engine.value first events };
 
     ghost seat_of = { λ event. event.seat };
 

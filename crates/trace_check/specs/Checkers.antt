@@ -1,20 +1,20 @@
 -- What a checker has taken, and what it says of the next event.
 use Rattle.std.specs.Prelude.{List, [], ◌∷◌, ◌++◌, ◌≡◌, ◌<◌, ◌↔◌, Bool, true, length, reverse}
 use Rattle.spans.specs.declared.calls.events.Event.{Event}
-use Rattle.plain_database.specs.Tied.{StandsFor}
+use Rattle.plain_database.specs.Tied as plain
 use Rattle.trace_check.specs.declared.checker.Checker.{Checker}
 use Rattle.trace_check.specs.Traces.{IsTrace, last_position}
 
--- the events that were taken, the oldest first, are a trace; the database stands for them
-pub record HasTaken (c : Checker) (events : List Event) : Type 0 where
+-- the checker has taken the events, the oldest first: they are a trace, and its database stands for them
+pub record StandsFor (c : Checker) (events : List Event) : Type 0 where
   pub trace : IsTrace events
-  pub stands : StandsFor c.database (reverse events)
+  pub stands : plain.StandsFor c.database (reverse events)
   pub last : c.last ≡ last_position events
 
 -- whatever a checker has taken, of so few events that a number counts them, this is whether it is a trace with the event behind it
 abbrev pub JudgesNext : Checker → Event → Bool → Type 0
-JudgesNext c e right = (events : List Event) → HasTaken c events → length events < 18446744073709551615 → (right ≡ true) ↔ IsTrace (events ++ e ∷ [])
+JudgesNext c e right = (events : List Event) → StandsFor c events → length events < 18446744073709551615 → (right ≡ true) ↔ IsTrace (events ++ e ∷ [])
 
 -- where it is, the checker has taken the event too
 abbrev pub TakesNext : Checker → Checker → Event → Bool → Type 0
-TakesNext c c' e right = right ≡ true → (events : List Event) → HasTaken c events → length events < 18446744073709551615 → HasTaken c' (events ++ e ∷ [])
+TakesNext c c' e right = right ≡ true → (events : List Event) → StandsFor c events → length events < 18446744073709551615 → StandsFor c' (events ++ e ∷ [])

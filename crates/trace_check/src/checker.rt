@@ -1,6 +1,6 @@
 //! Events checked one at a time.
 ghost use Rattle.std.specs.Prelude.{◌≡◌, ◌↔◌, [], true, false, IfOk, OnErr};
-ghost use Rattle.trace_check.specs.Checkers.{HasTaken, JudgesNext, TakesNext};
+ghost use Rattle.trace_check.specs.Checkers.{StandsFor, JudgesNext, TakesNext};
 ghost use Rattle.trace_check.specs.Traces.{IsInPlace};
 
 use crate::taking::take_in;
@@ -9,7 +9,7 @@ use spans::calls::Event;
 use std::alloc::{AllocError, Global};
 
 /// The events that were taken so far are legal and have no gap. It holds what they left, and not the events.
-#[derive(Debug, Drop)]
+#[derive(Drop)]
 pub struct Checker {
     database: Database,
     /// Where the latest event stands, if there was one.
@@ -19,7 +19,7 @@ pub struct Checker {
 impl Checker {
     /// No event was taken yet.
     pub fn new(alloc: Global) -> Checker
-        ensures { HasTaken result [] }
+        ensures { StandsFor result [] }
     {
         Checker {
             database: Database::new(alloc),

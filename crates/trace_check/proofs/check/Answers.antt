@@ -1,12 +1,12 @@
 use Rattle.std.proofs.Common.{◌≡◌, ◌∙◌, take, true, false, sym, subst, arith}
-use Rattle.trace_check.specs.Checkers.{HasTaken}
+use Rattle.trace_check.specs.Checkers.{StandsFor}
 use Rattle.trace_check.specs.Traces.{IsFirstWrong}
 use Rattle.trace_check.proofs.TraceSteps.{next_is, wrong_at, wrong_is_no_trace, few_before}
 use Rattle.trace_check.proofs.check.Goals as goal
 
 pub loop-event-preserved : goal.loop-event-preserved
 loop-event-preserved c =
-    subst (HasTaken c.take.new.self) (sym (next_is c.args.events.now c.loop-event.event-index c.event-item.result c.loop-event-test.true c.event-item.is))
+    subst (StandsFor c.take.new.self) (sym (next_is c.args.events.now c.loop-event.event-index c.event-item.result c.loop-event-test.true c.event-item.is))
     (c.in_ok-take.ensures.taken c.if-not-branch.false (take c.loop-event.event-index c.args.events.now) c.loop-event.invariant (few_before c.args.events.now c.loop-event.event-index c.loop-event-test.true (omega arith)))
 
 pub returns-then-not-branch : goal.returns-then-not-branch

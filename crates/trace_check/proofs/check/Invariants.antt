@@ -1,7 +1,7 @@
 use Rattle.std.proofs.Common.{take}
-use Rattle.trace_check.specs.Checkers.{HasTaken}
+use Rattle.trace_check.specs.Checkers.{StandsFor}
 use Rattle.trace_check.proofs.check.Given as goal
 
 -- the events so far were taken
 abbrev pub invariant-loop-event : goal.invariant-loop-event
-invariant-loop-event l = HasTaken l.checker (take l.event-index l.events)
+invariant-loop-event l = StandsFor l.checker (take l.event-index l.events)
