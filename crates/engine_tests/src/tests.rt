@@ -3,7 +3,7 @@ mod cases;
 mod running;
 mod serving;
 
-use running::{FIRST, steps};
+use running::{FIRST, READER, steps};
 use serving::is_served;
 
 #[test]
@@ -20,6 +20,7 @@ fn feeds_are_served_from_where_they_should_be(rt: HostRuntime) {
 }
 
 #[test]
-fn a_run_gives_the_events_of_the_first_example(rt: HostRuntime) {
+fn a_run_gives_the_events_of_a_transcript(rt: HostRuntime) {
+    assert!(rt; steps(rt.alloc(), READER) == Some(5));
     assert!(rt; steps(rt.alloc(), FIRST) == Some(10));
 }

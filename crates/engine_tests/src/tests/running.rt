@@ -4,6 +4,15 @@ use script::transcripts::read_transcript;
 use spans::calls::{Cmd, Event};
 use std::alloc::{AllocError, Global};
 use text_format::Format;
+use word_lines::events::write_event;
+
+/// A writer, and a reader of what was committed.
+pub(super) const READER: &str = "0 0 begin 10 => started
+1 0 put 10 a 1 => written
+2 0 commit 10 => committed 1
+3 1 begin 20 => started
+4 1 get 20 a => value 1
+";
 
 /// The first example.
 pub(super) const FIRST: &str = "0 0 begin 10 => started
@@ -18,24 +27,15 @@ pub(super) const FIRST: &str = "0 0 begin 10 => started
 9 1 commit 20 => committed 0
 ";
 
-/// How many steps the engine has made that ran a transcript's calls, if exactly the transcript's events came of them.
+/// How many steps the engine has made that ran a transcript's calls, if exactly the transcript came of them.
 pub(super) fn steps(alloc: Global, transcript: &str) -> Option<u64> {
-    let wanted = events(alloc, transcript)?;
-    let calls = calls(alloc, events(alloc, transcript)?).ok()?;
+    let wanted = read_transcript(alloc, transcript.as_bytes(), Format::One).ok()?;
+    let calls = calls(alloc, wanted).ok()?;
     let (engine, events) = Engine::run(alloc, calls, 1024).ok()?;
-    // Events have no equality. Their debug text tells everything of them.
-    let wanted = format!(in alloc; "{wanted:?}").ok()?;
-    let events = format!(in alloc; "{events:?}").ok()?;
-    if events == wanted {
-        Some(engine.steps())
-    } else {
-        None
+    if text(alloc, &events).ok()?.as_slice() != transcript.as_bytes() {
+        return None;
     }
-}
-
-/// The events of a transcript.
-fn events(alloc: Global, transcript: &str) -> Option<Vec<Event>> {
-    read_transcript(alloc, transcript.as_bytes(), Format::One).ok()
+    Some(engine.steps())
 }
 
 /// The seats and commands of events.
@@ -45,4 +45,13 @@ fn calls(alloc: Global, events: Vec<Event>) -> Result<Vec<(u8, Cmd)>, AllocError
         calls.push((event.seat, event.cmd))?;
     }
     Ok(calls)
+}
+
+/// The text of events.
+fn text(alloc: Global, events: &[Event]) -> Result<Vec<u8>, AllocError> {
+    let mut text = Vec::new(alloc);
+    for event in events {
+        write_event(&mut text, event)?;
+    }
+    Ok(text)
 }
