@@ -127,7 +127,7 @@ impl Feeds {
             return Err(AllocError);
         };
         let Ok(_) = self.live.insert(feed, live) else {
-            return Err(AllocError);
+            unreachable!()
         };
         self.opened = feed;
         Ok(feed)
@@ -166,7 +166,7 @@ impl Feeds {
         ensures err { OnErr result (self.new ≡ self.old) }
     {
         let Some(live) = self.live.get(&feed) else {
-            return Err(AllocError);
+            unreachable!()
         };
         let messages = live.rows_of_ring(self.alloc, max)?;
         let told = messages.len() as u64;
@@ -192,7 +192,7 @@ impl Feeds {
         ensures err { OnErr result (self.new ≡ self.old) }
     {
         let Some(live) = self.live.get(&feed) else {
-            return Err(AllocError);
+            unreachable!()
         };
         // one more, which tells whether any is left
         let rows = live.rows_of_store(self.alloc, store, closed, max.saturating_add(1))?;

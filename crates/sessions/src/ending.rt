@@ -1,5 +1,6 @@
 //! How a run ends.
 use shared_db::OpenError;
+use std::alloc::AllocError;
 use word_lines::fault::LineFault;
 
 /// Why a run came to its end. Lines are counted from 1.
@@ -19,4 +20,24 @@ pub enum End {
     Output,
     /// A growth of memory was refused.
     Memory,
+}
+
+impl From<AllocError> for End {
+    ghost use Rattle.sessions.specs.declared.ending.End.TheVariants as end;
+
+    ghost from_gives = { λ _ e. e ≡ end.Memory };
+
+    fn from(_failed: AllocError) -> End {
+        End::Memory
+    }
+}
+
+impl From<OpenError> for End {
+    ghost use Rattle.sessions.specs.declared.ending.End.TheVariants as end;
+
+    ghost from_gives = { λ reason e. e ≡ end.Open reason };
+
+    fn from(refused: OpenError) -> End {
+        End::Open(refused)
+    }
 }

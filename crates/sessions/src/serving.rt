@@ -9,11 +9,11 @@ use crate::callers::Callers;
 use crate::ending::End;
 use crate::lines::{Lines, Next};
 use crate::output::Output;
-use crate::sink::{Sink, WriteFailed};
-use crate::source::{ReadFailed, Source};
-use shared_db::{Config, OpenError};
+use crate::sink::Sink;
+use crate::source::Source;
+use shared_db::Config;
 use spans::calls::Cmd;
-use std::alloc::{AllocError, Global};
+use std::alloc::Global;
 use std::sync::Wait;
 use text_format::Format;
 use word_lines::commands::read_command;
@@ -247,44 +247,4 @@ fn stay<T: Wait>(rt: &T) -> End
 {
     for _ in rt.forever() {}
     unreachable!()
-}
-
-impl From<ReadFailed> for End {
-    ghost use Rattle.sessions.specs.declared.ending.End.TheVariants as end;
-
-    ghost from_gives = { λ _ e. e ≡ end.Input };
-
-    fn from(_failed: ReadFailed) -> End {
-        End::Input
-    }
-}
-
-impl From<WriteFailed> for End {
-    ghost use Rattle.sessions.specs.declared.ending.End.TheVariants as end;
-
-    ghost from_gives = { λ _ e. e ≡ end.Output };
-
-    fn from(_failed: WriteFailed) -> End {
-        End::Output
-    }
-}
-
-impl From<AllocError> for End {
-    ghost use Rattle.sessions.specs.declared.ending.End.TheVariants as end;
-
-    ghost from_gives = { λ _ e. e ≡ end.Memory };
-
-    fn from(_failed: AllocError) -> End {
-        End::Memory
-    }
-}
-
-impl From<OpenError> for End {
-    ghost use Rattle.sessions.specs.declared.ending.End.TheVariants as end;
-
-    ghost from_gives = { λ reason e. e ≡ end.Open reason };
-
-    fn from(refused: OpenError) -> End {
-        End::Open(refused)
-    }
 }
