@@ -12,7 +12,7 @@ use std::collections::{BTreeMap, BTreeSet};
 use std::marker::Model;
 
 /// Up to where timestamps are closed, and the protections that stand.
-#[derive(Debug, Drop)]
+#[derive(Drop)]
 pub struct Closing {
     closed: u64,
     made: u64,

@@ -10,7 +10,7 @@ use spans::kind::Kind;
 use std::alloc::{AllocError, Global};
 
 /// What a history led to.
-#[derive(Debug, Drop)]
+#[derive(Drop)]
 pub struct Database {
     pub(crate) alloc: Global,
     pub(crate) closed: u64,

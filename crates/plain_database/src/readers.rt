@@ -9,7 +9,7 @@ use std::ops::Bound;
 use timestamps::ts_key::TsKey;
 
 /// The readers, each with the least timestamp of a version that it was given.
-#[derive(Debug, Drop)]
+#[derive(Drop)]
 pub struct Readers {
     sources: BTreeMap<TsKey, u64>,
 }

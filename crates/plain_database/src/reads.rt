@@ -15,7 +15,7 @@ use std::marker::Model;
 use timestamps::key::Key;
 
 /// The keys that were read, each with its readers.
-#[derive(Debug, Drop)]
+#[derive(Drop)]
 pub struct Reads {
     alloc: Global,
     readers: BTreeMap<Key, Readers>,

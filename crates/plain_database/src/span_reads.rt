@@ -21,20 +21,20 @@ use timestamps::key::Key;
 use timestamps::ts_key::TsKey;
 
 /// A read of a span, with the keys that it found.
-#[derive(Debug, Drop)]
+#[derive(Drop)]
 pub struct Scan {
     pub span: Span,
     pub sources: Sources,
 }
 
 /// The scans of one reader.
-#[derive(Debug, Drop)]
+#[derive(Drop)]
 pub struct ReaderScans {
     list: Vec<Scan>,
 }
 
 /// The readers of spans, each with its scans.
-#[derive(Debug, Drop)]
+#[derive(Drop)]
 pub struct Scans {
     alloc: Global,
     readers: BTreeMap<TsKey, ReaderScans>,

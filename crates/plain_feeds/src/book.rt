@@ -18,7 +18,7 @@ use std::marker::Model;
 use timestamps::row::Row;
 
 /// The feeds that were opened, in the order of opening.
-#[derive(Debug, Drop)]
+#[derive(Drop)]
 pub struct FeedBook {
     feeds: Vec<FeedRecord>,
 }

@@ -11,14 +11,14 @@ use std::alloc::{AllocError, Global};
 use std::marker::Model;
 
 /// A protected timestamp: what a read there wants is kept from being collected.
-#[derive(Clone, Copy, Debug, PartialEq, Eq)]
+#[derive(Clone, Copy, PartialEq, Eq)]
 pub struct Protection {
     pub id: u64,
     pub at: u64,
 }
 
 /// The protections that stand, and how many were made.
-#[derive(Debug, Drop)]
+#[derive(Drop)]
 pub struct Protections {
     made: u64,
     standing: Vec<Protection>,

@@ -12,14 +12,14 @@ use timestamps::row::Row;
 use timestamps::ts::Ts;
 
 /// Whether a feed still tells, and holds the horizon back.
-#[derive(Clone, Copy, Debug, PartialEq, Eq)]
+#[derive(Clone, Copy, PartialEq, Eq)]
 pub(crate) enum FeedState {
     Live,
     Cancelled,
 }
 
 /// What is kept of a feed. Its number is one more than its place in the book.
-#[derive(Debug, Drop)]
+#[derive(Drop)]
 pub struct FeedRecord {
     /// The seat that opened it.
     pub seat: u8,

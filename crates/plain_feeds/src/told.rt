@@ -15,7 +15,7 @@ use timestamps::key::Key;
 use timestamps::row::Row;
 
 /// Which row was told: its key and timestamp, and not what it says.
-#[derive(Debug, Drop)]
+#[derive(Drop)]
 pub(crate) struct RowName {
     pub(crate) ts: u64,
     pub(crate) key: Key,
@@ -30,7 +30,7 @@ impl Model for RowName {
 }
 
 /// What the messages that a feed was told leave of it, however many they were.
-#[derive(Debug, Drop)]
+#[derive(Drop)]
 pub(crate) struct Told {
     /// The row that was told last.
     pub(crate) row: Option<RowName>,

@@ -19,7 +19,7 @@ use timestamps::key::Key;
 use timestamps::value::Value;
 
 /// Each key that was ever written, with its versions.
-#[derive(Debug, Drop)]
+#[derive(Drop)]
 pub(crate) struct ChainMap {
     alloc: Global,
     map: BTreeMap<Key, Versions>,

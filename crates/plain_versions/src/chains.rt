@@ -21,7 +21,7 @@ use timestamps::key::Key;
 use timestamps::value::Value;
 
 /// The versions of all keys.
-#[derive(Debug, Drop)]
+#[derive(Drop)]
 pub struct Chains {
     pub(crate) map: ChainMap,
     pub(crate) written: Written,

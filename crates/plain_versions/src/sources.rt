@@ -13,7 +13,7 @@ use std::marker::Model;
 use timestamps::key::Key;
 
 /// The keys that a scan found, each with the timestamp of the version that it was given.
-#[derive(Debug, Drop)]
+#[derive(Drop)]
 pub struct Sources {
     map: BTreeMap<Key, u64>,
 }

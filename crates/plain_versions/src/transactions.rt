@@ -29,7 +29,7 @@ pub enum Outcome {
 }
 
 /// A transaction that began.
-#[derive(Clone, Copy, Debug, PartialEq, Eq, Drop)]
+#[derive(Clone, Copy, PartialEq, Eq, Drop)]
 pub struct Transaction {
     /// The seat that began it.
     pub seat: u8,
@@ -37,7 +37,7 @@ pub struct Transaction {
 }
 
 /// The transactions by timestamp, and the timestamps of the undecided ones.
-#[derive(Debug, Drop)]
+#[derive(Drop)]
 pub struct Transactions {
     table: BTreeMap<TsKey, Transaction>,
     undecided: BTreeSet<TsKey>,

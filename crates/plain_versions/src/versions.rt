@@ -20,7 +20,7 @@ pub struct Version<'a> {
 }
 
 /// The versions of one key by timestamp, one for each transaction that wrote it and isn't aborted.
-#[derive(Debug, Drop)]
+#[derive(Drop)]
 pub struct Versions {
     map: BTreeMap<TsKey, Option<Value>>,
 }

@@ -11,7 +11,7 @@ use timestamps::key::Key;
 use timestamps::ts_key::TsKey;
 
 /// The keys of each transaction that has versions.
-#[derive(Debug, Drop)]
+#[derive(Drop)]
 pub(crate) struct Written {
     alloc: Global,
     keys: BTreeMap<TsKey, BTreeSet<Key>>,

@@ -16,7 +16,7 @@ use word_lines::words::{Words, text_of, words_of};
 const SEATS: u8 = 64;
 
 /// What the first line of an event says.
-#[derive(Debug, Drop)]
+#[derive(Drop)]
 pub(crate) struct Heading {
     pub(crate) position: u64,
     pub(crate) seat: u8,

@@ -5,7 +5,7 @@ ghost use Rattle.script.specs.Lines.{is_newline, lines_of, IsAtEnd, IsPast};
 use std::marker::Model;
 
 /// The lines of a text that are still to come, lent, and the number of the next.
-#[derive(Debug, Drop)]
+#[derive(Drop)]
 pub(crate) struct Lines<'a> {
     rest: &'a [u8],
     number: u64,

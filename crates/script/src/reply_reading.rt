@@ -11,7 +11,7 @@ use word_lines::fault::{LineFault, ReadError};
 use word_lines::words::Words;
 
 /// What the words of a reply say.
-#[derive(Debug, Drop)]
+#[derive(Drop)]
 pub(crate) enum Shape {
     /// The whole reply.
     Alone(Reply),

@@ -3,7 +3,7 @@ ghost use Rattle.std.specs.Prelude.{◌≡◌, map};
 ghost use Rattle.script.specs.ReplyTable.{reply_row, kind_of};
 
 /// Which reply.
-#[derive(Clone, Copy, Debug, PartialEq, Eq)]
+#[derive(Clone, Copy, PartialEq, Eq)]
 pub(crate) enum Kind {
     Started,
     Absent,
@@ -24,7 +24,7 @@ pub(crate) enum Kind {
 }
 
 /// Which refusal.
-#[derive(Clone, Copy, Debug, PartialEq, Eq)]
+#[derive(Clone, Copy, PartialEq, Eq)]
 pub(crate) enum Reason {
     BelowClosed,
     TsUsed,

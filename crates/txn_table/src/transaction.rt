@@ -23,7 +23,7 @@ pub enum Outcome {
 }
 
 /// A transaction: its owner, how it stands, and the keys that it wrote.
-#[derive(Debug, Drop)]
+#[derive(Drop)]
 pub(crate) struct Transaction {
     seat: u8,
     state: State,

@@ -22,7 +22,7 @@ use timestamps::ts::Ts;
 use timestamps::ts_key::TsKey;
 
 /// The transactions, and which of them are undecided.
-#[derive(Debug, Drop)]
+#[derive(Drop)]
 pub struct Txns {
     alloc: Global,
     table: BTreeMap<TsKey, Transaction>,

@@ -6,7 +6,7 @@ use json_lines::numbers::number_of;
 use word_lines::words::words_of;
 
 /// Which messages are taken: all, or those that the polls of one feed told.
-#[derive(Clone, Copy, Debug, PartialEq, Eq)]
+#[derive(Clone, Copy, PartialEq, Eq)]
 pub(crate) struct Choice {
     feed: Option<u64>,
     /// Whether a message that comes now is taken.

@@ -7,7 +7,7 @@ use replica::Fault;
 use word_lines::fault::LineFault;
 
 /// What is wrong with a line, or with its message after those before it.
-#[derive(Clone, Copy, Debug, PartialEq, Eq)]
+#[derive(Clone, Copy, PartialEq, Eq)]
 pub(crate) enum FollowFault {
     /// The line is no JSON.
     NotJson = 1,
@@ -61,7 +61,7 @@ impl FollowFault {
 }
 
 /// Why a line was not taken.
-#[derive(Clone, Copy, Debug, PartialEq, Eq)]
+#[derive(Clone, Copy, PartialEq, Eq)]
 pub(crate) enum FollowError {
     /// It is faulty.
     Fault(FollowFault),
