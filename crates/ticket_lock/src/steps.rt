@@ -2,6 +2,7 @@
 ghost use Rattle.std.specs.Prelude.{◌≡◌, List, ◌≤◌, ◌<◌, ◌+◌, ◌-◌, ◌^◌, ◌++◌, [], ◌∷◌, length, true, false, Some, None, IfSome, IfNone, IfOk, IfErr};
 ghost use Rattle.ticket_lock.specs.Lists.{of_seat, StartsWith};
 ghost use Rattle.ticket_lock.specs.Views.{drawn, met_spent, looked, looking, holding, ended};
+ghost use Rattle.ticket_lock.specs.declared.rule.Look.TheVariants.{Serving, Next};
 ghost use Rattle.ticket_lock.specs.Steps.{DeniedAt, Draws, DrawsServed, PutOffAt, HasDrawn, Took};
 ghost use Rattle.ticket_lock.specs.Proper.{IsSamePass};
 
@@ -42,6 +43,7 @@ impl<T: Chronicle> TicketLock<T> {
         requires free { (pass.old.me.0.sits ≡ true) × (pass.old.me.0.ticket ≡ None) }
         ensures same { IsSamePass pass.old pass.new }
         ensures ok { IfOk result (DrawsServed pass.old.me pass.new.me) }
+        ensures looked { IfOk result (λ t. pass.new.me.0.looks ≡ Next t ∷ Next t ∷ Serving t ∷ pass.old.me.0.looks) }
         ensures err { IfErr result (λ d. DeniedAt pass.old.me d pass.new.me) }
     {
         let shared = &self.board.shared;

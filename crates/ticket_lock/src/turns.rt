@@ -1,7 +1,8 @@
 //! Turns: how a seat gets the value, and gives it back.
 ghost use Rattle.std.specs.Prelude.{◌≡◌, ◌≤◌, ◌++◌, List, [], ◌∷◌, None, Some, IfOk, IfErr};
 ghost use Rattle.ticket_lock.specs.Lists.{of_seat};
-ghost use Rattle.ticket_lock.specs.Seats.{number, seen, mine, met_spent, known, ticket, found, raised, IsOf, IsSame};
+ghost use Rattle.ticket_lock.specs.Seats.{number, seen, mine, met_spent, known, ticket, found, raised, looks, IsOf, IsSame};
+ghost use Rattle.ticket_lock.specs.declared.rule.Look.TheVariants.{Serving, Next};
 ghost use Rattle.ticket_lock.specs.Turns.{HasTurn, IsSpent, IsDenied};
 
 use crate::chronicle::Chronicle;
@@ -51,6 +52,8 @@ impl<T: Chronicle> TicketLock<T> {
         requires own { IsOf self.now seat.old }
         requires free { ticket seat.old ≡ None }
         ensures ok { IfOk result (λ h. HasTurn T.stands T.floor_of self.now.first seat.old h.value h.ticket seat.new) }
+        // It noted three looks: at the serving word, at the ticket word, and by the exchange that drew the ticket.
+        ensures looked { IfOk result (λ h. looks seat.new ≡ Next h.ticket ∷ Next h.ticket ∷ Serving h.ticket ∷ looks seat.old) }
         ensures err { IfErr result (λ d. IsDenied self.now.first seat.old d seat.new) }
         ensures own { mine seat.old ≡ of_seat T.seat_of (number seat.old) (seen seat.old) }
     {
