@@ -22,13 +22,9 @@ impl Layers {
         let protection = self.closing.least_protection();
         let floor = self.feeds.least_floor();
         let horizon = reached(self.horizon, to, self.closing.closed(), protection, floor);
-        match self.rules.collect(horizon) {
-            Ok(removed) => {
-                self.horizon = horizon;
-                Reply::Collected { horizon, removed }
-            }
-            Err(_) => Reply::Refused(Refusal::NoMemory),
-        }
+        self.horizon = horizon;
+        let removed = self.rules.collect(horizon);
+        Reply::Collected { horizon, removed }
     }
 }
 

@@ -37,10 +37,10 @@
 //! stats, steps, closed, behind             O(log n)
 //! ```
 //!
-//! Memory is taken by begin, get, scan, put, del, readat, scanat, protect, collect, open and poll, before
-//! anything changes: where it is wanting they answer so, and all is as it was. Commit, abort, close, closehard,
-//! release, cancel and stats can't be refused it: a row that finds no memory at a commit is lost to what is
-//! held back, and one that finds none at a closing sends feeds behind, which then read it in the store.
+//! Memory is taken by begin, get, scan, put, del, readat, scanat, protect, open and poll, before anything
+//! changes: where it is wanting they answer so, and all is as it was. Collect, release, cancel and stats take
+//! none. Commit, abort, close and closehard can't be refused it: a row that finds no memory at a commit is lost
+//! to what is held back, and one that finds none at a closing sends feeds behind, which then read it in the store.
 #![tactic(auto)]
 
 ghost use Rattle.std.specs.Prelude.{◌≡◌, ℕ, List, ◌∷◌, [], ◌+◌, ◌<◌, ◌≤◌, is_some, length};

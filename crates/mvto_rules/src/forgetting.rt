@@ -1,5 +1,5 @@
 //! What a closing and a collection let go: transactions, readers, and versions.
-ghost use Rattle.std.specs.Prelude.{◌≤◌, IfOk, OnErr};
+ghost use Rattle.std.specs.Prelude.{◌≤◌};
 ghost use Rattle.spans.specs.Kept.{Kept};
 ghost use Rattle.kept.specs.Changes.{IsClosedAt, IsHardClosedAt};
 ghost use Rattle.mvto_rules.specs.Closings.{AreOpenNoted, AreTakenBack, IsCountTakenBack, is_taken_back};
@@ -7,13 +7,12 @@ ghost use Rattle.mvto_rules.specs.Tables.{AreInRange};
 
 use crate::rules::Rules;
 use crate::written::abort_written;
-use std::alloc::AllocError;
 use timestamps::ts::Ts;
 use txn_table::Txns;
 use version_chain::Store;
 
 impl Rules {
-    ghost use Rattle.mvto_rules.specs.Holding.{Changes, Stays, with_closed};
+    ghost use Rattle.mvto_rules.specs.Holding.{Changes, with_closed};
     ghost use Rattle.mvto_rules.specs.Closings.{AreAllNoted, IsCollected, TakesBack};
 
     /// Forgets the transactions and the readers at or below what is now closed. It takes no memory.
@@ -37,11 +36,9 @@ impl Rules {
         count
     }
 
-    /// Drops the versions that are dead by the horizon, and says how many. Where there is no memory to
-    /// list them, nothing goes.
-    pub fn collect(&mut self, horizon: u64) -> Result<u64, AllocError>
-        ensures ok { IfOk result (λ count. (k : Kept) → IsCollected k self.old self.new horizon count) }
-        ensures err { OnErr result (Stays self.old self.new) }
+    /// Drops the versions that are dead by the horizon, and says how many. It takes no memory.
+    pub fn collect(&mut self, horizon: u64) -> u64
+        ensures { (k : Kept) → IsCollected k self.old self.new horizon result }
     {
         self.store.drop_dead(horizon)
     }

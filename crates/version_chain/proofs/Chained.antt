@@ -1,8 +1,8 @@
 -- A chain's versions up to a horizon, and its newest committed one there.
-use Rattle.std.proofs.Common.{◌≡◌, ℕ, zero, suc, ◌<◌, ◌≤◌, ◌-◌, ◌==◌, Bool, true, false, cond, ◌&&◌, ◌||◌, List, [], ◌∷◌, ◌++◌, length, take, drop, get_or, Some, None, refl, sym, ◌∙◌, ap, subst, inl, inr, arith}
-use Rattle.std.specs.Prelude.{nat_le, nat_lt, is_none, not}
-use Rattle.std.specs.List.{filter, list_any}
-use Rattle.std.proofs.lemmas.Bool.{and_parts, eqb-true, eqb-false, le-leb, or_cases, or_left, or_right}
+use Rattle.std.proofs.Common.{◌≡◌, ℕ, zero, suc, ◌<◌, ◌≤◌, ◌-◌, ◌==◌, Bool, true, false, ◌&&◌, ◌||◌, List, [], ◌∷◌, ◌++◌, length, take, drop, get_or, Some, None, refl, sym, ◌∙◌, ap, inl, inr, arith}
+use Rattle.std.specs.Prelude.{nat_le, not}
+use Rattle.std.specs.List.{filter}
+use Rattle.std.proofs.lemmas.Bool.{and_right, eqb-true, eqb-false, or_from}
 use Rattle.std.proofs.lemmas.List.{get_or_default}
 use Rattle.std.proofs.lemmas.Bool.Decides.{nat_tests}
 use Rattle.spans.proofs.Steps.{by_test, newest_only}
@@ -22,26 +22,6 @@ rises_kept p [] r = tt
 rises_kept p (v ∷ vs) r = by_test (p v)
     (λ on. rw on (above_filtered v.ts p vs r.0, rises_kept p vs r.1))
     (λ off. rw off (rises_kept p vs r.1))
-
-none_low : (vs : List Version) (t : ℕ) → ((k : ℕ) (d : Version) → k < length vs → t < (get_or vs k d).ts) → [] ≡ filter (λ (v : Version). nat_le v.ts t) vs
-none_low [] t above = refl
-none_low (v ∷ vs) t above =
-    let up : t < v.ts = above zero v (omega arith) in
-    let off : nat_le v.ts t ≡ false = grind (arith, nat_tests) in
-    rw off (none_low vs t (λ k d lt. above (suc k) d (omega arith)))
-
--- the versions before a place are those up to a timestamp
-pub low_ones : (vs : List Version) (t n : ℕ) → IsPlaceAbove vs t n → take n vs ≡ filter (λ (v : Version). nat_le v.ts t) vs
-low_ones vs zero' zero p = none_low vs zero' (λ k d lt. p.above k d (omega arith) lt)
-low_ones [] t (suc n) p = absurd (omega (arith, p.within))
-low_ones (v ∷ vs) t (suc n) p =
-    let low : v.ts ≤ t = p.below zero v (omega arith) in
-    let on : nat_le v.ts t ≡ true = le-leb _ _ low in
-    rw on (ap (λ ws. v ∷ ws) (low_ones vs t n (record {
-      within = omega (arith, p.within);
-      below = λ k d lt. p.below (suc k) d (omega arith);
-      above = λ k d at lt. p.above (suc k) d (omega arith) (omega arith);
-    })))
 
 -- nothing above a horizon is dead by it
 high_lives : (n top : ℕ) (v : Version) → nat_le v.ts n ≡ false → is_dead_version n top v ≡ false
@@ -71,39 +51,22 @@ thinned_low n top (suc m) (v ∷ vs) p =
 pub thinned_whole : {n place : ℕ} {vs ws us : List Version} (top : ℕ) → vs ≡ ws → IsPlaceAbove ws n place → us ≡ filter (λ (v : Version). not (is_dead_version n top v)) (take place vs) ++ drop place vs → us ≡ filter (λ (v : Version). not (is_dead_version n top v)) ws
 thinned_whole {n} {place} {vs} {ws} top same at less = less ∙ ap (λ vs. filter (λ (v : Version). not (is_dead_version n top v)) (take place vs) ++ drop place vs) same ∙ thinned_low n top place ws at
 
--- what is dead is among those
-pub dead_low : (n top : ℕ) (vs : List Version) (i : ℕ) → is_dead_at n top vs i ≡ true → list_any (is_dead_version n top) (filter (λ (v : Version). nat_le v.ts n) vs) ≡ true
-dead_low n top [] i e = e
-dead_low n top (v ∷ vs) i e =
-    let more = filter (λ (v : Version). nat_le v.ts n) vs in
-    elim (or_cases ((v.ts == i) && is_dead_version n top v) (is_dead_at n top vs i) e) [
-      | inl here ↦ (let q : is_dead_version n top v ≡ true = (and_parts (v.ts == i) (is_dead_version n top v) here).1 in
-          let low : nat_le v.ts n ≡ true = (and_parts (nat_le v.ts n) (is_none v.after || nat_lt v.ts top) (and_parts v.committed (nat_le v.ts n && (is_none v.after || nat_lt v.ts top)) q).1).0 in
-          subst (λ b. list_any (is_dead_version n top) (cond b (v ∷ more) more) ≡ true) (sym low) (or_left (is_dead_version n top v) (list_any (is_dead_version n top) more) q))
-      | inr there ↦ by_test (nat_le v.ts n)
-          (λ on. subst (λ b. list_any (is_dead_version n top) (cond b (v ∷ more) more) ≡ true) (sym on) (or_right (is_dead_version n top v) (list_any (is_dead_version n top) more) (dead_low n top vs i there)))
-          (λ off. subst (λ b. list_any (is_dead_version n top) (cond b (v ∷ more) more) ≡ true) (sym off) (dead_low n top vs i there))
-    ]
-
-pub same_low : (n top : ℕ) (vs : List Version) (i : ℕ) → is_dead_at n top (filter (λ (v : Version). nat_le v.ts n) vs) i ≡ is_dead_at n top vs i
-same_low n top [] i = refl
-same_low n top (v ∷ vs) i =
-    let more = filter (λ (v : Version). nat_le v.ts n) vs in
-    by_test (nat_le v.ts n)
-    (λ on. subst (λ b. is_dead_at n top (cond b (v ∷ more) more) i ≡ is_dead_at n top (v ∷ vs) i) (sym on) (ap (λ b. ((v.ts == i) && is_dead_version n top v) || b) (same_low n top vs i)))
-    (λ off.
-    let no : ((v.ts == i) && is_dead_version n top v) ≡ false = ap (λ b. (v.ts == i) && b) (high_lives n top v off) ∙ and_false (v.ts == i) in
-    subst (λ b. is_dead_at n top (cond b (v ∷ more) more) i ≡ is_dead_at n top (v ∷ vs) i) (sym off) (same_low n top vs i ∙ sym (ap (λ b. b || is_dead_at n top vs i) no)))
+-- what is dead stands before the place
+pub dead_before : (n top place : ℕ) (vs : List Version) (i : ℕ) → IsPlaceAbove vs n place → is_dead_at n top (take place vs) i ≡ is_dead_at n top vs i
+dead_before n top zero vs i p = sym (none_dead vs (λ k d lt. p.above k d (omega arith) lt))
   where
-    and_false : (b : Bool) → (b && false) ≡ false
-    and_false true = refl
-    and_false false = refl
-
-pub whole : (xs : List Version) (n : ℕ) → length xs ≤ n → take n xs ≡ xs
-whole [] zero l = refl
-whole [] (suc n) l = refl
-whole (x ∷ xs) zero l = absurd (omega arith)
-whole (x ∷ xs) (suc n) l = ap (λ ys. x ∷ ys) (whole xs n (omega arith))
+    none_dead : (vs : List Version) → ((k : ℕ) (d : Version) → k < length vs → n < (get_or vs k d).ts) → is_dead_at n top vs i ≡ false
+    none_dead [] above = refl
+    none_dead (v ∷ vs) above =
+        let up : n < v.ts = above zero v (omega arith) in
+        let high : nat_le v.ts n ≡ false = grind (arith, nat_tests) in
+        ap (λ b. ((v.ts == i) && b) || is_dead_at n top vs i) (high_lives n top v high) ∙ or_from ((v.ts == i) && false) (is_dead_at n top vs i) (and_right (v.ts == i) false refl) (none_dead vs (λ k d lt. above (suc k) d (omega arith)))
+dead_before n top (suc m) [] i p = refl
+dead_before n top (suc m) (v ∷ vs) i p = ap (λ b. ((v.ts == i) && is_dead_version n top v) || b) (dead_before n top m vs i (record {
+  within = omega (arith, p.within);
+  below = λ k d lt. p.below (suc k) d (omega arith);
+  above = λ k d at lt. p.above (suc k) d (omega arith) (omega arith);
+}))
 
 -- ---- the newest committed version
 

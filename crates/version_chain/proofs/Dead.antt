@@ -1,18 +1,17 @@
 -- What is dead by a horizon, and what is so after a change.
 use Rattle.std.proofs.Common.{◌≡◌, ℕ, ◌<◌, ◌≤◌, ◌⊎◌, ◌==◌, Bool, true, false, cond, ◌&&◌, ◌||◌, List, [], ◌∷◌, Option, Some, None, refl, sym, ◌∙◌, ap, subst, inl, inr, arith}
-use Rattle.std.specs.Prelude.{bytes_eq, is_none, not, nat_le, nat_lt}
+use Rattle.std.specs.Prelude.{is_none, not, nat_le, nat_lt}
 use Rattle.std.specs.List.{filter}
 use Rattle.std.proofs.lemmas.Bool.{and_parts, and_from, or_cases, or_left, or_right, eqb-true, leb-true, le-leb, ltb-true, lt-ltb, ne_eqb, both_ways}
 use Rattle.std.proofs.lemmas.Bool.Decides.{nat_tests}
 use Rattle.spans.specs.Effects.{After}
 use Rattle.spans.specs.Collection.{is_delete}
 use Rattle.spans.specs.Newest.{newest}
-use Rattle.spans.proofs.Steps.{by_test, newest_is, newest_same, same_key}
+use Rattle.spans.proofs.Steps.{by_test, newest_is, newest_same}
 use Rattle.version_chain.specs.declared.chain.Version.{Version}
 use Rattle.version_chain.specs.Versions.{AreAbove, DoRise, version_of}
-use Rattle.version_chain.specs.Chains.{Entry, chain_of, found_in}
 use Rattle.version_chain.specs.Stores.{after_of, is_committed}
-use Rattle.version_chain.specs.Dead.{after_if_committed, newest_of, is_dead_version, left_of, is_dead_at, IsThinnedAt, AreThinned}
+use Rattle.version_chain.specs.Dead.{after_if_committed, newest_of, is_dead_version, is_dead_at}
 
 -- of the versions f: dead by n
 abbrev pub is_dead_of : (ℕ → Option Version) → ℕ → ℕ → Bool
@@ -67,7 +66,7 @@ dead_parts f n t is =
 pub dead_from : (f : ℕ → Option Version) (n t : ℕ) → IsDead f n t → is_dead_of f n t ≡ true
 dead_from f n t s = and_from _ _ s.done (and_from _ _ (le-leb t n s.low) (elim s.why [ inl d ↦ or_left _ _ d | inr l ↦ or_right _ _ (lt-ltb _ _ l) ]))
 
-unless_true : (b : Bool) → (b ≡ true → ⊥) → b ≡ false
+pub unless_true : (b : Bool) → (b ≡ true → ⊥) → b ≡ false
 unless_true true h = absurd (h refl)
 unless_true false h = refl
 
@@ -186,26 +185,15 @@ dead_found n i top (Some v) its = ap (λ t. v.committed && (nat_le t n && (is_no
 pub dead_here : (vs : List Version) (n i : ℕ) → is_dead_of (version_of vs) n i ≡ holds n (newest_of vs n) (version_of vs i)
 dead_here vs n i = dead_found n i (newest_of vs n) (version_of vs i) (λ v e. of_its_ts vs i v e)
 
-pub left_holds : (n top : ℕ) (o : Option Version) → left_of n top o ≡ cond (holds n top o) None o
-left_holds n top None = refl
-left_holds n top (Some v) = refl
-
-pub left_filtered : (n top : ℕ) (vs : List Version) (i : ℕ) → DoRise vs → version_of (filter (λ (v : Version). not (is_dead_version n top v)) vs) i ≡ left_of n top (version_of vs i)
+-- what is left of a chain
+pub left_filtered : (n top : ℕ) (vs : List Version) (i : ℕ) → DoRise vs → version_of (filter (λ (v : Version). not (is_dead_version n top v)) vs) i ≡ cond (holds n top (version_of vs i)) None (version_of vs i)
 left_filtered n top [] i r = refl
 left_filtered n top (v ∷ vs) i r = by_test (is_dead_version n top v)
     (λ on. by_test (v.ts == i)
     (λ here.
     let none : version_of vs i ≡ None = subst (λ t. version_of vs t ≡ None) (eqb-true v.ts i here) (none_above n top v.ts vs r.0).1 in
-    rw (on, here) (rw on (left_filtered n top vs i r.1 ∙ ap (left_of n top) none)))
+    rw (on, here) (rw on (left_filtered n top vs i r.1 ∙ ap (λ o. cond (holds n top o) None o) none)))
     (λ there. rw (on, there) (left_filtered n top vs i r.1)))
     (λ off. by_test (v.ts == i)
     (λ here. rw (off, here) (rw off refl))
     (λ there. rw (off, there) (left_filtered n top vs i r.1)))
-
--- the chain of a key that lost what is dead
-pub thinned : (es fs : List Entry) (x : List ℕ) (n top : ℕ) → top ≡ newest_of (chain_of es x) n → IsThinnedAt es fs x n top → AreThinned es fs (bytes_eq x) n
-thinned es fs x n top is thin y i = thin y i ∙ by_test (bytes_eq x y)
-    (λ here. rw here (
-    let same : top ≡ newest_of (chain_of es y) n = is ∙ ap (λ z. newest_of (chain_of es z) n) (same_key x y here) in
-    left_holds n top (found_in es y i) ∙ ap (λ b. cond b None (found_in es y i)) (ap (λ m. holds n m (found_in es y i)) same ∙ sym (dead_here (chain_of es y) n i))))
-    (λ there. rw there refl)

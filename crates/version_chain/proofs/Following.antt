@@ -23,10 +23,10 @@ use Rattle.version_chain.specs.declared.chain.Version.{Version}
 use Rattle.version_chain.specs.declared.index.Index.{Index}
 use Rattle.version_chain.specs.Chains.{found_in}
 use Rattle.version_chain.specs.Stores.{Stored, after_of, is_committed, version_in, is_committed_in}
-use Rattle.version_chain.specs.Indexes.{is_listed, listed_in, IsIndexOf, AreBetween}
+use Rattle.version_chain.specs.Indexes.{is_listed, listed_in, IsFirstBetween, IsIndexOf, AreBetween}
 use Rattle.version_chain.specs.Following.{is_before, is_after_place, IsLeft, IsNoneAfter, IsFirstAfter, IsCommittedAt, IsNoneAmong, IsFirstAmong}
-use Rattle.version_chain.proofs.Indexes.{Keyed, listed_first}
-use Rattle.version_chain.proofs.Listing.{same_at}
+use Rattle.version_chain.proofs.Dead.{unless_true}
+use Rattle.version_chain.proofs.Indexes.{Keyed, listed_first, same_at}
 
 -- what is found, or that there is none, in other words
 pub in_other_words : {A : Type 0} (o : Option A) (P P' : Type 0) (Q Q' : A → Type 0) → (P → P') → ((x : A) → Q x → Q' x) → MatchOption o P Q → MatchOption o P' Q'
@@ -178,6 +178,19 @@ listed_above a b (e ∷ es) are y i listed = elim (listed_first e.0 e.1 es y i l
   | inl here ↦ (let at = here.0 in let above = are.0 in omega arith)
   | inr there ↦ (let over = listed_above e.0 b es are.2 y i there in let above = are.0 in omega arith)
 ]
+
+-- the first of them
+pub is_first_between : (index : Index) (a b t : ℕ) (keys : BTreeSet (List ℕ)) (es rest : Keyed) → ((y : List ℕ) (i : ℕ) → a < i → i ≤ b → listed_in es y i ≡ is_listed index y i) → AreBetween a b es → es ≡ (t, keys) ∷ rest → IsFirstBetween index a b t
+is_first_between index a b t keys es rest listed are is =
+    let first : AreBetween a b ((t, keys) ∷ rest) = subst (AreBetween a b) is are in
+    record {
+      above = first.0;
+      low = first.1;
+      first = λ y i above below. let low : t ≤ b = first.1 in unless_true _ (λ yes. elim (listed_first t keys rest y i (ap (λ fs. listed_in fs y i) (sym is) ∙ listed y i above (omega arith) ∙ yes)) [
+        | inl here ↦ (let at = here.0 in omega arith)
+        | inr there ↦ (let over = listed_above t b rest first.2 y i there in omega arith)
+      ]);
+    }
 
 -- a lower bound is one too
 pub between_lower : (a c b : ℕ) (es : Keyed) → a < c → AreBetween c b es → AreBetween a b es

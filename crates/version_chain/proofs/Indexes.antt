@@ -1,6 +1,6 @@
 -- What is listed after the keys of one timestamp changed, and the tie of an index to the chains.
-use Rattle.std.proofs.Common.{◌≡◌, ℕ, ◌<◌, ◌≤◌, ◌⊎◌, inl, inr, ◌==◌, Bool, true, false, cond, ◌&&◌, ◌||◌, List, [], ◌∷◌, length, Option, refl, sym, ◌∙◌, ap, subst, arith}
-use Rattle.std.specs.Prelude.{bytes_eq}
+use Rattle.std.proofs.Common.{◌≡◌, ℕ, ◌<◌, ◌≤◌, ◌⊎◌, inl, inr, ◌==◌, Bool, true, false, cond, ◌&&◌, ◌||◌, List, [], ◌∷◌, length, Option, Some, eq-eqb, refl, sym, ◌∙◌, ap, subst, arith}
+use Rattle.std.specs.Prelude.{bytes_eq, option_map}
 use Rattle.std.specs.List.{filter, list_any}
 use Rattle.std.specs.Map.{lookup}
 use Rattle.std.specs.BTreeMap.{BTreeMap, is_at}
@@ -8,11 +8,11 @@ use Rattle.std.specs.BTreeMap.Range.{range_contains}
 use Rattle.std.specs.declared.ops.Bound.TheVariants.{Excluded, Included}
 use Rattle.std.specs.BTreeSet.{BTreeSet, contains}
 use Rattle.std.specs.Ordering.{nat_cmp}
-use Rattle.std.proofs.lemmas.Bool.{eqb-true}
+use Rattle.std.proofs.lemmas.Bool.{eqb-true, or_cases}
 use Rattle.std.proofs.lemmas.Bool.Decides.{nat_tests}
 use Rattle.std.proofs.lemmas.Map.Text.{is_eq-slice_cmp}
 use Rattle.timestamps.specs.Bytes.{key_cmp}
-use Rattle.spans.proofs.Steps.{by_test}
+use Rattle.spans.proofs.Steps.{by_test, same_key}
 use Rattle.version_chain.specs.Indexes.{is_among, listed_in}
 
 -- the keys of each timestamp
@@ -85,3 +85,44 @@ pub listed_first : (t : ℕ) (keys : BTreeSet (List ℕ)) (es : Keyed) (y : List
 listed_first t keys es y i is = by_test (is_at (nat_cmp i) t)
     (λ here. inl (eqb-true i t (sym (is_at_number i t) ∙ here), rw here at is))
     (λ there. inr (rw there at is))
+
+-- ---- keys that are taken, and put back
+
+pub same_at : (x y : List ℕ) → is_at (key_cmp y) x ≡ true → y ≡ x
+same_at x y e = same_key y x (sym (is_eq-slice_cmp y x) ∙ e)
+
+-- the key that is next, or one of the rest
+pub next_or_rest : (x y : List ℕ) (xs rest : List (List ℕ)) → xs ≡ x ∷ rest → list_any (is_at (key_cmp y)) xs ≡ true → (y ≡ x) ⊎ (list_any (is_at (key_cmp y)) rest ≡ true)
+next_or_rest x y xs rest is any = elim (or_cases (is_at (key_cmp y) x) (list_any (is_at (key_cmp y)) rest) (ap (list_any (is_at (key_cmp y))) (sym is) ∙ any)) [
+  | inl here ↦ inl (same_at x y here)
+  | inr there ↦ inr there
+]
+
+-- what is listed after the keys of t became w
+pub listed_where : (es fs : Keyed) (t : ℕ) (w : Option (BTreeSet (List ℕ))) → ArePutAt es fs t w → (y : List ℕ) (i : ℕ) → listed_in fs y i ≡ cond (t == i) (is_among w y) (listed_in es y i)
+listed_where es fs t w put y i = ap (λ o. is_among o y) (put i) ∙ by_test (t == i)
+    (λ here. rw (is_at_number t i, here) refl)
+    (λ there. rw (is_at_number t i, there) refl)
+
+-- the entry of t has no keys
+abbrev pub IsTakenIn : Keyed → ℕ → Type 0
+IsTakenIn es t = option_map (λ (keys : BTreeSet (List ℕ)). keys.keys) (lookup (is_at (nat_cmp t)) es) ≡ Some []
+
+pub taken_still : (es fs : Keyed) (t : ℕ) (w : Option (BTreeSet (List ℕ))) → ArePutAt es fs t w → (IsTakenIn es t → option_map (λ (keys : BTreeSet (List ℕ)). keys.keys) w ≡ Some []) → (i : ℕ) → IsTakenIn es i → IsTakenIn fs i
+taken_still es fs t w put still i is = ap (option_map (λ (keys : BTreeSet (List ℕ)). keys.keys)) (put i) ∙ by_test (t == i)
+    (λ here. rw (is_at_number t i, here) (still (subst (IsTakenIn es) (sym (eqb-true t i here)) is)))
+    (λ there. rw (is_at_number t i, there) is)
+
+-- from no keys none is taken
+pub none_taken : (es : Keyed) (t : ℕ) (keys : BTreeSet (List ℕ)) → lookup (is_at (nat_cmp t)) es ≡ Some keys → IsTakenIn es t → keys.keys ≡ []
+none_taken es t keys found is = let same : Some keys.keys ≡ Some [] = sym (ap (option_map (λ (ks : BTreeSet (List ℕ)). ks.keys)) found) ∙ is in cc
+
+pub emptied : (es fs : Keyed) (t : ℕ) (keys : BTreeSet (List ℕ)) → ArePutAt es fs t (Some keys) → length keys.keys ≡ 0 → IsTakenIn fs t
+emptied es fs t keys put none =
+    let at : is_at (nat_cmp t) t ≡ true = is_at_number t t ∙ eq-eqb t t refl in
+    let here : lookup (is_at (nat_cmp t)) fs ≡ Some keys = put t ∙ ap (λ b. cond b (Some keys) (lookup (is_at (nat_cmp t)) es)) at in
+    ap (option_map (λ (ks : BTreeSet (List ℕ)). ks.keys)) here ∙ ap Some (no_keys keys.keys none)
+  where
+    no_keys : (xs : List (List ℕ)) → length xs ≡ 0 → xs ≡ []
+    no_keys [] e = refl
+    no_keys (x ∷ xs) e = absurd (omega arith)

@@ -10,6 +10,6 @@ pub mod Soundness
 pub mod Dead
 pub mod Chained
 pub mod Thinning
+pub mod Collecting
 pub mod Gone
-pub mod Listing
 pub mod Following

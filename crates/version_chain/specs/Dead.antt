@@ -1,16 +1,13 @@
 -- Which versions are dead by a horizon, of what a store has alone, and what a collection leaves.
-use Rattle.std.specs.Prelude.{ℕ, List, Bool, IsTrue, true, ◌≡◌, ◌&&◌, ◌||◌, ◌==◌, nat_le, nat_lt, if◌then◌else◌, bytes_eq, length, Option, Some, None, is_some, is_none}
+use Rattle.std.specs.Prelude.{ℕ, List, Bool, true, ◌≡◌, ◌&&◌, ◌||◌, ◌==◌, nat_le, nat_lt, if◌then◌else◌, bytes_eq, not, length, Option, Some, None, is_some, is_none}
 use Rattle.std.specs.List.{list_any}
-use Rattle.std.specs.BTreeSet.{BTreeSet, contains}
-use Rattle.timestamps.specs.Bytes.{key_cmp}
 use Rattle.spans.specs.Collection.{VersionName, is_delete}
 use Rattle.spans.specs.Effects.{After}
 use Rattle.spans.specs.Newest.{newest}
-use Rattle.spans.proofs.WriteSets.{has}
 use Rattle.kept.specs.Lists.{AreThose}
 use Rattle.version_chain.specs.declared.chain.Version.{Version}
 use Rattle.version_chain.specs.Versions.{version_of}
-use Rattle.version_chain.specs.Chains.{Entry, chain_of, found_in}
+use Rattle.version_chain.specs.Chains.{found_in}
 use Rattle.version_chain.specs.Stores.{Stored, after_of, is_committed, version_in, is_committed_in}
 
 -- the version of x at t, where it is committed
@@ -47,27 +44,17 @@ newest_of vs n = (newest (λ i. after_if_committed (version_of vs i)) n).ts
 abbrev pub is_dead_version : ℕ → ℕ → Version → Bool
 is_dead_version n top v = v.committed && (nat_le v.ts n && (is_none v.after || nat_lt v.ts top))
 
--- what is left of a version
-abbrev pub left_of : ℕ → ℕ → Option Version → Option Version
-left_of n top None = None
-left_of n top (Some v) = if is_dead_version n top v then None else Some v
-
 -- one that is dead stands at i
 abbrev pub is_dead_at : ℕ → ℕ → List Version → ℕ → Bool
 is_dead_at n top vs i = list_any (λ (v : Version). (v.ts == i) && is_dead_version n top v) vs
 
--- where the newest committed version of x through n is of top, and one of x is dead by n, the answer is yes
-abbrev pub TellsDead : Stored → ℕ → ℕ → List ℕ → Bool → Type 0
-TellsDead s n top x answer = (i : ℕ) → newest_of (chain_of s x) n ≡ top → is_dead_at n top (chain_of s x) i ≡ true → IsTrue answer
+-- ---- while a collection goes on
 
--- those of the keys of which that is so are found
-abbrev pub AreDeadFound : Stored → ℕ → ℕ → BTreeSet (List ℕ) → List (List ℕ) → Type 0
-AreDeadFound s n top keys found = (y : List ℕ) (i : ℕ) → contains key_cmp keys y ≡ true → newest_of (chain_of s y) n ≡ top → is_dead_at n top (chain_of s y) i ≡ true → has y found ≡ true
+-- the chain of x lost what is dead by n
+abbrev pub IsThinnedAt : Stored → Stored → List ℕ → ℕ → Type 0
+IsThinnedAt s s' x n = (y : List ℕ) (i : ℕ) → found_in s' y i ≡ (if bytes_eq x y && is_dead_in s n y i then None else found_in s y i)
 
--- the chain of x lost what is dead
-abbrev pub IsThinnedAt : List Entry → List Entry → List ℕ → ℕ → ℕ → Type 0
-IsThinnedAt es fs x n top = (y : List ℕ) (i : ℕ) → found_in fs y i ≡ (if bytes_eq x y then left_of n top (found_in es y i) else found_in es y i)
-
--- the keys lost what is dead by n
-abbrev pub AreThinned : Stored → Stored → (List ℕ → Bool) → ℕ → Type 0
-AreThinned s s' among n = (y : List ℕ) (i : ℕ) → found_in s' y i ≡ (if among y && is_dead_in s n y i then None else found_in s y i)
+-- some of what is dead by n is gone, and the rest of it is dead still
+pub record ArePartlyThinned (s s' : Stored) (n : ℕ) : Type 0 where
+  pub found : (y : List ℕ) (i : ℕ) → found_in s' y i ≡ (if is_dead_in s n y i && not (is_dead_in s' n y i) then None else found_in s y i)
+  pub fewer : (y : List ℕ) (i : ℕ) → is_dead_in s' n y i ≡ true → is_dead_in s n y i ≡ true

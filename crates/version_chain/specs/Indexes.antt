@@ -1,5 +1,5 @@
 -- Which keys have a version at each timestamp.
-use Rattle.std.specs.Prelude.{ℕ, List, [], ◌∷◌, Bool, bytes_eq, false, if◌then◌else◌, ◌&&◌, ◌||◌, ◌==◌, ◌≡◌, ◌<◌, ◌≤◌, Option, Some, None, is_some}
+use Rattle.std.specs.Prelude.{ℕ, List, [], ◌∷◌, Bool, bytes_eq, false, if◌then◌else◌, ◌&&◌, ◌||◌, ◌==◌, ◌≡◌, ◌<◌, ◌≤◌, Option, Some, None, is_some, option_map}
 use Rattle.std.specs.Map.{lookup}
 use Rattle.std.specs.BTreeMap.{is_at}
 use Rattle.std.specs.BTreeSet.{BTreeSet, contains}
@@ -33,6 +33,20 @@ IsUnlistedAt index index' t x = (y : List ℕ) (i : ℕ) → is_listed index' y 
 -- x is no longer listed at the timestamps that pass the test
 abbrev pub IsUnlisted : Index → Index → List ℕ → (ℕ → Bool) → Type 0
 IsUnlisted index index' x gone = (y : List ℕ) (i : ℕ) → is_listed index' y i ≡ (if bytes_eq x y && gone i then false else is_listed index y i)
+
+-- t has an entry, whose keys are taken
+abbrev pub IsTaken : Index → ℕ → Type 0
+IsTaken index t = option_map (λ (keys : BTreeSet (List ℕ)). keys.keys) (lookup (is_at (nat_cmp t)) index.keys.entries) ≡ Some []
+
+-- no key is listed above a and at or below b
+abbrev pub IsNoneBetween : Index → ℕ → ℕ → Type 0
+IsNoneBetween index a b = (y : List ℕ) (i : ℕ) → a < i → i ≤ b → is_listed index y i ≡ false
+
+-- t is above a and at or below b, and no key is listed between a and t
+pub record IsFirstBetween (index : Index) (a b t : ℕ) : Type 0 where
+  pub above : a < t
+  pub low : t ≤ b
+  pub first : (y : List ℕ) (i : ℕ) → a < i → i < t → is_listed index y i ≡ false
 
 -- rising timestamps above a and at or below b
 abbrev pub AreBetween : ℕ → ℕ → List (ℕ × BTreeSet (List ℕ)) → Type 0

@@ -1,15 +1,18 @@
 //! The versions of one key.
-ghost use Rattle.std.specs.Prelude.{◌≡◌, ℕ, ◌<◌, ◌≤◌, ◌+◌, ◌^◌, ◌==◌, ◌↔◌, [], ◌∷◌, suc, length, slice_index_or, if◌then◌else◌, MatchOption, MatchResult, Some, None, IsTrue, IfOk, OnOk, OnErr, is_some, is_none, option_map, nat_le, not, true, take, drop, ◌++◌};
+ghost use Rattle.std.specs.Prelude.{◌≡◌, ℕ, ◌<◌, ◌≤◌, ◌+◌, ◌^◌, ◌==◌, ◌↔◌, [], ◌∷◌, suc, length, slice_index_or, if◌then◌else◌, MatchOption, MatchResult, Some, None, IsTrue, IfOk, OnOk, OnErr, is_some, is_none, option_map, not};
 ghost use Rattle.version_chain.specs.declared.chain.Version.{Version};
 ghost use Rattle.std.specs.List.{filter};
 ghost use Rattle.version_chain.specs.Dead.{is_dead_version, newest_of, is_dead_at};
+ghost use Rattle.version_chain.specs.Indexes.{IsTaken, IsUnlisted};
 ghost use Rattle.version_chain.specs.Versions.{DoRise, version_of, as_committed, IsPlaceAbove, IsNoneUpTo, IsNewestOf, IsNoneAbove, IsLeastAbove, IsPlaceOf, IsFreePlace};
 
+use crate::index::Index;
 use crate::steps::Steps;
 use crate::versions::Versions;
 use std::alloc::{AllocError, Global};
 use std::marker::Model;
 use timestamps::binary_search::BinarySearch;
+use timestamps::key::Key;
 use timestamps::ts::Ts;
 use timestamps::value::Value;
 
@@ -225,19 +228,12 @@ impl Chain {
         }
     }
 
-    /// The versions at or below `t`.
-    pub(crate) fn through(&self, t: u64) -> &[Version]
-        ensures { result.now ≡ filter (λ (v : Version). nat_le v.ts t) self.now }
+    /// The timestamp of the newest committed version before the place `end`, 0 where there is none.
+    fn newest_committed(&self, end: usize) -> u64
+        requires { end ≤ length self.now }
+        ensures { (t : ℕ) → IsPlaceAbove self.now t end → result ≡ newest_of self.now t }
     {
-        let place = self.place_above(t, &mut Steps::new());
-        &self.all()[..place]
-    }
-
-    /// The timestamp of the newest committed version at or below the horizon, 0 where there is none.
-    pub(crate) fn newest_committed(&self, horizon: u64) -> u64
-        ensures { result ≡ newest_of self.now horizon }
-    {
-        let mut place = self.place_above(horizon, &mut Steps::new());
+        let mut place = end;
         while place > 0 {
             place -= 1;
             let version = &self.all()[place];
@@ -248,28 +244,19 @@ impl Chain {
         0
     }
 
-    /// Whether a version is dead by the horizon, where `top` is the timestamp of the newest committed
-    /// one at or below that.
-    pub(crate) fn has_dead(&self, horizon: u64, top: u64) -> bool
-        ensures { (i : ℕ) → is_dead_at horizon top self.now i ≡ true → IsTrue result }
-    {
-        for version in self.through(horizon) {
-            if version.is_dead_by(horizon, top) {
-                return true;
-            }
-        }
-        false
-    }
-
-    /// Drops the versions that are dead by the horizon, and says how many. Those above it are not
-    /// looked at.
-    pub(crate) fn drop_dead(&mut self, horizon: u64, top: u64) -> u64
-        ensures left { self.new ≡ filter (λ (v : Version). not (is_dead_version horizon top v)) self.old }
-        ensures count { result ≡ length (filter (is_dead_version horizon top) self.old) }
+    /// Drops the versions that are dead by the horizon, takes their key out of the index at their
+    /// timestamps, and says how many they are. Those above the horizon are not looked at.
+    pub(crate) fn drop_dead(&mut self, horizon: u64, key: &Key, index: &mut Index) -> u64
+        ensures left { self.new ≡ filter (λ (v : Version). not (is_dead_version horizon (newest_of self.old horizon) v)) self.old }
+        ensures count { result ≡ length (filter (is_dead_version horizon (newest_of self.old horizon)) self.old) }
         ensures rising { DoRise self.old }
+        ensures listed { IsUnlisted index.old index.new key.now (is_dead_at horizon (newest_of self.old horizon) self.old) }
+        ensures taken { (i : ℕ) → IsTaken index.old i → IsTaken index.new i }
     {
         let before = self.all().len();
         let place = self.place_above(horizon, &mut Steps::new());
+        let top = self.newest_committed(place);
+        index.remove_dead(key, &self.all()[..place], horizon, top);
         self.versions.drop_before(place, horizon, top);
         (before - self.all().len()) as u64
     }

@@ -1,24 +1,24 @@
 //! The chains of all keys.
-ghost use Rattle.std.specs.Prelude.{◌≡◌, ℕ, List, [], Some, None, MatchOption, IfOk, OnOk, OnErr, is_some, is_none, option_map, length, true, false};
+ghost use Rattle.std.specs.Prelude.{◌≡◌, ℕ, List, [], Some, None, MatchOption, IfOk, OnOk, OnErr, is_some, is_none, option_map, true, false, bytes_eq, ◌&&◌, if◌then◌else◌, ◌≤◌, ◌-◌};
 ghost use Rattle.version_chain.specs.declared.chain.Version.{Version};
-ghost use Rattle.version_chain.specs.Versions.{DoRise, as_committed, IsNoneUpTo, IsNewestOf, IsNoneAbove, IsLeastAbove};
+ghost use Rattle.version_chain.specs.Versions.{as_committed, IsNoneUpTo, IsNewestOf, IsNoneAbove, IsLeastAbove};
 ghost use Rattle.version_chain.specs.Chains.{AreFilled, found_in, chain_of, IsChangedAt};
-ghost use Rattle.version_chain.specs.Stores.{is_committed_in};
+ghost use Rattle.version_chain.specs.Stores.{is_committed_in, IsCountOf};
 ghost use Rattle.version_chain.specs.Following.{IsCommittedAt, IsFirstAmong, IsNoneAmong};
 ghost use Rattle.version_chain.specs.InSpans.{AreFound, AreFrom};
-ghost use Rattle.version_chain.specs.Dead.{is_dead_version, IsThinnedAt, AreDeadFound, TellsDead};
-ghost use Rattle.std.specs.List.{filter};
+ghost use Rattle.version_chain.specs.Dead.{is_dead_in, IsThinnedAt};
+ghost use Rattle.version_chain.specs.Indexes.{is_listed, IsTaken};
 ghost use Rattle.spans.proofs.Keyed.{RisingKeys};
-ghost use Rattle.spans.proofs.WriteSets.{has};
 
 use crate::chain::{Chain, Version};
 use crate::in_span::{InSpan, start_at};
+use crate::index::Index;
 use crate::steps::Steps;
 use spans::bound::Bound;
 use spans::span::Span;
 use std::alloc::{AllocError, Global};
 use std::collections::btree_map::Range;
-use std::collections::{BTreeMap, BTreeSet, btree_set};
+use std::collections::{BTreeMap, btree_set};
 use std::marker::Model;
 use std::ops;
 use timestamps::key::Key;
@@ -50,11 +50,6 @@ impl Chains {
             alloc,
             map: BTreeMap::new(alloc),
         }
-    }
-
-    /// Where it takes its memory from.
-    pub(crate) fn alloc(&self) -> Global {
-        self.alloc
     }
 
     /// The version of the key with the greatest timestamp at or below `t`.
@@ -177,59 +172,32 @@ impl Chains {
         was
     }
 
-    /// The chain of a key.
-    pub(crate) fn get(&self, key: &Key) -> Option<&Chain>
-        ensures { MatchOption result (chain_of self.now key.now ≡ []) (λ c. chain_of self.now key.now ≡ c.now) }
+    /// Whether the key has a version at `ts`.
+    pub(crate) fn has(&self, key: &Key, ts: u64) -> bool
+        ensures { result ≡ is_some (found_in self.now key.now ts) }
     {
-        self.map.get(key)
+        match self.newest_at(key, ts) {
+            None => false,
+            Some(version) => version.ts.get() == ts,
+        }
     }
 
-    /// Drops the versions of a key that are dead by the horizon, where `top` is the timestamp of the
-    /// newest committed one at or below that, and says how many.
-    pub(crate) fn drop_dead(&mut self, key: &Key, horizon: u64, top: u64) -> u64
-        ensures left { IsThinnedAt self.old self.new key.now horizon top }
-        ensures count { result ≡ length (filter (is_dead_version horizon top) (chain_of self.old key.now)) }
-        ensures rising { DoRise (chain_of self.old key.now) }
+    /// Drops the versions of a key that are dead by the horizon, takes it out of the index at their
+    /// timestamps, and says how many they are.
+    pub(crate) fn drop_dead(&mut self, key: &Key, horizon: u64, index: &mut Index) -> u64
+        ensures thinned { IsThinnedAt self.old self.new key.now horizon }
+        ensures counted { (n : ℕ) → IsCountOf self.old n → (result ≤ n) × IsCountOf self.new (n - result) }
+        ensures listed { (y : List ℕ) (i : ℕ) → is_listed index.new y i
+            ≡ (if bytes_eq key.now y && is_dead_in self.old horizon y i then false else is_listed index.old y i) }
+        ensures taken { (i : ℕ) → IsTaken index.old i → IsTaken index.new i }
     {
         let Some(chain) = self.map.get_mut(key) else {
             return 0;
         };
-        let dropped = chain.drop_dead(horizon, top);
+        let dropped = chain.drop_dead(horizon, key, index);
         if chain.is_empty() {
             self.map.remove(key);
         }
         dropped
-    }
-
-    /// Adds those of the keys whose newest committed version at or below the horizon is of `ts`, and
-    /// of which a version is dead by the horizon.
-    pub(crate) fn add_dead(
-        &self,
-        dead: &mut Vec<Key>,
-        keys: &BTreeSet<Key>,
-        ts: u64,
-        horizon: u64,
-    ) -> Result<(), AllocError>
-        ensures keeps { OnOk result ((y : List ℕ) → has y dead.old.items ≡ true → has y dead.new.items ≡ true) }
-        ensures adds { OnOk result (AreDeadFound self.now horizon ts keys.now dead.new.items) }
-    {
-        for key in keys {
-            if self.has_dead(key, ts, horizon) {
-                let key = key.copy()?;
-                dead.push(key)?;
-            }
-        }
-        Ok(())
-    }
-
-    /// Whether the newest committed version at or below the horizon is of `ts`, and a version of the
-    /// key is dead by the horizon.
-    fn has_dead(&self, key: &Key, ts: u64, horizon: u64) -> bool
-        ensures { TellsDead self.now horizon ts key.now result }
-    {
-        match self.map.get(key) {
-            None => false,
-            Some(chain) => chain.newest_committed(horizon) == ts && chain.has_dead(horizon, ts),
-        }
     }
 }

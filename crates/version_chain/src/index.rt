@@ -1,13 +1,16 @@
 //! Which keys have a version at each timestamp.
-ghost use Rattle.std.specs.Prelude.{◌≡◌, ℕ, List, false, OnOk, OnErr, ◌<◌, ◌≤◌};
+ghost use Rattle.std.specs.Prelude.{◌≡◌, ℕ, List, false, OnOk, OnErr, MatchOption, OnSome, if◌then◌else◌, ◌==◌, ◌<◌, ◌≤◌};
 ghost use Rattle.std.specs.Option.{option_copied};
 ghost use Rattle.version_chain.specs.Dead.{is_dead_at};
-ghost use Rattle.version_chain.specs.Indexes.{is_among, is_listed, listed_in, AreBetween, IsListedAt, IsUnlistedAt, IsUnlisted};
+ghost use Rattle.version_chain.specs.Indexes.{is_among, is_listed, listed_in, AreBetween, IsFirstBetween, IsListedAt, IsNoneBetween, IsTaken, IsUnlistedAt, IsUnlisted};
+ghost use Rattle.timestamps.specs.Bytes.{key_cmp};
+ghost use Rattle.std.specs.BTreeSet.{contains};
 
 use crate::chain::Version;
 use std::alloc::{AllocError, Global};
 use std::collections::btree_map::{Entry, Range};
 use std::collections::{BTreeMap, BTreeSet};
+use std::mem;
 use std::ops::Bound;
 use timestamps::key::Key;
 use timestamps::ts_key::TsKey;
@@ -49,22 +52,24 @@ impl Index {
         Ok(())
     }
 
-    /// Takes a key, where it is there, out at `ts`. It takes no memory.
+    /// Takes a key, where it is there, out at `ts`. It takes no memory. An entry whose keys are taken
+    /// stays, so that they can be put back.
     pub(crate) fn remove(&mut self, ts: u64, key: &Key)
-        ensures { IsUnlistedAt self.old self.new ts key.now }
+        ensures listed { IsUnlistedAt self.old self.new ts key.now }
+        ensures taken { (i : ℕ) → IsTaken self.old i → IsTaken self.new i }
     {
         let Some(keys) = self.keys.get_mut(&TsKey(ts)) else {
             return;
         };
-        keys.remove(key);
-        if keys.is_empty() {
+        if keys.remove(key) && keys.is_empty() {
             self.keys.remove(&TsKey(ts));
         }
     }
 
     /// Takes a key out at the timestamps of those of its versions that are dead by the horizon.
     pub(crate) fn remove_dead(&mut self, key: &Key, versions: &[Version], horizon: u64, top: u64)
-        ensures { IsUnlisted self.old self.new key.now (is_dead_at horizon top versions.now) }
+        ensures listed { IsUnlisted self.old self.new key.now (is_dead_at horizon top versions.now) }
+        ensures taken { (i : ℕ) → IsTaken self.old i → IsTaken self.new i }
     {
         for version in versions {
             if version.is_dead_by(horizon, top) {
@@ -73,11 +78,44 @@ impl Index {
         }
     }
 
+    /// Takes the keys of `ts`, where there are some, and leaves their entry in place.
+    pub(crate) fn take(&mut self, ts: u64) -> Option<BTreeSet<Key>>
+        ensures keys { (y : List ℕ) → is_among result y ≡ is_listed self.old y ts }
+        ensures others { (y : List ℕ) (i : ℕ) → is_listed self.new y i ≡ (if ts == i then false else is_listed self.old y i) }
+        ensures taken { OnSome result (IsTaken self.new ts) }
+    {
+        let keys = self.keys.get_mut(&TsKey(ts))?;
+        Some(mem::replace(keys, BTreeSet::new(self.alloc)))
+    }
+
+    /// Puts keys back in the place of those that were taken. It takes no memory.
+    pub(crate) fn put_back(&mut self, ts: u64, keys: BTreeSet<Key>)
+        requires { IsTaken self.old ts }
+        ensures { (y : List ℕ) (i : ℕ) → is_listed self.new y i ≡ (if ts == i then contains key_cmp keys y else is_listed self.old y i) }
+    {
+        if keys.is_empty() {
+            self.keys.remove(&TsKey(ts));
+        } else if let Some(place) = self.keys.get_mut(&TsKey(ts)) {
+            *place = keys;
+        }
+    }
+
     /// The keys of `ts`, where there are some.
     pub(crate) fn keys_at(&self, ts: u64) -> Option<&BTreeSet<Key>>
         ensures { (y : List ℕ) → is_among (option_copied result) y ≡ is_listed self.now y ts }
     {
         self.keys.get(&TsKey(ts))
+    }
+
+    /// The least timestamp above `after` and at or below `through` that has keys.
+    pub(crate) fn first_between(&self, after: u64, through: u64) -> Option<u64>
+        ensures { MatchOption result (IsNoneBetween self.now after through) (λ ts. IsFirstBetween self.now after through ts) }
+    {
+        if through <= after {
+            return None;
+        }
+        let (ts, _) = self.between(after, through).next()?;
+        Some(ts.0)
     }
 
     /// The timestamps above `after` and at or below `through`, rising, each with its keys.

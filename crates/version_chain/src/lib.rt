@@ -1,10 +1,15 @@
 //! The versions of every key: what each transaction wrote there, and whether it has committed.
 //!
-//! A [`Store`] is an ordered map from keys to chains, a [`Chain`](chain::Chain) a list of versions by
-//! rising timestamp. A key without a version isn't in the map. Beside the chains an index has, for each
-//! timestamp, the keys with a version there. A star marks what is committed:
+//! A [`Store`] is an ordered map from keys to chains, and beside it an index from timestamps to keys. A
+//! [`Chain`](chain::Chain) is a list of versions. A transaction's version is undecided until it commits.
+//!
+//! 1. A key is in the map exactly where it has a version, and the timestamps of its chain rise.
+//! 2. The index lists a key at a timestamp exactly where the key has a version there.
+//! 3. Nothing is dead by the horizon that the store keeps: that of the last collection, or one below what has been
+//!    committed under it since.
+//!
 //! ```text
-//!                            "apple"     "pear"     index                        versions
+//! * is committed             "apple"     "pear"     index                        versions
 //! write apple, pear at 30    30          30         30 apple pear                2
 //! write apple at 10          10  30      30         10 apple, 30 apple pear      3
 //! commit apple at 10         10* 30      30         10 apple, 30 apple pear      3    newest_at apple, 29 is 10*
@@ -12,20 +17,25 @@
 //!                                                                                     committed_after 30 apple is 30 pear
 //! drop what is dead by 30    30*         30*        30 apple pear                2    in_span - p is apple
 //! ```
-//! Of k keys and v versions of one, each search compares about log k keys and reads at most as many
-//! timestamps as v has binary digits; a commit and an abort do so and read up to two more, for each key
-//! that they are given, and an abort goes to the index. A write searches the chains once, twice for a key
-//! that had no version, and then the index once; it looks at the end of its chain first, and moves the
-//! versions above its own. A collection begins at the horizon of the last one, or below it where something
-//! has been committed there since. It goes through the keys that were written from there up to its own
-//! horizon, and looks in their chains at the versions that aren't above that. What goes leaves its place
-//! behind, and the versions above stay where they are: a chain is moved where half of its places are left
-//! over. What follows a place is read off the index, which is
-//! searched at the place; each version that it lists from there is a search, and the first that is
-//! committed ends it. The count is one read.
 //!
-//! A write and the list of what is dead alone need memory. A write that finds no room for its place in
-//! the index takes its version out again, and a collection makes its list before anything goes.
+//! Costs, with k keys, v versions of one of them, and n of all:
+//!
+//! - `newest_at`, `next_above`, `around`: O(log k), and at most as many timestamps as v has binary digits
+//! - `write`: O(log k + log v), twice O(log k) for a key that had no version, and O(log n) in the index; it looks at
+//!   the end of the chain first, and the versions above its own move
+//! - `commit`: O(log k + log v) for each key
+//! - `abort`, `remove`: O(log k + log v) and O(log n) in the index for each key, and the versions above move
+//! - `committed_after`: O(log n), and a search for each version that is listed from there to the first committed one
+//! - `in_span`: O(log k), and then each key as it is asked for
+//! - `drop_dead`: O(log n) for each version that was written since the horizon that the store keeps, up to its own, and
+//!   for each that goes
+//! - `versions`: O(1)
+//!
+//! A collection goes from timestamp to timestamp. It looks at what the chain of each key that is listed there has at
+//! or below the horizon. What goes leaves its place behind, and the versions above stay where they are: a chain is
+//! moved where half of its places are left over.
+//!
+//! A write alone takes memory. One that finds none for its place in the index takes its version out again.
 #![tactic(auto)]
 
 pub mod chain;

@@ -1,5 +1,5 @@
 //! The versions of all keys, by key.
-ghost use Rattle.std.specs.Prelude.{◌≡◌, ℕ, List, [], ◌∷◌, length, ◌<◌, ◌^◌, ◌≤◌, None, Some, MatchOption, IfOk, OnOk, OnErr, bytes_eq, true};
+ghost use Rattle.std.specs.Prelude.{◌≡◌, ℕ, List, [], ◌∷◌, length, ◌<◌, ◌^◌, ◌≤◌, None, Some, MatchOption, IfOk, OnOk, OnErr, is_some, true, false};
 ghost use Rattle.std.specs.Option.{option_copied};
 ghost use Rattle.std.specs.List.{filter};
 ghost use Rattle.std.specs.Map.{keys_of};
@@ -7,9 +7,8 @@ ghost use Rattle.spans.specs.Keys.{in_span};
 ghost use Rattle.spans.proofs.Keyed.{RisingKeys};
 ghost use Rattle.kept.specs.Finding.{IsNextAbove};
 ghost use Rattle.version_chain.specs.Following.{IsFirstFound};
-ghost use Rattle.version_chain.specs.Chains.{Entry, AreFilled};
-ghost use Rattle.spans.proofs.WriteSets.{has};
-ghost use Rattle.version_chain.specs.Dead.{is_dead_in, IsCollectedIn, AreThinned};
+ghost use Rattle.version_chain.specs.Chains.{Entry, AreFilled, found_in};
+ghost use Rattle.version_chain.specs.Dead.{is_dead_in, ArePartlyThinned, IsCollectedIn};
 ghost use Rattle.version_chain.specs.Stores.{version_in, IsCountOf, IsNewestIn, IsAsBefore, IsWrittenTo, IsCommittedIn, IsAbortedIn};
 
 use crate::chain::Version;
@@ -227,54 +226,36 @@ impl Store {
     /// Drops the versions that are dead by the horizon, and says how many: a committed one at or below
     /// it is dead where it is a delete or where a newer one of its key is committed at or below it. It
     /// looks at the keys that were written above the horizon of the last collection, or from what has
-    /// been committed below that since, and at what their chains have at or below its own. What is dead
-    /// is listed before anything goes; without room for that list nothing goes.
-    pub fn drop_dead(&mut self, horizon: u64) -> Result<u64, AllocError>
-        ensures ok { IfOk result (λ count. IsCollectedIn self.old self.new horizon count) }
-        ensures err { OnErr result (IsAsBefore self.old self.new) }
-    {
-        let keys = self.dead_keys(horizon)?;
-        Ok(self.thin_all(keys.as_slice(), horizon))
-    }
-
-    /// The keys of which a version is dead by the horizon.
-    fn dead_keys(&self, horizon: u64) -> Result<Vec<Key>, AllocError>
-        ensures { IfOk result (λ keys. (y : List ℕ) (i : ℕ) → is_dead_in self.now horizon y i ≡ true → has y keys.items ≡ true) }
-    {
-        let mut keys = Vec::new(self.chains.alloc());
-        if horizon <= self.dropped_through {
-            return Ok(keys);
-        }
-        for (ts, written) in self.index.between(self.dropped_through, horizon) {
-            self.chains.add_dead(&mut keys, written, ts.0, horizon)?;
-        }
-        Ok(keys)
-    }
-
-    /// Drops what is dead by the horizon, which the keys have, and says how many versions that was.
-    fn thin_all(&mut self, keys: &[Key], horizon: u64) -> u64
-        requires all { (y : List ℕ) (i : ℕ) → is_dead_in self.old horizon y i ≡ true → has y keys.now ≡ true }
+    /// been committed below that since, and at what their chains have at or below its own. It takes no
+    /// memory.
+    pub fn drop_dead(&mut self, horizon: u64) -> u64
         ensures { IsCollectedIn self.old self.new horizon result }
     {
         let before = self.count;
-        for key in keys {
-            self.thin(key, horizon);
+        let from = self.dropped_through;
+        let mut after = from;
+        while let Some(ts) = self.index.first_between(after, horizon) {
+            self.thin(ts, horizon);
+            after = ts;
         }
         self.dropped_through = self.dropped_through.max(horizon);
         before - self.count
     }
 
-    /// Drops the versions of a key that are dead by the horizon.
-    fn thin(&mut self, key: &Key, horizon: u64)
-        ensures { AreThinned self.old self.new (bytes_eq key.now) horizon }
+    /// Drops what is dead by the horizon of each key that has a version at `ts`.
+    fn thin(&mut self, ts: u64, horizon: u64)
+        ensures thinned { ArePartlyThinned self.old self.new horizon }
+        ensures settled { (y : List ℕ) (i : ℕ) → is_some (found_in self.new y ts) ≡ true → is_dead_in self.new horizon y i ≡ false }
     {
-        let Some(chain) = self.chains.get(key) else {
+        let Some(mut keys) = self.index.take(ts) else {
             return;
         };
-        let top = chain.newest_committed(horizon);
-        self.index
-            .remove_dead(key, chain.through(horizon), horizon, top);
-        self.count -= self.chains.drop_dead(key, horizon, top);
+        for key in &keys {
+            self.count -= self.chains.drop_dead(key, horizon, &mut self.index);
+        }
+        let chains = &self.chains;
+        keys.retain(|key| chains.has(key, ts));
+        self.index.put_back(ts, keys);
     }
 }
 

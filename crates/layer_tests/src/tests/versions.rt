@@ -191,7 +191,7 @@ impl Asked for Store {
     fn ask(&mut self, alloc: Global, mut words: Words<'_>, out: &mut Vec<u8>) -> Option<()> {
         match words.word().first() {
             Some(b'v') => put_number(alloc, out, self.versions()),
-            Some(b'd') => put_number(alloc, out, self.drop_dead(words.number()).ok()?),
+            Some(b'd') => put_number(alloc, out, self.drop_dead(words.number())),
             Some(b'n') => newest(alloc, self, &mut words, out),
             Some(b'l') => least(alloc, self, &mut words, out),
             Some(b'i') => keys_in(alloc, self, &mut words, out),

@@ -1,8 +1,11 @@
 use Rattle.std.proofs.Common.{◌≡◌, ◌&&◌, ℕ, List, cond, false, take}
 use Rattle.std.specs.Prelude.{bytes_eq}
 use Rattle.version_chain.specs.Dead.{is_dead_at}
-use Rattle.version_chain.specs.Indexes.{is_listed}
+use Rattle.version_chain.specs.Indexes.{is_listed, IsTaken}
 use Rattle.version_chain.proofs.index.Index.remove_dead.Given as goal
 
 abbrev pub invariant-loop-version : goal.invariant-loop-version
-invariant-loop-version l = (y : List ℕ) (i : ℕ) → is_listed l.self y i ≡ cond (bytes_eq l.key y && is_dead_at l.horizon l.top (take l.version-index l.versions) i) false (is_listed l.fn.self y i)
+invariant-loop-version l = record {
+  listed : (y : List ℕ) (i : ℕ) → is_listed l.self y i ≡ cond (bytes_eq l.key y && is_dead_at l.horizon l.top (take l.version-index l.versions) i) false (is_listed l.fn.self y i);
+  taken : (i : ℕ) → IsTaken l.fn.self i → IsTaken l.self i;
+}

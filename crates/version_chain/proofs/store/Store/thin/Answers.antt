@@ -1,32 +1,30 @@
-use Rattle.std.proofs.Common.{ap, sym, subst, ◌≡◌, ◌∙◌, ◌&&◌, cond, false}
-use Rattle.std.specs.Prelude.{bytes_eq}
-use Rattle.version_chain.specs.Dead.{is_dead_version, is_dead_at, newest_of, AreThinned}
-use Rattle.version_chain.specs.Chains.{chain_of}
-use Rattle.version_chain.specs.Indexes.{is_listed}
-use Rattle.version_chain.proofs.Chained.{same_low}
-use Rattle.version_chain.proofs.Counts.{counted_thinned}
-use Rattle.version_chain.proofs.Dead.{thinned}
-use Rattle.version_chain.proofs.Thinning.{indexed_thinned, there_thinned, settled_fewer, fewer_thinned}
+use Rattle.std.proofs.Common.{rules, subst, sym}
+use Rattle.std.proofs.lemmas.Fn.{filter_same}
+use Rattle.version_chain.specs.Indexes.{IsIndexOf}
+use Rattle.version_chain.proofs.Collecting.{IsThinning, thinning_first, thinning_next, thinning_ends, thinning_sound}
 use Rattle.version_chain.proofs.store.Store.thin.Goals as goal
 
+pub loop-key-init : goal.loop-key-init
+loop-key-init c = subst (λ es. IsThinning es c.self.inside.chains c.take.new.self c.args.ts c.args.horizon c.self.inside.count c.self.inside.dropped_through c.into_iter-key-iterator.result) c.self.view_is
+    (subst (IsThinning c.self.inside.chains c.self.inside.chains c.take.new.self c.args.ts c.args.horizon c.self.inside.count c.self.inside.dropped_through) (sym c.into_iter-key-iterator.ensures.into_iter_gives.0)
+    (thinning_first c.self.inside.chains c.self.inside.index c.take.new.self c.args.ts c.args.horizon c.self.inside.count c.self.inside.dropped_through c.in-Some.keys c.self.invariant c.in-Some.ensures.keys c.in-Some.ensures.others c.in-Some.ensures.taken))
+
 pub overflow_sub-self : goal.overflow_sub-self
-overflow_sub-self c =
-    (counted_thinned c.self.inside.chains c.drop_dead.new.self c.args.key.now (is_dead_version c.args.horizon c.newest_committed-top.result) c.drop_dead.result c.self.inside.count
-    (there_thinned c.self.inside.chains c.drop_dead.new.self c.args.key.now c.args.horizon c.newest_committed-top.result c.drop_dead.ensures.left) c.drop_dead.ensures.rising c.drop_dead.ensures.count c.self.invariant.counted).0
+overflow_sub-self c = (c.drop_dead.ensures.counted c.loop-key.self-inside.count c.loop-key.invariant.counted).0
 
-pub invariant_of-self : goal.invariant_of-self
-invariant_of-self c = record {
-  counted = (counted_thinned c.self.inside.chains c.drop_dead.new.self c.args.key.now (is_dead_version c.args.horizon c.newest_committed-top.result) c.drop_dead.result c.self.inside.count
-      (there_thinned c.self.inside.chains c.drop_dead.new.self c.args.key.now c.args.horizon c.newest_committed-top.result c.drop_dead.ensures.left) c.drop_dead.ensures.rising c.drop_dead.ensures.count c.self.invariant.counted).1;
-  indexed = indexed_thinned c.self.inside.chains c.drop_dead.new.self c.self.inside.index c.remove_dead.new.self c.args.key.now c.args.horizon c.newest_committed-top.result c.drop_dead.ensures.left c.drop_dead.ensures.rising
-      (λ y i. c.remove_dead.ensures y i ∙ ap (λ b. cond (bytes_eq c.args.key.now y && b) false (is_listed c.self.inside.index y i))
-      (ap (λ vs. is_dead_at c.args.horizon c.newest_committed-top.result vs i) c.through.ensures ∙ same_low c.args.horizon c.newest_committed-top.result c.in-Some.chain.now i ∙ ap (λ vs. is_dead_at c.args.horizon c.newest_committed-top.result vs i) (sym c.in-Some.ensures)))
-      c.self.invariant.indexed;
-  settled = settled_fewer c.self.inside.chains c.drop_dead.new.self c.self.inside.dropped_through (λ y i low done. fewer_thinned c.self.inside.chains c.drop_dead.new.self c.args.key.now c.args.horizon c.newest_committed-top.result c.drop_dead.ensures.left y i done) c.self.invariant.settled;
-}
+pub loop-key-preserved : goal.loop-key-preserved
+loop-key-preserved c = thinning_next c.args.self.now c.loop-key.self-inside.chains c.drop_dead.new.self c.loop-key.self-inside.index c.drop_dead.new.index c.args.ts c.args.horizon c.loop-key.self-inside.count c.loop-key.self-inside.dropped_through c.drop_dead.result c.in-Some-key.key.now
+    c.loop-key.key-iterator c.next.new.self c.in-Some-key.ensures.steps c.drop_dead.ensures.thinned c.drop_dead.ensures.counted c.drop_dead.ensures.listed c.drop_dead.ensures.taken c.loop-key.invariant
 
-pub returns : goal.returns
-returns c =
-    let top : c.newest_committed-top.result ≡ newest_of (chain_of c.self.inside.chains c.args.key.now) c.args.horizon = c.newest_committed-top.ensures ∙ ap (λ vs. newest_of vs c.args.horizon) (sym c.in-Some.ensures) in
-    subst (λ es. AreThinned es c.drop_dead.new.self (bytes_eq c.args.key.now) c.args.horizon) c.self.view_is
-    (thinned c.self.inside.chains c.drop_dead.new.self c.args.key.now c.args.horizon c.newest_committed-top.result top c.drop_dead.ensures.left)
+pub put_back-requires : goal.put_back-requires
+put_back-requires c = c.loop-key.invariant.taken
+
+pub invariant_of-self-2 : goal.invariant_of-self-2
+invariant_of-self-2 c = thinning_sound c.args.self.now c.loop-key.self-inside.chains c.self.inside.index c.loop-key.self-inside.index c.put_back.new.self c.args.ts c.args.horizon c.loop-key.self-inside.count c.loop-key.self-inside.dropped_through c.in-Some.keys c.retain.new.self
+    c.loop-key.key-iterator (subst (λ es. IsIndexOf es c.self.inside.index) c.self.view_is c.self.invariant.indexed) c.in-Some.ensures.keys (filter_same _ _ _ (λ x b f' k. search rules) _ _ c.retain.ensures.filtered) c.put_back.ensures c.loop-key.invariant
+
+pub returns-clause-thinned : goal.returns-clause-thinned
+returns-clause-thinned c = c.loop-key.invariant.partly
+
+pub returns-clause-settled : goal.returns-clause-settled
+returns-clause-settled c = thinning_ends c.args.self.now c.loop-key.self-inside.chains c.loop-key.self-inside.index c.args.ts c.args.horizon c.loop-key.self-inside.count c.loop-key.self-inside.dropped_through c.loop-key.key-iterator (sym c.in-None.ensures.steps.0) c.loop-key.invariant

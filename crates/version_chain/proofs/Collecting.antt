@@ -1,0 +1,186 @@
+-- A collection: from key to key, and from timestamp to timestamp.
+use Rattle.std.proofs.Common.{◌≡◌, ℕ, ◌<◌, ◌+◌, ◌-◌, ◌≤◌, ◌⊎◌, ◌==◌, Bool, true, false, cond, ◌&&◌, List, [], ◌∷◌, length, Option, Some, None, refl, sym, ◌∙◌, ap, inl, inr, arith}
+use Rattle.std.specs.Prelude.{bytes_eq, is_some, not}
+use Rattle.std.specs.List.{filter, list_any}
+use Rattle.std.specs.BTreeMap.{is_at}
+use Rattle.std.specs.BTreeSet.{BTreeSet, contains}
+use Rattle.std.proofs.lemmas.Bool.{and_parts, both_ways, cases_lt, eqb-true}
+use Rattle.std.proofs.Math.Bool.{and-false, and-true}
+use Rattle.std.proofs.lemmas.Cmp.{eq_by_cmp_equiv, nat_list_cmp_total}
+use Rattle.std.proofs.lemmas.List.Filters.{length-filter_both}
+use Rattle.std.proofs.lemmas.Map.Made.{is_member-filter}
+use Rattle.timestamps.specs.Bytes.{key_cmp}
+use Rattle.spans.specs.Collection.{VersionName}
+use Rattle.spans.proofs.Members.{same_length, has_filter, distinct_filter}
+use Rattle.spans.proofs.Steps.{by_test}
+use Rattle.version_chain.specs.declared.chain.Version.{Version}
+use Rattle.version_chain.specs.declared.index.Index.{Index}
+use Rattle.version_chain.specs.Chains.{chain_of, found_in}
+use Rattle.version_chain.specs.Stores.{Stored, after_of, is_committed, version_in, IsCountOf}
+use Rattle.version_chain.specs.Dead.{is_dead_in, is_dropped_in, newest_of, ArePartlyThinned, IsThinnedAt, IsCollectedIn}
+use Rattle.version_chain.specs.Indexes.{is_listed, IsFirstBetween, IsIndexOf, IsNoneBetween, IsSound, IsTaken}
+use Rattle.version_chain.proofs.Dead.{top_above, unless_true}
+use Rattle.version_chain.proofs.Indexes.{next_or_rest, same_at}
+use Rattle.version_chain.proofs.Thinning.{done_some, found_before, partly_more, partly_next, partly_none, partly_one, settled_here, settled_partly, settled_still}
+
+-- ---- the keys of one timestamp
+
+-- es became fs, while the keys of t are taken out of the index: nothing is dead by n any more of those that aren't among the rest
+pub record IsThinning (es fs : Stored) (index : Index) (t n count from : ℕ) (rest : List (List ℕ)) : Type 0 where
+  pub partly : ArePartlyThinned es fs n
+  pub settled : (y : List ℕ) → is_some (found_in es y t) ≡ true → ((i : ℕ) → is_dead_in fs n y i ≡ false) ⊎ (list_any (is_at (key_cmp y)) rest ≡ true)
+  pub before : (y : List ℕ) (i : ℕ) → is_dead_in es from y i ≡ false
+  pub counted : IsCountOf fs count
+  pub listed : (y : List ℕ) (i : ℕ) → is_listed index y i ≡ cond (t == i) false (is_some (found_in fs y i))
+  pub taken : IsTaken index t
+
+pub thinning_first : (es : Stored) (index index' : Index) (t n count from : ℕ) (keys : BTreeSet (List ℕ)) → IsSound es index count from → ((y : List ℕ) → contains key_cmp keys y ≡ is_listed index y t)
+    → ((y : List ℕ) (i : ℕ) → is_listed index' y i ≡ cond (t == i) false (is_listed index y i)) → IsTaken index' t → IsThinning es es index' t n count from keys.keys
+thinning_first es index index' t n count from keys sound among others taken = record {
+  partly = partly_none es n;
+  settled = λ y some. inr (among y ∙ sound.indexed y t ∙ some);
+  before = sound.settled;
+  counted = sound.counted;
+  listed = λ y i. others y i ∙ ap (cond (t == i) false) (sound.indexed y i);
+  taken = taken;
+}
+
+pub thinning_next : (es fs gs : Stored) (index index' : Index) (t n count from r : ℕ) (x : List ℕ) (rest more : List (List ℕ)) → rest ≡ x ∷ more → IsThinnedAt fs gs x n → ((m : ℕ) → IsCountOf fs m → (r ≤ m) × IsCountOf gs (m - r))
+    → ((y : List ℕ) (i : ℕ) → is_listed index' y i ≡ cond (bytes_eq x y && is_dead_in fs n y i) false (is_listed index y i)) → ((i : ℕ) → IsTaken index i → IsTaken index' i)
+    → IsThinning es fs index t n count from rest → IsThinning es gs index' t n (count - r) from more
+thinning_next es fs gs index index' t n count from r x rest more is thin fewer less still s = record {
+  partly = partly_next es fs gs x n s.partly thin;
+  settled = λ y some. elim (s.settled y some) [
+    | inl none ↦ inl (λ i. settled_still fs gs n (partly_one fs gs x n thin) y i (none i))
+    | inr any ↦ (elim (next_or_rest x y rest more is any) [
+      | inl here ↦ inl (λ i. ap (λ z. is_dead_in gs n z i) here ∙ settled_here fs gs x n thin i)
+      | inr later ↦ inr later
+    ])
+  ];
+  before = s.before;
+  counted = (fewer count s.counted).1;
+  listed = λ y i. less y i ∙ ap (cond (bytes_eq x y && is_dead_in fs n y i) false) (s.listed y i) ∙ left (bytes_eq x y && is_dead_in fs n y i) (t == i) (found_in fs y i) ∙ ap (λ o. cond (t == i) false (is_some o)) (sym (thin y i));
+  taken = still t s.taken;
+}
+  where
+    left : (a b : Bool) (o : Option Version) → cond a false (cond b false (is_some o)) ≡ cond b false (is_some (cond a None o))
+    left true true o = refl
+    left true false o = refl
+    left false b o = refl
+
+-- where none is left, nothing is dead of the keys with a version at t
+pub thinning_ends : (es fs : Stored) (index : Index) (t n count from : ℕ) (rest : List (List ℕ)) → [] ≡ rest → IsThinning es fs index t n count from rest → (y : List ℕ) (i : ℕ) → is_some (found_in fs y t) ≡ true → is_dead_in fs n y i ≡ false
+thinning_ends es fs index t n count from rest none s y i some = elim (s.settled y (ap is_some (sym (found_before es fs n s.partly y t some)) ∙ some)) [
+  | inl settled ↦ settled i
+  | inr any ↦ absurd (let no : false ≡ true = ap (list_any (is_at (key_cmp y))) none ∙ any in (let f : false ≡ true = no in cc))
+]
+
+-- those of the keys that still have a version at t were put back
+pub thinning_sound : (es fs : Stored) (index index' index'' : Index) (t n count from : ℕ) (keys kept : BTreeSet (List ℕ)) (rest : List (List ℕ)) → IsIndexOf es index → ((y : List ℕ) → contains key_cmp keys y ≡ is_listed index y t)
+    → kept.keys ≡ filter (λ x. is_some (found_in fs x t)) keys.keys → ((y : List ℕ) (i : ℕ) → is_listed index'' y i ≡ cond (t == i) (contains key_cmp kept y) (is_listed index' y i)) → IsThinning es fs index' t n count from rest → IsSound fs index'' count from
+thinning_sound es fs index index' index'' t n count from keys kept rest indexed among filtered back s = record {
+  counted = s.counted;
+  indexed = λ y i. back y i ∙ by_test (t == i)
+      (λ here. rw here (stays y ∙ ap (λ j. is_some (found_in fs y j)) (eqb-true t i here)))
+      (λ there. rw there (s.listed y i ∙ (rw there refl)));
+  settled = settled_partly es fs from n s.partly s.before;
+}
+  where
+    -- a key that passes a test is among those that pass
+    among_those : (y : List ℕ) (xs : List (List ℕ)) → list_any (is_at (key_cmp y)) (filter (λ x. is_some (found_in fs x t)) xs) ≡ (list_any (is_at (key_cmp y)) xs && is_some (found_in fs y t))
+    among_those y xs = is_member-filter (eq_by_cmp_equiv nat_list_cmp_total) (λ x. is_some (found_in fs x t)) y (λ x same. ap (λ z. is_some (found_in fs z t)) (same_at x y same)) xs
+
+    old : (y : List ℕ) → (contains key_cmp keys y && is_some (found_in fs y t)) ≡ is_some (found_in fs y t)
+    old y = by_test (is_some (found_in fs y t))
+        (λ on. ap (λ b. b && is_some (found_in fs y t)) (among y ∙ indexed y t ∙ ap is_some (sym (found_before es fs n s.partly y t on)) ∙ on))
+        (λ off. ap (λ b. contains key_cmp keys y && b) off ∙ and-false (contains key_cmp keys y) ∙ sym off)
+
+    stays : (y : List ℕ) → contains key_cmp kept y ≡ is_some (found_in fs y t)
+    stays y = ap (list_any (is_at (key_cmp y))) filtered ∙ among_those y keys.keys ∙ old y
+
+-- ---- from one timestamp to the next
+
+-- es became fs: nothing is dead by n any more of the keys with a version above m and at or below a
+pub record AreThinnedTo (es fs : Stored) (m a n : ℕ) : Type 0 where
+  pub partly : ArePartlyThinned es fs n
+  pub settled : (y : List ℕ) (t i : ℕ) → m < t → t ≤ a → is_some (found_in fs y t) ≡ true → is_dead_in fs n y i ≡ false
+
+pub thinned_next : (es fs gs : Stored) (index : Index) (m a b n : ℕ) → IsIndexOf fs index → IsFirstBetween index a n b → ArePartlyThinned fs gs n → ((y : List ℕ) (i : ℕ) → is_some (found_in gs y b) ≡ true → is_dead_in gs n y i ≡ false)
+    → AreThinnedTo es fs m a n → AreThinnedTo es gs m b n
+thinned_next es fs gs index m a b n indexed first more here done = record {
+  partly = partly_more es fs gs n done.partly more;
+  settled = λ y t i above low some.
+      let was : is_some (found_in fs y t) ≡ true = ap is_some (sym (found_before fs gs n more y t some)) ∙ some in
+      elim (cases_lt a t) [
+        | inr early ↦ settled_still fs gs n more y i (done.settled y t i above early was)
+        | inl late ↦ (elim (cases_lt t b) [
+          | inl between ↦ absurd (both_ways _ (sym (indexed y t) ∙ first.first y t late between) was)
+          | inr from ↦ (let same : t ≡ b = omega arith in here y i (ap (λ j. is_some (found_in gs y j)) (sym same) ∙ some))
+        ])
+      ];
+}
+
+-- where no timestamp is left nothing is dead
+pub thinned_all : (es fs : Stored) (index : Index) (m a n : ℕ) → IsIndexOf fs index → IsNoneBetween index a n → ((y : List ℕ) (i : ℕ) → is_dead_in es m y i ≡ false) → AreThinnedTo es fs m a n → (y : List ℕ) (i : ℕ) → is_dead_in fs n y i ≡ false
+thinned_all es fs index m a n indexed none before done y i = unless_true _ (λ dead.
+    let top = top_above (found_in fs y) m n i (settled_partly es fs m n done.partly before y) dead in
+    let some : is_some (found_in fs y (newest_of (chain_of fs y) n)) ≡ true = done_some (found_in fs y (newest_of (chain_of fs y) n)) top.1 in
+    elim (cases_lt a (newest_of (chain_of fs y) n)) [
+      | inl late ↦ both_ways _ (sym (indexed y (newest_of (chain_of fs y) n)) ∙ none y (newest_of (chain_of fs y) n) late top.2) some
+      | inr early ↦ both_ways _ (done.settled y (newest_of (chain_of fs y) n) i top.0 early some) dead
+    ])
+
+-- then all that was dead is gone
+pub all_gone : (es fs : Stored) (n : ℕ) → ArePartlyThinned es fs n → ((y : List ℕ) (i : ℕ) → is_dead_in fs n y i ≡ false) → (y : List ℕ) (i : ℕ) → found_in fs y i ≡ cond (is_dead_in es n y i) None (found_in es y i)
+all_gone es fs n thin none y i = thin.found y i ∙ ap (λ b. cond (is_dead_in es n y i && not b) None (found_in es y i)) (none y i) ∙ ap (λ b. cond b None (found_in es y i)) (and-true (is_dead_in es n y i))
+
+pub collected : (es fs : Stored) (n before after : ℕ) → ((y : List ℕ) (i : ℕ) → found_in fs y i ≡ cond (is_dead_in es n y i) None (found_in es y i)) → IsCountOf es before → IsCountOf fs after → (after ≤ before) × IsCollectedIn es fs n (before - after)
+collected es fs n before after left c d =
+    let gone = filter (is_dropped_in es n) c.versions in
+    let kept = filter (λ v. not (is_dropped_in es n v)) c.versions in
+    let both : length gone + length kept ≡ length c.versions = length-filter_both (is_dropped_in es n) (λ v. not (is_dropped_in es n v)) (λ v. refl) c.versions in
+    let first : length c.versions ≡ before = c.count in
+    let second : length d.versions ≡ after = d.count in
+    let same : length kept ≡ length d.versions = same_length kept d.versions (distinct_filter (λ v. not (is_dropped_in es n v)) c.versions c.all.distinct) d.all.distinct (λ v.
+    let h = has_filter (λ v. not (is_dropped_in es n v)) v c.versions in (
+      λ i. (d.all.each v).1 (still v ∙ kept_there (is_dead_in es n v.key v.ts) (is_some (version_in es v.key v.ts)) (h.0 i).0 ((c.all.each v).0 (h.0 i).1)),
+      λ i. (let b = and_parts (not (is_dead_in es n v.key v.ts)) (is_some (version_in es v.key v.ts)) (sym (still v) ∙ (d.all.each v).0 i) in h.1 (there_kept (is_dead_in es n v.key v.ts) (is_some (version_in es v.key v.ts)) b.0 b.1, (c.all.each v).1 b.1)),
+    )) in (
+      omega arith,
+      record {
+        version = λ y i. ap after_of (left y i) ∙ after_left (is_dead_in es n y i) (found_in es y i);
+        committed = λ y i b is. ap is_committed (left y i) ∙ by_test (is_dead_in es n y i)
+            (λ on. absurd (let none : found_in fs y i ≡ None = left y i ∙ (rw on refl) in let no : None ≡ Some b = sym (ap after_of none) ∙ is in cc))
+            (λ off. rw off refl);
+        dropped = gone;
+        those = record {
+          distinct = distinct_filter (is_dropped_in es n) c.versions c.all.distinct;
+          each = λ v. let h = has_filter (is_dropped_in es n) v c.versions in (
+            λ i. (h.0 i).0,
+            λ e. h.1 (e, (c.all.each v).1 (and_parts (is_some (version_in es v.key v.ts)) (is_dead_in es n v.key v.ts) e).0),
+          );
+        };
+        counted = omega arith;
+      },
+    )
+  where
+    after_left : (b : Bool) (o : Option Version) → after_of (cond b None o) ≡ cond b None (after_of o)
+    after_left true o = refl
+    after_left false o = refl
+
+    some_left : (b : Bool) (o : Option Version) → is_some (after_of (cond b None o)) ≡ (not b && is_some (after_of o))
+    some_left true o = refl
+    some_left false o = refl
+
+    still : (v : VersionName) → is_some (version_in fs v.key v.ts) ≡ (not (is_dead_in es n v.key v.ts) && is_some (version_in es v.key v.ts))
+    still v = ap (λ o. is_some (after_of o)) (left v.key v.ts) ∙ some_left (is_dead_in es n v.key v.ts) (found_in es v.key v.ts)
+
+    kept_there : (s t : Bool) → not (t && s) ≡ true → t ≡ true → (not s && t) ≡ true
+    kept_there true true e f = e
+    kept_there true false e f = f
+    kept_there false t e f = f
+
+    there_kept : (s t : Bool) → not s ≡ true → t ≡ true → not (t && s) ≡ true
+    there_kept true t e f = (let no : false ≡ true = e in cc)
+    there_kept false true e f = refl
+    there_kept false false e f = refl
