@@ -5,7 +5,6 @@
 //! keys may be joined: from the greatest version that was read there to the least of the next ones.
 ghost use Rattle.std.specs.Prelude.{◌≡◌, ◌++◌, ◌∷◌, [], IfOk, OnOk};
 
-use crate::spot::bound_at;
 use read_marks::Piece;
 use spans::bound::Bound;
 use spans::span::Span;
@@ -50,7 +49,7 @@ impl Cut {
     pub(crate) fn pass(&mut self, alloc: Global, key: &Key) -> Result<(), AllocError>
         ensures { OnOk result (IsPassed self.old self.new key.now) }
     {
-        let hi = bound_at(alloc, key)?;
+        let hi = Bound::of_key(key)?;
         let next = Bound::successor(alloc, key)?;
         let lo = mem::replace(&mut self.lo, Some(next));
         let span = Span { lo, hi: Some(hi) };

@@ -35,8 +35,8 @@
 //! - `read_at`: O(log k + log v); `scan_at`: O(log k), and O(log v) for each key that it meets
 //!
 //! A read copies readers that its key shares with others, and goes over all spans once these have doubled. Memory:
-//! `begin`, reads, writes and `collect` take it, but for writes that are too late and reads that are blocked. The
-//! others take none.
+//! `begin`, reads and writes take it, but for writes that are too late and reads that are blocked. The others take
+//! none.
 #![tactic(auto)]
 
 mod cut;

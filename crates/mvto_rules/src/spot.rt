@@ -11,20 +11,10 @@ use timestamps::key::Key;
 pub(crate) fn span_of(alloc: Global, key: &Key) -> Result<Span, AllocError>
     ensures { IfOk result (λ span. (x : List ℕ) → in_span span x ≡ bytes_eq key.now x) }
 {
-    let lo = bound_at(alloc, key)?;
+    let lo = Bound::of_key(key)?;
     let hi = Bound::successor(alloc, key)?;
     Ok(Span {
         lo: Some(lo),
         hi: Some(hi),
     })
-}
-
-/// The bound of a key's bytes.
-pub(crate) fn bound_at(alloc: Global, key: &Key) -> Result<Bound, AllocError>
-    ensures { IfOk result (λ bound. bound ≡ key.now) }
-{
-    match Bound::new(alloc, key.bytes()) {
-        Ok(bound) => Ok(bound),
-        Err(_) => Err(AllocError),
-    }
 }

@@ -102,6 +102,13 @@ parts_hold lo hi (k ∷ ks) rising x = by_test (from_low lo k && below_high hi k
     (λ outside. rw (outside, parts_hold lo hi ks rising.1 x) (apart_from_key (from_low lo x && below_high hi x) (bytes_eq k x) (has x ks)
     (λ same. subst (λ y. (from_low lo y && below_high hi y) ≡ false) (same_key k x same) outside)))
 
+-- at most one more than the keys
+pub parts_few : (lo hi : Option (List ℕ)) (ks : List (List ℕ)) → length (parts lo hi ks) ≤ suc (length ks)
+parts_few lo hi [] = omega arith
+parts_few lo hi (k ∷ ks) = by_test (from_low lo k && below_high hi k)
+    (λ inside. rw inside (omega (arith, parts_few (Some (successor k)) hi ks)))
+    (λ outside. rw outside (omega (arith, parts_few lo hi ks)))
+
 held_at : (spans : List Span) (j : ℕ) (d : Span) (x : List ℕ) → j < length spans → in_span (get_or spans j d) x ≡ true → is_held spans x ≡ true
 held_at [] j d x low inside = absurd (omega arith)
 held_at (s ∷ ss) zero d x low inside = or_left _ _ inside

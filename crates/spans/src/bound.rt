@@ -129,6 +129,14 @@ impl Bound {
         }
     }
 
+    /// The bound at which a key begins: its bytes.
+    pub fn of_key(key: &Key) -> Result<Bound, AllocError>
+        ensures { IfOk result (λ b. b ≡ key.now) }
+    {
+        let key = key.copy()?;
+        Ok(Bound::short(key))
+    }
+
     /// The least bound above the key: its bytes and a zero byte.
     pub fn successor(alloc: Global, key: &Key) -> Result<Bound, AllocError>
         ensures bytes { IfOk result (λ b. b ≡ successor key.now) }

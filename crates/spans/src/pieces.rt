@@ -1,5 +1,5 @@
 //! What is left of a span where some keys are taken out.
-ghost use Rattle.std.specs.Prelude.{◌≡◌, ◌&&◌, ℕ, List, not, IfOk};
+ghost use Rattle.std.specs.Prelude.{◌≡◌, ◌≤◌, ◌&&◌, suc, ℕ, List, length, not, IfOk};
 ghost use Rattle.spans.specs.Keys.{in_span};
 ghost use Rattle.std.specs.List.Sorted.{IsStrictlySortedBy};
 ghost use Rattle.timestamps.specs.Bytes.{key_cmp};
@@ -19,12 +19,13 @@ impl Span {
         ensures held { IfOk result (λ spans. (x : List ℕ) →
             is_held spans.items x ≡ (in_span self.now x && not (is_among x keys.now))) }
         ensures apart { IfOk result (λ spans. NoneOverlap spans.items) }
+        ensures few { IfOk result (λ spans. length spans.items ≤ suc (length keys.now)) }
     {
         let mut pieces = Vec::new(alloc);
         let mut lo = copy_bound(&self.lo)?;
         for key in keys {
             if is_from(&lo, key) && is_below(&self.hi, key) {
-                let hi = bound_at(alloc, key)?;
+                let hi = Bound::of_key(key)?;
                 let next = Bound::successor(alloc, key)?;
                 let lo = mem::replace(&mut lo, Some(next));
                 pieces.push(Span { lo, hi: Some(hi) })?;
@@ -33,15 +34,5 @@ impl Span {
         let hi = copy_bound(&self.hi)?;
         pieces.push(Span { lo, hi })?;
         Ok(pieces)
-    }
-}
-
-/// The bound of a key's bytes.
-fn bound_at(alloc: Global, key: &Key) -> Result<Bound, AllocError>
-    ensures { IfOk result (λ b. b ≡ key.now) }
-{
-    match Bound::new(alloc, key.bytes()) {
-        Ok(bound) => Ok(bound),
-        Err(_) => Err(AllocError),
     }
 }

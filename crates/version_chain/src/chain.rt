@@ -65,7 +65,14 @@ impl Chain {
         self.versions.as_slice()
     }
 
-    /// The timestamp of the version at place `i`: one step.
+    /// How many versions there are.
+    pub fn len(&self) -> usize
+        ensures { result ≡ length self.now }
+    {
+        self.all().len()
+    }
+
+    /// The timestamp of the version at place `i`, below the length: one step.
     pub fn ts_at(&self, i: usize, steps: &mut Steps) -> u64
         requires { i < length self.now }
         ensures ts { (d : Version) → result ≡ (slice_index_or self.now i d).ts }
