@@ -21,7 +21,7 @@ impl Layers {
         }
         let protection = self.closing.least_protection();
         let floor = self.feeds.least_floor();
-        let horizon = reached(self.horizon, to, self.closing.closed(), protection, floor);
+        let horizon = horizon_reached(self.horizon, to, self.closing.closed(), protection, floor);
         self.horizon = horizon;
         let removed = self.rules.collect(horizon);
         Reply::Collected { horizon, removed }
@@ -30,7 +30,7 @@ impl Layers {
 
 /// The horizon that a collection through `to` reaches: no protection and no feed's floor is passed, and
 /// it never falls.
-pub(crate) fn reached(
+fn horizon_reached(
     horizon: u64,
     to: u64,
     closed: u64,

@@ -1,12 +1,12 @@
 //! The database on one thread: every command of every seat, one at a time.
 //!
 //! [`Engine::step`] answers a seat's command by the layers below: the rules over versions, marks of readers and
-//! transactions; what is closed and protected; the rows that are held back for feeds, and the feeds. The
-//! threads' layer calls it under its lock. Its contract speaks of histories alone: an engine stands for a legal
-//! history, newest event first, and after a step for one event more.
+//! transactions; the closed timestamp and the protections; the rows that are held back for feeds, and the feeds.
+//! `shared_db` calls it under its lock, and `embedded` without one. Its contract speaks of histories alone: an engine
+//! stands for a legal history, newest event first, and after a step for one event more.
 //!
-//! 1. The layers hold what is kept of some legal history of as many events as there were steps. What a layer asks
-//!    of its caller follows from that history, and no other invariant ties the layers.
+//! 1. The layers hold what is kept of some legal history of as many events as there were steps. Each layer's conditions
+//!    on its caller follow from that history. Nothing else ties the layers.
 //! 2. Rows that were committed above closed are held back, or the set that holds them knows where one was lost. Where
 //!    no feed lives at a commit, its rows count as lost: a feed that is opened later finds them in the store.
 //! 3. The ring of a feed that isn't behind has the rows at or below closed that it has still to tell.
@@ -24,23 +24,22 @@
 //! collect 30 by seat 1                 10*                           30       30        at 30   ring
 //! ```
 //!
-//! Cost, where n is all that is held, v and m the versions and the marks of a key, and f the feeds that live:
+//! Costs, where n is all that is held, v and m the versions and the marks of a key, and f the feeds that live:
 //!
-//! ```text
-//! begin, protect, release, open, cancel    O(log n)
-//! get, put, del, readat                    O(log n + log v + log m), and the readers or versions above theirs move
-//! scan, scanat                             O(log n), and as a get for each key and each marked span that it meets
-//! commit, abort                            O(log n + log v) for each key written
-//! close, closehard                         O(log n) for each transaction and each row that became closed; each such row asks f feeds
-//! collect                                  O(log n) for each version written since the last horizon, up to its own
-//! poll                                     O(log n), and what it tells; from the store a search for each row
-//! stats, steps, closed, behind             O(log n)
-//! ```
+//! - `begin`, `protect`, `release`, `open`, `cancel`: O(log n)
+//! - `get`, `put`, `del`, `readat`: O(log n + log v + log m), and a move of the readers or versions above the new one
+//! - `scan`, `scanat`: O(log n), and as a get for each key and each marked span that it meets
+//! - `commit`, `abort`: O(log n + log v) for each key written
+//! - `close`, `closehard`: O(log n) for each transaction that is forgotten, and O(log n + log f) for each row that became
+//!   closed, and the feeds whose spans hold its key
+//! - `collect`: O(log n) for each version written since the last horizon, up to its own
+//! - `poll`: O(log n), and its messages; from the store a search for each row
+//! - `stats`, `steps`, `closed`, `behind`: O(log n)
 //!
-//! Memory is taken by begin, get, scan, put, del, readat, scanat, protect, open and poll, before anything
-//! changes: where it is wanting they answer so, and all is as it was. Collect, release, cancel and stats take
-//! none. Commit, abort, close and closehard can't be refused it: a row that finds no memory at a commit is lost
-//! to what is held back, and one that finds none at a closing sends feeds behind, which then read it in the store.
+//! Memory: begin, get, scan, put, del, readat, scanat, protect, open and poll take it before anything changes. Without it
+//! they answer so, and all is as it was. Abort, collect, release, cancel and stats take none. Commit, close and closehard
+//! go on without it: a row that finds no memory at a commit is lost to the held back rows, and a row that finds none at a
+//! closing sends feeds behind, which then read it in the store.
 #![tactic(auto)]
 
 ghost use Rattle.std.specs.Prelude.{◌≡◌, ℕ, List, ◌∷◌, [], ◌+◌, ◌<◌, ◌≤◌, is_some, length};
