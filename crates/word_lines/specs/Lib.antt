@@ -5,6 +5,7 @@ pub mod Spelling
 pub mod Words
 pub mod Table
 pub mod Reading
+pub mod Memory
 pub mod Commands
 pub mod Replies
 pub mod Events

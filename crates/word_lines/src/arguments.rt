@@ -1,4 +1,6 @@
 //! The words of a command read as what it takes, from left to right.
+ghost use Rattle.std.specs.Prelude.{◌≢◌, IfErr};
+ghost use Rattle.word_lines.specs.declared.fault.ReadError.TheVariants.{NoMemory};
 ghost use Rattle.word_lines.specs.Reading.{Takes, number_at, key_at, value_at, bound_at, span_at};
 
 use crate::fault::{LineFault, ReadError};
@@ -16,7 +18,8 @@ use timestamps::value::{Value, ValueError};
 #[inline(always)]
 #[tactic(auto, unfolding(crate::specs::Reading::number_at))]
 pub fn take_number(words: &mut Words) -> Result<u64, ReadError>
-    ensures { Takes result words.new (number_at words.old) }
+    ensures exact { Takes result words.new (number_at words.old) }
+    ensures memory { IfErr result (λ e. e ≢ NoMemory) }
 {
     let word = words.take_word().ok_or(LineFault::WordCount)?;
     let number = number_of(word).ok_or(LineFault::Number)?;

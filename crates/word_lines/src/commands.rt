@@ -1,7 +1,9 @@
 //! Commands as lines: the session's number, the command's name and its arguments.
 
-ghost use Rattle.std.specs.Prelude.{◌≡◌, ◌++◌, ◌∷◌, [], ◌<◌, decimal, IfOk, OnOk, OnErr};
+ghost use Rattle.std.specs.Prelude.{◌≡◌, ◌++◌, ◌∷◌, [], ◌<◌, decimal, true, IfOk, IfErr, OnOk, OnErr};
 ghost use Rattle.word_lines.specs.Reading.{Gives, Takes, TakesFree, TakesForm, session_at, row_at, arguments_at, counted_at, taken_of, command_at};
+ghost use Rattle.word_lines.specs.Memory.{WantsMemory, has_bytes, verb_of, verb_at};
+ghost use Rattle.word_lines.specs.declared.fault.ReadError.TheVariants.{NoMemory};
 ghost use Rattle.word_lines.specs.Table.{table};
 ghost use Rattle.word_lines.specs.Words.{words};
 ghost use Rattle.word_lines.specs.Spelling.{spelling};
@@ -28,7 +30,7 @@ use text_format::Format;
 /// A line that is read has only printable bytes, no empty word and as many words as its command
 /// takes, since every command's text has: so they are looked at and counted only where there is a
 /// fault, before which they may count.
-#[tactic(auto, using(crate::proofs::Counting::counted_right, crate::proofs::Counting::counted_fault), unfolding(crate::specs::Reading::command_at))]
+#[tactic(auto, using(crate::proofs::Counting::counted_right, crate::proofs::Counting::counted_fault), unfolding(crate::specs::Reading::command_at, crate::specs::Memory::verb_at))]
 #[inline(always)]
 pub fn read_command(
     alloc: Global,
@@ -40,6 +42,8 @@ pub fn read_command(
     ensures found { IfOk result (λ x. (line.now ≡ command_line x.0 x.1) × (x.0 < seats) × IsCommand format x.1) }
     // Which fault it is: the first from the left.
     ensures exact { Gives (λ x. x) result (command_at format table seats line.now) }
+    // Memory is wanted only for a command that has a key, a value or a bound.
+    ensures memory { IfErr result (λ e. e ≡ NoMemory → WantsMemory (verb_at format table seats line.now)) }
 {
     let text = text_of(line, format)?;
     match take_command(alloc, text, seats, format) {
@@ -54,7 +58,7 @@ pub fn read_command(
 }
 
 /// Reads a command from the words of a text, which aren't counted before the last was read.
-#[tactic(auto, unfolding(crate::specs::Reading::taken_of))]
+#[tactic(auto, unfolding(crate::specs::Reading::taken_of, crate::specs::Memory::verb_of))]
 #[inline(always)]
 fn take_command(
     alloc: Global,
@@ -62,7 +66,8 @@ fn take_command(
     seats: u8,
     format: Format,
 ) -> Result<(u8, Cmd), ReadError>
-    ensures { Gives (λ x. x) result (taken_of format table seats (words text.now)) }
+    ensures exact { Gives (λ x. x) result (taken_of format table seats (words text.now)) }
+    ensures memory { IfErr result (λ e. e ≡ NoMemory → WantsMemory (verb_of table seats (words text.now))) }
 {
     let mut words = words_in(text);
     let seat = take_seat(&mut words, seats)?;
@@ -123,7 +128,8 @@ pub fn take_arguments(
     words: &mut Words,
     format: Format,
 ) -> Result<Cmd, ReadError>
-    ensures { Takes result words.new (arguments_at format verb words.old) }
+    ensures exact { Takes result words.new (arguments_at format verb words.old) }
+    ensures memory { IfErr result (λ e. e ≡ NoMemory → has_bytes verb ≡ true) }
 {
     let cmd = match verb {
         Verb::Begin => Cmd::Begin {
