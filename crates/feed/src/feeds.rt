@@ -127,7 +127,7 @@ impl Feeds {
             return Err(AllocError);
         };
         let Ok(_) = self.live.insert(feed, live) else {
-            unreachable!()
+            return Err(AllocError);
         };
         self.opened = feed;
         Ok(feed)
@@ -166,7 +166,7 @@ impl Feeds {
         ensures err { OnErr result (self.new ≡ self.old) }
     {
         let Some(live) = self.live.get(&feed) else {
-            unreachable!()
+            return Err(AllocError);
         };
         let messages = live.rows_of_ring(self.alloc, max)?;
         let told = messages.len() as u64;
@@ -192,7 +192,7 @@ impl Feeds {
         ensures err { OnErr result (self.new ≡ self.old) }
     {
         let Some(live) = self.live.get(&feed) else {
-            unreachable!()
+            return Err(AllocError);
         };
         // one more, which tells whether any is left
         let rows = live.rows_of_store(self.alloc, store, closed, max.saturating_add(1))?;
