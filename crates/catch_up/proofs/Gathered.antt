@@ -15,7 +15,7 @@ use Rattle.version_chain.specs.Chains.{found_in}
 use Rattle.version_chain.specs.Following.{is_after_place}
 use Rattle.version_chain.specs.Stores.{Stored, after_of, is_committed, is_committed_in, version_in}
 use Rattle.version_chain.specs.Versions.{version_of}
-use Rattle.version_chain.proofs.Listing.{same_at}
+use Rattle.version_chain.proofs.Indexes.{same_at}
 use Rattle.catch_up.specs.Left.{AreLeftIn}
 use Rattle.catch_up.proofs.Order.{put_in, put_only, put_rises, put_row, put_stays}
 
