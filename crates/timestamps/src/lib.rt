@@ -15,9 +15,12 @@
 //! oracle.draw(&mut pass)    Ok([33 ..= 64])       the same pass again       Ok([65 ..= 96])
 //! ```
 //!
-//! Cost: making and copying a key or a value copies its bytes once. Up to 24 of them lie in place and take no
-//! memory, and keys of so few are compared as at most three numbers. A draw of 32 timestamps is two steps on one word,
-//! and takes no memory. A search reads as many timestamps as the length of the list has binary digits.
+//! All other crates stand on it. Costs:
+//!
+//! - `new`, `copy` of a key or a value: its bytes, once; up to 24 lie in place and take no memory
+//! - `cmp` of keys: at most three numbers where both have up to 24 bytes, else their bytes
+//! - `draw`: 32 timestamps by two steps on one word; it takes no memory
+//! - a search by `BinarySearch`: as many timestamps as the length of the list has binary digits
 #![tactic(auto)]
 
 pub mod binary_search;

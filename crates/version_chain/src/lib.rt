@@ -1,12 +1,13 @@
-//! The versions of every key: what each transaction wrote there, and whether it has committed.
+//! The versions of every key: the value or delete that each transaction wrote there, and whether it has committed.
+//! `mvto_rules` calls it, and `catch_up` for feeds that are behind.
 //!
 //! A [`Store`] is an ordered map from keys to chains, and beside it an index from timestamps to keys. A
 //! [`Chain`](chain::Chain) is a list of versions. A transaction's version is undecided until it commits.
 //!
 //! 1. A key is in the map exactly where it has a version, and the timestamps of its chain rise.
 //! 2. The index lists a key at a timestamp exactly where the key has a version there.
-//! 3. Nothing is dead by the horizon that the store keeps: that of the last collection, or one below what has been
-//!    committed under it since.
+//! 3. Nothing is dead by the horizon that the store keeps: the horizon of the last collection, or a lower one where a
+//!    version has been committed below that since.
 //!
 //! ```text
 //! * is committed             "apple"     "pear"     index                        versions
@@ -31,11 +32,11 @@
 //!   for each that goes
 //! - `versions`: O(1)
 //!
-//! A collection goes from timestamp to timestamp. It looks at what the chain of each key that is listed there has at
-//! or below the horizon. What goes leaves its place behind, and the versions above stay where they are: a chain is
-//! moved where half of its places are left over.
+//! A collection goes from timestamp to timestamp. At each it looks at the versions at or below the horizon of the keys
+//! that are listed there. A version that goes leaves its place behind, and the versions above stay where they are: a
+//! chain is moved where half of its places are left over.
 //!
-//! A write alone takes memory. One that finds none for its place in the index takes its version out again.
+//! A write alone takes memory. A write that finds none for its place in the index takes its version out again.
 #![tactic(auto)]
 
 pub mod chain;
