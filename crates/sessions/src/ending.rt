@@ -1,4 +1,6 @@
 //! How a run ends.
+ghost use Rattle.std.specs.Prelude.{◌≡◌};
+
 use shared_db::OpenError;
 use std::alloc::AllocError;
 use word_lines::fault::LineFault;
