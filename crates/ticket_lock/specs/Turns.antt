@@ -10,7 +10,7 @@ use Rattle.ticket_lock.specs.Lists.{StartsWith}
 use Rattle.ticket_lock.specs.Seats.{Keeps, seen, known, ticket, found, raised, looks}
 use Rattle.ticket_lock.specs.Seats as seats
 
--- The serving word had `served`, and the ticket word had `next` after it, perhaps at a second look, where the first found `served` still. There were no other looks.
+-- The serving word had `served`, and the ticket word had `next` after it, perhaps at a second look, where the first found `served` still. It noted no other looks.
 abbrev pub HasLooked : List Look → ℕ → ℕ → List Look → Type 0
 HasLooked before served next after = (after ≡ Next next ∷ Serving served ∷ before) ⊎ (after ≡ Next next ∷ Next served ∷ Serving served ∷ before)
 

@@ -45,7 +45,7 @@ impl<T: Chronicle> TicketLock<T> {
     }
 
     /// The turn of the next ticket, if it is served at once. It waits for nobody, and draws a ticket
-    /// only where it has the turn: at most four steps.
+    /// only where it has the turn: three noted looks, and a last load.
     ///
     /// `Spent` comes where the next ticket would be 18446744073709551615, and before `Busy`.
     pub fn try_turn(&self, seat: &mut Seat<T>) -> Result<Held<T>, Denied>

@@ -15,7 +15,7 @@ verb_of rows seats words = do
   row ← row_at rows session.1
   Ok row.0.verb
 
--- its command has a key, a value or a bound, and not numbers alone
+-- its command takes a key, a value or a span, and not numbers alone
 abbrev pub has_bytes : Verb → Bool
 has_bytes verb.Get = true
 has_bytes verb.Put = true

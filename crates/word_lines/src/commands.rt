@@ -42,7 +42,7 @@ pub fn read_command(
     ensures found { IfOk result (λ x. (line.now ≡ command_line x.0 x.1) × (x.0 < seats) × IsCommand format x.1) }
     // Which fault it is: the first from the left.
     ensures exact { Gives (λ x. x) result (command_at format table seats line.now) }
-    // Memory is wanted only for a command that has a key, a value or a bound.
+    // Memory is wanted only for the name of a command with a key, a value or a span.
     ensures memory { IfErr result (λ e. e ≡ NoMemory → WantsMemory (verb_at format table seats line.now)) }
 {
     let text = text_of(line, format)?;
