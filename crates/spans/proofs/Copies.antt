@@ -3,7 +3,6 @@ use Rattle.std.proofs.Common.{◌≡◌, ℕ, suc, ◌<◌, ◌≤◌, ◌⊎◌
 use Rattle.std.specs.Prelude.{is_some, bytes_eq, nat_le, max}
 use Rattle.std.proofs.lemmas.Bool.{and_from, or_left, or_right, eqb-true, lt-ltb, and_parts, both_ways}
 use Rattle.std.proofs.lemmas.Bool.Decides.{nat_tests}
-use Rattle.spans.specs.declared.kind.Kind.TheVariants.{Initial}
 use Rattle.spans.specs.Effects.{After, Effect, Begins, Reads, Scans, SnapshotScans, Writes, Commits, Aborts, Closes, HardCloses, Protects, Releases, Collects, Opens, Polls, Cancels, SnapshotReads, NoEffect}
 use Rattle.spans.specs.Transactions.{owner_of, closed_of, is_committed, is_aborted, decided_through}
 use Rattle.spans.specs.Versions.{write_of, version_of, committed_version_of, visible, is_blocked, committed_value}
@@ -35,7 +34,7 @@ Allowed p (Aborts t) = IsActive p t
 Allowed p (Closes n) = (to : ℕ) × (n ≡ max (closed_of p) (decided_through p to))
 Allowed p (SnapshotReads t x v) = (t ≤ closed_of p) × (v ≡ committed_value p x t)
 Allowed p (HardCloses to n) = n ≡ max (closed_of p) to
-Allowed p (Opens f seat kind span cursor) = (f ≡ suc (feeds_opened p)) × (horizon_of p ≤ cursor) × (kind ≡ Initial → cursor ≤ closed_of p)
+Allowed p (Opens f seat kind span cursor) = (f ≡ suc (feeds_opened p)) × (horizon_of p ≤ cursor) × (kind.initial ≡ true → cursor ≤ closed_of p)
 Allowed p (Polls f max ms) = (feed : Feed) × (feed_of p f ≡ Some feed) × (is_cancelled p f ≡ false) × (ms ≡ next_messages p f feed max)
 Allowed p (Cancels f) = is_some (feed_of p f) ≡ true
 Allowed p (Protects id t) = Unit {0}

@@ -10,10 +10,9 @@ use Rattle.timestamps.specs.declared.row.Row.{Row}
 use Rattle.spans.specs.declared.calls.messages.Message.{Message}
 use Rattle.spans.specs.declared.calls.messages.Message.TheVariants as messages
 use Rattle.spans.specs.declared.kind.Kind.{Kind}
-use Rattle.spans.specs.declared.kind.Kind.TheVariants.{Plain, Initial, Every}
 use Rattle.spans.specs.Effects.{Effect, Opens, Polls}
 use Rattle.spans.specs.Transactions.{closed_of}
-use Rattle.spans.specs.Feeds.{Feed, feed_of, feeds_opened, is_cancelled, told_to, row_in, rows_in, last_resolved, list_of, start_of, resolved_of, is_due, due_message, untold_rows, next_messages}
+use Rattle.spans.specs.Feeds.{Feed, feed_of, feeds_opened, is_cancelled, told_to, row_in, rows_in, last_resolved, list_of, start_of, resolved_of, asked_gap, is_due, due_message, untold_rows, next_messages}
 use Rattle.spans.specs.FeedRight.{DividesList, ResolvedApart, least_gap, ReachesClosed, IsSilentAfterCancel, LeavesNothingDue, RowsAreAbove, RowsFollowResolved, FeedIsRight}
 use Rattle.spans.proofs.Steps.{by_test}
 use Rattle.spans.proofs.Copies.{Allowed, AllAllowed, closed_grows}
@@ -57,9 +56,7 @@ ResolvedRise n (messages.Resolved t ∷ ms) = (n < t) × ResolvedRise t ms
 
 -- a gap is no less than one
 pub some_gap : (kind : Kind) → 1 ≤ least_gap kind
-some_gap Plain = omega arith
-some_gap Initial = omega arith
-some_gap (Every gap) = omega arith
+some_gap kind = omega arith
 
 pub apart_rises : (gap n : ℕ) (ms : List Message) → 1 ≤ gap → ResolvedApart gap n ms → ResolvedRise n ms
 apart_rises gap n [] some h = tt
@@ -153,11 +150,9 @@ untold_is p f feed rest is =
 
 -- a resolved message that is due is the gap above what was resolved last
 pub due_apart : (kind : Kind) (n c : ℕ) → is_due kind n c ≡ true → n + least_gap kind ≤ c
-due_apart Plain n c is = let above : n < c = ltb-true n c is in omega arith
-due_apart Initial n c is = let above : n < c = ltb-true n c is in omega arith
-due_apart (Every gap) n c is =
+due_apart kind n c is =
     let above : n < c = ltb-true n c (and_parts _ _ is).0 in
-    let far : gap ≤ c - n = leb-true gap (c - n) (and_parts _ _ is).1 in
+    let far : asked_gap kind.gap ≤ c - n = leb-true (asked_gap kind.gap) (c - n) (and_parts _ _ is).1 in
     omega arith
 
 pub due_above : (kind : Kind) (n c : ℕ) → is_due kind n c ≡ true → n < c
@@ -165,9 +160,7 @@ due_above kind n c is = let far : n + least_gap kind ≤ c = due_apart kind n c 
 
 -- and where it isn't due, closed is nearer than the gap
 not_due_near : (kind : Kind) (n c : ℕ) → is_due kind n c ≡ false → c < n + least_gap kind
-not_due_near Plain n c isnt = let low : c ≤ n = ltb-false n c isnt in omega arith
-not_due_near Initial n c isnt = let low : c ≤ n = ltb-false n c isnt in omega arith
-not_due_near (Every gap) n c isnt = grind (arith, nat_tests, isnt)
+not_due_near kind n c isnt = grind (arith, nat_tests, isnt)
 
 -- what is told is what comes next
 pub told_next : (p : List Effect) (f m : ℕ) (feed : Feed) → (h : IsFeeding p f feed) → IsNext p feed (resolved_of p f feed) (rows_in (told_to p f)) h.begins.0 (next_messages p f feed m)

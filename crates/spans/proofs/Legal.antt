@@ -3,14 +3,13 @@ use Rattle.std.proofs.Common.{◌≡◌, ℕ, suc, ◌==◌, Bool, true, false, 
 use Rattle.std.specs.Prelude.{is_some, bytes_eq, map, filter, nat_lt, nat_le, max}
 use Rattle.std.proofs.lemmas.Bool.{or_parts, and_parts, cond_both, leb-false, ltb-false, ltb-true, both_ways}
 use Rattle.spans.specs.declared.calls.commands.Cmd.{Cmd}
-use Rattle.spans.specs.declared.calls.commands.Cmd.TheVariants.{Begin, Get, Scan, Put, Del, Commit, Abort, Close, CloseHard, Protect, Release, Collect, Open, OpenInitial, OpenEvery, Poll, Cancel, Stats, ReadAt, ScanAt}
+use Rattle.spans.specs.declared.calls.commands.Cmd.TheVariants.{Begin, Get, Scan, Put, Del, Commit, Abort, Close, CloseHard, Protect, Release, Collect, Open, OpenInitial, OpenEvery, OpenInitialEvery, Poll, Cancel, Stats, ReadAt, ScanAt}
 use Rattle.spans.specs.declared.calls.replies.Reply.{Reply}
 use Rattle.spans.specs.declared.calls.replies.Reply.TheVariants.{Started, Found, Rows, Written, Committed, Aborted, Closed, Protected, Released, Collected, Opened, Messages, Cancelled, Refused}
 use Rattle.spans.specs.declared.calls.replies.Refusal.{Refusal}
 use Rattle.spans.specs.declared.calls.replies.Refusal.TheVariants.{BelowClosed, TsUsed, TsRange, Blocked, NoTxn, NotOwner, Ended, TooLate, NotClosed, BelowHorizon, NoProtection, NoFeed, FeedCancelled, NoMemory}
 use Rattle.spans.specs.declared.calls.events.Event.{Event}
-use Rattle.spans.specs.declared.kind.Kind.TheVariants.{Initial, Every}
-use Rattle.spans.specs.Effects.{After, Effect, Writes, Collects, effect, effect_of, effects_of}
+use Rattle.spans.specs.Effects.{After, Effect, Writes, Collects, effect, effect_of, effects_of, kind_of}
 use Rattle.spans.specs.Transactions.{owner_of, closed_of, is_committed, is_aborted, undecided_timestamps, decided_through}
 use Rattle.spans.specs.Versions.{visible, is_blocked, committed_value, write_count, written_keys, version_of, write_of, committed_version_of}
 use Rattle.spans.specs.Reads.{too_late}
@@ -136,11 +135,14 @@ answer_allowed p seat (Commit t) = in_txn (λ r. Allowed p (effect seat (Commit 
 answer_allowed p seat (Abort t) = in_txn (λ r. Allowed p (effect seat (Abort t) r)) p seat t [] Aborted tt tt tt (λ here. here)
 answer_allowed p seat (Close to) = unless_is (λ r. Allowed p (effect seat (Close to) r)) ((nat_lt MAX to, TsRange) ∷ []) (Closed (max (closed_of p) (decided_through p to)) 0) (λ _. tt, λ _. (to, refl))
 answer_allowed p seat (CloseHard to) = unless_is (λ r. Allowed p (effect seat (CloseHard to) r)) ((nat_lt MAX to, TsRange) ∷ []) (Closed (max (closed_of p) to) (length (filter (λ t. nat_le t to) (undecided_timestamps p)))) (λ _. tt, λ _. refl)
-answer_allowed p seat (Open span cursor) = unless_is (λ r. Allowed p (effect seat (Open span cursor) r)) ((nat_lt MAX cursor, TsRange) ∷ (nat_lt cursor (horizon_of p), BelowHorizon (horizon_of p)) ∷ []) (Opened (suc (feeds_opened p))) (λ _. tt, λ _. (λ _. tt, λ high. (refl, ltb-false cursor (horizon_of p) high, λ is. cc)))
-answer_allowed p seat (OpenInitial span cursor) = unless_is (λ r. Allowed p (effect seat (OpenInitial span cursor) r)) (opening_tests Initial p cursor) (Opened (suc (feeds_opened p)))
-    (λ _. tt, λ _. (λ _. tt, λ high. (λ _. tt, λ low. (refl, ltb-false cursor (horizon_of p) high, λ is. ltb-false (closed_of p) cursor low))))
-answer_allowed p seat (OpenEvery span cursor gap) = unless_is (λ r. Allowed p (effect seat (OpenEvery span cursor gap) r)) (opening_tests (Every gap) p cursor) (Opened (suc (feeds_opened p)))
-    (λ _. tt, λ _. (λ _. tt, λ _. (λ _. tt, λ high. (refl, ltb-false cursor (horizon_of p) high, λ is. cc))))
+answer_allowed p seat (Open span cursor) = unless_is (λ r. Allowed p (effect seat (Open span cursor) r)) (opening_tests (kind_of false None) p cursor) (Opened (suc (feeds_opened p)))
+    (λ _. tt, λ _. (λ _. tt, λ _. (λ _. tt, λ high. (λ _. tt, λ low. (refl, ltb-false cursor (horizon_of p) high, λ is. cc)))))
+answer_allowed p seat (OpenInitial span cursor) = unless_is (λ r. Allowed p (effect seat (OpenInitial span cursor) r)) (opening_tests (kind_of true None) p cursor) (Opened (suc (feeds_opened p)))
+    (λ _. tt, λ _. (λ _. tt, λ _. (λ _. tt, λ high. (λ _. tt, λ low. (refl, ltb-false cursor (horizon_of p) high, λ is. ltb-false (closed_of p) cursor low)))))
+answer_allowed p seat (OpenEvery span cursor gap) = unless_is (λ r. Allowed p (effect seat (OpenEvery span cursor gap) r)) (opening_tests (kind_of false (Some gap)) p cursor) (Opened (suc (feeds_opened p)))
+    (λ _. tt, λ _. (λ _. tt, λ _. (λ _. tt, λ high. (λ _. tt, λ low. (refl, ltb-false cursor (horizon_of p) high, λ is. cc)))))
+answer_allowed p seat (OpenInitialEvery span cursor gap) = unless_is (λ r. Allowed p (effect seat (OpenInitialEvery span cursor gap) r)) (opening_tests (kind_of true (Some gap)) p cursor) (Opened (suc (feeds_opened p)))
+    (λ _. tt, λ _. (λ _. tt, λ _. (λ _. tt, λ high. (λ _. tt, λ low. (refl, ltb-false cursor (horizon_of p) high, λ is. ltb-false (closed_of p) cursor low)))))
 answer_allowed p seat (Poll f max) = by_feed (feed_of p f) refl
   where
     by_feed : (o : Option Feed) → feed_of p f ≡ o → Allowed p (effect seat (Poll f max) (with_feed p seat f o (λ feed. Messages (next_messages p f feed max))))

@@ -1,5 +1,5 @@
 -- What a feed's list is: the map at the cursor first, where the feed is initial, and then the stream.
-use Rattle.std.proofs.Common.{◌≡◌, ℕ, zero, suc, ◌<◌, ◌≤◌, ◌⊎◌, ◌==◌, Bool, true, false, cond, List, [], ◌∷◌, ◌++◌, map, Some, None, refl, sym, ◌∙◌, ap, inl, inr, arith, append_assoc}
+use Rattle.std.proofs.Common.{◌≡◌, ℕ, zero, suc, ◌<◌, ◌≤◌, ◌-◌, ◌⊎◌, ◌==◌, Bool, true, false, cond, List, [], ◌∷◌, ◌++◌, map, Some, None, refl, sym, ◌∙◌, ap, inl, inr, arith, append_assoc}
 use Rattle.std.specs.Prelude.{◌↔◌, filter, is_some}
 use Rattle.std.specs.Ordering.{is_lt}
 use Rattle.std.proofs.lemmas.Bool.{and_from, or_left, or_right, lt-ltb, eq-eqb}
@@ -8,7 +8,6 @@ use Rattle.timestamps.specs.declared.row.Row.{Row}
 use Rattle.spans.specs.declared.span.Span.{Span}
 use Rattle.spans.specs.Keys.{in_span, pairs_of, IsPairIn, KeysRise}
 use Rattle.spans.specs.declared.kind.Kind.{Kind}
-use Rattle.spans.specs.declared.kind.Kind.TheVariants.{Plain, Initial, Every}
 use Rattle.spans.specs.Effects.{After, Effect, Writes, Commits}
 use Rattle.spans.specs.Transactions.{closed_of, is_committed}
 use Rattle.spans.specs.Versions.{committed_value, written_keys}
@@ -112,27 +111,28 @@ pairs_rows_rise t (pair ∷ pairs) h = (
 )
 
 -- what a feed tells first stays
-first_stays : (kind : Kind) (p : List Effect) (d : Effect) → Allowed p d → (span : Span) (c : ℕ) → (kind ≡ Initial → c ≤ closed_of p) → first_rows kind (d ∷ p) span c ≡ first_rows kind p span c
-first_stays Plain p d allowed span c settled = refl
-first_stays Initial p d allowed span c settled = snapshot_stays p d allowed span c (settled refl)
-first_stays (Every gap) p d allowed span c settled = refl
+first_stays : (kind : Kind) (p : List Effect) (d : Effect) → Allowed p d → (span : Span) (c : ℕ) → (kind.initial ≡ true → c ≤ closed_of p) → first_rows kind (d ∷ p) span c ≡ first_rows kind p span c
+first_stays kind p d allowed span c settled = by_test kind.initial
+    (λ is. rw is (snapshot_stays p d allowed span c (settled is)))
+    (λ isnt. rw isnt refl)
 
 -- it rises
 first_rises : (kind : Kind) (p : List Effect) (span : Span) (c : ℕ) → RisingRows (first_rows kind p span c)
-first_rises Plain p span c = tt
-first_rises Initial p span c = pairs_rows_rise c (pairs_of (span_part span (map_at p c)) (written_keys p)) (pairs_rise (span_part span (map_at p c)) (written_keys p) (keys_rise p))
-first_rises (Every gap) p span c = tt
+first_rises kind p span c = by_test kind.initial
+    (λ is. rw is (pairs_rows_rise c (pairs_of (span_part span (map_at p c)) (written_keys p)) (pairs_rise (span_part span (map_at p c)) (written_keys p) (keys_rise p))))
+    (λ isnt. rw isnt tt)
 
 -- which rows it is
-in_first : (kind : Kind) (p : List Effect) (span : Span) (c : ℕ) (r : Row) → IsRowIn r (first_rows kind p span c) ↔ ((kind ≡ Initial) × IsScanned p span c r)
-in_first Plain p span c r = (λ i. absurd i, λ i. absurd (let no' = i.0 in cc))
-in_first Initial p span c r = let s = in_snapshot p span c r in (λ i. (refl, s.0 i), λ i. s.1 i.1)
-in_first (Every gap) p span c r = (λ i. absurd i, λ i. absurd (let no' = i.0 in cc))
+in_first : (kind : Kind) (p : List Effect) (span : Span) (c : ℕ) (r : Row) → IsRowIn r (first_rows kind p span c) ↔ ((kind.initial ≡ true) × IsScanned p span c r)
+in_first kind p span c r = by_test kind.initial
+    (λ is. let s = in_snapshot p span c r in (λ i. (is, s.0 (rw is at i)), λ i. rw is (s.1 i.1)))
+    (λ isnt. (λ i. absurd (rw isnt at i), λ i. absurd (let no' : false ≡ true = sym isnt ∙ i.0 in cc)))
 
 -- nothing is there at 0
-pub first_none : (kind : Kind) (p : List Effect) (span : Span) (c : ℕ) → (kind ≡ Initial → c ≡ 0) → first_rows kind p span c ≡ []
-first_none Plain p span c zeroth = refl
-first_none Initial p span c zeroth = rw (zeroth refl) (ap (map (pair_row 0)) (no_pairs (written_keys p)))
+pub first_none : (kind : Kind) (p : List Effect) (span : Span) (c : ℕ) → (kind.initial ≡ true → c ≡ 0) → first_rows kind p span c ≡ []
+first_none kind p span c zeroth = by_test kind.initial
+    (λ is. rw is (rw (zeroth is) (ap (map (pair_row 0)) (no_pairs (written_keys p)))))
+    (λ isnt. rw isnt refl)
   where
     no_value : (b : Bool) → let none : After = None in cond b none none ≡ none
     no_value true = refl
@@ -141,7 +141,6 @@ first_none Initial p span c zeroth = rw (zeroth refl) (ap (map (pair_row 0)) (no
     no_pairs : (keys : List (List ℕ)) → pairs_of (span_part span (map_at p 0)) keys ≡ []
     no_pairs [] = refl
     no_pairs (x ∷ xs) = rw (no_value (in_span span x)) (no_pairs xs)
-first_none (Every gap) p span c zeroth = refl
 
 -- the pairs of a part of a map are those of its keys in the span
 part_pairs : (span : Span) (m n : Map) (keys : List (List ℕ)) → ((x : List ℕ) → m x ≡ n x) → pairs_of (span_part span m) keys ≡ pairs_of n (filter (in_span span) keys)
@@ -156,25 +155,21 @@ snapshot_is p span t = ap (map (pair_row t)) (part_pairs span (map_at p t) (λ x
 
 -- the start is at or below the cursor
 pub start_low : (kind : Kind) (c : ℕ) → start_at kind c ≤ c
-start_low Plain c = omega arith
-start_low Initial c = omega arith
-start_low (Every gap) c = omega arith
+start_low kind c = by_test kind.initial (λ is. rw is (omega arith)) (λ isnt. rw isnt (omega arith))
 
 -- what is above it is at or above the cursor
 pub start_next : (kind : Kind) (c n : ℕ) → start_at kind c < n → c ≤ n
-start_next Plain c n above = omega arith
-start_next Initial c n above = omega arith
-start_next (Every gap) c n above = omega arith
+start_next kind c n = by_test kind.initial
+    (λ is. rw is (λ (above : c - 1 < n). omega arith))
+    (λ isnt. rw isnt (λ (above : c < n). omega arith))
 
 -- an initial feed's start is below its cursor
-start_first : (kind : Kind) (c : ℕ) → kind ≡ Initial → 0 < c → start_at kind c < c
-start_first Plain c is some = cc
-start_first Initial c is some = omega arith
-start_first (Every gap) c is some = cc
+start_first : (kind : Kind) (c : ℕ) → kind.initial ≡ true → 0 < c → start_at kind c < c
+start_first kind c is some = rw is (omega arith)
 
 -- a row of the list: of the map at the cursor, or of the stream
 abbrev pub IsListed : List Effect → Feed → ℕ → Row → Type 0
-IsListed p feed n r = ((feed.kind ≡ Initial) × IsScanned p feed.span feed.cursor r) ⊎ IsStreamed p feed.span feed.cursor n r
+IsListed p feed n r = ((feed.kind.initial ≡ true) × IsScanned p feed.span feed.cursor r) ⊎ IsStreamed p feed.span feed.cursor n r
 
 pub in_list : (p : List Effect) (feed : Feed) (n : ℕ) (r : Row) → IsRowIn r (list_of p feed n) ↔ IsListed p feed n r
 in_list p feed n r =
@@ -211,7 +206,7 @@ list_rises p feed n = rises_append (first_rows feed.kind p feed.span feed.cursor
 
 -- the cursor of an initial feed is closed
 abbrev pub IsSettled : List Effect → Feed → Type 0
-IsSettled p feed = feed.kind ≡ Initial → feed.cursor ≤ closed_of p
+IsSettled p feed = feed.kind.initial ≡ true → feed.cursor ≤ closed_of p
 
 -- what is closed stays, in the list too
 pub list_stays : (p : List Effect) (d : Effect) → Allowed p d → (feed : Feed) → IsSettled p feed → (n : ℕ) → n ≤ closed_of p → list_of (d ∷ p) feed n ≡ list_of p feed n

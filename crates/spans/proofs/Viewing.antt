@@ -9,7 +9,6 @@ use Rattle.timestamps.specs.declared.row.Row.{Row}
 use Rattle.spans.specs.declared.calls.messages.Message.{Message}
 use Rattle.spans.specs.declared.calls.messages.Message.TheVariants as messages
 use Rattle.spans.specs.declared.kind.Kind.{Kind}
-use Rattle.spans.specs.declared.kind.Kind.TheVariants.{Plain, Initial, Every}
 use Rattle.spans.specs.Effects.{After, Effect}
 use Rattle.spans.specs.Transactions.{is_committed}
 use Rattle.spans.specs.Versions.{write_of, write_set, written_keys}
@@ -115,8 +114,9 @@ by_pairs m f t (y ∷ ys) x = by_value (f y) refl (λ n. by_pairs n f t ys x)
 
 -- what a feed tells first leads from the consumer's seed to the map at the cursor
 seeded : (kind : Kind) (p : List Effect) (span : Span) (c : ℕ) (x : List ℕ) → by_rows (seed_of kind p span c) (first_rows kind p span c) x ≡ span_part span (map_at p c) x
-seeded Plain p span c x = refl
-seeded Initial p span c x = by_pairs (λ y. None) (span_part span (map_at p c)) c (written_keys p) x ∙ by_value (span_part span (map_at p c) x) refl
+seeded kind p span c x = by_test kind.initial
+    (λ is. rw is (by_pairs (λ y. None) (span_part span (map_at p c)) c (written_keys p) x ∙ by_value (span_part span (map_at p c) x) refl))
+    (λ isnt. rw isnt refl)
   where
     by_value : (o : After) → span_part span (map_at p c) x ≡ o → cond (has x (written_keys p)) (value_or o None) None ≡ o
     by_value None e = none (has x (written_keys p))
@@ -125,7 +125,6 @@ seeded Initial p span c x = by_pairs (λ y. None) (span_part span (map_at p c)) 
         none true = refl
         none false = refl
     by_value (Some v) e = let here : has x (written_keys p) ≡ true = (has_in x (written_keys p)).0 (part_in p span c x v e) in rw here refl
-seeded (Every gap) p span c x = refl
 
 pub views : (p : List Effect) (f : ℕ) (feed : Feed) → DividesList p feed [] (told_to p f) → ResolvedRise (start_of feed) (told_to p f) → (before rest : List Message) (t : ℕ) → told_to p f ≡ before ++ messages.Resolved t ∷ rest
     → (x : List ℕ) → view_of (seed_of feed.kind p feed.span feed.cursor) before x ≡ span_part feed.span (map_at p t) x

@@ -1,16 +1,15 @@
 -- The answer to each command: its tests in order, and the reply where none of them applies.
-use Rattle.std.specs.Prelude.{ℕ, suc, List, [], ◌∷◌, ◌++◌, map, filter, length, Bool, false, not, ◌&&◌, ◌||◌, ◌==◌, ◌-◌, nat_lt, nat_le, max, if◌then◌else◌, Option, Some, None, is_some}
+use Rattle.std.specs.Prelude.{ℕ, suc, List, [], ◌∷◌, ◌++◌, map, filter, length, Bool, true, false, not, ◌&&◌, ◌||◌, ◌==◌, ◌-◌, nat_lt, nat_le, max, if◌then◌else◌, Option, Some, None, is_some}
 use Rattle.timestamps.specs.declared.ts.TheConstants.{MAX}
 use Rattle.spans.specs.declared.calls.commands.Cmd.{Cmd}
-use Rattle.spans.specs.declared.calls.commands.Cmd.TheVariants.{Begin, Get, Scan, Put, Del, Commit, Abort, Close, CloseHard, Protect, Release, Collect, Open, OpenInitial, OpenEvery, Poll, Cancel, Stats, ReadAt, ScanAt}
+use Rattle.spans.specs.declared.calls.commands.Cmd.TheVariants.{Begin, Get, Scan, Put, Del, Commit, Abort, Close, CloseHard, Protect, Release, Collect, Open, OpenInitial, OpenEvery, OpenInitialEvery, Poll, Cancel, Stats, ReadAt, ScanAt}
 use Rattle.spans.specs.declared.calls.replies.Reply.{Reply}
 use Rattle.spans.specs.declared.calls.replies.Reply.TheVariants.{Started, Found, Rows, Written, Committed, Aborted, Closed, Protected, Released, Collected, Opened, Messages, Cancelled, Refused}
 use Rattle.spans.specs.declared.calls.replies.Reply.TheVariants as replies
 use Rattle.spans.specs.declared.calls.replies.Refusal.{Refusal}
 use Rattle.spans.specs.declared.calls.replies.Refusal.TheVariants.{BelowClosed, TsUsed, TsRange, Blocked, NoTxn, NotOwner, Ended, TooLate, NotClosed, BelowHorizon, NoProtection, NoFeed, FeedCancelled, GapRange}
 use Rattle.spans.specs.declared.kind.Kind.{Kind}
-use Rattle.spans.specs.declared.kind.Kind.TheVariants.{Plain, Initial, Every}
-use Rattle.spans.specs.Effects.{Effect, Collects}
+use Rattle.spans.specs.Effects.{Effect, Collects, kind_of}
 use Rattle.spans.specs.Keys.{in_span, pairs_of}
 use Rattle.spans.specs.Transactions.{owner_of, closed_of, is_committed, is_aborted, undecided_timestamps, decided_through}
 use Rattle.spans.specs.Versions.{write_count, written_keys, visible, committed_value, is_blocked}
@@ -59,14 +58,20 @@ snapshot_tests p t = (nat_lt (closed_of p) t, NotClosed (closed_of p)) ∷ (nat_
 abbrev pub horizon_tests : List Effect → ℕ → List (Bool × Refusal)
 horizon_tests p t = (nat_lt MAX t, TsRange) ∷ (nat_lt t (horizon_of p), BelowHorizon (horizon_of p)) ∷ []
 
+-- a gap is in the range of timestamps
+abbrev pub is_gap : Option ℕ → Bool
+is_gap None = true
+is_gap (Some gap) = is_timestamp gap
+
 -- the tests of an opening, by the feed's kind. What an initial feed tells first is read at its cursor, so that has to be
--- closed; a gap is in the range of timestamps
+-- closed
 abbrev pub opening_tests : Kind → List Effect → ℕ → List (Bool × Refusal)
-opening_tests Plain p cursor = horizon_tests p cursor
-opening_tests Initial p cursor =
-    (nat_lt MAX cursor, TsRange) ∷ (nat_lt cursor (horizon_of p), BelowHorizon (horizon_of p)) ∷ (nat_lt (closed_of p) cursor, NotClosed (closed_of p)) ∷ []
-opening_tests (Every gap) p cursor =
-    (nat_lt MAX cursor, TsRange) ∷ (not (is_timestamp gap), GapRange) ∷ (nat_lt cursor (horizon_of p), BelowHorizon (horizon_of p)) ∷ []
+opening_tests kind p cursor =
+    (nat_lt MAX cursor, TsRange)
+    ∷ (not (is_gap kind.gap), GapRange)
+    ∷ (nat_lt cursor (horizon_of p), BelowHorizon (horizon_of p))
+    ∷ (kind.initial && nat_lt (closed_of p) cursor, NotClosed (closed_of p))
+    ∷ []
 
 -- the answer to the command that opens a feed of the kind
 abbrev pub opening_answer : Kind → List Effect → ℕ → Reply
@@ -98,9 +103,10 @@ answer_of p seat (Release id) = first_refusal_or ((not (is_protected p id), NoPr
 answer_of p seat (Collect to) =
     first_refusal_or ((nat_lt MAX to, TsRange) ∷ [])
     (let n = collection_horizon p to in Collected n (length (dead_of (Collects n ∷ p)) - length (dead_of p)))
-answer_of p seat (Open span cursor) = opening_answer Plain p cursor
-answer_of p seat (OpenInitial span cursor) = opening_answer Initial p cursor
-answer_of p seat (OpenEvery span cursor gap) = opening_answer (Every gap) p cursor
+answer_of p seat (Open span cursor) = opening_answer (kind_of false None) p cursor
+answer_of p seat (OpenInitial span cursor) = opening_answer (kind_of true None) p cursor
+answer_of p seat (OpenEvery span cursor gap) = opening_answer (kind_of false (Some gap)) p cursor
+answer_of p seat (OpenInitialEvery span cursor gap) = opening_answer (kind_of true (Some gap)) p cursor
 answer_of p seat (Poll f max) = with_feed p seat f (feed_of p f) (λ feed. Messages (next_messages p f feed max))
 answer_of p seat (Cancel f) =
     first_refusal_or ((not (is_some (feed_of p f)), NoFeed) ∷ (is_cancelled p f, FeedCancelled) ∷ []) Cancelled

@@ -10,7 +10,6 @@ use Rattle.spans.specs.Collection.{VersionName, version_name}
 use Rattle.spans.specs.KeyOrder.{key_lt}
 use Rattle.spans.specs.Keys.{in_span}
 use Rattle.spans.specs.declared.kind.Kind.{Kind}
-use Rattle.spans.specs.declared.kind.Kind.TheVariants.{Initial}
 use Rattle.spans.specs.Effects.{Effect}
 use Rattle.spans.specs.Serial.{Map, put, map_at, span_part}
 use Rattle.spans.specs.Streams.{row_lt}
@@ -24,8 +23,7 @@ view_of m (messages.Resolved t ∷ ms) = view_of m ms
 
 -- what a consumer begins with: of an initial feed nothing, and else the span's part of the map at the cursor
 abbrev pub seed_of : Kind → List Effect → Span → ℕ → Map
-seed_of Initial p span cursor = λ x. None
-seed_of kind p span cursor = span_part span (map_at p cursor)
+seed_of kind p span cursor = if kind.initial then (λ x. None) else span_part span (map_at p cursor)
 
 -- the row that was taken last, where there was one
 abbrev pub last_row : Option Row → List Message → Option Row

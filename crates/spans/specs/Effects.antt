@@ -11,12 +11,11 @@
 -- "for all n", Unit "true", ⊥ "false"; .0, .1 .. are the parts of what × joins. Commands, replies, refusals and messages
 -- are the types of `src/calls`, and the kinds of feeds that of `src/kind`, with their fields in the order in which they stand
 -- there.
-use Rattle.std.specs.Prelude.{ℕ, List, map, Option, Some, None}
+use Rattle.std.specs.Prelude.{ℕ, List, map, Bool, true, false, Option, Some, None}
 use Rattle.spans.specs.declared.span.Span.{Span}
 use Rattle.spans.specs.declared.kind.Kind.{Kind}
-use Rattle.spans.specs.declared.kind.Kind.TheVariants.{Plain, Initial, Every}
 use Rattle.spans.specs.declared.calls.commands.Cmd.{Cmd}
-use Rattle.spans.specs.declared.calls.commands.Cmd.TheVariants.{Begin, Get, Scan, Put, Del, Commit, Abort, Close, CloseHard, Protect, Release, Collect, Open, OpenInitial, OpenEvery, Poll, Cancel, ReadAt, ScanAt}
+use Rattle.spans.specs.declared.calls.commands.Cmd.TheVariants.{Begin, Get, Scan, Put, Del, Commit, Abort, Close, CloseHard, Protect, Release, Collect, Open, OpenInitial, OpenEvery, OpenInitialEvery, Poll, Cancel, ReadAt, ScanAt}
 use Rattle.spans.specs.declared.calls.replies.Reply.{Reply}
 use Rattle.spans.specs.declared.calls.replies.Reply.TheVariants.{Started, Found, Rows, Written, Committed, Aborted, Closed, Protected, Released, Collected, Opened, Messages, Cancelled, Refused}
 use Rattle.spans.specs.declared.calls.replies.Refusal.TheVariants.{TooLate}
@@ -48,6 +47,10 @@ pub data Effect : Type 0 where
   Cancels : (feed : ℕ) → Effect
   NoEffect : Effect
 
+-- a kind of feeds from its parts
+abbrev pub kind_of : Bool → Option ℕ → Kind
+kind_of initial gap = record { initial = initial; gap = gap }
+
 -- what a seat's command did, by its reply: a refusal does nothing, except that a write which is too late aborts its
 -- transaction
 abbrev pub effect : ℕ → Cmd → Reply → Effect
@@ -67,18 +70,23 @@ effect seat (ScanAt t span) (Rows rows) = SnapshotScans t span rows
 effect seat (Protect t) (Protected id) = Protects id t
 effect seat (Release id) Released = Releases id
 effect seat (Collect to) (Collected horizon removed) = Collects horizon
-effect seat (Open span cursor) (Opened feed) = Opens feed seat Plain span cursor
-effect seat (OpenInitial span cursor) (Opened feed) = Opens feed seat Initial span cursor
-effect seat (OpenEvery span cursor gap) (Opened feed) = Opens feed seat (Every gap) span cursor
+effect seat (Open span cursor) (Opened feed) = Opens feed seat (kind_of false None) span cursor
+effect seat (OpenInitial span cursor) (Opened feed) = Opens feed seat (kind_of true None) span cursor
+effect seat (OpenEvery span cursor gap) (Opened feed) = Opens feed seat (kind_of false (Some gap)) span cursor
+effect seat (OpenInitialEvery span cursor gap) (Opened feed) = Opens feed seat (kind_of true (Some gap)) span cursor
 effect seat (Poll feed max) (Messages ms) = Polls feed max ms
 effect seat (Cancel feed) Cancelled = Cancels feed
 effect seat cmd reply = NoEffect
 
 -- the command that opens a feed of the kind
+abbrev opening : Bool → Option ℕ → Span → ℕ → Cmd
+opening false None span cursor = Open span cursor
+opening true None span cursor = OpenInitial span cursor
+opening false (Some gap) span cursor = OpenEvery span cursor gap
+opening true (Some gap) span cursor = OpenInitialEvery span cursor gap
+
 abbrev pub open_cmd : Kind → Span → ℕ → Cmd
-open_cmd Plain span cursor = Open span cursor
-open_cmd Initial span cursor = OpenInitial span cursor
-open_cmd (Every gap) span cursor = OpenEvery span cursor gap
+open_cmd kind span cursor = opening kind.initial kind.gap span cursor
 
 abbrev pub effect_of : Event → Effect
 effect_of e = effect e.seat e.cmd e.reply

@@ -5,10 +5,9 @@ use Rattle.timestamps.specs.declared.row.Row.{Row}
 use Rattle.spans.specs.declared.calls.messages.Message.{Message}
 use Rattle.spans.specs.declared.calls.messages.Message.TheVariants as messages
 use Rattle.spans.specs.declared.kind.Kind.{Kind}
-use Rattle.spans.specs.declared.kind.Kind.TheVariants.{Every}
 use Rattle.spans.specs.Effects.{Effect, Polls}
 use Rattle.spans.specs.Transactions.{closed_of}
-use Rattle.spans.specs.Feeds.{Feed, is_cancelled, told_to, rows_in, list_of, start_of, resolved_of, untold_rows, due_message}
+use Rattle.spans.specs.Feeds.{Feed, is_cancelled, told_to, rows_in, list_of, start_of, resolved_of, untold_rows, due_message, asked_gap}
 
 -- the rows before each resolved message are exactly the list's rows at or below it; before are the rows told earlier
 abbrev pub DividesList : List Effect → Feed → List Row → List Message → Type 0
@@ -18,8 +17,7 @@ DividesList p feed before (messages.Resolved t ∷ ms) = (before ≡ list_of p f
 
 -- how far apart the resolved timestamps of a feed of this kind are at least
 abbrev pub least_gap : Kind → ℕ
-least_gap (Every gap) = max 1 gap
-least_gap kind = 1
+least_gap kind = max 1 (asked_gap kind.gap)
 
 -- resolved timestamps rise above n, each by the gap at least
 abbrev pub ResolvedApart : ℕ → ℕ → List Message → Type 0

@@ -7,7 +7,6 @@ use Rattle.spans.specs.declared.span.Span.{Span}
 use Rattle.spans.specs.declared.calls.messages.Message.{Message}
 use Rattle.spans.specs.declared.calls.messages.Message.TheVariants as messages
 use Rattle.spans.specs.declared.kind.Kind.{Kind}
-use Rattle.spans.specs.declared.kind.Kind.TheVariants.{Initial, Every}
 use Rattle.spans.specs.Effects.{Effect, Opens, Polls, Cancels}
 use Rattle.spans.specs.Transactions.{closed_of}
 use Rattle.spans.specs.Streams.{stream_of, snapshot_rows}
@@ -59,8 +58,7 @@ same_version r s = (r.ts == s.ts) && bytes_eq r.key s.key
 
 -- what a feed tells before its stream: an initial one the map at its cursor, and others nothing
 abbrev pub first_rows : Kind → List Effect → Span → ℕ → List Row
-first_rows Initial p span cursor = snapshot_rows p span cursor
-first_rows kind p span cursor = []
+first_rows kind p span cursor = if kind.initial then snapshot_rows p span cursor else []
 
 -- the list of the feed: its first rows, and then its stream, as far as n, which is at or above the cursor of an initial feed
 abbrev pub list_of : List Effect → Feed → ℕ → List Row
@@ -68,8 +66,7 @@ list_of p feed n = first_rows feed.kind p feed.span feed.cursor ++ stream_of p f
 
 -- what a feed of this kind tells, rows and resolved timestamps, is above its start. An initial one tells its cursor too
 abbrev pub start_at : Kind → ℕ → ℕ
-start_at Initial cursor = cursor - 1
-start_at kind cursor = cursor
+start_at kind cursor = if kind.initial then cursor - 1 else cursor
 
 abbrev pub start_of : Feed → ℕ
 start_of feed = start_at feed.kind feed.cursor
@@ -78,10 +75,14 @@ start_of feed = start_at feed.kind feed.cursor
 abbrev pub resolved_of : List Effect → ℕ → Feed → ℕ
 resolved_of p f feed = last_resolved (start_of feed) (told_to p f)
 
+-- the gap that was asked, and 0 where none was
+abbrev pub asked_gap : Option ℕ → ℕ
+asked_gap None = 0
+asked_gap (Some gap) = gap
+
 -- a resolved message is due: closed is above what was resolved last, and by no less than the gap where there is one
 abbrev pub is_due : Kind → ℕ → ℕ → Bool
-is_due (Every gap) resolved closed = nat_lt resolved closed && nat_le gap (closed - resolved)
-is_due kind resolved closed = nat_lt resolved closed
+is_due kind resolved closed = nat_lt resolved closed && nat_le (asked_gap kind.gap) (closed - resolved)
 
 -- the rows of the feed's list at or below closed that were not told
 abbrev pub untold_rows : List Effect → ℕ → Feed → List Row

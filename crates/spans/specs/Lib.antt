@@ -13,7 +13,9 @@ pub mod Answer
 pub mod Legal
 pub mod FeedRight
 pub mod Consumer
+pub mod Completeness
 pub mod Kept
+pub mod Report
 pub mod WorkedHistories
 pub mod Pieces
 pub mod Successors

@@ -1,7 +1,7 @@
 -- Worked histories, each computed from the definitions: calls of seats in turn, and the replies to them.
 use Rattle.std.specs.Prelude.{◌≡◌, ℕ, List, [], ◌∷◌, Option, Some, None, refl}
 use Rattle.spans.specs.declared.calls.commands.Cmd.{Cmd}
-use Rattle.spans.specs.declared.calls.commands.Cmd.TheVariants.{Begin, Get, Scan, Put, Del, Commit, Abort, Close, CloseHard, Protect, Release, Collect, Open, OpenInitial, OpenEvery, Poll, Cancel, Stats, ReadAt, ScanAt}
+use Rattle.spans.specs.declared.calls.commands.Cmd.TheVariants.{Begin, Get, Scan, Put, Del, Commit, Abort, Close, CloseHard, Protect, Release, Collect, Open, OpenInitial, OpenEvery, OpenInitialEvery, Poll, Cancel, Stats, ReadAt, ScanAt}
 use Rattle.spans.specs.declared.calls.replies.Reply.{Reply}
 use Rattle.spans.specs.declared.calls.replies.Reply.TheVariants.{Started, Found, Rows, Written, Committed, Aborted, Closed, Protected, Released, Collected, Opened, Messages, Cancelled, Refused}
 use Rattle.spans.specs.declared.calls.replies.Reply.TheVariants as replies
@@ -228,6 +228,19 @@ scans_and_collections = refl
 pub at_the_edge : replies_to [] ((0, Close 9) ∷ (0, OpenInitial whole 9) ∷ (0, Poll 1 5) ∷ (0, Poll 1 5) ∷ (0, Open whole 9) ∷ (0, Poll 2 5) ∷ [])
     ≡ Closed 9 0 ∷ Opened 1 ∷ Messages (messages.Resolved 9 ∷ []) ∷ Messages [] ∷ Opened 2 ∷ Messages [] ∷ []
 at_the_edge = refl
+
+-- an initial feed with a least gap: the map at its cursor at once, and what it resolves lies the gap apart from its start on
+pub scan_and_gap : replies_to [] ((0, Begin 5) ∷ (0, Put 5 a one) ∷ (0, Commit 5) ∷ (0, Close 7) ∷ (0, OpenInitialEvery whole 7 3) ∷ (0, Poll 1 9) ∷ (0, Close 8) ∷ (0, Poll 1 9) ∷ (1, Begin 9) ∷ (1, Put 9 b two) ∷ (1, Commit 9)
+    ∷ (0, Close 9) ∷ (0, Poll 1 1) ∷ (0, Poll 1 9) ∷ (0, Close 11) ∷ (0, Poll 1 9) ∷ (0, Close 12) ∷ (0, Poll 1 9) ∷ [])
+    ≡ Started ∷ Written ∷ Committed 1 ∷ Closed 7 0 ∷ Opened 1 ∷ Messages (told 7 a (Some one) ∷ []) ∷ Closed 8 0 ∷ Messages [] ∷ Started ∷ Written ∷ Committed 1
+    ∷ Closed 9 0 ∷ Messages (told 9 b (Some two) ∷ []) ∷ Messages (messages.Resolved 9 ∷ []) ∷ Closed 11 0 ∷ Messages [] ∷ Closed 12 0 ∷ Messages (messages.Resolved 12 ∷ []) ∷ []
+scan_and_gap = refl
+
+-- its tests are those of both, in order: the range of the cursor, the range of the gap, the horizon, closed
+pub scan_and_gap_tests : replies_to [] ((0, Close 9) ∷ (0, Collect 4) ∷ (0, OpenInitialEvery whole 9223372036854775808 0) ∷ (0, OpenInitialEvery whole 10 0) ∷ (0, OpenInitialEvery whole 3 9223372036854775808)
+    ∷ (0, OpenInitialEvery whole 3 1) ∷ (0, OpenInitialEvery whole 10 1) ∷ (0, OpenInitialEvery whole 9 9223372036854775807) ∷ [])
+    ≡ Closed 9 0 ∷ Collected 4 0 ∷ Refused TsRange ∷ Refused GapRange ∷ Refused GapRange ∷ Refused (BelowHorizon 4) ∷ Refused (NotClosed 9) ∷ Opened 1 ∷ []
+scan_and_gap_tests = refl
 
 -- the tests of a consumer, by the start of its feed: an initial feed of cursor 7 starts at 6, and another at 7
 abbrev from : ℕ → Message → Option ApplyFault

@@ -1,15 +1,13 @@
 //! The kinds of feeds.
 ghost use Rattle.std.specs.Prelude.{true, ◌≡◌, ◌<◌};
 
-/// What a feed tells first, and when its resolved message is due.
+/// What a feed tells first, and how far apart its resolved messages lie.
 #[derive(Clone, Copy, Debug, PartialEq, Eq)]
-pub enum Kind {
-    /// It tells the versions above its cursor.
-    Plain,
-    /// It tells what its span holds at the cursor, as rows at the cursor, and then the versions above.
-    Initial,
-    /// It tells the versions above its cursor, and resolved timestamps that lie at least a gap apart.
-    Every { gap: u64 },
+pub struct Kind {
+    /// It tells what its span holds at the cursor first, as rows at the cursor, and then the versions above.
+    pub initial: bool,
+    /// Its resolved timestamps lie this far apart at least. Without a gap each closing may be told.
+    pub gap: Option<u64>,
 }
 
 impl Kind {
@@ -19,9 +17,10 @@ impl Kind {
     pub fn start(self, cursor: u64) -> u64
         ensures { result ≡ start_at self cursor }
     {
-        match self {
-            Kind::Initial => cursor.saturating_sub(1),
-            Kind::Plain | Kind::Every { .. } => cursor,
+        if self.initial {
+            cursor.saturating_sub(1)
+        } else {
+            cursor
         }
     }
 
@@ -30,9 +29,9 @@ impl Kind {
         ensures due { result ≡ is_due self resolved closed }
         ensures above { result ≡ true → resolved < closed }
     {
-        match self {
-            Kind::Plain | Kind::Initial => resolved < closed,
-            Kind::Every { gap } => resolved < closed && gap <= closed - resolved,
+        match self.gap {
+            None => resolved < closed,
+            Some(gap) => resolved < closed && gap <= closed - resolved,
         }
     }
 }

@@ -39,5 +39,6 @@ pub mod calls;
 pub mod kind;
 pub mod law;
 mod pieces;
+pub mod report;
 pub mod span;
 pub mod state;

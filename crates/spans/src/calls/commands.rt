@@ -43,6 +43,9 @@ pub enum Cmd {
     /// Opens a feed of the versions of a span above a timestamp, whose resolved messages lie at least
     /// a gap apart.
     OpenEvery { span: Span, cursor: u64, gap: u64 },
+    /// Opens a feed that tells what a span holds at a closed timestamp, and then the versions above it,
+    /// and whose resolved messages lie at least a gap apart.
+    OpenInitialEvery { span: Span, cursor: u64, gap: u64 },
     /// Takes the next messages of a feed, at most `max`.
     Poll { feed: u64, max: u64 },
     /// Ends a feed, from any seat.

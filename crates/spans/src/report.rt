@@ -1,0 +1,103 @@
+//! What an operator may ask of a database: how far it is closed and collected, what holds both back, and how far each
+//! feed has come.
+//!
+//! `engine` makes a report of the database that it holds, and the plain database of a history that was read.
+//! `report_lines` writes it. `specs/Report.antt` says what each part is.
+//!
+//! ```text
+//! closed 30   horizon 9   feed 1 - -, its floor at 9   feed 2 - -, its floor at 9   transaction 31 of seat 0
+//!
+//! limit       at 9, by feed 1: of equal ones the first
+//! oldest      31, of seat 0: a closing goes to 30
+//! ```
+ghost use Rattle.std.specs.Prelude.{◌≡◌};
+
+use crate::kind::Kind;
+use crate::span::Span;
+use std::marker::Model;
+use timestamps::key::Key;
+
+/// An undecided transaction. A closing stops below the first of them.
+#[derive(Clone, Copy, Debug, PartialEq, Eq)]
+pub struct TransactionReport {
+    pub timestamp: u64,
+    /// The seat that began it.
+    pub seat: u8,
+    /// How many keys it wrote.
+    pub keys: u64,
+}
+
+/// A protection that stands. A collection stops at the least timestamp of them.
+#[derive(Clone, Copy, Debug, PartialEq, Eq)]
+pub struct ProtectionReport {
+    pub number: u64,
+    pub timestamp: u64,
+}
+
+/// The row that a feed told last: its key and timestamp.
+#[derive(Debug, Drop)]
+pub struct ToldRow {
+    pub ts: u64,
+    pub key: Key,
+}
+
+impl Model for ToldRow {
+    ghost use Rattle.spans.specs.Collection.{VersionName};
+
+    ghost Value = { VersionName };
+
+    ghost view = { λ n. record { key = n.key; ts = n.ts } };
+}
+
+/// A feed that lives. A collection stops at the least floor of them.
+#[derive(Debug, Drop)]
+pub struct FeedReport {
+    pub number: u64,
+    /// The seat that opened it.
+    pub seat: u8,
+    pub kind: Kind,
+    pub span: Span,
+    pub cursor: u64,
+    /// The row that it told last.
+    pub row: Option<ToldRow>,
+    /// The timestamp that it resolved last.
+    pub resolved: Option<u64>,
+    /// Through where its consumer knows that all was told; none while an initial feed tells what is at its cursor.
+    pub complete: Option<u64>,
+    /// What a collection leaves for it.
+    pub floor: u64,
+    /// How many rows at or below closed it has still to tell. Only a whole report has it.
+    pub untold: Option<u64>,
+}
+
+/// The report of a database. Its lists rise by timestamp, and by number.
+#[derive(Debug, Drop)]
+pub struct Report {
+    pub closed: u64,
+    pub horizon: u64,
+    /// How many versions aren't dead.
+    pub versions: u64,
+    /// How many of them a collection up to closed would drop now. Only a whole report has it.
+    pub removable: Option<u64>,
+    pub transactions: Vec<TransactionReport>,
+    pub protections: Vec<ProtectionReport>,
+    pub feeds: Vec<FeedReport>,
+}
+
+/// What keeps a collection from going further.
+#[derive(Clone, Copy, Debug, PartialEq, Eq)]
+pub enum Holder {
+    /// Nothing but the closed timestamp.
+    Closed,
+    /// The protection of this number.
+    Protection { number: u64 },
+    /// The feed of this number.
+    Feed { number: u64 },
+}
+
+/// How far a collection can go now, and what keeps it there.
+#[derive(Clone, Copy, Debug, PartialEq, Eq)]
+pub struct Limit {
+    pub at: u64,
+    pub by: Holder,
+}
