@@ -6,7 +6,7 @@ use Rattle.spans.specs.Effects.{Aborts, Begins, Cancels, Closes, Collects, Commi
 use Rattle.spans.specs.Kept.{IsKeptOf, Kept, Place, place_of, place_with}
 use Rattle.spans.specs.Legal.{IsRightEvent, is_accepted}
 use Rattle.spans.specs.declared.calls.commands.Cmd.{Cmd}
-use Rattle.spans.specs.declared.calls.commands.Cmd.TheVariants.{Abort, Begin, Cancel, Close, CloseHard, Collect, Commit, Del, Get, Open, OpenEvery, OpenInitial, Poll, Protect, Put, ReadAt, Release, Scan, ScanAt, Stats}
+use Rattle.spans.specs.declared.calls.commands.Cmd.TheVariants.{Abort, Begin, Cancel, Close, CloseHard, Collect, Commit, Del, Get, Open, OpenEvery, OpenInitial, OpenInitialEvery, Poll, Protect, Put, ReadAt, Release, Scan, ScanAt, Stats}
 use Rattle.spans.specs.declared.calls.events.Event.{Event}
 use Rattle.spans.specs.declared.calls.replies.Reply.{Reply}
 use Rattle.spans.specs.declared.calls.replies.Reply.TheVariants.{Messages}
@@ -17,7 +17,7 @@ use Rattle.std.specs.Prelude.{nat_lt, false, option_map, ◌==◌}
 use Rattle.std.proofs.lemmas.Bool.Decides.{nat_tests}
 use Rattle.std.proofs.Common.{arith}
 use Rattle.kept.specs.StandsFor.{StandsFor}
-use Rattle.kept.proofs.Replying.{abort_answer, begin_answer, cancel_answer, close_answer, close_hard_answer, collect_answer, commit_answer, del_answer, get_answer, open_answer, open_every_answer, open_initial_answer, poll_answer, protect_answer, put_answer, read_at_answer, release_answer, scan_answer, scan_at_answer, stats_answer}
+use Rattle.kept.proofs.Replying.{abort_answer, begin_answer, cancel_answer, close_answer, close_hard_answer, collect_answer, commit_answer, del_answer, get_answer, open_answer, open_every_answer, open_initial_every_answer, open_initial_answer, poll_answer, protect_answer, put_answer, read_at_answer, release_answer, scan_answer, scan_at_answer, stats_answer}
 use Rattle.kept.proofs.Standing.{abort_stands, alike_stands, begin_stands, cancel_stands, close_stands, collect_stands, commit_stands, hard_close_stands, no_effect_stands, open_stands, poll_stands, protect_stands, read_stands, release_stands, scan_stands, snapshot_read_stands, snapshot_scan_stands, write_stands}
 use Rattle.kept.specs.Answered.{IsAccepting, IsChangedBy, IsReplyOf, IsStep}
 
@@ -40,6 +40,7 @@ reply_is_answer k h seat (Collect to) r s is = is.4 ∙ collect_answer k (effect
 reply_is_answer k h seat (Open span cursor) r s is = is ∙ open_answer k (effects_of h) s.fits seat span cursor
 reply_is_answer k h seat (OpenInitial span cursor) r s is = is ∙ open_initial_answer k (effects_of h) s.fits seat span cursor
 reply_is_answer k h seat (OpenEvery span cursor gap) r s is = is ∙ open_every_answer k (effects_of h) s.fits seat span cursor gap
+reply_is_answer k h seat (OpenInitialEvery span cursor gap) r s is = is ∙ open_initial_every_answer k (effects_of h) s.fits seat span cursor gap
 reply_is_answer k h seat (Poll f max) r s is = is.2 ∙ poll_answer k (effects_of h) (legal_allowed h s.legal) s.fits seat f max is.0 is.1
 reply_is_answer k h seat (Cancel f) r s is = is ∙ cancel_answer k (effects_of h) (legal_allowed h s.legal) s.fits seat f
 reply_is_answer k h seat Stats r s is = is.6 ∙ stats_answer k (effects_of h) (legal_allowed h s.legal) s.fits seat is.0 is.1 is.2 is.3 is.4 is.5

@@ -1,5 +1,5 @@
 -- The rows that are left for a feed, in two parts.
-use Rattle.std.proofs.Common.{List, Some, [], ap, arith, inl, inr, length, refl, subst, take, zero, suc, ℕ, ◌++◌, ◌-◌, ◌<◌, ◌∙◌, ◌∷◌, ◌≡◌, ◌≤◌}
+use Rattle.std.proofs.Common.{false, true, sym, List, Some, [], ap, arith, inl, inr, length, refl, subst, take, zero, suc, ℕ, ◌++◌, ◌-◌, ◌<◌, ◌∙◌, ◌∷◌, ◌≡◌, ◌≤◌}
 use Rattle.std.proofs.lemmas.Bool.{and_parts, lt-ltb, ltb-true, or_left}
 use Rattle.std.proofs.lemmas.List.{take-take}
 use Rattle.std.specs.Prelude.{true}
@@ -10,7 +10,6 @@ use Rattle.spans.specs.Effects.{effects_of}
 use Rattle.spans.specs.Feeds.{start_at, start_of, told_to}
 use Rattle.spans.specs.Kept.{Kept, Place}
 use Rattle.spans.specs.declared.calls.events.Event.{Event}
-use Rattle.spans.specs.declared.kind.Kind.TheVariants.{Initial}
 use Rattle.spans.proofs.RowOrder.{name_order}
 use Rattle.spans.proofs.StreamOrder.{in_append, rises_append}
 use Rattle.spans.proofs.Taking.{resolved_grows}
@@ -49,8 +48,8 @@ none_are : (k : Kept) (place : Place) → ((r : Row) → IsFirst k.version place
 none_are k place none = record { rising = tt; each = λ r. (λ i. absurd i, λ i. absurd (none r i)) }
 
 -- of a feed of another kind
-pub another_none : (k : Kept) (place : Place) → (place.kind ≡ Initial → ⊥) → AreFirsts k.version place []
-another_none k place other = none_are k place (λ r i. other i.initial)
+pub another_none : (k : Kept) (place : Place) → place.kind.initial ≡ false → AreFirsts k.version place []
+another_none k place other = none_are k place (λ r i. absurd (let no' : false ≡ true = sym other ∙ i.initial in cc))
 
 -- of a feed that resolved its cursor or more
 pub resolved_none : (k : Kept) (place : Place) → place.cursor ≤ place.after → AreFirsts k.version place []

@@ -7,15 +7,14 @@ use Rattle.timestamps.specs.declared.row.Row.{Row}
 use Rattle.timestamps.specs.declared.ts.TheConstants.{MAX}
 use Rattle.spans.specs.Answer.{answer_of, first_refusal_or, is_timestamp, snapshot_tests, transaction_tests, with_feed}
 use Rattle.spans.specs.Collection.{VersionName, collection_horizon, dead_of, horizon_of}
-use Rattle.spans.specs.declared.kind.Kind.TheVariants.{Plain, Initial, Every}
-use Rattle.spans.specs.Effects.{Collects, Effect, Opens}
+use Rattle.spans.specs.Effects.{Collects, Effect, Opens, kind_of}
 use Rattle.spans.specs.Feeds.{Feed, feed_of, feeds_opened, is_cancelled, is_due, next_messages}
 use Rattle.spans.specs.Kept.{IsKeptOf, Kept, Place, place_with}
 use Rattle.spans.specs.Keys.{in_span, pairs_of}
 use Rattle.spans.specs.Reads.{too_late}
 use Rattle.spans.specs.Transactions.{closed_of, decided_through, undecided_timestamps}
 use Rattle.spans.specs.Versions.{committed_value, is_blocked, visible, write_count, written_keys}
-use Rattle.spans.specs.declared.calls.commands.Cmd.TheVariants.{Abort, Begin, Cancel, Close, CloseHard, Collect, Commit, Del, Get, Open, OpenEvery, OpenInitial, Poll, Protect, Put, ReadAt, Release, Scan, ScanAt, Stats}
+use Rattle.spans.specs.declared.calls.commands.Cmd.TheVariants.{Abort, Begin, Cancel, Close, CloseHard, Collect, Commit, Del, Get, Open, OpenEvery, OpenInitial, OpenInitialEvery, Poll, Protect, Put, ReadAt, Release, Scan, ScanAt, Stats}
 use Rattle.spans.specs.declared.calls.messages.Message.{Message}
 use Rattle.spans.specs.declared.calls.replies.Refusal.TheVariants.{BelowClosed, BelowHorizon, Blocked, FeedCancelled, NoFeed, NotClosed, NotOwner, TooLate, TsRange, TsUsed}
 use Rattle.spans.specs.declared.calls.replies.Reply.{Reply}
@@ -142,16 +141,20 @@ collect_answer k p all fits seat to protection floor dropped is = ranged to (Col
     ap (Collected (reached k to protection floor)) n ∙ ap (λ h. Collected h (length (dead_of (Collects h ∷ p)) - length (dead_of p))) e)
 
 -- open
-pub open_answer : (k : Kept) (p : List Effect) → IsKeptOf k p → (seat : ℕ) (span : Span) (cursor : ℕ) → open_reply Plain k cursor ≡ answer_of p seat (Open span cursor)
+pub open_answer : (k : Kept) (p : List Effect) → IsKeptOf k p → (seat : ℕ) (span : Span) (cursor : ℕ) → open_reply (kind_of false None) k cursor ≡ answer_of p seat (Open span cursor)
 open_answer k p fits seat span cursor = rw (fits.horizon_at, fits.opened) refl
 
 -- open with an initial scan
-pub open_initial_answer : (k : Kept) (p : List Effect) → IsKeptOf k p → (seat : ℕ) (span : Span) (cursor : ℕ) → open_reply Initial k cursor ≡ answer_of p seat (OpenInitial span cursor)
+pub open_initial_answer : (k : Kept) (p : List Effect) → IsKeptOf k p → (seat : ℕ) (span : Span) (cursor : ℕ) → open_reply (kind_of true None) k cursor ≡ answer_of p seat (OpenInitial span cursor)
 open_initial_answer k p fits seat span cursor = rw (fits.horizon_at, fits.closed_at, fits.opened) refl
 
 -- open with a least gap
-pub open_every_answer : (k : Kept) (p : List Effect) → IsKeptOf k p → (seat : ℕ) (span : Span) (cursor gap : ℕ) → open_reply (Every gap) k cursor ≡ answer_of p seat (OpenEvery span cursor gap)
+pub open_every_answer : (k : Kept) (p : List Effect) → IsKeptOf k p → (seat : ℕ) (span : Span) (cursor gap : ℕ) → open_reply (kind_of false (Some gap)) k cursor ≡ answer_of p seat (OpenEvery span cursor gap)
 open_every_answer k p fits seat span cursor gap = rw (fits.horizon_at, fits.opened) refl
+
+-- open with both
+pub open_initial_every_answer : (k : Kept) (p : List Effect) → IsKeptOf k p → (seat : ℕ) (span : Span) (cursor gap : ℕ) → open_reply (kind_of true (Some gap)) k cursor ≡ answer_of p seat (OpenInitialEvery span cursor gap)
+open_initial_every_answer k p fits seat span cursor gap = rw (fits.horizon_at, fits.closed_at, fits.opened) refl
 
 -- feed 0 is never opened
 no_zeroth : (p : List Effect) → AllAllowed p → feed_of p 0 ≡ None

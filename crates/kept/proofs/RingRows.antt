@@ -7,7 +7,6 @@ use Rattle.std.proofs.lemmas.List.Elements.{filter_map-append}
 use Rattle.std.specs.Prelude.{filter, max, nat_lt}
 use Rattle.timestamps.specs.declared.row.Row.{Row}
 use Rattle.spans.specs.declared.kind.Kind.{Kind}
-use Rattle.spans.specs.declared.kind.Kind.TheVariants.{Plain, Initial, Every}
 use Rattle.spans.specs.Effects.{Cancels, Closes, Effect, HardCloses, Opens, Polls}
 use Rattle.spans.specs.Feeds.{Feed, feed_of, first_rows, is_cancelled, last_resolved, list_of, start_at, start_of, next_messages, row_in, rows_in, told_to, untold_rows}
 use Rattle.spans.specs.Kept.{IsKeptOf, Kept, Place, place_with}
@@ -114,9 +113,9 @@ untold_closes p all n allowed f feed is = untold_goes_on p (Closes n) n refl (cl
     maps (suc t) = rw (maps t) refl
 
     alike : (kind : Kind) (span : Span) (c : ℕ) → first_rows kind (Closes n ∷ p) span c ++ stream_of (Closes n ∷ p) feed.span feed.cursor n ≡ first_rows kind p span c ++ stream_of p feed.span feed.cursor n
-    alike Plain span c = same n
-    alike Initial span c = ap (λ w. map (pair_row c) (pairs_of (span_part span w) (written_keys p)) ++ stream_of (Closes n ∷ p) feed.span feed.cursor n) (maps c) ∙ ap (λ l. snapshot_rows p span c ++ l) (same n)
-    alike (Every gap) span c = same n
+    alike kind span c = by_test kind.initial
+        (λ is. rw is (ap (λ w. map (pair_row c) (pairs_of (span_part span w) (written_keys p)) ++ stream_of (Closes n ∷ p) feed.span feed.cursor n) (maps c) ∙ ap (λ l. snapshot_rows p span c ++ l) (same n)))
+        (λ isnt. rw isnt (same n))
 
 -- and after a hard closing
 pub untold_hard_closes : (p : List Effect) → AllAllowed p → (to n : ℕ) → Allowed p (HardCloses to n) → (f : ℕ) (feed : Feed) → feed_of p f ≡ Some feed
@@ -132,9 +131,9 @@ untold_hard_closes p all to n allowed f feed is = untold_goes_on p (HardCloses t
     maps (suc t) = rw (maps t) refl
 
     alike : (kind : Kind) (span : Span) (c : ℕ) → first_rows kind (HardCloses to n ∷ p) span c ++ stream_of (HardCloses to n ∷ p) feed.span feed.cursor n ≡ first_rows kind p span c ++ stream_of p feed.span feed.cursor n
-    alike Plain span c = same n
-    alike Initial span c = ap (λ w. map (pair_row c) (pairs_of (span_part span w) (written_keys p)) ++ stream_of (HardCloses to n ∷ p) feed.span feed.cursor n) (maps c) ∙ ap (λ l. snapshot_rows p span c ++ l) (same n)
-    alike (Every gap) span c = same n
+    alike kind span c = by_test kind.initial
+        (λ is. rw is (ap (λ w. map (pair_row c) (pairs_of (span_part span w) (written_keys p)) ++ stream_of (HardCloses to n ∷ p) feed.span feed.cursor n) (maps c) ∙ ap (λ l. snapshot_rows p span c ++ l) (same n)))
+        (λ isnt. rw isnt (same n))
 
 -- what moves neither closed nor the feed leaves it what it had
 pub untold_stays : (p : List Effect) (d : Effect) → AllAllowed p → Allowed p d → (f : ℕ) (feed : Feed) → feed_of p f ≡ Some feed → closed_of (d ∷ p) ≡ closed_of p → told_to (d ∷ p) f ≡ told_to p f → untold_rows (d ∷ p) f feed ≡ untold_rows p f feed
@@ -143,17 +142,15 @@ untold_stays p d all allowed f feed is at told' = let h = feeding p all f feed i
     ∙ sym (left_of p f feed h)
 
 -- a feed that has just been opened at or above closed has nothing left
-pub untold_opens : (p : List Effect) → AllAllowed p → (f seat : ℕ) (kind : Kind) (span : Span) (cursor : ℕ) → Allowed p (Opens f seat kind span cursor) → (kind ≡ Initial → ⊥) → closed_of p ≤ cursor
+pub untold_opens : (p : List Effect) → AllAllowed p → (f seat : ℕ) (kind : Kind) (span : Span) (cursor : ℕ) → Allowed p (Opens f seat kind span cursor) → (kind.initial ≡ false) → closed_of p ≤ cursor
     → untold_rows (Opens f seat kind span cursor ∷ p) f (record { seat = seat; kind = kind; span = span; cursor = cursor }) ≡ []
 untold_opens p all f seat kind span cursor allowed later low =
     let none : told_to p f ≡ [] = (unopened p all f (omega (arith, allowed.0))).1 in
     untold_is (Opens f seat kind span cursor ∷ p) f (record { seat = seat; kind = kind; span = span; cursor = cursor }) []
     (ap (λ l. l ++ stream_of (Opens f seat kind span cursor ∷ p) span cursor (closed_of p)) (first kind later) ∙ stream_none (Opens f seat kind span cursor ∷ p) span cursor (closed_of p) low ∙ ap (λ ms. rows_in ms ++ []) (sym none))
   where
-    first : (kind' : Kind) → (kind' ≡ Initial → ⊥) → first_rows kind' (Opens f seat kind span cursor ∷ p) span cursor ≡ []
-    first Plain later = refl
-    first Initial later = absurd (later refl)
-    first (Every gap) later = refl
+    first : (kind' : Kind) → kind'.initial ≡ false → first_rows kind' (Opens f seat kind span cursor ∷ p) span cursor ≡ []
+    first kind' later = rw later refl
 
 -- the rows of the next messages are the next rows
 rows_taken : (m : ℕ) (us : List Row) (b : Bool) (n : ℕ) → rows_in (take m (map messages.Row us ++ due_if b n)) ≡ take m us
@@ -193,9 +190,9 @@ untold_polls p all f m feed is =
     maps (suc t) = rw (maps t) refl
 
     alike : (kind : Kind) (span : Span) (c : ℕ) → first_rows kind (Polls f m (next_messages p f feed m) ∷ p) span c ++ stream_of (Polls f m (next_messages p f feed m) ∷ p) feed.span feed.cursor (closed_of p) ≡ first_rows kind p span c ++ stream_of p feed.span feed.cursor (closed_of p)
-    alike Plain span c = same (closed_of p)
-    alike Initial span c = ap (λ w. map (pair_row c) (pairs_of (span_part span w) (written_keys p)) ++ stream_of (Polls f m (next_messages p f feed m) ∷ p) feed.span feed.cursor (closed_of p)) (maps c) ∙ ap (λ l. snapshot_rows p span c ++ l) (same (closed_of p))
-    alike (Every gap) span c = same (closed_of p)
+    alike kind span c = by_test kind.initial
+        (λ is. rw is (ap (λ w. map (pair_row c) (pairs_of (span_part span w) (written_keys p)) ++ stream_of (Polls f m (next_messages p f feed m) ∷ p) feed.span feed.cursor (closed_of p)) (maps c) ∙ ap (λ l. snapshot_rows p span c ++ l) (same (closed_of p))))
+        (λ isnt. rw isnt (same (closed_of p)))
 
 -- resolved timestamps at or below n don't matter to what is above n
 resolved_below : (n c t : ℕ) (ms : List Message) → AllBelow n ms → n < t → nat_lt (last_resolved c ms) t ≡ nat_lt c t
@@ -211,10 +208,10 @@ filter_alike q q' [] same = refl
 filter_alike q q' (r ∷ rows) same = ap (λ b. cond b (r ∷ filter q rows) (filter q rows)) (same r (inl refl)) ∙ ap (λ l. cond (q' r) (r ∷ l) l) (filter_alike q q' rows (λ s i. same s (inr i)))
 
 -- what is above the cursor is above the start, and the other way round where the cursor of an initial feed is no concern
-start_alike : (kind : Kind) (c n : ℕ) → (kind ≡ Initial → c < n) → nat_lt (start_at kind c) n ≡ nat_lt c n
-start_alike Plain c n settled = refl
-start_alike Initial c n settled = let above : c < n = settled refl in lt-ltb (c - 1) n (omega arith) ∙ sym (lt-ltb c n above)
-start_alike (Every gap) c n settled = refl
+start_alike : (kind : Kind) (c n : ℕ) → (kind.initial ≡ true → c < n) → nat_lt (start_at kind c) n ≡ nat_lt c n
+start_alike kind c n settled = by_test kind.initial
+    (λ is. let above : c < n = settled is in rw is (lt-ltb (c - 1) n (omega arith) ∙ sym (lt-ltb c n above)))
+    (λ isnt. rw isnt refl)
 
 -- of the rows between closed and n a feed wants those beyond its place
 wanted_at : (p : List Effect) (f : ℕ) (feed : Feed) (n : ℕ) → IsFeeding p f feed
@@ -254,7 +251,7 @@ rings_after_polls k p all fits f m ms allowed ring ring' behind behind' place ro
 
 -- rings after an opening
 pub rings_after_opens : (k : Kept) (p : List Effect) → AllAllowed p → IsKeptOf k p → (f seat : ℕ) (kind : Kind) (span : Span) (cursor : ℕ) → Allowed p (Opens f seat kind span cursor) → (ring ring' : ℕ → List Row) (behind behind' : ℕ → Bool)
-    → (behind' f ≡ false → (kind ≡ Initial → ⊥) × (k.closed ≤ cursor) × (ring' f ≡ [])) → AreOthersSame f ring ring' behind behind'
+    → (behind' f ≡ false → (kind.initial ≡ false) × (k.closed ≤ cursor) × (ring' f ≡ [])) → AreOthersSame f ring ring' behind behind'
     → AreRings ring behind p → AreRings ring' behind' (Opens f seat kind span cursor ∷ p)
 rings_after_opens k p all fits f seat kind span cursor allowed ring ring' behind behind' own others rings g feed is live up = by_test (f == g)
     (λ same. let e : f ≡ g = eqb-true f g same in

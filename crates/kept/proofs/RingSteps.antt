@@ -3,7 +3,6 @@ use Rattle.std.proofs.Common.{Bool, List, Some, [], ap, arith, drop, false, subs
 use Rattle.std.specs.Prelude.{filter, max, nat_le}
 use Rattle.timestamps.specs.declared.row.Row.{Row}
 use Rattle.spans.specs.declared.kind.Kind.{Kind}
-use Rattle.spans.specs.declared.kind.Kind.TheVariants.{Initial}
 use Rattle.spans.specs.Effects.{Closes, Commits, Effect, HardCloses, Opens, Polls, effect_of, effects_of}
 use Rattle.spans.specs.Kept.{Kept, Place, place_with}
 use Rattle.spans.specs.Legal.{IsLegal, IsRightEvent}
@@ -58,7 +57,7 @@ rings_poll k h e f max ms ring ring' behind behind' place rows stands right is r
 
 -- rings after an opening
 pub rings_open : (k : Kept) (h : List Event) (e : Event) (f seat : ℕ) (kind : Kind) (span : Span) (cursor : ℕ) (ring ring' : ℕ → List Row) (behind behind' : ℕ → Bool) → StandsFor k h → IsRightEvent (effects_of h) e → effect_of e ≡ Opens f seat kind span cursor
-    → AreRings ring behind (effects_of h) → (behind' f ≡ false → (kind ≡ Initial → ⊥) × (k.closed ≤ cursor) × (ring' f ≡ [])) → AreOthersSame f ring ring' behind behind' → AreRings ring' behind' (effects_of (e ∷ h))
+    → AreRings ring behind (effects_of h) → (behind' f ≡ false → (kind.initial ≡ false) × (k.closed ≤ cursor) × (ring' f ≡ [])) → AreOthersSame f ring ring' behind behind' → AreRings ring' behind' (effects_of (e ∷ h))
 rings_open k h e f seat kind span cursor ring ring' behind behind' stands right is rings own others =
     subst (λ d. AreRings ring' behind' (d ∷ effects_of h)) (sym is)
     (rings_after_opens k (effects_of h) (legal_allowed h stands.legal) stands.fits f seat kind span cursor (allowed_after h e (Opens f seat kind span cursor) right is) ring ring' behind behind' own others rings)

@@ -1,16 +1,15 @@
 -- A command answered by what is kept: the reply, and what becomes of what is kept.
-use Rattle.std.specs.Prelude.{Bool, List, None, Option, Some, is_some, nat_le, true, ℕ, ◌&&◌, ◌≡◌, ◌≤◌, ◌⊎◌}
+use Rattle.std.specs.Prelude.{false, Bool, List, None, Option, Some, is_some, nat_le, true, ℕ, ◌&&◌, ◌≡◌, ◌≤◌, ◌⊎◌}
 use Rattle.timestamps.specs.declared.row.Row.{Row}
 use Rattle.timestamps.specs.declared.ts.TheConstants.{MAX}
 use Rattle.spans.specs.Collection.{VersionName}
-use Rattle.spans.specs.Effects.{Aborts, Begins, Cancels, Closes, Collects, Commits, Effect, HardCloses, NoEffect, Opens, Polls, Protects, Reads, Releases, Scans, SnapshotReads, SnapshotScans, Writes, effect}
+use Rattle.spans.specs.Effects.{Aborts, Begins, Cancels, Closes, Collects, Commits, Effect, HardCloses, NoEffect, Opens, Polls, Protects, Reads, Releases, Scans, SnapshotReads, SnapshotScans, Writes, effect, kind_of}
 use Rattle.spans.specs.Kept.{Kept, Place}
 use Rattle.spans.specs.Legal.{is_accepted, may_lack_memory}
 use Rattle.spans.specs.declared.span.Span.{Span}
 use Rattle.spans.specs.declared.calls.commands.Cmd.{Cmd}
-use Rattle.spans.specs.declared.calls.commands.Cmd.TheVariants.{Abort, Begin, Cancel, Close, CloseHard, Collect, Commit, Del, Get, Open, OpenEvery, OpenInitial, Poll, Protect, Put, ReadAt, Release, Scan, ScanAt, Stats}
+use Rattle.spans.specs.declared.calls.commands.Cmd.TheVariants.{Abort, Begin, Cancel, Close, CloseHard, Collect, Commit, Del, Get, Open, OpenEvery, OpenInitial, OpenInitialEvery, Poll, Protect, Put, ReadAt, Release, Scan, ScanAt, Stats}
 use Rattle.spans.specs.declared.calls.replies.Refusal.TheVariants.{NoMemory}
-use Rattle.spans.specs.declared.kind.Kind.TheVariants.{Every, Initial, Plain}
 use Rattle.spans.specs.declared.calls.replies.Reply.{Reply}
 use Rattle.spans.specs.declared.calls.replies.Reply.TheVariants.{Refused}
 use Rattle.kept.specs.Changes.{IsAbortedBy, IsAlike, IsBegun, IsCancelledFrom, IsClosedAt, IsCollectedTo, IsCommittedBy, IsHardClosedAt, IsMovedBy, IsOpenedAt, IsProtectedBy, IsReadBy, IsReleasedFrom, IsScannedBy, IsWritten}
@@ -72,9 +71,10 @@ IsReplyOf k seat (ScanAt t span) r = IsScanAtReply k t span r
 IsReplyOf k seat (Protect t) r = r ≡ protect_reply k t
 IsReplyOf k seat (Release id) r = r ≡ release_reply k id
 IsReplyOf k seat (Collect to) r = IsCollectReply k to r
-IsReplyOf k seat (Open span cursor) r = r ≡ open_reply Plain k cursor
-IsReplyOf k seat (OpenInitial span cursor) r = r ≡ open_reply Initial k cursor
-IsReplyOf k seat (OpenEvery span cursor gap) r = r ≡ open_reply (Every gap) k cursor
+IsReplyOf k seat (Open span cursor) r = r ≡ open_reply (kind_of false None) k cursor
+IsReplyOf k seat (OpenInitial span cursor) r = r ≡ open_reply (kind_of true None) k cursor
+IsReplyOf k seat (OpenEvery span cursor gap) r = r ≡ open_reply (kind_of false (Some gap)) k cursor
+IsReplyOf k seat (OpenInitialEvery span cursor gap) r = r ≡ open_reply (kind_of true (Some gap)) k cursor
 IsReplyOf k seat (Poll f max) r = IsPollReply k seat f max r
 IsReplyOf k seat (Cancel f) r = r ≡ cancel_reply k f
 IsReplyOf k seat Stats r = IsStatsReply k r

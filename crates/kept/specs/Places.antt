@@ -3,7 +3,6 @@ use Rattle.std.specs.Prelude.{Bool, List, None, Option, Some, is_some, length, m
 use Rattle.timestamps.specs.declared.row.Row.{Row}
 use Rattle.spans.specs.Collection.{LiveFeed, VersionName}
 use Rattle.spans.specs.Consumer.{is_after_name}
-use Rattle.spans.specs.declared.kind.Kind.TheVariants.{Initial}
 use Rattle.spans.specs.Effects.{After}
 use Rattle.spans.specs.Feeds.{last_resolved}
 use Rattle.spans.specs.Kept.{Kept, Place, last_name}
@@ -45,7 +44,7 @@ is_beyond place r = nat_lt place.after r.ts && is_after_name place.row r
 
 -- a value of the feed's span that is found at the cursor of an initial feed, as a row beyond the place
 pub record IsFirst (version : List ℕ → ℕ → Option After) (place : Place) (r : Row) : Type 0 where
-  pub initial : place.kind ≡ Initial
+  pub initial : place.kind.initial ≡ true
   pub at : r.ts ≡ place.cursor
   pub found : (newest (version r.key) place.cursor).after ≡ r.after
   pub value : is_some r.after ≡ true

@@ -3,10 +3,9 @@ use Rattle.std.specs.List.{list_any}
 use Rattle.std.specs.Prelude.{Bool, List, None, Option, Some, [], if◌then◌else◌, is_some, length, map, max, nat_le, nat_lt, not, suc, take, ℕ, ◌&&◌, ◌++◌, ◌==◌, ◌∷◌}
 use Rattle.timestamps.specs.declared.row.Row.{Row}
 use Rattle.timestamps.specs.declared.ts.TheConstants.{MAX}
-use Rattle.spans.specs.Answer.{first_refusal_or, is_timestamp}
+use Rattle.spans.specs.Answer.{first_refusal_or, is_gap, is_timestamp}
 use Rattle.spans.specs.Collection.{Protection, VersionName}
 use Rattle.spans.specs.declared.kind.Kind.{Kind}
-use Rattle.spans.specs.declared.kind.Kind.TheVariants.{Plain, Initial, Every}
 use Rattle.spans.specs.Feeds.{is_due}
 use Rattle.spans.specs.Kept.{Kept, Place}
 use Rattle.spans.specs.Keys.{pairs_of}
@@ -84,9 +83,12 @@ collect_reply to horizon dropped = in_range to (Collected horizon (length droppe
 
 -- the tests of an opening, by the feed's kind
 abbrev pub kept_opening_tests : Kind → Kept → ℕ → List (Bool × Refusal)
-kept_opening_tests Plain k cursor = (nat_lt MAX cursor, TsRange) ∷ (nat_lt cursor k.horizon, BelowHorizon k.horizon) ∷ []
-kept_opening_tests Initial k cursor = (nat_lt MAX cursor, TsRange) ∷ (nat_lt cursor k.horizon, BelowHorizon k.horizon) ∷ (nat_lt k.closed cursor, NotClosed k.closed) ∷ []
-kept_opening_tests (Every gap) k cursor = (nat_lt MAX cursor, TsRange) ∷ (not (is_timestamp gap), GapRange) ∷ (nat_lt cursor k.horizon, BelowHorizon k.horizon) ∷ []
+kept_opening_tests kind k cursor =
+    (nat_lt MAX cursor, TsRange)
+    ∷ (not (is_gap kind.gap), GapRange)
+    ∷ (nat_lt cursor k.horizon, BelowHorizon k.horizon)
+    ∷ (kind.initial && nat_lt k.closed cursor, NotClosed k.closed)
+    ∷ []
 
 -- feeds of all kinds are numbered from 1 on
 abbrev pub open_reply : Kind → Kept → ℕ → Reply

@@ -10,7 +10,6 @@ use Rattle.spans.specs.Legal.{IsLegal, IsRightEvent}
 use Rattle.spans.specs.Streams.{stream_of}
 use Rattle.spans.specs.declared.calls.events.Event.{Event}
 use Rattle.spans.specs.declared.kind.Kind.{Kind}
-use Rattle.spans.specs.declared.kind.Kind.TheVariants.{Initial}
 use Rattle.spans.specs.declared.span.Span.{Span}
 use Rattle.kept.specs.Places.{AreLeftAt}
 use Rattle.kept.specs.StandsFor.{StandsFor}
@@ -70,7 +69,7 @@ IsPolledRing k f max r r' = (place : Place) × (rows : List Row) × (k.feed f �
 
 -- f is behind, or opens at or above closed with an empty ring and is no initial feed; the other rings stay
 abbrev pub IsOpenedRing : Kept → ℕ → Kind → ℕ → Rings → Rings → Type 0
-IsOpenedRing k f kind cursor r r' = (r'.behind f ≡ false → (kind ≡ Initial → ⊥) × (k.closed ≤ cursor) × (r'.rows f ≡ [])) × AreOthersSame f r.rows r'.rows r.behind r'.behind
+IsOpenedRing k f kind cursor r r' = (r'.behind f ≡ false → (kind.initial ≡ false) × (k.closed ≤ cursor) × (r'.rows f ≡ [])) × AreOthersSame f r.rows r'.rows r.behind r'.behind
 
 -- of live feeds the rings are the same, or the feed falls behind
 abbrev pub AreLiveSame : Kept → Rings → Rings → Type 0

@@ -1,12 +1,11 @@
 //! The replies made of what is kept are the answers of the definitions.
-ghost use Rattle.std.specs.Prelude.{List, ℕ, true, ◌≡◌, ◌≤◌};
+ghost use Rattle.std.specs.Prelude.{List, ℕ, Some, None, true, false, ◌≡◌, ◌≤◌};
 ghost use Rattle.timestamps.specs.declared.ts.TheConstants.{MAX};
 ghost use Rattle.spans.specs.declared.span.Span.{Span};
-ghost use Rattle.spans.specs.declared.calls.commands.Cmd.TheVariants.{Begin, Get, Scan, Put, Del, Commit, Abort, Close, CloseHard, Protect, Release, Collect, Open, OpenInitial, OpenEvery, Poll, Cancel, Stats, ReadAt, ScanAt};
+ghost use Rattle.spans.specs.declared.calls.commands.Cmd.TheVariants.{Begin, Get, Scan, Put, Del, Commit, Abort, Close, CloseHard, Protect, Release, Collect, Open, OpenInitial, OpenEvery, OpenInitialEvery, Poll, Cancel, Stats, ReadAt, ScanAt};
 ghost use Rattle.spans.specs.declared.calls.events.Event.{Event};
 ghost use Rattle.spans.specs.declared.calls.replies.Reply.{Reply};
-ghost use Rattle.spans.specs.declared.kind.Kind.TheVariants.{Plain, Initial, Every};
-ghost use Rattle.spans.specs.Effects.{effects_of};
+ghost use Rattle.spans.specs.Effects.{effects_of, kind_of};
 ghost use Rattle.spans.specs.Answer.{answer_of};
 ghost use Rattle.spans.specs.Legal.{is_accepted};
 ghost use Rattle.spans.specs.Kept.{Kept};
@@ -35,9 +34,10 @@ pub fn kept_answers()
     ensures release { (k : Kept) (seat id : ℕ) → Answers k seat (Release id) (release_reply k id) }
     ensures collect { (k : Kept) (seat to : ℕ) (r : Reply) → IsCollectReply k to r → Answers k seat (Collect to) r }
     ensures collect_accepted { (h : List Event) (seat to : ℕ) → to ≤ MAX → is_accepted (answer_of (effects_of h) seat (Collect to)) ≡ true }
-    ensures open { (k : Kept) (seat c : ℕ) (span : Span) → Answers k seat (Open span c) (open_reply Plain k c) }
-    ensures open_initial { (k : Kept) (seat c : ℕ) (span : Span) → Answers k seat (OpenInitial span c) (open_reply Initial k c) }
-    ensures open_every { (k : Kept) (seat c gap : ℕ) (span : Span) → Answers k seat (OpenEvery span c gap) (open_reply (Every gap) k c) }
+    ensures open { (k : Kept) (seat c : ℕ) (span : Span) → Answers k seat (Open span c) (open_reply (kind_of false None) k c) }
+    ensures open_initial { (k : Kept) (seat c : ℕ) (span : Span) → Answers k seat (OpenInitial span c) (open_reply (kind_of true None) k c) }
+    ensures open_every { (k : Kept) (seat c gap : ℕ) (span : Span) → Answers k seat (OpenEvery span c gap) (open_reply (kind_of false (Some gap)) k c) }
+    ensures open_initial_every { (k : Kept) (seat c gap : ℕ) (span : Span) → Answers k seat (OpenInitialEvery span c gap) (open_reply (kind_of true (Some gap)) k c) }
     ensures poll { (k : Kept) (seat f max : ℕ) (r : Reply) → IsPollReply k seat f max r → Answers k seat (Poll f max) r }
     ensures cancel { (k : Kept) (seat f : ℕ) → Answers k seat (Cancel f) (cancel_reply k f) }
     ensures stats { (k : Kept) (seat : ℕ) (r : Reply) → IsStatsReply k r → Answers k seat Stats r }

@@ -1,8 +1,7 @@
 //! The rows that are left for a feed, in the two parts in which a store finds them.
-ghost use Rattle.std.specs.Prelude.{List, [], ℕ, Some, ◌++◌, ◌≡◌, ◌<◌, ◌≤◌};
+ghost use Rattle.std.specs.Prelude.{List, [], ℕ, Some, false, ◌++◌, ◌≡◌, ◌<◌, ◌≤◌};
 ghost use Rattle.timestamps.specs.declared.row.Row.{Row};
 ghost use Rattle.spans.specs.declared.calls.events.Event.{Event};
-ghost use Rattle.spans.specs.declared.kind.Kind.TheVariants.{Initial};
 ghost use Rattle.spans.specs.Collection.{VersionName};
 ghost use Rattle.spans.specs.Feeds.{start_at};
 ghost use Rattle.spans.specs.Kept.{Kept, Place};
@@ -19,7 +18,7 @@ ghost use Rattle.kept.specs.Places.{AreFirsts, AreLeftAt, AreNext, AreParts, fir
 pub fn rows_left()
     ensures joined { (k : Kept) (place : Place) (first more : List Row) → AreParts k place first more → AreLeftAt k place (first ++ more) }
     ensures next { (k : Kept) (place : Place) (max : ℕ) (first more : List Row) → AreParts k place first more → AreNext k place max (first_of max first more) }
-    ensures another_kind { (k : Kept) (place : Place) → (place.kind ≡ Initial → ⊥) → AreFirsts k.version place [] }
+    ensures another_kind { (k : Kept) (place : Place) → place.kind.initial ≡ false → AreFirsts k.version place [] }
     ensures resolved { (k : Kept) (place : Place) → place.cursor ≤ place.after → AreFirsts k.version place [] }
     ensures past { (k : Kept) (place : Place) (n : VersionName) → place.row ≡ Some n → place.cursor < n.ts → AreFirsts k.version place [] }
     ensures placed { (k : Kept) (h : List Event) (f : ℕ) (place : Place) → StandsFor k h → k.feed f ≡ Some place → start_at place.kind place.cursor ≤ place.after }

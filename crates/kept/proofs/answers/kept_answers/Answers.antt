@@ -1,6 +1,6 @@
 use Rattle.std.specs.Prelude.{refl}
 use Rattle.spans.specs.Effects.{effects_of}
-use Rattle.spans.specs.declared.calls.commands.Cmd.TheVariants.{Abort, Begin, Cancel, Close, CloseHard, Collect, Commit, Del, Get, Open, OpenEvery, OpenInitial, Poll, Protect, Put, ReadAt, Release, Scan, ScanAt, Stats}
+use Rattle.spans.specs.declared.calls.commands.Cmd.TheVariants.{Abort, Begin, Cancel, Close, CloseHard, Collect, Commit, Del, Get, Open, OpenEvery, OpenInitial, OpenInitialEvery, Poll, Protect, Put, ReadAt, Release, Scan, ScanAt, Stats}
 use Rattle.kept.proofs.Answering.{collect_accepted, reply_is_answer}
 use Rattle.kept.proofs.answers.kept_answers.Goals as goal
 
@@ -57,6 +57,9 @@ returns-clause-open_initial c = λ k seat c span h stands. reply_is_answer k h s
 
 pub returns-clause-open_every : goal.returns-clause-open_every
 returns-clause-open_every c = λ k seat c gap span h stands. reply_is_answer k h seat (OpenEvery span c gap) _ stands refl
+
+pub returns-clause-open_initial_every : goal.returns-clause-open_initial_every
+returns-clause-open_initial_every c = λ k seat c gap span h stands. reply_is_answer k h seat (OpenInitialEvery span c gap) _ stands refl
 
 pub returns-clause-poll : goal.returns-clause-poll
 returns-clause-poll c = λ k seat f max r is h stands. reply_is_answer k h seat (Poll f max) r stands is
