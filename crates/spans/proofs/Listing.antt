@@ -124,7 +124,7 @@ first_rises Initial p span c = pairs_rows_rise c (pairs_of (span_part span (map_
 first_rises (Every gap) p span c = tt
 
 -- which rows it is
-in_first : (kind : Kind) (p : List Effect) (span : Span) (c : ℕ) (r : Row) → IsRowIn r (first_rows kind p span c) ↔ ((kind ≡ Initial) × IsScanned p span c r)
+pub in_first : (kind : Kind) (p : List Effect) (span : Span) (c : ℕ) (r : Row) → IsRowIn r (first_rows kind p span c) ↔ ((kind ≡ Initial) × IsScanned p span c r)
 in_first Plain p span c r = (λ i. absurd i, λ i. absurd (let no' = i.0 in cc))
 in_first Initial p span c r = let s = in_snapshot p span c r in (λ i. (refl, s.0 i), λ i. s.1 i.1)
 in_first (Every gap) p span c r = (λ i. absurd i, λ i. absurd (let no' = i.0 in cc))
@@ -167,7 +167,7 @@ start_next Initial c n above = omega arith
 start_next (Every gap) c n above = omega arith
 
 -- an initial feed's start is below its cursor
-start_first : (kind : Kind) (c : ℕ) → kind ≡ Initial → 0 < c → start_at kind c < c
+pub start_first : (kind : Kind) (c : ℕ) → kind ≡ Initial → 0 < c → start_at kind c < c
 start_first Plain c is some = cc
 start_first Initial c is some = omega arith
 start_first (Every gap) c is some = cc

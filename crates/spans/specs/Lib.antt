@@ -13,8 +13,10 @@ pub mod Answer
 pub mod Legal
 pub mod FeedRight
 pub mod Consumer
+pub mod Completeness
 pub mod Kept
 pub mod WorkedHistories
+pub mod WorkedCompleteness
 pub mod Pieces
 pub mod Successors
 pub mod Starting
