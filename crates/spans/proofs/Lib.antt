@@ -19,3 +19,6 @@ pub mod Succeeding
 pub mod Cutting
 pub mod Streaming
 pub mod Listing
+pub mod Floors
+pub mod Complete
+pub mod GoingOn

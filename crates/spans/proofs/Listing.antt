@@ -123,7 +123,7 @@ first_rises kind p span c = by_test kind.initial
     (λ isnt. rw isnt tt)
 
 -- which rows it is
-in_first : (kind : Kind) (p : List Effect) (span : Span) (c : ℕ) (r : Row) → IsRowIn r (first_rows kind p span c) ↔ ((kind.initial ≡ true) × IsScanned p span c r)
+pub in_first : (kind : Kind) (p : List Effect) (span : Span) (c : ℕ) (r : Row) → IsRowIn r (first_rows kind p span c) ↔ ((kind.initial ≡ true) × IsScanned p span c r)
 in_first kind p span c r = by_test kind.initial
     (λ is. let s = in_snapshot p span c r in (λ i. (is, s.0 (rw is at i)), λ i. rw is (s.1 i.1)))
     (λ isnt. (λ i. absurd (rw isnt at i), λ i. absurd (let no' : false ≡ true = sym isnt ∙ i.0 in cc)))
@@ -164,7 +164,7 @@ start_next kind c n = by_test kind.initial
     (λ isnt. rw isnt (λ (above : c < n). omega arith))
 
 -- an initial feed's start is below its cursor
-start_first : (kind : Kind) (c : ℕ) → kind.initial ≡ true → 0 < c → start_at kind c < c
+pub start_first : (kind : Kind) (c : ℕ) → kind.initial ≡ true → 0 < c → start_at kind c < c
 start_first kind c is some = rw is (omega arith)
 
 -- a row of the list: of the map at the cursor, or of the stream

@@ -116,7 +116,7 @@ pub record IsStreamed (p : List Effect) (span : Span) (c n : ℕ) (r : Row) : Ty
   pub inside : in_span span r.key ≡ true
   pub wrote : write_of p r.ts r.key ≡ Some r.after
 
-in_txn_rows : (p : List Effect) (span : Span) (t : ℕ) (r : Row) → IsRowIn r (rows_of p span t) ↔ ((r.ts ≡ t) × (in_span span r.key ≡ true) × (write_of p t r.key ≡ Some r.after))
+pub in_txn_rows : (p : List Effect) (span : Span) (t : ℕ) (r : Row) → IsRowIn r (rows_of p span t) ↔ ((r.ts ≡ t) × (in_span span r.key ≡ true) × (write_of p t r.key ≡ Some r.after))
 in_txn_rows p span t r = let m = in_rows p t r (filter (in_span span) (write_set p t)) in (
   λ i. let k = m.0 i in let f = (filter_in (in_span span) r.key (write_set p t)).0 k.0 in
       (sym (ap (λ (q : Row). q.ts) k.1), f.0, some_value (write_of p t r.key) r.after (sym (has_written p t r.key) ∙ (has_in r.key (write_set p t)).0 f.1) (ap (λ (q : Row). q.after) k.1)),

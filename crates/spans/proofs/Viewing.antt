@@ -74,18 +74,18 @@ streamed p span c (suc t) x low =
         ∙ by_write (write_of p (suc t) x) (in_span span x) (m x) (map_at p t x) e
         ∙ ap (λ v. cond (in_span span x) v None) (sym (after_is p (suc t) (map_at p t) x))
 
-divides_at : (p : List Effect) (feed : Feed) (acc : List Row) (before rest : List Message) (t : ℕ) → DividesList p feed acc (before ++ messages.Resolved t ∷ rest) → acc ++ rows_in before ≡ list_of p feed t
+pub divides_at : (p : List Effect) (feed : Feed) (acc : List Row) (before rest : List Message) (t : ℕ) → DividesList p feed acc (before ++ messages.Resolved t ∷ rest) → acc ++ rows_in before ≡ list_of p feed t
 divides_at p feed acc [] rest t h = append-nil acc ∙ h.0
 divides_at p feed acc (messages.Row r ∷ ms) rest t h = sym (append_assoc acc (r ∷ []) (rows_in ms)) ∙ divides_at p feed (acc ++ r ∷ []) ms rest t h
 divides_at p feed acc (messages.Resolved n ∷ ms) rest t h = divides_at p feed acc ms rest t h.1
 
-rises_at : (n : ℕ) (before rest : List Message) (t : ℕ) → ResolvedRise n (before ++ messages.Resolved t ∷ rest) → n < t
+pub rises_at : (n : ℕ) (before rest : List Message) (t : ℕ) → ResolvedRise n (before ++ messages.Resolved t ∷ rest) → n < t
 rises_at n [] rest t h = h.0
 rises_at n (messages.Row r ∷ ms) rest t h = rises_at n ms rest t h
 rises_at n (messages.Resolved k ∷ ms) rest t h = let later : k < t = rises_at k ms rest t h.1 in omega (arith, h.0)
 
 -- rows change maps that are alike to maps that are alike
-by_rows_like : (m n : Map) (rows : List Row) (x : List ℕ) → ((y : List ℕ) → m y ≡ n y) → by_rows m rows x ≡ by_rows n rows x
+pub by_rows_like : (m n : Map) (rows : List Row) (x : List ℕ) → ((y : List ℕ) → m y ≡ n y) → by_rows m rows x ≡ by_rows n rows x
 by_rows_like m n [] x same = same x
 by_rows_like m n (r ∷ rows) x same = by_rows_like (put m r.key r.after) (put n r.key r.after) rows x (λ y. ap (λ v. cond (bytes_eq r.key y) r.after v) (same y))
 
@@ -126,12 +126,17 @@ seeded kind p span c x = by_test kind.initial
         none false = refl
     by_value (Some v) e = let here : has x (written_keys p) ≡ true = (has_in x (written_keys p)).0 (part_in p span c x v e) in rw here refl
 
+-- the list leads from the consumer's seed to the map
+pub list_views : (p : List Effect) (feed : Feed) (t : ℕ) (x : List ℕ) → feed.cursor ≤ t → by_rows (seed_of feed.kind p feed.span feed.cursor) (list_of p feed t) x ≡ span_part feed.span (map_at p t) x
+list_views p feed t x low =
+    ap (λ m. m x) (by_rows_join (seed_of feed.kind p feed.span feed.cursor) (first_rows feed.kind p feed.span feed.cursor) (stream_of p feed.span feed.cursor t))
+    ∙ by_rows_like (by_rows (seed_of feed.kind p feed.span feed.cursor) (first_rows feed.kind p feed.span feed.cursor)) (span_part feed.span (map_at p feed.cursor)) (stream_of p feed.span feed.cursor t) x (seeded feed.kind p feed.span feed.cursor)
+    ∙ streamed p feed.span feed.cursor t x low
+
 pub views : (p : List Effect) (f : ℕ) (feed : Feed) → DividesList p feed [] (told_to p f) → ResolvedRise (start_of feed) (told_to p f) → (before rest : List Message) (t : ℕ) → told_to p f ≡ before ++ messages.Resolved t ∷ rest
     → (x : List ℕ) → view_of (seed_of feed.kind p feed.span feed.cursor) before x ≡ span_part feed.span (map_at p t) x
 views p f feed divides rises before rest t is x =
     let above : start_of feed < t = rises_at (start_of feed) before rest t (subst (ResolvedRise (start_of feed)) is rises) in
     ap (λ m. m x) (view_rows (seed_of feed.kind p feed.span feed.cursor) before)
     ∙ ap (λ rs. by_rows (seed_of feed.kind p feed.span feed.cursor) rs x) (divides_at p feed [] before rest t (subst (DividesList p feed []) is divides))
-    ∙ ap (λ m. m x) (by_rows_join (seed_of feed.kind p feed.span feed.cursor) (first_rows feed.kind p feed.span feed.cursor) (stream_of p feed.span feed.cursor t))
-    ∙ by_rows_like (by_rows (seed_of feed.kind p feed.span feed.cursor) (first_rows feed.kind p feed.span feed.cursor)) (span_part feed.span (map_at p feed.cursor)) (stream_of p feed.span feed.cursor t) x (seeded feed.kind p feed.span feed.cursor)
-    ∙ streamed p feed.span feed.cursor t x (start_next feed.kind feed.cursor t above)
+    ∙ list_views p feed t x (start_next feed.kind feed.cursor t above)

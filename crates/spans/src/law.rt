@@ -7,11 +7,13 @@ ghost use Rattle.spans.specs.Reads.{IsReadAcross, ReadNewest, too_late};
 ghost use Rattle.spans.specs.Feeds.{Feed, feed_of};
 ghost use Rattle.spans.specs.FeedRight.{FeedIsRight};
 ghost use Rattle.spans.specs.Consumer.{ConsumerIsRight};
+ghost use Rattle.spans.specs.Completeness.{CompleteIsRight};
 ghost use Rattle.spans.specs.Serial.{IsOneCopy};
 
 /// A legal history, its newest event first, is that of a database with one copy, run in timestamp
 /// order; each feed tells the right messages; and a consumer of a feed takes them all, and has
-/// after each resolved message the map at its timestamp. Beside it: the write rule that the answers
+/// after each resolved message the map at its timestamp; and, between resolved messages too, it knows
+/// through where it was told all. Beside it: the write rule that the answers
 /// test is the one of Bernstein, Hadzilacos and Goodman, for every list of events; and every read,
 /// also one of a transaction that was aborted, that wasn't given its own transaction's version was
 /// given what is for good the newest committed version below its reader. (Timestamps begin at 1:
@@ -27,4 +29,5 @@ pub fn law_of_histories()
     ensures reads_from { (h : List Event) → IsLegal h → ReadNewest (effects_of h) }
     ensures feeds { (h : List Event) → IsLegal h → (f : ℕ) (feed : Feed) → feed_of (effects_of h) f ≡ Some feed → FeedIsRight (effects_of h) f feed }
     ensures consumers { (h : List Event) → IsLegal h → (f : ℕ) (feed : Feed) → feed_of (effects_of h) f ≡ Some feed → ConsumerIsRight (effects_of h) f feed }
+    ensures completes { (h : List Event) → IsLegal h → (f : ℕ) (feed : Feed) → feed_of (effects_of h) f ≡ Some feed → CompleteIsRight (effects_of h) f feed }
 {}

@@ -5,6 +5,7 @@ use Rattle.spans.proofs.Copies.{reads_from}
 use Rattle.spans.proofs.Feeding.{fed, feed_rises, feeding}
 use Rattle.spans.proofs.Taking.{told_taken}
 use Rattle.spans.proofs.Viewing.{views}
+use Rattle.spans.proofs.GoingOn.{complete_is_right}
 use Rattle.spans.proofs.law.law_of_histories.Goals as goal
 
 pub returns-clause-one_copy : goal.returns-clause-one_copy
@@ -27,3 +28,11 @@ returns-clause-consumers c = λ h legal f feed is.
       takes = told_taken (effects_of h) f feed so_far.begins.0 so_far.begins.1 so_far.divides (feed_rises (effects_of h) f feed so_far) so_far.below;
       views = views (effects_of h) f feed right.divides (feed_rises (effects_of h) f feed so_far);
     }
+
+pub returns-clause-completes : goal.returns-clause-completes
+returns-clause-completes c = λ h legal f feed is.
+    let all = legal_allowed h legal in
+    let so_far = feeding (effects_of h) all f feed is in
+    complete_is_right (effects_of h) f feed (fed (effects_of h) all f feed is)
+    (told_taken (effects_of h) f feed so_far.begins.0 so_far.begins.1 so_far.divides (feed_rises (effects_of h) f feed so_far) so_far.below)
+    (λ g next opened. fed (effects_of h) all g next opened)

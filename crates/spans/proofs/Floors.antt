@@ -1,0 +1,104 @@
+-- Messages that are taken are above the floor of those before them.
+use Rattle.std.proofs.Common.{◌≡◌, ℕ, suc, ◌-◌, ◌<◌, ◌≤◌, Bool, true, false, cond, not, List, [], ◌∷◌, ◌++◌, Option, Some, None, refl, sym, ap, subst, inl, inr, arith, append_assoc}
+use Rattle.std.specs.Prelude.{max}
+use Rattle.std.proofs.lemmas.List.{append-nil}
+use Rattle.std.proofs.lemmas.Bool.{and_parts, ltb-true, leb-true, le-leb}
+use Rattle.timestamps.specs.declared.row.Row.{Row}
+use Rattle.spans.specs.declared.span.Span.{Span}
+use Rattle.spans.specs.declared.calls.messages.Message.{Message}
+use Rattle.spans.specs.declared.calls.messages.Message.TheVariants as messages
+use Rattle.spans.specs.Feeds.{rows_in, last_resolved}
+use Rattle.spans.specs.Collection.{floor_after}
+use Rattle.spans.specs.Consumer.{ApplyFault, last_row, is_after, reaches, apply_fault, AllTaken}
+use Rattle.spans.specs.Completeness.{time_of, AllAbove}
+use Rattle.spans.proofs.StreamOrder.{IsRowIn}
+use Rattle.spans.proofs.RowOrder.{row_order}
+
+-- the messages after some that were taken, and those before
+pub taken_after : (span : Span) (start : ℕ) (taken before rest : List Message) → AllTaken span start taken (before ++ rest) → AllTaken span start (taken ++ before) rest
+taken_after span start taken [] rest h = subst (λ ms. AllTaken span start ms rest) (sym (append-nil taken)) h
+taken_after span start taken (m ∷ ms) rest h = subst (λ l. AllTaken span start l rest) (append_assoc taken (m ∷ []) ms) (taken_after span start (taken ++ m ∷ []) ms rest h.1)
+
+pub taken_before : (span : Span) (start : ℕ) (taken before rest : List Message) → AllTaken span start taken (before ++ rest) → AllTaken span start taken before
+taken_before span start taken [] rest h = tt
+taken_before span start taken (m ∷ ms) rest h = (h.0, taken_before span start (taken ++ m ∷ []) ms rest h.1)
+
+-- the floor by one message
+abbrev pub floor_by : Message → ℕ
+floor_by (messages.Row r) = r.ts - 1
+floor_by (messages.Resolved t) = t
+
+pub floor_join : (n : ℕ) (ms : List Message) (m : Message) → floor_after n (ms ++ m ∷ []) ≡ floor_by m
+floor_join n [] (messages.Row r) = refl
+floor_join n [] (messages.Resolved t) = refl
+floor_join n (messages.Row r ∷ ms) m = floor_join (r.ts - 1) ms m
+floor_join n (messages.Resolved t ∷ ms) m = floor_join t ms m
+
+-- what is above all resolved timestamps, and not below the last row, is above the floor
+floor_last : (n k : ℕ) (o : Option Row) (m : Message) (ms : List Message) (t : ℕ) → last_resolved k (m ∷ ms) < t → reaches (last_row o (m ∷ ms)) t ≡ true → floor_after n (m ∷ ms) < t
+floor_last n k o (messages.Row r) [] t above high = let low : r.ts ≤ t = leb-true r.ts t high in omega arith
+floor_last n k o (messages.Resolved u) [] t above high = omega arith
+floor_last n k o (messages.Row r) (m ∷ ms) t above high = floor_last (r.ts - 1) k (Some r) m ms t above high
+floor_last n k o (messages.Resolved u) (m ∷ ms) t above high = floor_last u (max k u) o m ms t above high
+
+floor_below : (n : ℕ) (ms : List Message) (t : ℕ) → last_resolved n ms < t → reaches (last_row None ms) t ≡ true → floor_after n ms < t
+floor_below n [] t above high = above
+floor_below n (m ∷ ms) t above high = floor_last n n None m ms t above high
+
+after_reaches : (o : Option Row) (r : Row) → is_after o r ≡ true → reaches o r.ts ≡ true
+after_reaches None r after = refl
+after_reaches (Some s) r after = le-leb s.ts r.ts (row_order s r after)
+
+passes : (a : Bool) (f : ApplyFault) (o : Option ApplyFault) → cond (not a) (Some f) o ≡ None → a ≡ true
+passes true f o none = refl
+passes false f o none = cc
+
+-- a message that is taken is above the floor
+pub above_floor : (span : Span) (start : ℕ) (taken : List Message) (m : Message) → apply_fault span start taken m ≡ None → floor_after start taken < time_of m
+above_floor span start taken (messages.Row r) none =
+    let both = and_parts _ _ (passes _ _ _ none) in
+    floor_below start taken r.ts (ltb-true _ _ both.0) (after_reaches (last_row None taken) r both.1)
+above_floor span start taken (messages.Resolved t) none =
+    let both = and_parts _ _ (passes _ _ _ none) in
+    floor_below start taken t (ltb-true _ _ both.0) both.1
+
+-- so the floor doesn't fall
+floor_rises : (span : Span) (start : ℕ) (taken : List Message) (m : Message) → apply_fault span start taken m ≡ None → floor_after start taken ≤ floor_after start (taken ++ m ∷ [])
+floor_rises span start taken m none = rw (floor_join start taken m) (by_message m (above_floor span start taken m none))
+  where
+    by_message : (m : Message) → floor_after start taken < time_of m → floor_after start taken ≤ floor_by m
+    by_message (messages.Row r) above = omega arith
+    by_message (messages.Resolved t) above = omega arith
+
+pub floor_grows : (span : Span) (start : ℕ) (taken ms : List Message) → AllTaken span start taken ms → floor_after start taken ≤ floor_after start (taken ++ ms)
+floor_grows span start taken [] h = rw (append-nil taken) (omega arith)
+floor_grows span start taken (m ∷ ms) h =
+    let now : floor_after start taken ≤ floor_after start (taken ++ m ∷ []) = floor_rises span start taken m h.0 in
+    let more : floor_after start (taken ++ m ∷ []) ≤ floor_after start ((taken ++ m ∷ []) ++ ms) = floor_grows span start (taken ++ m ∷ []) ms h.1 in
+    let same : (taken ++ m ∷ []) ++ ms ≡ taken ++ (m ∷ ms) = append_assoc taken (m ∷ []) ms in
+    subst (λ l. floor_after start taken ≤ floor_after start l) same (omega arith)
+
+all_higher : (n k : ℕ) (ms : List Message) → n ≤ k → AllAbove k ms → AllAbove n ms
+all_higher n k [] low h = tt
+all_higher n k (m ∷ ms) low h = (omega (arith, h.0), all_higher n k ms low h.1)
+
+-- all that is taken later is above the floor
+pub all_above_floor : (span : Span) (start : ℕ) (taken ms : List Message) → AllTaken span start taken ms → AllAbove (floor_after start taken) ms
+all_above_floor span start taken [] h = tt
+all_above_floor span start taken (m ∷ ms) h = (
+  above_floor span start taken m h.0,
+  all_higher (floor_after start taken) (floor_after start (taken ++ m ∷ [])) ms (floor_rises span start taken m h.0) (all_above_floor span start (taken ++ m ∷ []) ms h.1),
+)
+
+-- a row that was taken is at most one above the floor
+pub row_near_floor : (span : Span) (start : ℕ) (taken ms : List Message) (s : Row) → AllTaken span start taken ms → IsRowIn s (rows_in ms) → s.ts ≤ suc (floor_after start (taken ++ ms))
+row_near_floor span start taken [] s h i = absurd i
+row_near_floor span start taken (messages.Row r ∷ ms) s h i = subst (λ l. s.ts ≤ suc (floor_after start l)) (append_assoc taken (messages.Row r ∷ []) ms) (elim i [
+  | inl here ↦
+      (let same : s.ts ≡ r.ts = ap (λ (q : Row). q.ts) (sym here) in
+      let now : floor_after start (taken ++ messages.Row r ∷ []) ≡ r.ts - 1 = floor_join start taken (messages.Row r) in
+      let grows = floor_grows span start (taken ++ messages.Row r ∷ []) ms h.1 in
+      omega arith)
+  | inr there ↦ row_near_floor span start (taken ++ messages.Row r ∷ []) ms s h.1 there
+])
+row_near_floor span start taken (messages.Resolved t ∷ ms) s h i = subst (λ l. s.ts ≤ suc (floor_after start l)) (append_assoc taken (messages.Resolved t ∷ []) ms) (row_near_floor span start (taken ++ messages.Resolved t ∷ []) ms s h.1 i)
