@@ -19,3 +19,4 @@ pub mod Succeeding
 pub mod Cutting
 pub mod Streaming
 pub mod Listing
+pub mod Limits

@@ -17,6 +17,7 @@ pub mod Completeness
 pub mod Kept
 pub mod Report
 pub mod WorkedHistories
+pub mod WorkedReports
 pub mod Pieces
 pub mod Successors
 pub mod Starting
