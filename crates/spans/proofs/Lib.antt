@@ -22,3 +22,4 @@ pub mod Listing
 pub mod Floors
 pub mod Complete
 pub mod GoingOn
+pub mod Limits

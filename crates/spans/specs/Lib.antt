@@ -18,6 +18,7 @@ pub mod Kept
 pub mod Report
 pub mod WorkedHistories
 pub mod WorkedCompleteness
+pub mod WorkedReports
 pub mod Pieces
 pub mod Successors
 pub mod Starting

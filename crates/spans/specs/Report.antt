@@ -16,7 +16,7 @@ use Rattle.spans.specs.Effects.{Effect, Collects}
 use Rattle.spans.specs.Transactions.{closed_of, owner_of, is_undecided}
 use Rattle.spans.specs.Versions.{write_count}
 use Rattle.spans.specs.Feeds.{Feed, feed_of, told_to, start_of, untold_rows}
-use Rattle.spans.specs.Collection.{Protection, LiveFeed, VersionName, horizon_of, protections_of, live_feeds, floor_of, collection_horizon, versions_of, dead_of}
+use Rattle.spans.specs.Collection.{Protection, LiveFeed, horizon_of, protections_of, live_feeds, floor_of, collection_horizon, versions_of, dead_of}
 use Rattle.spans.specs.Completeness.{complete_after}
 use Rattle.spans.specs.Kept.{last_name}
 
@@ -39,6 +39,13 @@ feed_limit p n = limit (floor_of p n) (holders.Feed n.number)
 -- the feed of the least number
 abbrev pub limit_of : List Effect → Limit
 limit_of p = first_least (limit (closed_of p) holders.Closed) (map protection_limit (reverse (protections_of p)) ++ map (feed_limit p) (reverse (live_feeds p)))
+
+-- what stops a collection, as a report has it
+abbrev pub told_protection : ProtectionReport → Limit
+told_protection n = limit n.timestamp (holders.Protection n.number)
+
+abbrev pub told_feed : FeedReport → Limit
+told_feed n = limit n.floor (holders.Feed n.number)
 
 -- the timestamp that was resolved last
 abbrev pub last_told : Option ℕ → List Message → Option ℕ

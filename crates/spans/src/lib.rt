@@ -28,6 +28,7 @@
 //! - `Span::contains`: O(b), two comparisons at most
 //! - `Bound::new`, `Bound::copy`, `Bound::successor`, `Span::copy`: O(b), the bytes copied
 //! - `Span::without`: O(b) for each key given, and two copies of each key of the span
+//! - `Report::limit`: O(protections + feeds)
 //! - `Kind::start`, `Kind::is_due`, `Rows::from_vec`, `Messages::from_vec`: O(1)
 //!
 //! A bound of up to 24 bytes lies in place. A longer one takes memory, in the four calls that copy bytes.

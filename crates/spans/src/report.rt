@@ -10,7 +10,8 @@
 //! limit       at 9, by feed 1: of equal ones the first
 //! oldest      31, of seat 0: a closing goes to 30
 //! ```
-ghost use Rattle.std.specs.Prelude.{◌≡◌};
+ghost use Rattle.std.specs.Prelude.{◌≡◌, map};
+ghost use Rattle.spans.specs.Report.{first_least, told_protection, told_feed};
 
 use crate::kind::Kind;
 use crate::span::Span;
@@ -100,4 +101,67 @@ pub enum Holder {
 pub struct Limit {
     pub at: u64,
     pub by: Holder,
+}
+
+impl Report {
+    ghost use Rattle.std.specs.Prelude.{List, true, false};
+    ghost use Rattle.spans.specs.declared.calls.events.Event.{Event};
+    ghost use Rattle.spans.specs.Effects.{effects_of};
+    ghost use Rattle.spans.specs.Legal.{IsLegal};
+    ghost use Rattle.spans.specs.Report.{IsReport, limit_of};
+
+    /// How far a collection can go now, and what keeps it there.
+    pub fn limit(&self) -> Limit
+        ensures whole { (h : List Event) → IsLegal h → IsReport true (effects_of h) self.now → result ≡ limit_of (effects_of h) }
+        ensures live { (h : List Event) → IsLegal h → IsReport false (effects_of h) self.now → result ≡ limit_of (effects_of h) }
+    {
+        let closed = Limit {
+            at: self.closed,
+            by: Holder::Closed,
+        };
+        least_feed(least_protection(closed, &self.protections), &self.feeds)
+    }
+}
+
+impl Limit {
+    ghost use Rattle.std.specs.Prelude.{nat_lt, if◌then◌else◌};
+
+    /// The other one, where that is lower.
+    fn or_lower(self, other: Limit) -> Limit
+        ensures { result ≡ (if nat_lt other.at self.at then other else self) }
+    {
+        if other.at < self.at { other } else { self }
+    }
+}
+
+/// The first of these that are least.
+fn least_protection(limit: Limit, protections: &[ProtectionReport]) -> Limit
+    ensures { result ≡ first_least limit (map told_protection protections.now) }
+{
+    let mut least = limit;
+    for protection in protections {
+        least = least.or_lower(Limit {
+            at: protection.timestamp,
+            by: Holder::Protection {
+                number: protection.number,
+            },
+        });
+    }
+    least
+}
+
+/// The first of these that are least.
+fn least_feed(limit: Limit, feeds: &[FeedReport]) -> Limit
+    ensures { result ≡ first_least limit (map told_feed feeds.now) }
+{
+    let mut least = limit;
+    for feed in feeds {
+        least = least.or_lower(Limit {
+            at: feed.floor,
+            by: Holder::Feed {
+                number: feed.number,
+            },
+        });
+    }
+    least
 }

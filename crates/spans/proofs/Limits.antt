@@ -1,0 +1,92 @@
+-- The limit of a report is the limit of its history.
+use Rattle.std.proofs.Common.{◌≡◌, ℕ, suc, ◌==◌, Bool, not, List, [], ◌∷◌, ◌++◌, map, reverse, Some, None, refl, sym, ◌∙◌, ap, subst, arith}
+use Rattle.std.specs.Prelude.{All, nat_lt, if◌then◌else◌}
+use Rattle.std.proofs.lemmas.Bool.{eqb-true, eq-eqb}
+use Rattle.std.proofs.lemmas.List.{reverse-append}
+use Rattle.std.proofs.lemmas.List.Elements.{All-nil, All-cons, All-head, All-tail, All-weaker, All-filter, All-append}
+use Rattle.spans.specs.declared.calls.events.Event.{Event}
+use Rattle.spans.specs.declared.kind.Kind.{Kind}
+use Rattle.spans.specs.declared.span.Span.{Span}
+use Rattle.spans.specs.declared.report.Limit.{Limit}
+use Rattle.spans.specs.declared.report.Report.{Report}
+use Rattle.spans.specs.declared.report.FeedReport.{FeedReport}
+use Rattle.spans.specs.declared.report.Holder.TheVariants as holders
+use Rattle.spans.specs.Effects.{Effect, Opens, Cancels, effects_of}
+use Rattle.spans.specs.Transactions.{closed_of}
+use Rattle.spans.specs.Feeds.{Feed, feed_of, feeds_opened}
+use Rattle.spans.specs.Collection.{Protection, LiveFeed, live_feeds, protections_of, floor_of}
+use Rattle.spans.specs.Legal.{IsLegal}
+use Rattle.spans.specs.Report.{limit, first_least, protection_limit, feed_limit, limit_of, protection_report, IsFeedReport, IsReport, told_protection, told_feed}
+use Rattle.spans.proofs.Copies.{AllAllowed}
+use Rattle.spans.proofs.Feeding.{unopened}
+use Rattle.spans.proofs.Legal.{legal_allowed}
+use Rattle.spans.proofs.Steps.{by_test}
+
+-- a list was gone through after another
+pub first_least-append : (l : Limit) (ms ns : List Limit) → first_least l (ms ++ ns) ≡ first_least (first_least l ms) ns
+first_least-append l [] ns = refl
+first_least-append l (m ∷ ms) ns = first_least-append (if nat_lt m.at l.at then m else l) ms ns
+
+-- what holds of all, in the other order
+pub All-reverse : {X : Type 0} (P : X → Type 0) (xs : List X) → All P xs → All P (reverse xs)
+All-reverse P [] all = all
+All-reverse P (x ∷ xs) all = subst (All P) (sym (reverse-append (x ∷ []) xs)) (All-append P (reverse xs) (x ∷ []) (All-reverse P xs (All-tail P x xs all)) (All-cons P x [] (All-head P x xs all) (All-nil P)))
+
+-- a live feed was opened at its cursor
+abbrev pub WasOpened : List Effect → LiveFeed → Type 0
+WasOpened p w = (feed : Feed) × (feed_of p w.number ≡ Some feed) × (feed.cursor ≡ w.cursor)
+
+-- a number is given once
+opened_before : (p : List Effect) → AllAllowed p → (g seat : ℕ) (kind : Kind) (span : Span) (cursor : ℕ) → g ≡ suc (feeds_opened p) → (w : LiveFeed) → WasOpened p w → WasOpened (Opens g seat kind span cursor ∷ p) w
+opened_before p all g seat kind span cursor next w o = by_test (g == w.number)
+    (λ same. let none = (unopened p all w.number (let e = eqb-true g w.number same in omega (arith, next))).0 in absurd (let no : None ≡ Some o.0 = sym none ∙ o.1 in cc))
+    (λ other. (o.0, rw other o.1, o.2))
+
+pub lives_opened : (p : List Effect) → AllAllowed p → All (WasOpened p) (live_feeds p)
+lives_opened [] all = All-nil (WasOpened [])
+lives_opened (Opens g seat kind span cursor ∷ p) all =
+    let q = Opens g seat kind span cursor ∷ p in
+    All-cons (WasOpened q) (record { number = g; cursor = cursor }) (live_feeds p) (record { seat = seat; kind = kind; span = span; cursor = cursor }, rw (eq-eqb g g refl) refl, refl)
+    (All-weaker (WasOpened p) (WasOpened q) (λ w o. opened_before p all.1 g seat kind span cursor all.0.0 w o) (live_feeds p) (lives_opened p all.1))
+lives_opened (Cancels g ∷ p) all = All-filter (λ (n : LiveFeed). not (n.number == g)) (WasOpened p) (live_feeds p) (lives_opened p all.1)
+lives_opened (_ ∷ p) all = lives_opened p all.1
+
+-- the protections of a report hold as those of its history
+pub protection_limits : (ps : List Protection) → map told_protection (map protection_report ps) ≡ map protection_limit ps
+protection_limits [] = refl
+protection_limits (n ∷ ps) = ap (λ l. protection_limit n ∷ l) (protection_limits ps)
+
+-- a feed of a report holds as that of its history
+feed_holds : (whole : Bool) (p : List Effect) (n : FeedReport) (w : LiveFeed) → n.number ≡ w.number → IsFeedReport whole p n → WasOpened p w → told_feed n ≡ feed_limit p w
+feed_holds whole p n w same r o =
+    let one : r.feed ≡ o.0 = (let both : Some r.feed ≡ Some o.0 = sym r.is ∙ ap (feed_of p) same ∙ o.1 in cc) in
+    let cursor : r.feed.cursor ≡ w.cursor = ap (λ (f : Feed). f.cursor) one ∙ o.2 in
+    let floor : n.floor ≡ floor_of p w = r.floor ∙ ap (λ m. floor_of p (record { number = m; cursor = r.feed.cursor })) same ∙ ap (λ c. floor_of p (record { number = w.number; cursor = c })) cursor in
+    ap (λ t. limit t (holders.Feed n.number)) floor ∙ ap (λ m. limit (floor_of p w) (holders.Feed m)) same
+
+pub feed_limits : (whole : Bool) (p : List Effect) (ns : List FeedReport) (ws : List LiveFeed) → map (λ (n : FeedReport). n.number) ns ≡ map (λ (n : LiveFeed). n.number) ws
+    → All (IsFeedReport whole p) ns → All (WasOpened p) ws → map told_feed ns ≡ map (feed_limit p) ws
+feed_limits whole p [] [] e rs os = refl
+feed_limits whole p [] (w ∷ ws) e rs os = absurd cc
+feed_limits whole p (n ∷ ns) [] e rs os = absurd cc
+feed_limits whole p (n ∷ ns) (w ∷ ws) e rs os =
+    let same : n.number ≡ w.number = cc in
+    let rest : map (λ (n : FeedReport). n.number) ns ≡ map (λ (n : LiveFeed). n.number) ws = cc in
+    let here : told_feed n ≡ feed_limit p w = feed_holds whole p n w same (All-head (IsFeedReport whole p) n ns rs) (All-head (WasOpened p) w ws os) in
+    let more : map told_feed ns ≡ map (feed_limit p) ws = feed_limits whole p ns ws rest (All-tail (IsFeedReport whole p) n ns rs) (All-tail (WasOpened p) w ws os) in
+    ap (λ l. l ∷ map told_feed ns) here ∙ ap (λ l. feed_limit p w ∷ l) more
+
+-- the limit that is found in a report of a legal history
+pub report_limit : (h : List Event) → IsLegal h → (whole : Bool) (r : Report) → IsReport whole (effects_of h) r
+    → first_least (first_least (limit r.closed holders.Closed) (map told_protection r.protections.items)) (map told_feed r.feeds.items) ≡ limit_of (effects_of h)
+report_limit h legal whole r is =
+    let p = effects_of h in
+    let ps = map protection_limit (reverse (protections_of p)) in
+    let fs = map (feed_limit p) (reverse (live_feeds p)) in
+    let protections : map told_protection r.protections.items ≡ ps = ap (map told_protection) is.protections ∙ protection_limits (reverse (protections_of p)) in
+    let feeds : map told_feed r.feeds.items ≡ fs =
+    feed_limits whole p r.feeds.items (reverse (live_feeds p)) is.feeds.numbers is.feeds.right (All-reverse (WasOpened p) (live_feeds p) (lives_opened p (legal_allowed h legal))) in
+    ap (λ t. first_least (first_least (limit t holders.Closed) (map told_protection r.protections.items)) (map told_feed r.feeds.items)) is.closed
+    ∙ ap (λ l. first_least (first_least (limit (closed_of p) holders.Closed) l) (map told_feed r.feeds.items)) protections
+    ∙ ap (λ l. first_least (first_least (limit (closed_of p) holders.Closed) ps) l) feeds
+    ∙ sym (first_least-append (limit (closed_of p) holders.Closed) ps fs)
