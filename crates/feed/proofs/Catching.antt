@@ -7,7 +7,6 @@ use Rattle.timestamps.specs.declared.row.Row.{Row}
 use Rattle.spans.specs.KeyOrder.{key_lt}
 use Rattle.spans.specs.Kept.{Kept, Place}
 use Rattle.spans.proofs.Steps.{by_test}
-use Rattle.spans.specs.declared.kind.Kind.TheVariants.{Initial}
 use Rattle.spans.proofs.RowOrder.{name_order}
 use Rattle.kept.proofs.LeftRows.{parts_left}
 use Rattle.version_chain.specs.Following.{is_after_place}
@@ -94,7 +93,7 @@ past_is (Some q) c r low at = by_test (q.ts == c)
     let is : name_lt q r ≡ true = or_left (nat_lt q.ts r.ts) ((q.ts == r.ts) && key_lt q.key r.key) less in
     rw there is)
 
-firsts_at_cursor : (s : Stored) (place : Place) (n : ℕ) (rows : List Row) → place.kind ≡ Initial → place.after < place.cursor → is_row_above place.row place.cursor ≡ false → AreNextFirsts s place.span (key_at place.cursor place.row) place.cursor n rows → AreNextFirstsAt s place n rows
+firsts_at_cursor : (s : Stored) (place : Place) (n : ℕ) (rows : List Row) → place.kind.initial ≡ true → place.after < place.cursor → is_row_above place.row place.cursor ≡ false → AreNextFirsts s place.span (key_at place.cursor place.row) place.cursor n rows → AreNextFirstsAt s place n rows
 firsts_at_cursor s place n rows initial untold low next = record {
   all = next.all;
   firsts = record {
@@ -133,8 +132,8 @@ firsts_none s place n rows none empty = record {
 }
 
 -- of a feed of another kind
-pub another_left : (place : Place) → (place.kind ≡ Initial → ⊥) → IsNoneLeft place
-another_left place other version r i = other i.initial
+pub another_left : (place : Place) → place.kind.initial ≡ false → IsNoneLeft place
+another_left place other version r i = absurd (let no' : false ≡ true = sym other ∙ i.initial in cc)
 
 -- of one that resolved its cursor or more
 pub resolved_left : (place : Place) → place.cursor ≤ place.after → IsNoneLeft place

@@ -1,7 +1,7 @@
 -- What the calls change is what the crate `kept` wants of an open, a poll and a cancel.
-use Rattle.std.proofs.Common.{Bool, List, None, Option, Some, ap, cond, false, refl, sym, true, suc, ℕ, ◌==◌, ◌≡◌, ◌≤◌, ◌∙◌, arith, []}
+use Rattle.std.proofs.Common.{Bool, List, None, Option, Some, ap, nat_lt, cond, false, refl, sym, true, suc, ℕ, ◌==◌, ◌≡◌, ◌≤◌, ◌∙◌, arith, []}
 use Rattle.std.specs.Prelude.{option_map, if◌then◌else◌}
-use Rattle.std.proofs.lemmas.Bool.{eq-eqb, eqb-true}
+use Rattle.std.proofs.lemmas.Bool.{eq-eqb, eqb-true, ltb-false, or_parts}
 use Rattle.timestamps.specs.declared.row.Row.{Row}
 use Rattle.spans.specs.Kept.{Kept}
 use Rattle.spans.specs.declared.calls.messages.Message.{Message}
@@ -12,7 +12,6 @@ use Rattle.kept.specs.Places.{moved}
 use Rattle.kept.specs.Rings.{AreOthersSame}
 use Rattle.spans.specs.Feeds.{start_at}
 use Rattle.spans.specs.declared.kind.Kind.{Kind}
-use Rattle.spans.specs.declared.kind.Kind.TheVariants.{Every, Initial, Plain}
 use Rattle.std.proofs.lemmas.Bool.Decides.{nat_tests}
 use Rattle.feed.specs.Live.{Live, begins_behind, opened_at}
 use Rattle.feed.specs.Standing.{IsPut, Standing, behind_or, is_behind, live_in, place_in, ring_of, ring_or}
@@ -29,14 +28,12 @@ pub ring_here : (s s' : Standing) (f : ℕ) (l : Live) → IsPut s s' f (Some l)
 ring_here s s' f l put = let here = put_here s s' f (Some l) put in (ap behind_or here, ap ring_or here)
 
 -- a feed that begins ahead is no initial one, and its cursor isn't below closed
-begins_ahead : (kind : Kind) (cursor closed : ℕ) → begins_behind kind cursor closed ≡ false → (kind ≡ Initial → ⊥) × (closed ≤ cursor)
-begins_ahead Initial cursor closed isnt = cc
-begins_ahead Plain cursor closed isnt = (λ is. cc, grind (arith, nat_tests))
-begins_ahead (Every gap) cursor closed isnt = (λ is. cc, grind (arith, nat_tests))
+begins_ahead : (kind : Kind) (cursor closed : ℕ) → begins_behind kind cursor closed ≡ false → (kind.initial ≡ false) × (closed ≤ cursor)
+begins_ahead kind cursor closed isnt = let parts = or_parts kind.initial (nat_lt cursor closed) isnt in (parts.0, ltb-false cursor closed parts.1)
 
 -- as the rings ask it of a feed that opens
 pub opened_ahead : (s s' : Standing) (f seat : ℕ) (kind : Kind) (span : Span) (cursor closed : ℕ) → IsPut s s' f (Some (opened_at seat kind span cursor (begins_behind kind cursor closed))) → is_behind s' f ≡ false
-    → (kind ≡ Initial → ⊥) × (closed ≤ cursor) × (ring_of s' f ≡ [])
+    → (kind.initial ≡ false) × (closed ≤ cursor) × (ring_of s' f ≡ [])
 opened_ahead s s' f seat kind span cursor closed put isnt =
     let here = ring_here s s' f (opened_at seat kind span cursor (begins_behind kind cursor closed)) put in
     let ahead = begins_ahead kind cursor closed (sym here.0 ∙ isnt) in

@@ -8,7 +8,6 @@ use Rattle.std.proofs.lemmas.Bool.{eqb-true}
 use Rattle.std.proofs.lemmas.Bool.Decides.{nat_tests}
 use Rattle.spans.specs.Feeds.{start_at}
 use Rattle.spans.specs.declared.kind.Kind.{Kind}
-use Rattle.spans.specs.declared.kind.Kind.TheVariants.{Every, Initial, Plain}
 use Rattle.spans.proofs.Steps.{by_test}
 use Rattle.kept.specs.Places.{place_floor}
 use Rattle.feed.specs.Live.{Live}
@@ -154,6 +153,4 @@ tied_stayed opened a b f es fs floors floors' l l' tied floor floor' stood same 
 
 -- a feed starts at its cursor or below it
 pub start_low : (kind : Kind) (cursor : ℕ) → start_at kind cursor ≤ cursor
-start_low Plain cursor = omega arith
-start_low Initial cursor = omega arith
-start_low (Every gap) cursor = omega arith
+start_low kind cursor = by_test kind.initial (λ is. rw is (omega arith)) (λ isnt. rw isnt (omega arith))

@@ -1,11 +1,10 @@
 -- What is left for a feed in the store, in two parts: the rest of an initial feed's snapshot, and the stored rows above its
 -- cursor.
-use Rattle.std.specs.Prelude.{Bool, List, None, Option, Some, false, if◌then◌else◌, nat_lt, take, ℕ, ◌==◌, ◌≡◌, ◌<◌}
+use Rattle.std.specs.Prelude.{Bool, List, None, Option, Some, true, false, if◌then◌else◌, nat_lt, take, ℕ, ◌==◌, ◌≡◌, ◌<◌}
 use Rattle.timestamps.specs.declared.row.Row.{Row}
 use Rattle.spans.specs.Collection.{VersionName}
 use Rattle.spans.specs.Effects.{After}
 use Rattle.spans.specs.Kept.{Place}
-use Rattle.spans.specs.declared.kind.Kind.TheVariants.{Initial}
 use Rattle.kept.specs.Places.{AreFirsts, AreStored, IsFirst}
 use Rattle.version_chain.specs.Stores.{Stored, is_committed_in, version_in}
 
@@ -21,7 +20,7 @@ key_at t (Some n) = if n.ts == t then Some n.key else None
 
 -- a row of a snapshot at t may be left
 pub record IsLeftAt (place : Place) (t : ℕ) : Type 0 where
-  pub initial : place.kind ≡ Initial
+  pub initial : place.kind.initial ≡ true
   pub at : t ≡ place.cursor
   pub untold : place.after < place.cursor
   pub last : is_row_above place.row place.cursor ≡ false

@@ -1,12 +1,11 @@
 -- A live feed, as it is seen: its place, whether it is served from the store, and the rows in its ring.
-use Rattle.std.specs.Prelude.{Bool, List, None, Option, Some, [], drop, false, if◌then◌else◌, nat_lt, not, true, ℕ, ◌&&◌, ◌++◌, ◌∷◌, ◌≡◌, ◌⊎◌}
+use Rattle.std.specs.Prelude.{Bool, List, None, Option, Some, [], drop, false, if◌then◌else◌, nat_lt, not, true, ℕ, ◌&&◌, ◌||◌, ◌++◌, ◌∷◌, ◌≡◌, ◌⊎◌}
 use Rattle.timestamps.specs.declared.row.Row.{Row}
 use Rattle.spans.specs.Collection.{VersionName}
 use Rattle.spans.specs.Feeds.{is_due, start_at}
 use Rattle.spans.specs.Kept.{Place}
 use Rattle.spans.specs.declared.calls.messages.Message.{Message}
 use Rattle.spans.specs.declared.kind.Kind.{Kind}
-use Rattle.spans.specs.declared.kind.Kind.TheVariants.{Initial}
 use Rattle.spans.specs.declared.span.Span.{Span}
 use Rattle.spans.specs.declared.calls.messages.Message.TheVariants as messages
 use Rattle.kept.specs.Rings.{wanted}
@@ -18,8 +17,7 @@ pub record Live : Type 0 where
 
 -- an initial feed begins served from the store, and any other where its cursor is below closed
 abbrev pub begins_behind : Kind → ℕ → ℕ → Bool
-begins_behind Initial cursor closed = true
-begins_behind kind cursor closed = nat_lt cursor closed
+begins_behind kind cursor closed = kind.initial || nat_lt cursor closed
 
 -- a feed that has just opened
 abbrev pub opened_at : ℕ → Kind → Span → ℕ → Bool → Live

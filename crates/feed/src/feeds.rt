@@ -265,10 +265,7 @@ impl Feeds {
 fn begins_behind(kind: Kind, cursor: u64, closed: u64) -> bool
     ensures { result ≡ begins_behind kind cursor closed }
 {
-    match kind {
-        Kind::Initial => true,
-        Kind::Plain | Kind::Every { .. } => cursor < closed,
-    }
+    kind.initial || cursor < closed
 }
 
 /// Moves a feed, if it is there, behind messages.

@@ -248,10 +248,7 @@ impl LiveFeed {
     fn snapshot_at(&self) -> Option<Ts>
         ensures { MatchOption result (IsNoneLeft self.now.place) (λ at. IsLeftAt self.now.place at) }
     {
-        let Kind::Initial = self.kind else {
-            return None;
-        };
-        if self.cursor <= self.after || is_above(&self.row, self.cursor) {
+        if !self.kind.initial || self.cursor <= self.after || is_above(&self.row, self.cursor) {
             return None;
         }
         Ts::new(self.cursor)
