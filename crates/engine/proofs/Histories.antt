@@ -25,7 +25,7 @@ use Rattle.engine.specs.Layers.{AreNoted, HasHistory, StandsFor, kept_of}
 use Rattle.kept.specs.Answered.{IsStep}
 use Rattle.kept.proofs.Answering.{step_stands}
 use Rattle.spans.specs.declared.calls.commands.Cmd.{Cmd}
-use Rattle.spans.specs.declared.calls.commands.Cmd.TheVariants.{Abort, Begin, Cancel, Close, CloseHard, Collect, Commit, Del, Get, Open, OpenEvery, OpenInitial, Poll, Protect, Put, ReadAt, Release, Scan, ScanAt, Stats}
+use Rattle.spans.specs.declared.calls.commands.Cmd.TheVariants.{Abort, Begin, Cancel, Close, CloseHard, Collect, Commit, Del, Get, Open, OpenEvery, OpenInitial, OpenInitialEvery, Poll, Protect, Put, ReadAt, Release, Scan, ScanAt, Stats}
 use Rattle.spans.specs.declared.calls.replies.Refusal.TheVariants.{NoMemory, TooLate, TsRange}
 use Rattle.spans.specs.declared.calls.replies.Reply.TheVariants.{Aborted, Cancelled, Closed, Collected, Committed, Found, Messages, Opened, Protected, Refused, Released, Rows, Started, Written}
 use Rattle.spans.specs.Answer.{answer_of, first_refusal_or}
@@ -171,6 +171,8 @@ closed_after p seat (OpenInitial span cursor) (Opened f) low is = low
 closed_after p seat (OpenInitial span cursor) (_) low is = low
 closed_after p seat (OpenEvery span cursor gap) (Opened f) low is = low
 closed_after p seat (OpenEvery span cursor gap) (_) low is = low
+closed_after p seat (OpenInitialEvery span cursor gap) (Opened f) low is = low
+closed_after p seat (OpenInitialEvery span cursor gap) (_) low is = low
 closed_after p seat (Poll f max) (Messages ms) low is = low
 closed_after p seat (Poll f max) (_) low is = low
 closed_after p seat (Cancel f) Cancelled low is = low

@@ -9,7 +9,7 @@ use Rattle.spans.specs.Kept.{Place}
 use Rattle.spans.specs.Streams.{stream_of}
 use Rattle.spans.specs.Transactions.{is_committed}
 use Rattle.spans.specs.declared.calls.commands.Cmd.{Cmd}
-use Rattle.spans.specs.declared.calls.commands.Cmd.TheVariants.{Abort, Begin, Cancel, Close, CloseHard, Collect, Commit, Del, Get, Open, OpenEvery, OpenInitial, Poll, Protect, Put, ReadAt, Release, Scan, ScanAt, Stats}
+use Rattle.spans.specs.declared.calls.commands.Cmd.TheVariants.{Abort, Begin, Cancel, Close, CloseHard, Collect, Commit, Del, Get, Open, OpenEvery, OpenInitial, OpenInitialEvery, Poll, Protect, Put, ReadAt, Release, Scan, ScanAt, Stats}
 use Rattle.spans.specs.declared.calls.events.Event.{Event}
 use Rattle.spans.specs.declared.calls.replies.Refusal.TheVariants.{TooLate}
 use Rattle.spans.specs.declared.calls.replies.Reply.{Reply}
@@ -143,6 +143,7 @@ served_by e e' seat (Collect to) (_) c = c
 served_by e e' seat (Open span cursor) r c = c
 served_by e e' seat (OpenInitial span cursor) r c = c
 served_by e e' seat (OpenEvery span cursor gap) r c = c
+served_by e e' seat (OpenInitialEvery span cursor gap) r c = c
 served_by e e' seat (Poll f max) r c = c
 served_by e e' seat (Cancel f) r c = c
 served_by e e' seat Stats (_) c = c

@@ -4,10 +4,9 @@ use Rattle.timestamps.specs.declared.row.Row.{Row}
 use Rattle.spans.specs.Effects.{Cancels, Closes, Commits, Effect, HardCloses, Opens, Polls, effect}
 use Rattle.spans.specs.Kept.{Place}
 use Rattle.spans.specs.declared.calls.commands.Cmd.{Cmd}
-use Rattle.spans.specs.declared.calls.commands.Cmd.TheVariants.{Cancel, Close, CloseHard, Commit, Open, OpenEvery, OpenInitial, Poll}
+use Rattle.spans.specs.declared.calls.commands.Cmd.TheVariants.{Cancel, Close, CloseHard, Commit, Open, OpenEvery, OpenInitial, OpenInitialEvery, Poll}
 use Rattle.spans.specs.declared.calls.replies.Reply.{Reply}
 use Rattle.spans.specs.declared.kind.Kind.{Kind}
-use Rattle.spans.specs.declared.kind.Kind.TheVariants.{Initial}
 use Rattle.spans.proofs.StreamOrder.{IsRowIn, RisingRows}
 use Rattle.closing.specs.Standing.{closed_in}
 use Rattle.feed.specs.Live.{begins_behind}
@@ -43,7 +42,7 @@ pub record IsReleased (e e' : Layers) (n : ℕ) : Type 0 where
 -- a feed that opens begins behind or at its ring, which is empty where it serves, and the others are as they were
 pub record IsOpenedIn (e e' : Layers) (f : ℕ) (kind : Kind) (cursor : ℕ) : Type 0 where
   pub begins : is_behind e'.feeds f ≡ begins_behind kind cursor (closed_in e.closing)
-  pub opened : is_behind e'.feeds f ≡ false → (kind ≡ Initial → ⊥) × (closed_in e.closing ≤ cursor) × (ring_of e'.feeds f ≡ [])
+  pub opened : is_behind e'.feeds f ≡ false → (kind.initial ≡ false) × (closed_in e.closing ≤ cursor) × (ring_of e'.feeds f ≡ [])
   pub others : AreOthersSame f (ring_of e.feeds) (ring_of e'.feeds) (is_behind e.feeds) (is_behind e'.feeds)
   pub others_stay : (g : ℕ) → (f == g) ≡ false → is_behind e'.feeds g ≡ is_behind e.feeds g
   pub held : e'.held_back ≡ e.held_back
@@ -79,6 +78,7 @@ IsServed e e' seat (CloseHard to) reply = IsServedBy e e' (effect seat (CloseHar
 IsServed e e' seat (Open span cursor) reply = IsServedBy e e' (effect seat (Open span cursor) reply)
 IsServed e e' seat (OpenInitial span cursor) reply = IsServedBy e e' (effect seat (OpenInitial span cursor) reply)
 IsServed e e' seat (OpenEvery span cursor gap) reply = IsServedBy e e' (effect seat (OpenEvery span cursor gap) reply)
+IsServed e e' seat (OpenInitialEvery span cursor gap) reply = IsServedBy e e' (effect seat (OpenInitialEvery span cursor gap) reply)
 IsServed e e' seat (Poll f max) reply = IsServedBy e e' (effect seat (Poll f max) reply)
 IsServed e e' seat (Cancel f) reply = IsServedBy e e' (effect seat (Cancel f) reply)
 IsServed e e' seat cmd reply = IsUnserved e e'

@@ -92,6 +92,9 @@ impl Layers {
             Cmd::Open { span, cursor } => self.open(seat, span, *cursor),
             Cmd::OpenInitial { span, cursor } => self.open_initial(seat, span, *cursor),
             Cmd::OpenEvery { span, cursor, gap } => self.open_every(seat, span, *cursor, *gap),
+            Cmd::OpenInitialEvery { span, cursor, gap } => {
+                self.open_initial_every(seat, span, *cursor, *gap)
+            }
             Cmd::Poll { feed, max } => self.poll(seat, *feed, *max),
             Cmd::Cancel { feed } => self.cancel(seat, *feed),
             Cmd::Stats => self.stats(seat),

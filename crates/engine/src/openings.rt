@@ -1,6 +1,6 @@
-//! Opening feeds, of three kinds.
+//! Opening feeds, of each kind.
 ghost use Rattle.std.specs.Prelude.{◌<◌};
-ghost use Rattle.spans.specs.declared.calls.commands.Cmd.TheVariants.{Open, OpenEvery, OpenInitial};
+ghost use Rattle.spans.specs.declared.calls.commands.Cmd.TheVariants.{Open, OpenEvery, OpenInitial, OpenInitialEvery};
 ghost use Rattle.feed.specs.Standing.{opened_in};
 ghost use Rattle.kept.specs.Answered.{IsStep};
 
@@ -27,7 +27,16 @@ impl Layers {
             return Reply::Refused(Refusal::BelowHorizon { horizon });
         }
         let closed = self.closing.closed();
-        match self.feeds.open(seat, Kind::Plain, span, cursor, closed) {
+        match self.feeds.open(
+            seat,
+            Kind {
+                initial: false,
+                gap: None,
+            },
+            span,
+            cursor,
+            closed,
+        ) {
             Ok(feed) => Reply::Opened { feed },
             Err(_) => Reply::Refused(Refusal::NoMemory),
         }
@@ -50,7 +59,16 @@ impl Layers {
         if cursor > closed {
             return Reply::Refused(Refusal::NotClosed { closed });
         }
-        match self.feeds.open(seat, Kind::Initial, span, cursor, closed) {
+        match self.feeds.open(
+            seat,
+            Kind {
+                initial: true,
+                gap: None,
+            },
+            span,
+            cursor,
+            closed,
+        ) {
             Ok(feed) => Reply::Opened { feed },
             Err(_) => Reply::Refused(Refusal::NoMemory),
         }
@@ -72,10 +90,56 @@ impl Layers {
             return Reply::Refused(Refusal::BelowHorizon { horizon });
         }
         let closed = self.closing.closed();
-        match self
-            .feeds
-            .open(seat, Kind::Every { gap }, span, cursor, closed)
-        {
+        match self.feeds.open(
+            seat,
+            Kind {
+                initial: false,
+                gap: Some(gap),
+            },
+            span,
+            cursor,
+            closed,
+        ) {
+            Ok(feed) => Reply::Opened { feed },
+            Err(_) => Reply::Refused(Refusal::NoMemory),
+        }
+    }
+
+    pub(crate) fn open_initial_every(
+        &mut self,
+        seat: u8,
+        span: &Span,
+        cursor: u64,
+        gap: u64,
+    ) -> Reply
+        requires { opened_in self.old.feeds < 18446744073709551615 }
+        ensures step { IsStep (kept_of self.old) (kept_of self.new) seat (OpenInitialEvery span.now cursor gap) result }
+        ensures served { IsServed self.old self.new seat (OpenInitialEvery span.now cursor gap) result }
+    {
+        let horizon = self.horizon;
+        let closed = self.closing.closed();
+        if cursor > MAX {
+            return Reply::Refused(Refusal::TsRange);
+        }
+        if gap == 0 || gap > MAX {
+            return Reply::Refused(Refusal::GapRange);
+        }
+        if cursor < horizon {
+            return Reply::Refused(Refusal::BelowHorizon { horizon });
+        }
+        if cursor > closed {
+            return Reply::Refused(Refusal::NotClosed { closed });
+        }
+        match self.feeds.open(
+            seat,
+            Kind {
+                initial: true,
+                gap: Some(gap),
+            },
+            span,
+            cursor,
+            closed,
+        ) {
             Ok(feed) => Reply::Opened { feed },
             Err(_) => Reply::Refused(Refusal::NoMemory),
         }
