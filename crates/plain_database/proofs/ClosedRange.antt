@@ -4,7 +4,7 @@ use Rattle.std.specs.Prelude.{max, nat_lt}
 use Rattle.std.proofs.lemmas.Bool.{ltb-false}
 use Rattle.timestamps.specs.declared.ts.TheConstants.{MAX}
 use Rattle.spans.specs.declared.calls.commands.Cmd.{Cmd}
-use Rattle.spans.specs.declared.calls.commands.Cmd.TheVariants.{Begin, Get, Scan, Put, Del, Commit, Abort, Close, CloseHard, ReadAt, ScanAt, Protect, Release, Collect, Open, OpenInitial, OpenEvery, Poll, Cancel}
+use Rattle.spans.specs.declared.calls.commands.Cmd.TheVariants.{Begin, Get, Scan, Put, Del, Commit, Abort, Close, CloseHard, ReadAt, ScanAt, Protect, Release, Collect, Open, OpenInitial, OpenEvery, OpenInitialEvery, Poll, Cancel}
 use Rattle.spans.specs.declared.calls.replies.Reply.{Reply}
 use Rattle.spans.specs.declared.calls.replies.Reply.TheVariants.{Started, Found, Rows, Written, Committed, Aborted, Closed, Protected, Released, Collected, Opened, Messages, Cancelled, Refused}
 use Rattle.spans.specs.declared.calls.replies.Refusal.TheVariants.{TsRange, TooLate, NoMemory}
@@ -49,6 +49,7 @@ in_range_after p n seat (Collect to) (Collected horizon removed) right low = low
 in_range_after p n seat (Open span cursor) (Opened f) right low = low
 in_range_after p n seat (OpenInitial span cursor) (Opened f) right low = low
 in_range_after p n seat (OpenEvery span cursor gap) (Opened f) right low = low
+in_range_after p n seat (OpenInitialEvery span cursor gap) (Opened f) right low = low
 in_range_after p n seat (Poll f max) (Messages ms) right low = low
 in_range_after p n seat (Cancel f) Cancelled right low = low
 in_range_after p n seat cmd reply right low = low

@@ -1,14 +1,15 @@
 -- What a database stands for after one more event.
-use Rattle.std.proofs.Common.{◌≡◌, ℕ, true, false, List, ◌∷◌, ◌==◌, Some, None, refl, sym, subst}
+use Rattle.std.proofs.Common.{◌≡◌, ℕ, Bool, true, false, List, Option, ◌∷◌, ◌==◌, Some, None, refl, sym, subst}
 use Rattle.std.specs.Prelude.{nat_le, option_map}
 use Rattle.spans.specs.declared.calls.commands.Cmd.{Cmd}
 use Rattle.spans.specs.declared.span.Span.{Span}
 use Rattle.spans.specs.declared.calls.commands.Cmd.TheVariants.{Begin, Get, Scan, Put, Del, Commit, Abort, CloseHard, ReadAt, ScanAt}
 use Rattle.spans.specs.declared.calls.replies.Reply.{Reply}
-use Rattle.spans.specs.declared.calls.replies.Reply.TheVariants.{Started, Found, Rows, Written, Committed, Aborted, Closed, Refused}
+use Rattle.spans.specs.declared.calls.replies.Reply.TheVariants.{Started, Found, Rows, Written, Committed, Aborted, Closed, Opened, Refused}
 use Rattle.spans.specs.declared.calls.replies.Refusal.TheVariants.{TooLate}
 use Rattle.spans.specs.declared.calls.events.Event.{Event}
-use Rattle.spans.specs.Effects.{After, Aborts, Effect, NoEffect, effect, effects_of, event}
+use Rattle.spans.specs.declared.kind.Kind.{Kind}
+use Rattle.spans.specs.Effects.{After, Aborts, Effect, NoEffect, effect, effects_of, event, kind_of, open_cmd}
 use Rattle.spans.specs.Keys.{in_span}
 use Rattle.spans.specs.Versions.{visible}
 use Rattle.spans.specs.Legal.{IsRightEvent}
@@ -23,6 +24,7 @@ use Rattle.plain_database.specs.Reads.{KeyReads, HasReadToo}
 use Rattle.plain_versions.specs.Sources.{source_at}
 use Rattle.plain_database.specs.SpanReads.{scan_of, HasScanToo}
 use Rattle.plain_database.specs.Late.{is_late}
+use Rattle.plain_database.specs.Answering.{Records}
 use Rattle.plain_database.specs.Tied.{IsTied, StandsFor}
 use Rattle.plain_database.proofs.Ties.{tied_still, tied_begins, tied_reads, tied_scans, tied_writes, tied_commits, tied_aborts, tied_snapshot, tied_snapshot_scan, tied_hard_closes, goes}
 
@@ -118,6 +120,21 @@ get_does_nothing seat t x _ other = refl
 pub scan_does_nothing : (seat t : ℕ) (span : Span) (reply : Reply) → ((rows : List (List ℕ × List ℕ)) → reply ≡ Rows rows → ⊥) → effect seat (Scan t span) reply ≡ NoEffect
 scan_does_nothing seat t span (Rows rows) other = absurd (other rows refl)
 scan_does_nothing seat t span _ other = refl
+
+-- an opening that opened no feed did nothing
+pub open_does_nothing : (kind : Kind) (seat : ℕ) (span : Span) (cursor : ℕ) (reply : Reply) → ((f : ℕ) → reply ≡ Opened f → ⊥) → effect seat (open_cmd kind span cursor) reply ≡ NoEffect
+open_does_nothing kind seat span cursor reply other = by_parts kind.initial kind.gap reply other
+  where
+    by_parts : (initial : Bool) (gap : Option ℕ) (r : Reply) → ((f : ℕ) → r ≡ Opened f → ⊥) → effect seat (open_cmd (kind_of initial gap) span cursor) r ≡ NoEffect
+    by_parts initial gap (Opened f) other = absurd (other f refl)
+    by_parts false None _ other = refl
+    by_parts true None _ other = refl
+    by_parts false (Some gap) _ other = refl
+    by_parts true (Some gap) _ other = refl
+
+-- what was kept of an opening is kept of one of the same kind
+pub opens_alike : {kind same : Kind} (db db' : Database) (seat : ℕ) (span : Span) (cursor : ℕ) (reply : Reply) → kind ≡ same → Records db seat (open_cmd kind span cursor) reply db' → Records db seat (open_cmd same span cursor) reply db'
+opens_alike db db' seat span cursor reply is kept = subst (λ k. Records db seat (open_cmd k span cursor) reply db') is kept
 
 pub late_is : (reply : Reply) → is_late reply ≡ true → reply ≡ Refused TooLate
 late_is (Refused TooLate) is = refl

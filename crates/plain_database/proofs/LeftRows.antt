@@ -1,39 +1,32 @@
 -- The rows that a feed was not told are those of the chains from its place on.
-use Rattle.std.proofs.Common.{◌≡◌, ℕ, zero, suc, ◌+◌, ◌-◌, ◌<◌, ◌≤◌, ◌==◌, Bool, true, false, cond, ◌&&◌, ◌||◌, List, [], ◌∷◌, ◌++◌, length, take, max, Option, Some, None, refl, sym, ◌∙◌, ap, subst, inl, inr, arith}
-use Rattle.std.specs.Prelude.{◌↔◌, nat_lt, nat_le, if◌then◌else◌}
-use Rattle.std.proofs.lemmas.Bool.{and_from, and_parts, or_cases, or_left, or_right, lt-ltb, ltb-true, ltb-false, leb-true, le-leb, le-ltb, eq-eqb}
+use Rattle.std.proofs.Common.{◌≡◌, ℕ, zero, suc, ◌-◌, ◌<◌, ◌≤◌, ◌==◌, Bool, true, false, cond, ◌&&◌, List, [], ◌∷◌, ◌++◌, length, take, max, Option, Some, None, refl, sym, ◌∙◌, ap, subst, inl, inr, arith}
+use Rattle.std.specs.Prelude.{nat_lt, if◌then◌else◌}
+use Rattle.std.proofs.lemmas.Bool.{and_from, and_parts, or_left, lt-ltb, ltb-true, ltb-false, leb-true, le-leb, le-ltb, eq-eqb}
 use Rattle.std.proofs.lemmas.List.{length-take}
 use Rattle.timestamps.specs.declared.row.Row.{Row}
-use Rattle.spans.specs.declared.kind.Kind.{Kind}
-use Rattle.spans.specs.declared.kind.Kind.TheVariants.{Plain, Initial, Every}
-use Rattle.spans.specs.declared.span.Span.{Span}
 use Rattle.spans.specs.Collection.{VersionName}
 use Rattle.spans.specs.Consumer.{is_after_name, name_lt}
 use Rattle.spans.specs.Effects.{Effect, After}
-use Rattle.spans.specs.Feeds.{Feed, feed_of, told_to, start_at, start_of, last_resolved, untold_rows}
-use Rattle.spans.specs.Kept.{last_name, place_with}
-use Rattle.spans.specs.KeyOrder.{key_lt}
-use Rattle.spans.specs.Keys.{in_span}
+use Rattle.spans.specs.Feeds.{feed_of, told_to, start_at, untold_rows}
+use Rattle.spans.specs.Kept.{place_with}
 use Rattle.spans.specs.Newest.{Version, newest}
 use Rattle.spans.specs.Serial.{map_at}
-use Rattle.spans.specs.Streams.{row_lt}
 use Rattle.spans.specs.Transactions.{closed_of, is_committed}
 use Rattle.spans.specs.Versions.{committed_version_of, write_of}
 use Rattle.spans.proofs.Copies.{AllAllowed}
-use Rattle.spans.proofs.Feeding.{IsFeeding, feeding, untold_is}
-use Rattle.spans.proofs.Listing.{IsListed, IsScanned}
+use Rattle.spans.proofs.Feeding.{feeding, untold_is}
 use Rattle.spans.proofs.RowOrder.{name_order}
 use Rattle.spans.proofs.Steps.{by_test, map_at_is, newest_same}
-use Rattle.spans.proofs.StreamOrder.{IsRowIn, IsStreamed, RisingRows, in_append, rises_append}
+use Rattle.spans.proofs.StreamOrder.{IsStreamed, in_append, rises_append}
 use Rattle.spans.proofs.Taking.{resolved_grows}
 use Rattle.kept.specs.Places.{is_beyond}
 use Rattle.kept.proofs.Untold.{beyond_is, only_rows}
 use Rattle.plain_feeds.specs.declared.record.FeedRecord.{FeedRecord}
 use Rattle.plain_feeds.specs.declared.told.Told.{Told}
-use Rattle.plain_feeds.specs.Places.{is_initial, key_above, row_ts, tells_snapshot, told_through}
+use Rattle.plain_feeds.specs.Places.{key_above, row_ts, tells_snapshot, told_through}
 use Rattle.plain_feeds.specs.Records.{IsToldIn, feed_part}
 use Rattle.plain_versions.specs.Chains.{Stored, committed_at}
-use Rattle.plain_versions.specs.Snapshots.{AreValueRows, IsValueRow, is_past}
+use Rattle.plain_versions.specs.Snapshots.{AreValueRows, is_past}
 use Rattle.plain_versions.specs.Streams.{AreRowsAfter, IsRowAfter, is_after}
 use Rattle.plain_versions.specs.Transactions.{Table}
 
@@ -84,23 +77,18 @@ committed_is done o e is = rw e is
 
 -- ---- which feeds are in their snapshot
 
-initial_is : (kind : Kind) → is_initial kind ≡ true → kind ≡ Initial
-initial_is Plain is = absurd cc
-initial_is Initial is = refl
-initial_is (Every gap) is = absurd cc
-
-pub is_in_snapshot : (x : FeedRecord) → tells_snapshot x ≡ true → (x.kind ≡ Initial) × (x.told.resolved < x.cursor) × (row_ts x.told.row ≤ x.cursor)
+pub is_in_snapshot : (x : FeedRecord) → tells_snapshot x ≡ true → (x.kind.initial ≡ true) × (x.told.resolved < x.cursor) × (row_ts x.told.row ≤ x.cursor)
 is_in_snapshot x tells =
-    let parts = and_parts (is_initial x.kind) _ tells in
+    let parts = and_parts x.kind.initial _ tells in
     let more = and_parts (nat_lt x.told.resolved x.cursor) _ parts.1 in
-    (initial_is x.kind parts.0, ltb-true x.told.resolved x.cursor more.0, leb-true (row_ts x.told.row) x.cursor more.1)
+    (parts.0, ltb-true x.told.resolved x.cursor more.0, leb-true (row_ts x.told.row) x.cursor more.1)
 
-snapshot_told : (x : FeedRecord) (r : Row) → tells_snapshot x ≡ false → x.kind ≡ Initial → r.ts ≡ x.cursor → is_left x.told r ≡ true → ⊥
+snapshot_told : (x : FeedRecord) (r : Row) → tells_snapshot x ≡ false → x.kind.initial ≡ true → r.ts ≡ x.cursor → is_left x.told r ≡ true → ⊥
 snapshot_told x r told initial at left =
     let parts = and_parts (nat_lt x.told.resolved r.ts) _ left in
     let low : x.told.resolved < r.ts = ltb-true x.told.resolved r.ts parts.0 in
     let under : row_ts x.told.row ≤ r.ts = row_low x.told.row parts.1 in
-    let tells : tells_snapshot x ≡ true = and_from (is_initial x.kind) _ (ap is_initial initial) (and_from (nat_lt x.told.resolved x.cursor) _ (lt-ltb x.told.resolved x.cursor (omega (arith, at))) (le-leb (row_ts x.told.row) x.cursor (omega (arith, at)))) in
+    let tells : tells_snapshot x ≡ true = and_from x.kind.initial _ initial (and_from (nat_lt x.told.resolved x.cursor) _ (lt-ltb x.told.resolved x.cursor (omega (arith, at))) (le-leb (row_ts x.told.row) x.cursor (omega (arith, at)))) in
     let clash : true ≡ false = sym tells ∙ told in cc
   where
     row_low : (o : Option VersionName) → is_after_name o r ≡ true → row_ts o ≤ r.ts
@@ -186,7 +174,7 @@ module _ (table : Table) (stored : Stored) (p : List Effect) (tied : (y : List �
       let u = beyond_is p all f (feed_part x) is h in
       let s = is_in_snapshot x tells in
       let resolved : start_at x.kind x.cursor ≤ x.told.resolved = subst (λ (t : Told). start_at x.kind x.cursor ≤ t.resolved) (sym told) (resolved_grows (start_at x.kind x.cursor) (told_to p f)) in
-      let near : x.cursor ≤ suc x.told.resolved = (let low : x.cursor - 1 ≤ x.told.resolved = subst (λ kind. start_at kind x.cursor ≤ x.told.resolved) s.0 resolved in omega arith) in
+      let near : x.cursor ≤ suc x.told.resolved = (let low : x.cursor - 1 ≤ x.told.resolved = subst (λ initial. (if initial then x.cursor - 1 else x.cursor) ≤ x.told.resolved) s.0 resolved in omega arith) in
       let join = λ (r : Row). in_append r firsts rows in
       only_rows (firsts ++ rows) h.begins.0
       (rises_append firsts rows values.rising are.rising (λ r q i j. let first = (values.each r).0 i in let later : x.cursor < q.ts = ltb-true x.cursor q.ts ((are.each q).0 j).later in or_left (nat_lt r.ts q.ts) _ (lt-ltb r.ts q.ts (omega (arith, first.at)))))

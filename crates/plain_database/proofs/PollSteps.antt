@@ -11,7 +11,6 @@ use Rattle.spans.specs.declared.calls.messages.Message.TheVariants as messages
 use Rattle.spans.specs.declared.calls.events.Event.{Event}
 use Rattle.spans.specs.Effects.{Effect, Polls, effects_of, event}
 use Rattle.spans.specs.declared.kind.Kind.{Kind}
-use Rattle.spans.specs.declared.kind.Kind.TheVariants.{Plain, Initial, Every}
 use Rattle.spans.specs.Feeds.{Feed, first_rows, list_of, resolved_of, is_due, told_to, rows_in, same_version, due_message, untold_rows, next_messages}
 use Rattle.spans.specs.Legal.{IsRightEvent}
 use Rattle.spans.specs.Transactions.{closed_of, is_committed}
@@ -49,9 +48,7 @@ nothing_next p f feed max settled none =
     none_taken (suc m) = refl
 
     due_none : (kind : Kind) (n : ℕ) → is_due kind n 0 ≡ false
-    due_none Plain n = le-ltb n 0 (omega arith)
-    due_none Initial n = le-ltb n 0 (omega arith)
-    due_none (Every gap) n = rw (le-ltb n 0 (omega arith)) refl
+    due_none kind n = rw (le-ltb n 0 (omega arith)) refl
 
 -- the chains of a database have the committed versions
 pub committed_tied : (db : Database) (p : List Effect) → AllAllowed p → IsTied db p → HasCommitted db p

@@ -4,12 +4,11 @@ use Rattle.std.specs.Prelude.{min}
 use Rattle.std.proofs.lemmas.Bool.{le-ltb}
 use Rattle.std.proofs.lemmas.List.{length-map}
 use Rattle.timestamps.specs.declared.ts.TheConstants.{MAX}
-use Rattle.spans.specs.declared.span.Span.{Span}
-use Rattle.spans.specs.declared.calls.commands.Cmd.TheVariants.{Protect, Collect, Open, Stats}
+use Rattle.spans.specs.declared.calls.commands.Cmd.TheVariants.{Protect, Collect, Stats}
 use Rattle.spans.specs.declared.calls.replies.Reply.TheVariants.{Protected, Collected, Opened}
 use Rattle.spans.specs.declared.calls.replies.Reply.TheVariants as replies
 use Rattle.spans.specs.declared.calls.events.Event.{Event}
-use Rattle.spans.specs.Effects.{Collects, Effect, effect_of, effects_of}
+use Rattle.spans.specs.Effects.{Collects, effect_of, effects_of}
 use Rattle.spans.specs.Answer.{first_refusal, horizon_tests, answer_of}
 use Rattle.spans.specs.Collection.{versions_of, dead_of, horizon_of, protections_made, collection_horizon, live_feeds}
 use Rattle.spans.specs.Feeds.{feeds_opened}
@@ -55,10 +54,6 @@ protect_answers db h seat t made id stands few here was is =
 -- and so has the next feed
 pub next_opened : (db : Database) (h : List Event) (opened f : ℕ) → StandsFor db h → length h < 18446744073709551615 → opened ≡ length db.feeds → f ≡ min (opened + 1) (2 ^ 64 - 1) → Opened f ≡ Opened (suc (feeds_opened (effects_of h)))
 next_opened db h opened f stands few was is = ap Opened (omega (arith, opened_fits h few, stands.tied.feeds.opened))
-
--- what a plain opening is answered past its tests
-pub open_answers : (p : List Effect) (seat : ℕ) (span : Span) (cursor : ℕ) → None ≡ first_refusal (horizon_tests p cursor) → Opened (suc (feeds_opened p)) ≡ answer_of p seat (Open span cursor)
-open_answers p seat span cursor here = sym (past_tests (horizon_tests p cursor) [] (Opened (suc (feeds_opened p))) here)
 
 -- what a collection that takes the horizon to n is answered
 pub collect_answers : (db : Database) (h : List Event) (seat to n removed : ℕ) → StandsFor db h → length h < 18446744073709551615 → to ≤ MAX → n ≡ collection_horizon (effects_of h) to

@@ -1,12 +1,12 @@
 //! The database: a map for each thing that a history is asked about.
 ghost use Rattle.std.specs.Prelude.{◌≡◌, IfOk, OnErr, OnOk, [], true};
 
+use crate::feeds::kind_of;
 use crate::reads::Reads;
 use crate::span_reads::Scans;
 use plain_feeds::{FeedBook, Protections};
 use plain_versions::{Chains, Transactions};
 use spans::calls::{Cmd, Reply};
-use spans::kind::Kind;
 use std::alloc::{AllocError, Global};
 
 /// What a history led to.
@@ -75,13 +75,20 @@ impl Database {
             Cmd::ScanAt { t, span } => self.answer_scan_at(*t, span),
             Cmd::Protect { t } => Ok(self.answer_protect(*t)),
             Cmd::Release { id } => Ok(self.answer_release(*id)),
-            Cmd::Open { span: _, cursor } => Ok(self.answer_open(*cursor)),
-            Cmd::OpenInitial { span: _, cursor } => Ok(self.answer_open_initial(*cursor)),
+            Cmd::Open { span: _, cursor } => Ok(self.answer_open(kind_of(false, None), *cursor)),
+            Cmd::OpenInitial { span: _, cursor } => {
+                Ok(self.answer_open(kind_of(true, None), *cursor))
+            }
             Cmd::OpenEvery {
                 span: _,
                 cursor,
                 gap,
-            } => Ok(self.answer_open_every(*cursor, *gap)),
+            } => Ok(self.answer_open(kind_of(false, Some(*gap)), *cursor)),
+            Cmd::OpenInitialEvery {
+                span: _,
+                cursor,
+                gap,
+            } => Ok(self.answer_open(kind_of(true, Some(*gap)), *cursor)),
             Cmd::Cancel { feed } => Ok(self.answer_cancel(*feed)),
             Cmd::Collect { to } => Ok(self.answer_collect(*to)),
             Cmd::Poll { feed, max } => self.answer_poll(seat, *feed, *max),
@@ -110,13 +117,16 @@ impl Database {
             Cmd::Protect { t } => self.record_protect(*t, reply)?,
             Cmd::Release { id } => self.record_release(*id, reply),
             Cmd::Open { span, cursor } => {
-                self.record_open(seat, Kind::Plain, span, *cursor, reply)?
+                self.record_open(seat, kind_of(false, None), span, *cursor, reply)?
             }
             Cmd::OpenInitial { span, cursor } => {
-                self.record_open(seat, Kind::Initial, span, *cursor, reply)?
+                self.record_open(seat, kind_of(true, None), span, *cursor, reply)?
             }
             Cmd::OpenEvery { span, cursor, gap } => {
-                self.record_open(seat, Kind::Every { gap: *gap }, span, *cursor, reply)?
+                self.record_open(seat, kind_of(false, Some(*gap)), span, *cursor, reply)?
+            }
+            Cmd::OpenInitialEvery { span, cursor, gap } => {
+                self.record_open(seat, kind_of(true, Some(*gap)), span, *cursor, reply)?
             }
             Cmd::Cancel { feed } => self.record_cancel(*feed, reply),
             Cmd::Collect { to } => self.record_collect(*to, reply),

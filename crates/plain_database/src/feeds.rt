@@ -1,58 +1,58 @@
 //! Feeds: openings, polls and cancels.
 ghost use Rattle.std.specs.Prelude.{◌≡◌, IfOk, OnErr, OnOk, suc, true, ℕ};
-ghost use Rattle.spans.specs.declared.calls.commands.Cmd.TheVariants.{Cancel, Open, OpenEvery, OpenInitial, Poll};
+ghost use Rattle.spans.specs.declared.calls.commands.Cmd.TheVariants.{Cancel, Poll};
 ghost use Rattle.spans.specs.declared.calls.replies.Reply.TheVariants.{Opened};
-ghost use Rattle.spans.specs.declared.span.Span.{Span};
-ghost use Rattle.spans.specs.Effects.{open_cmd};
+ghost use Rattle.spans.specs.Answer.{is_gap, opening_answer};
+ghost use Rattle.spans.specs.Effects.{kind_of, open_cmd};
 ghost use Rattle.spans.specs.Feeds.{feeds_opened};
 ghost use Rattle.spans.specs.Legal.{is_accepted};
 ghost use Rattle.plain_feeds.specs.FeedTie.{IsOpened};
-ghost use Rattle.plain_database.specs.Answering.{Accepts, AfterCounted, Answers, AnswersCounted, AreNext, Records};
+ghost use Rattle.plain_database.specs.Answering.{Accepts, AfterCounted, Answers, AreNext, Records};
 
 use crate::database::Database;
 use spans::calls::{Messages, Refusal, Reply};
 use spans::kind::Kind;
-use spans::span::Span as KeySpan;
+use spans::span::Span;
 use std::alloc::AllocError;
 use timestamps::ts::{MAX, Ts};
 
+/// A kind of feeds from its parts.
+pub(crate) fn kind_of(initial: bool, gap: Option<u64>) -> Kind
+    ensures { result ≡ kind_of initial gap }
+{
+    Kind { initial, gap }
+}
+
+/// Whether a gap, where there is one, is in the range of timestamps.
+fn is_gap(gap: Option<u64>) -> bool
+    ensures { result ≡ is_gap gap }
+{
+    match gap {
+        None => true,
+        Some(gap) => gap > 0 && gap <= MAX,
+    }
+}
+
 impl Database {
-    pub(crate) fn answer_open(&self, cursor: u64) -> Reply
-        ensures { (seat : ℕ) (span : Span) → AnswersCounted self.now seat (Open span cursor) result }
-    {
-        if let Some(refusal) = self.horizon_refusal(cursor) {
-            return Reply::Refused(refusal);
-        }
-        self.opened()
-    }
-
-    pub(crate) fn answer_open_initial(&self, cursor: u64) -> Reply
-        ensures { (seat : ℕ) (span : Span) → AnswersCounted self.now seat (OpenInitial span cursor) result }
-    {
-        if let Some(refusal) = self.horizon_refusal(cursor) {
-            return Reply::Refused(refusal);
-        }
-        // what the feed tells first is read at its cursor
-        if cursor > self.closed {
-            return Reply::Refused(Refusal::NotClosed {
-                closed: self.closed,
-            });
-        }
-        self.opened()
-    }
-
-    pub(crate) fn answer_open_every(&self, cursor: u64, gap: u64) -> Reply
-        ensures { (seat : ℕ) (span : Span) → AnswersCounted self.now seat (OpenEvery span cursor gap) result }
+    /// The answer to an opening of a feed of this kind: its tests in order.
+    pub(crate) fn answer_open(&self, kind: Kind, cursor: u64) -> Reply
+        ensures { AfterCounted self.now (λ p. result ≡ opening_answer kind p cursor) }
     {
         if cursor > MAX {
             return Reply::Refused(Refusal::TsRange);
         }
-        if gap == 0 || gap > MAX {
+        if !is_gap(kind.gap) {
             return Reply::Refused(Refusal::GapRange);
         }
         if cursor < self.horizon {
             return Reply::Refused(Refusal::BelowHorizon {
                 horizon: self.horizon,
+            });
+        }
+        // what an initial feed tells first is read at its cursor
+        if kind.initial && cursor > self.closed {
+            return Reply::Refused(Refusal::NotClosed {
+                closed: self.closed,
             });
         }
         self.opened()
@@ -72,7 +72,7 @@ impl Database {
         &mut self,
         seat: u8,
         kind: Kind,
-        span: &KeySpan,
+        span: &Span,
         cursor: u64,
         reply: &Reply,
     ) -> Result<(), AllocError>

@@ -30,15 +30,6 @@ returns-in-Protect-clause-answer c = λ h stands few. rw c.in-Protect.is (c.answ
 pub returns-in-Release-clause-answer : goal.returns-in-Release-clause-answer
 returns-in-Release-clause-answer c = λ h stands few. rw c.in-Release.is (c.answer_release.ensures c.args.seat h stands)
 
-pub returns-in-Open-clause-answer : goal.returns-in-Open-clause-answer
-returns-in-Open-clause-answer c = λ h stands few. rw c.in-Open.is (c.answer_open.ensures c.args.seat c.in-Open.span h stands few)
-
-pub returns-in-OpenInitial-clause-answer : goal.returns-in-OpenInitial-clause-answer
-returns-in-OpenInitial-clause-answer c = λ h stands few. rw c.in-OpenInitial.is (c.answer_open_initial.ensures c.args.seat c.in-OpenInitial.span h stands few)
-
-pub returns-in-OpenEvery-clause-answer : goal.returns-in-OpenEvery-clause-answer
-returns-in-OpenEvery-clause-answer c = λ h stands few. rw c.in-OpenEvery.is (c.answer_open_every.ensures c.args.seat c.in-OpenEvery.span h stands few)
-
 pub returns-in-Cancel-clause-answer : goal.returns-in-Cancel-clause-answer
 returns-in-Cancel-clause-answer c = λ h stands few. rw c.in-Cancel.is (c.answer_cancel.ensures c.args.seat h stands)
 

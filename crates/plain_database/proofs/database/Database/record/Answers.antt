@@ -1,4 +1,4 @@
-use Rattle.plain_database.proofs.Events.{stands_read_at, stands_scan_at}
+use Rattle.plain_database.proofs.Events.{opens_alike, stands_read_at, stands_scan_at}
 use Rattle.plain_database.proofs.database.Database.record.Goals as goal
 
 pub returns-in_ok-record_begin-in-Begin-clause-ok : goal.returns-in_ok-record_begin-in-Begin-clause-ok
@@ -41,13 +41,16 @@ pub returns-in-Release-clause-ok : goal.returns-in-Release-clause-ok
 returns-in-Release-clause-ok c = λ h n. rw c.in-Release.is (c.record_release.ensures c.args.seat h n)
 
 pub returns-in_ok-record_open-in-Open-clause-ok : goal.returns-in_ok-record_open-in-Open-clause-ok
-returns-in_ok-record_open-in-Open-clause-ok c = λ h n. rw c.in-Open.is (c.in_ok-record_open-in-Open.ensures.ok h n)
+returns-in_ok-record_open-in-Open-clause-ok c = λ h n. rw c.in-Open.is (opens_alike c.args.self.now c.record_open.new.self c.args.seat c.in-Open.span c.in-Open.cursor c.args.reply.now c.kind_of.ensures c.in_ok-record_open-in-Open.ensures.ok h n)
 
 pub returns-in_ok-record_open-in-OpenInitial-clause-ok : goal.returns-in_ok-record_open-in-OpenInitial-clause-ok
-returns-in_ok-record_open-in-OpenInitial-clause-ok c = λ h n. rw c.in-OpenInitial.is (c.in_ok-record_open-in-OpenInitial.ensures.ok h n)
+returns-in_ok-record_open-in-OpenInitial-clause-ok c = λ h n. rw c.in-OpenInitial.is (opens_alike c.args.self.now c.record_open-in-OpenInitial.new.self c.args.seat c.in-OpenInitial.span c.in-OpenInitial.cursor c.args.reply.now c.kind_of-in-OpenInitial.ensures c.in_ok-record_open-in-OpenInitial.ensures.ok h n)
 
 pub returns-in_ok-record_open-in-OpenEvery-clause-ok : goal.returns-in_ok-record_open-in-OpenEvery-clause-ok
-returns-in_ok-record_open-in-OpenEvery-clause-ok c = λ h n. rw c.in-OpenEvery.is (c.in_ok-record_open-in-OpenEvery.ensures.ok h n)
+returns-in_ok-record_open-in-OpenEvery-clause-ok c = λ h n. rw c.in-OpenEvery.is (opens_alike c.args.self.now c.record_open-in-OpenEvery.new.self c.args.seat c.in-OpenEvery.span c.in-OpenEvery.cursor c.args.reply.now c.kind_of-in-OpenEvery.ensures c.in_ok-record_open-in-OpenEvery.ensures.ok h n)
+
+pub returns-in_ok-record_open-in-OpenInitialEvery-clause-ok : goal.returns-in_ok-record_open-in-OpenInitialEvery-clause-ok
+returns-in_ok-record_open-in-OpenInitialEvery-clause-ok c = λ h n. rw c.in-OpenInitialEvery.is (opens_alike c.args.self.now c.record_open-in-OpenInitialEvery.new.self c.args.seat c.in-OpenInitialEvery.span c.in-OpenInitialEvery.cursor c.args.reply.now c.kind_of-in-OpenInitialEvery.ensures c.in_ok-record_open-in-OpenInitialEvery.ensures.ok h n)
 
 pub returns-in-Cancel-clause-ok : goal.returns-in-Cancel-clause-ok
 returns-in-Cancel-clause-ok c = λ h n. rw c.in-Cancel.is (c.record_cancel.ensures c.args.seat h n)

@@ -1,4 +1,4 @@
-use Rattle.std.proofs.Common.{◌≡◌, ℕ, ◌-◌, ◌≤◌, None, ◌∙◌, ap, subst, take, length, arith}
+use Rattle.std.proofs.Common.{◌≡◌, ◌-◌, ◌≤◌, None, ◌∙◌, ap, subst, take, length, arith}
 use Rattle.std.specs.Option.{option_copied}
 use Rattle.spans.specs.Transactions.{closed_of}
 use Rattle.spans.proofs.Feeding.{feeding}
