@@ -17,6 +17,7 @@ use std::marker::Model;
 /// Up to where timestamps are closed, and the protections that stand.
 #[derive(Drop)]
 pub struct Closing {
+    alloc: Global,
     closed: u64,
     made: u64,
     by_number: BTreeMap<u64, u64>,
@@ -42,6 +43,7 @@ impl Closing {
         ensures made { made_in result ≡ 0 }
     {
         Closing {
+            alloc,
             closed: 0,
             made: 0,
             by_number: BTreeMap::new(alloc),
@@ -141,9 +143,9 @@ impl Closing {
         }
     }
     /// The protections that stand, numbers rising. It takes memory for them alone.
-    pub fn protections(&self, alloc: Global) -> Result<Vec<ProtectionReport>, AllocError>
+    pub fn protections(&self) -> Result<Vec<ProtectionReport>, AllocError>
         ensures { IfOk result (λ ns. ns.items ≡ map protection_report (reverse (protections_in self.now))) }
     {
-        protection_reports(alloc, &self.by_number)
+        protection_reports(self.alloc, &self.by_number)
     }
 }
