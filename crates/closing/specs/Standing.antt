@@ -1,6 +1,7 @@
 -- The closed timestamp, the protections that stand, and how many were made.
 use Rattle.std.specs.Prelude.{List, [], ℕ, ◌++◌, ◌∷◌}
 use Rattle.spans.specs.Collection.{Protection}
+use Rattle.spans.specs.declared.report.ProtectionReport.{ProtectionReport}
 
 -- what stands; the newest protection first
 pub record Standing : Type 0 where
@@ -24,3 +25,7 @@ protection id t = record { id = id; at = t }
 abbrev pub newest_first : List (ℕ × ℕ) → List Protection
 newest_first [] = []
 newest_first (e ∷ es) = newest_first es ++ protection e.0 e.1 ∷ []
+
+-- what is told of a protection, by its number with its timestamp
+abbrev pub entry_report : ℕ × ℕ → ProtectionReport
+entry_report e = record { number = e.0; timestamp = e.1 }

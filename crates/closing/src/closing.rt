@@ -1,12 +1,15 @@
 //! The closed timestamp and the protections.
-ghost use Rattle.std.specs.Prelude.{◌≡◌, ◌==◌, ◌<◌, ◌≤◌, ◌∷◌, ℕ, List, [], IfOk, OnOk, OnErr, filter, map, max, not, suc};
+ghost use Rattle.std.specs.Prelude.{◌≡◌, ◌==◌, ◌<◌, ◌≤◌, ◌∷◌, ℕ, List, [], IfOk, OnOk, OnErr, filter, map, max, not, reverse, suc};
 ghost use Rattle.std.specs.List.{list_any};
 ghost use Rattle.spans.specs.Collection.{Protection};
+ghost use Rattle.spans.specs.Report.{protection_report};
 ghost use Rattle.spans.specs.Transactions.{least_of};
 ghost use Rattle.kept.specs.Places.{or_min};
 ghost use Rattle.kept.specs.Table.{reach};
 ghost use Rattle.closing.specs.Standing.{closed_in, made_in, protections_in, protection};
 
+use crate::report::protection_reports;
+use spans::report::ProtectionReport;
 use std::alloc::{AllocError, Global};
 use std::collections::{BTreeMap, BTreeSet};
 use std::marker::Model;
@@ -14,6 +17,7 @@ use std::marker::Model;
 /// Up to where timestamps are closed, and the protections that stand.
 #[derive(Drop)]
 pub struct Closing {
+    alloc: Global,
     closed: u64,
     made: u64,
     by_number: BTreeMap<u64, u64>,
@@ -39,6 +43,7 @@ impl Closing {
         ensures made { made_in result ≡ 0 }
     {
         Closing {
+            alloc,
             closed: 0,
             made: 0,
             by_number: BTreeMap::new(alloc),
@@ -136,5 +141,11 @@ impl Closing {
             None => None,
             Some(first) => Some(first.0),
         }
+    }
+    /// The protections that stand, numbers rising. It takes memory for them alone.
+    pub fn protections(&self) -> Result<Vec<ProtectionReport>, AllocError>
+        ensures { IfOk result (λ ns. ns.items ≡ map protection_report (reverse (protections_in self.now))) }
+    {
+        protection_reports(self.alloc, &self.by_number)
     }
 }

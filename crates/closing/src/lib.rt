@@ -24,10 +24,13 @@
 //!
 //! - `close`, `close_hard`, `closed`, `made`: O(1)
 //! - `protect`, `release`, `least_protection`: O(log n)
+//! - `protections`: O(n)
 //!
-//! Only `protect` takes memory, for a place in the map and one in the set. Where it finds none, nothing is protected.
+//! `protect` takes memory, for a place in the map and one in the set. Where it finds none, nothing is protected.
+//! `protections` takes it for its answer. The other calls take none.
 #![tactic(auto)]
 
 mod closing;
+mod report;
 
 pub use closing::Closing;

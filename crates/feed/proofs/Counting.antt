@@ -16,12 +16,12 @@ apart f (g ∷ fs) all i = elim i [
   | inr there ↦ apart f fs all.1 there
 ]
 
-distinct : (fs : List ℕ) → IsDistinct nat_eq fs → AreDistinct fs
+pub distinct : (fs : List ℕ) → IsDistinct nat_eq fs → AreDistinct fs
 unfolding IsDistinct
 distinct [] d = tt
 distinct (f ∷ fs) d = (apart f fs d.0, distinct fs d.1)
 
-has_key : (f : ℕ) (es : Lives) → Has f (keys_of es) ↔ (is_some (lookup (nat_eq f) es) ≡ true)
+pub has_key : (f : ℕ) (es : Lives) → Has f (keys_of es) ↔ (is_some (lookup (nat_eq f) es) ≡ true)
 has_key f [] = (λ i. absurd i, λ e. cc)
 has_key f (e ∷ es) = let more = has_key f es in by_test (nat_eq f e.0)
     (λ here. rw here (λ i. refl, λ s. inl (sym (eqb-true f e.0 here))))

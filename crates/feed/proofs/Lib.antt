@@ -11,3 +11,4 @@ pub mod Bounds
 pub mod Searching
 pub mod Building
 pub mod Slotting
+pub mod Reports

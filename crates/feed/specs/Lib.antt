@@ -7,3 +7,4 @@ pub mod Changes
 pub mod OfferedAll
 pub mod Slots
 pub mod Hulls
+pub mod Reports

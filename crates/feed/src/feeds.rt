@@ -2,6 +2,7 @@
 ghost use Rattle.std.specs.Prelude.{true, map, ◌≡◌, ◌<◌, ◌≤◌, ℕ, None, Some, false, is_some, length, suc, IfOk, OnOk, OnErr, take, ◌++◌, IfSome};
 ghost use Rattle.timestamps.specs.declared.ts.TheConstants.{MAX};
 ghost use Rattle.kept.specs.Places.{IsLeastFloor};
+ghost use Rattle.kept.specs.Reports.{AreLive};
 ghost use Rattle.feed.specs.Live.{Live, IsOffered, begins_behind, opened_at, moved_on, settled, due_at};
 ghost use Rattle.feed.specs.Standing.{opened_in, live_in, place_in, seat_in, behind_in, IsPut, AreChanged, IsSentBehind, IsPolled, IsPolledFrom, IsCountOf};
 ghost use Rattle.feed.specs.Changes.{IsChangedIn};
@@ -9,12 +10,14 @@ ghost use Rattle.feed.specs.Slots.{source_of};
 
 use crate::live::LiveFeed;
 use crate::place::{Arrival, place_behind};
+use crate::report::feed_reports;
 use crate::rounds::{offer_each, send_each_behind};
 use crate::slots::Source;
 use crate::span_order::SpanOrder;
 use indexmap::IndexMap;
 use spans::calls::{Message, Messages};
 use spans::kind::Kind;
+use spans::report::FeedReport;
 use spans::span::Span;
 use std::alloc::{AllocError, Global};
 use std::collections::BTreeSet;
@@ -258,6 +261,13 @@ impl Feeds {
             None => None,
             Some(first) => Some(first.0),
         }
+    }
+
+    /// The feeds that live, numbers rising, and how far each has come. It takes memory for them alone.
+    pub fn report(&self) -> Result<Vec<FeedReport>, AllocError>
+        ensures { IfOk result (λ ns. AreLive (place_in self.now) ns.items) }
+    {
+        feed_reports(self.alloc, &self.live)
     }
 }
 

@@ -29,10 +29,11 @@
 //! - `next_messages_in_ring`: O(log f) and the messages told
 //! - `next_messages_in_store`: O(log f), the messages told, and the searches of the store that `catch_up` makes
 //! - `mark_behind`: O(f log f)
+//! - `report`: O(f log f) and the bytes of its answer
 //!
 //! An offer also looks at each slot that was added, or whose feed fell behind or came back, since the order was last
-//! made. Once offers have looked at more of these than there are slots, the order is made anew. `open`, `offer` and the
-//! polls take memory. An offer never refuses: without memory for the row it sends the feeds behind that want it, and
+//! made. Once offers have looked at more of these than there are slots, the order is made anew. `open`, `offer`, the polls
+//! and `report` take memory. An offer never refuses: without memory for the row it sends the feeds behind that want it, and
 //! without memory for the new order it keeps the old one. The other calls take none.
 #![tactic(auto)]
 
@@ -40,6 +41,7 @@ mod feeds;
 mod hulls;
 mod live;
 mod place;
+mod report;
 mod rounds;
 mod slots;
 mod span_order;

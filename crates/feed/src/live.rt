@@ -11,6 +11,8 @@ ghost use Rattle.feed.specs.Standing.{AreNextAt};
 ghost use Rattle.feed.specs.Firsts.{AreNextFirstsAt, AreNextStoredAt, IsLeftAt, IsNoneLeft, is_row_above, key_at};
 ghost use Rattle.feed.specs.Live.{wants, IsOffered, with_row, sent_behind, opened_at, arrived_at, settled, due_in, due_at, row_or};
 
+mod report;
+
 use crate::place::{Arrival, RowName};
 use catch_up::{next_rows, next_snapshot};
 use circular_buffer::HeapCircularBuffer;

@@ -59,7 +59,7 @@ cut_count k p all fits to ts those = those_length (λ t. nat_le t to && is_open 
     ))
 
 -- a number in a mapped list comes of an element
-has_number : (f : ℕ) (ws : List LiveFeed) → Has f (map (λ (n : LiveFeed). n.number) ws) → (c : ℕ) × Has (live_feed f c) ws
+pub has_number : (f : ℕ) (ws : List LiveFeed) → Has f (map (λ (n : LiveFeed). n.number) ws) → (c : ℕ) × Has (live_feed f c) ws
 has_number f [] i = absurd i
 has_number f (w ∷ ws) i = elim i [
   | inl here ↦ (w.cursor, inl (named_feed here))
@@ -70,7 +70,7 @@ has_number f (w ∷ ws) i = elim i [
     named_feed e = ap (λ n. live_feed n w.cursor) e
 
 -- an element's number is in the mapped list
-number_has : (f c : ℕ) (ws : List LiveFeed) → Has (live_feed f c) ws → Has f (map (λ (n : LiveFeed). n.number) ws)
+pub number_has : (f c : ℕ) (ws : List LiveFeed) → Has (live_feed f c) ws → Has f (map (λ (n : LiveFeed). n.number) ws)
 number_has f c [] i = absurd i
 number_has f c (w ∷ ws) i = elim i [ inl here ↦ inl (ap (λ (n : LiveFeed). n.number) here) | inr there ↦ inr (number_has f c ws there) ]
 
@@ -95,22 +95,25 @@ numbers_distinct (Opens f seat kind span cursor ∷ p) all = (
 numbers_distinct (Cancels f ∷ p) all = numbers_filter (λ (n : LiveFeed). not (n.number == f)) (live_feeds p) (numbers_distinct p all.1)
 numbers_distinct (_ ∷ p) all = numbers_distinct p all.1
 
+-- the listed feeds are those that are kept
+pub has_live : (k : Kept) (p : List Effect) → AllAllowed p → IsKeptOf k p → (f : ℕ) → Has f (map (λ (n : LiveFeed). n.number) (live_feeds p)) ↔ (is_some (k.feed f) ≡ true)
+has_live k p all fits f = (
+  λ i. let m = has_number f (live_feeds p) i in let l = live_is p all f m.0 m.1 in ap is_some (place_at k p fits f l.0 l.1 l.2),
+  λ is. by_parts (is_cancelled p f) refl (feed_of p f) refl (ap is_some (sym (fits.feeds f)) ∙ is),
+)
+  where
+    by_parts : (b : Bool) → is_cancelled p f ≡ b → (o : Option Feed) → feed_of p f ≡ o → is_some (place_of p f) ≡ true → Has f (map (λ (n : LiveFeed). n.number) (live_feeds p))
+    by_parts true c o e is = absurd (let no' : false ≡ true = rw c at is in cc)
+    by_parts false c None e is = absurd (let no' : false ≡ true = rw (c, e) at is in cc)
+    by_parts false c (Some feed) e is = number_has f feed.cursor (live_feeds p) (is_live p f feed e c)
+
 -- the live feeds that are kept are as many as those of the history
 pub feeds_count : (k : Kept) (p : List Effect) → AllAllowed p → IsKeptOf k p → (fs : List ℕ) → AreThose (λ f. is_some (k.feed f)) fs → length fs ≡ length (live_feeds p)
-feeds_count k p all fits fs those =
-    those_length (λ f. is_some (k.feed f)) fs (map (λ (n : LiveFeed). n.number) (live_feeds p)) those (numbers_distinct p all) (λ f. (
-      λ i. let m = has_number f (live_feeds p) i in let l = live_is p all f m.0 m.1 in ap is_some (place_at k p fits f l.0 l.1 l.2),
-      λ is. by_parts f (is_cancelled p f) refl (feed_of p f) refl (ap is_some (sym (fits.feeds f)) ∙ is),
-    )) ∙ as_many (live_feeds p)
+feeds_count k p all fits fs those = those_length (λ f. is_some (k.feed f)) fs (map (λ (n : LiveFeed). n.number) (live_feeds p)) those (numbers_distinct p all) (has_live k p all fits) ∙ as_many (live_feeds p)
   where
     as_many : (ws : List LiveFeed) → length (map (λ (n : LiveFeed). n.number) ws) ≡ length ws
     as_many [] = refl
     as_many (w ∷ ws) = ap suc (as_many ws)
-
-    by_parts : (f : ℕ) (b : Bool) → is_cancelled p f ≡ b → (o : Option Feed) → feed_of p f ≡ o → is_some (place_of p f) ≡ true → Has f (map (λ (n : LiveFeed). n.number) (live_feeds p))
-    by_parts f true c o e is = absurd (let no' : false ≡ true = rw c at is in cc)
-    by_parts f false c None e is = absurd (let no' : false ≡ true = rw (c, e) at is in cc)
-    by_parts f false c (Some feed) e is = number_has f feed.cursor (live_feeds p) (is_live p f feed e c)
 
 -- the kept versions are as many as those of the history that aren't dead
 pub versions_count : (k : Kept) (p : List Effect) → AllAllowed p → IsKeptOf k p → (vs : List VersionName) → AreThose (λ v. is_some (k.version v.key v.ts)) vs → length vs ≡ length (versions_of p) - length (dead_of p)

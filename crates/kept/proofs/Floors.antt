@@ -8,7 +8,7 @@ use Rattle.spans.specs.Collection.{horizon_of, live_feeds, floor_of, Protection,
 use Rattle.spans.specs.Consumer.{name_of}
 use Rattle.spans.specs.Effects.{Opens, Cancels, Effect}
 use Rattle.spans.specs.FeedRight.{DividesList, RowsFollowResolved, RowsAreAbove, least_gap}
-use Rattle.spans.specs.Feeds.{told_to, rows_in, Feed, is_cancelled, feeds_opened, last_resolved, feed_of, start_of}
+use Rattle.spans.specs.Feeds.{told_to, rows_in, Feed, is_cancelled, feeds_opened, last_resolved, feed_of, resolved_of, start_of}
 use Rattle.spans.specs.Kept.{Place, last_name, place_with, Kept, IsKeptOf}
 use Rattle.spans.specs.Transactions.{closed_of, least_of}
 use Rattle.spans.specs.declared.calls.messages.Message.{Message}
@@ -43,16 +43,19 @@ above_start c [] h = tt
 above_start c (messages.Row s ∷ ms) h = (h s (inl refl), above_start c ms (λ r i. h r (inr i)))
 above_start c (messages.Resolved t ∷ ms) h = above_start c ms h
 
--- the floor of a place is the floor of its feed
-pub place_floor_is : (p : List Effect) → AllAllowed p → (f : ℕ) (feed : Feed) → feed_of p f ≡ Some feed → place_floor (place_with p f feed) ≡ max feed.cursor (floor_after feed.cursor (told_to p f))
-place_floor_is p all f feed is =
+-- the last message tells through where the place is told
+pub told_through_is : (p : List Effect) → AllAllowed p → (f : ℕ) (feed : Feed) → feed_of p f ≡ Some feed → floor_after (start_of feed) (told_to p f) ≡ max (resolved_of p f feed) (row_floor (last_name None (told_to p f)))
+told_through_is p all f feed is =
     let h = fed p all f feed is in
     let b = h.begins (closed_of p) (omega arith) in
     let e : max (start_of feed) 0 ≡ start_of feed = omega arith in
-    sym (floor_from feed.cursor (start_of feed) (told_to p f) (start_low feed.kind feed.cursor)
-    ∙ ap (max feed.cursor) (ap (λ n. floor_after n (told_to p f)) (sym e) ∙ floor_is p feed [] (told_to p f) (start_of feed) None (omega arith) h.divides (apart_rises (least_gap feed.kind) (start_of feed) (told_to p f) (some_gap feed.kind) h.apart)
+    ap (λ n. floor_after n (told_to p f)) (sym e) ∙ floor_is p feed [] (told_to p f) (start_of feed) None (omega arith) h.divides (apart_rises (least_gap feed.kind) (start_of feed) (told_to p f) (some_gap feed.kind) h.apart)
     (above_start (start_of feed) (told_to p f) (λ r i. listed_above p feed (closed_of p) r ((in_list p feed (closed_of p) r).0 (subst (IsRowIn r) (sym b.1) ((in_append r (rows_in (told_to p f)) b.0).1 (inl i))))))
-    h.follows (λ n h. omega arith)))
+    h.follows (λ n h. omega arith)
+
+-- the floor of a place is the floor of its feed
+pub place_floor_is : (p : List Effect) → AllAllowed p → (f : ℕ) (feed : Feed) → feed_of p f ≡ Some feed → place_floor (place_with p f feed) ≡ max feed.cursor (floor_after feed.cursor (told_to p f))
+place_floor_is p all f feed is = sym (floor_from feed.cursor (start_of feed) (told_to p f) (start_low feed.kind feed.cursor) ∙ ap (max feed.cursor) (told_through_is p all f feed is))
 
 -- a feed that is listed lives
 pub live_is : (p : List Effect) → AllAllowed p → (f c : ℕ) → Has (live_feed f c) (live_feeds p) → (feed : Feed) × (feed_of p f ≡ Some feed) × (is_cancelled p f ≡ false) × (feed.cursor ≡ c)

@@ -26,3 +26,6 @@ pub mod Standing
 pub mod Answering
 pub mod RingSteps
 pub mod LeftRows
+pub mod Contained
+pub mod Rising
+pub mod Reporting

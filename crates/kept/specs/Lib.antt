@@ -12,3 +12,4 @@ pub mod Changes
 pub mod Replies
 pub mod Answered
 pub mod WorkedKept
+pub mod Reports

@@ -1,13 +1,16 @@
 //! What the rules hold, to be read.
-ghost use Rattle.std.specs.Prelude.{◌≡◌, None, IfSome, MatchOption};
+ghost use Rattle.std.specs.Prelude.{◌≡◌, None, IfOk, IfSome, MatchOption};
 ghost use Rattle.spans.proofs.Keyed.{RisingKeys};
 ghost use Rattle.spans.proofs.WriteSets.{has};
+ghost use Rattle.kept.specs.Reports.{AreOpen};
 ghost use Rattle.kept.specs.Table.{IsOldest, is_open, keys_of};
 ghost use Rattle.txn_table.specs.TransactionIn.{IsCountOf};
 ghost use Rattle.version_chain.specs.Stores as stores;
 
 use crate::rules::Rules;
 use read_marks::Marks;
+use spans::report::TransactionReport;
+use std::alloc::AllocError;
 use std::collections::btree_set::Range;
 use timestamps::key::Key;
 use version_chain::Store;
@@ -49,6 +52,13 @@ impl Rules {
         ensures { IsCountOf (λ t. is_open (transactions_of self.now t)) result }
     {
         self.txns.undecided()
+    }
+
+    /// The undecided transactions, timestamps rising. It takes memory for them alone.
+    pub fn undecided_report(&self) -> Result<Vec<TransactionReport>, AllocError>
+        ensures { IfOk result (λ ns. AreOpen (transactions_of self.now) ns.items) }
+    {
+        self.txns.undecided_report()
     }
 
     /// The keys that the transaction of `ts` wrote, rising, where there is one.

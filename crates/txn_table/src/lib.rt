@@ -23,14 +23,17 @@
 //! - `write_set`: O(log n), and the keys that are read, in turn
 //! - `undecided_through`: O(log n), and the timestamps that are read, in turn
 //! - `undecided`: O(1)
+//! - `undecided_report`: O(log n) for each undecided transaction
 //! - `forget_through`: O(log n) for each transaction that goes, and for the first that stays
 //!
 //! `begin` takes memory for a place in the map and one in the set, and none where the timestamp has a transaction.
-//! `add_key` takes it for a copy of the key and its place, and none where the key is noted. The other calls take none.
+//! `add_key` takes it for a copy of the key and its place, and none where the key is noted. `undecided_report` takes it
+//! for its answer. The other calls take none.
 //! Ending a transaction only removes it from the set of the undecided, so it can't be refused.
 #![tactic(auto)]
 
 mod changes;
+mod report;
 mod transaction;
 mod txns;
 

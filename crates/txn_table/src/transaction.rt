@@ -5,7 +5,9 @@ ghost use Rattle.spans.proofs.Keyed.{RisingKeys};
 ghost use Rattle.spans.proofs.WriteSets.{has};
 ghost use Rattle.kept.specs.Table.{new_transaction};
 ghost use Rattle.txn_table.specs.States.{decided};
+ghost use Rattle.kept.specs.Reports.{transaction_report};
 
+use spans::report::TransactionReport;
 use spans::state::State;
 use std::alloc::{AllocError, Global};
 use std::collections::BTreeSet;
@@ -58,6 +60,17 @@ impl Transaction {
         ensures { result ≡ (self.now.seat, self.now.state) }
     {
         (self.seat, self.state)
+    }
+
+    /// What is told of it.
+    pub(crate) fn report(&self, timestamp: u64) -> TransactionReport
+        ensures { result ≡ transaction_report timestamp self.now }
+    {
+        TransactionReport {
+            timestamp,
+            seat: self.seat,
+            keys: self.keys.len() as u64,
+        }
     }
 
     /// The keys that it wrote, rising.

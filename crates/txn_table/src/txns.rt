@@ -7,10 +7,13 @@ ghost use Rattle.spans.proofs.WriteSets.{has};
 ghost use Rattle.kept.specs.Lists.{AreThose};
 ghost use Rattle.kept.specs.Table.{IsOldest, is_open, keys_of};
 ghost use Rattle.txn_table.specs.States.{begun, decided, with_key};
+ghost use Rattle.kept.specs.Reports.{AreOpen};
 ghost use Rattle.txn_table.specs.TransactionIn.{transaction_in, IsCountOf, IsSetAt};
 
 use crate::changes::{add_key_at, decide_at, forget_transactions, forget_undecided};
+use crate::report::undecided_report;
 use crate::transaction::{Outcome, Transaction};
+use spans::report::TransactionReport;
 use spans::state::State;
 use std::alloc::{AllocError, Global};
 use std::collections::btree_map::Entry;
@@ -145,6 +148,13 @@ impl Txns {
         ensures fits { length result < 2 ^ 63 }
     {
         self.undecided.range(..=TsKey(to))
+    }
+
+    /// The undecided transactions, timestamps rising. It takes memory for them alone.
+    pub fn undecided_report(&self) -> Result<Vec<TransactionReport>, AllocError>
+        ensures { IfOk result (λ ns. AreOpen (transaction_in self.now) ns.items) }
+    {
+        undecided_report(self.alloc, &self.table, self.undecided.range(..))
     }
 
     /// Forgets the transactions at or below `ts`, undecided ones too. It takes no memory.

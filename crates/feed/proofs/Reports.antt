@@ -1,0 +1,90 @@
+-- What is told of the feeds that live.
+use Rattle.std.proofs.Common.{List, None, Option, Some, [], ap, arith, inl, inr, length, map, refl, subst, sym, take, true, get_or, ℕ, ◌+◌, ◌++◌, ◌<◌, ◌∙◌, ◌∷◌, ◌≡◌}
+use Rattle.std.specs.Prelude.{Contains, filter_map, is_some, nat_eq, option_map, ◌↔◌}
+use Rattle.std.specs.List.{AllByRecursion, IsDistinct, cons_option}
+use Rattle.std.specs.List.Sorted.{IsPermutation, IsSorted, IsStrictlyIncreasing}
+use Rattle.std.specs.Map.{keys_of, lookup}
+use Rattle.std.specs.Ordering.{nat_cmp}
+use Rattle.std.proofs.lemmas.Bool.Decides.{nat_tests}
+use Rattle.std.proofs.lemmas.List.{append-nil, take_more}
+use Rattle.std.proofs.lemmas.List.Elements.{All-from_recursion, filter_map-append}
+use Rattle.std.proofs.lemmas.List.Sorted.{Contains-permutation, IsNonDecreasingBy-from_sort, IsPermutation-sym}
+use Rattle.std.proofs.lemmas.Map.Keys.{IsDistinct-IsPermutation, IsStrictlyIncreasing-from_distinct}
+use Rattle.spans.specs.Kept.{Place}
+use Rattle.spans.specs.declared.report.FeedReport.{FeedReport}
+use Rattle.spans.proofs.Members.{Has}
+use Rattle.kept.specs.Lists.{AreThose}
+use Rattle.kept.specs.Reports.{AreLive, feed_report}
+use Rattle.kept.proofs.Contained.{contains_has}
+use Rattle.feed.specs.Changes.{Lives}
+use Rattle.feed.specs.Live.{Live}
+use Rattle.feed.specs.Reports.{place_at}
+use Rattle.feed.proofs.Counting.{distinct, has_key}
+
+-- ---- the numbers
+
+turned : (a b : ℕ) → nat_eq a b ≡ nat_eq b a
+turned a b = grind (arith, nat_tests)
+
+-- numbers of a map that are sorted rise
+pub sorted_rise : (ks fs : List ℕ) → IsDistinct nat_eq ks → IsPermutation ks fs → IsSorted nat_cmp fs → IsStrictlyIncreasing fs
+sorted_rise ks fs d moved sorted = IsStrictlyIncreasing-from_distinct fs (IsNonDecreasingBy-from_sort (λ x. x) fs sorted) (IsDistinct-IsPermutation nat_eq turned ks fs moved d)
+
+placed : (o : Option Live) → is_some (option_map (λ (l : Live). l.place) o) ≡ is_some o
+placed None = refl
+placed (Some l) = refl
+
+-- and are those of the feeds that live
+pub numbers_those : (es : Lives) (fs : List ℕ) → IsDistinct nat_eq (keys_of es) → IsPermutation (keys_of es) fs → AreThose (λ f. is_some (place_at es f)) fs
+numbers_those es fs d moved = record {
+  distinct = distinct fs (IsDistinct-IsPermutation nat_eq turned (keys_of es) fs moved d);
+  each = λ f. let k = contains_has f (keys_of es) in let c = contains_has f fs in let h = has_key f es in (
+    λ i. placed (lookup (nat_eq f) es) ∙ h.0 (k.0 (Contains-permutation fs (keys_of es) f (IsPermutation-sym (keys_of es) fs moved) (c.1 i))),
+    λ is. c.0 (Contains-permutation (keys_of es) fs f moved (k.1 (h.1 (sym (placed (lookup (nat_eq f) es)) ∙ is)))),
+  );
+}
+
+-- ---- the reports
+
+-- one more of a list
+told_more : (h : ℕ → Option FeedReport) (fs : List ℕ) (i : ℕ) → i < length fs → filter_map h (take (i + 1) fs) ≡ filter_map h (take i fs) ++ cons_option (h (get_or fs i 0)) []
+told_more h fs i low = ap (filter_map h) (take_more fs i 0 low) ∙ filter_map-append h (take i fs) (get_or fs i 0 ∷ [])
+
+abbrev told : (ℕ → Option Place) → List ℕ → List FeedReport
+told feed fs = filter_map (λ f. option_map (feed_report f) (feed f)) fs
+
+abbrev IsRight : (ℕ → Option Place) → FeedReport → Type 0
+IsRight feed n = option_map (feed_report n.number) (feed n.number) ≡ Some n
+
+-- one more number: its feed lives, or doesn't
+pub told_one : (h : ℕ → Option FeedReport) (fs : List ℕ) (i : ℕ) (ns ns' : List FeedReport) (n : FeedReport) → i < length fs → ns ≡ filter_map h (take i fs) → h (get_or fs i 0) ≡ Some n → ns' ≡ ns ++ n ∷ [] → ns' ≡ filter_map h (take (i + 1) fs)
+told_one h fs i ns ns' n low so_far is put = put ∙ ap (λ l. l ++ n ∷ []) so_far ∙ sym (told_more h fs i low ∙ ap (λ o. filter_map h (take i fs) ++ cons_option o []) is)
+
+pub told_none : (h : ℕ → Option FeedReport) (fs : List ℕ) (i : ℕ) (ns ns' : List FeedReport) → i < length fs → ns ≡ filter_map h (take i fs) → h (get_or fs i 0) ≡ None → ns' ≡ ns → ns' ≡ filter_map h (take (i + 1) fs)
+told_none h fs i ns ns' low so_far is same = same ∙ so_far ∙ sym (told_more h fs i low ∙ ap (λ o. filter_map h (take i fs) ++ cons_option o []) is ∙ append-nil (filter_map h (take i fs)))
+
+lives : (o : Option Place) → is_some o ≡ true → (place : Place) × (o ≡ Some place)
+lives None e = cc
+lives (Some place) e = (place, refl)
+
+numbers_are : (feed : ℕ → Option Place) (fs : List ℕ) → ((f : ℕ) → Has f fs → is_some (feed f) ≡ true) → map (λ (n : FeedReport). n.number) (told feed fs) ≡ fs
+numbers_are feed [] all = refl
+numbers_are feed (f ∷ fs) all = let l = lives (feed f) (all f (inl refl)) in rw l.1 (ap (λ ks. f ∷ ks) (numbers_are feed fs (λ g i. all g (inr i))))
+
+each_right : (feed : ℕ → Option Place) (fs : List ℕ) → AllByRecursion (IsRight feed) (told feed fs)
+each_right feed [] = tt
+each_right feed (f ∷ fs) = by_place (feed f) refl (each_right feed fs)
+  where
+    by_place : (o : Option Place) → feed f ≡ o → AllByRecursion (IsRight feed) (told feed fs) → AllByRecursion (IsRight feed) (cons_option (option_map (feed_report f) o) (told feed fs))
+    by_place None e more = more
+    by_place (Some place) e more = (ap (option_map (feed_report f)) e, more)
+
+-- what is told of the numbers of the feeds that live is the report of them
+pub live_reports : (feed : ℕ → Option Place) (fs : List ℕ) (ns : List FeedReport) → IsStrictlyIncreasing fs → AreThose (λ f. is_some (feed f)) fs → ns ≡ told feed fs → AreLive feed ns
+live_reports feed fs ns rising those is =
+    let named : map (λ (n : FeedReport). n.number) (told feed fs) ≡ fs = numbers_are feed fs (λ f i. (those.each f).0 i) in
+    subst (AreLive feed) (sym is) (record {
+      rising = subst IsStrictlyIncreasing (sym named) rising;
+      each = λ f. subst (λ l. Contains l f ↔ (is_some (feed f) ≡ true)) (sym named) (let c = contains_has f fs in (λ i. (those.each f).0 (c.0 i), λ e. c.1 ((those.each f).1 e)));
+      right = All-from_recursion (IsRight feed) (told feed fs) (each_right feed fs);
+    })

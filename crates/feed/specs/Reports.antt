@@ -1,0 +1,16 @@
+-- What a report tells of the feeds.
+use Rattle.std.specs.Prelude.{Option, nat_eq, option_map, ℕ}
+use Rattle.std.specs.Map.{lookup}
+use Rattle.spans.specs.Kept.{Place}
+use Rattle.spans.specs.declared.report.FeedReport.{FeedReport}
+use Rattle.kept.specs.Reports.{feed_report}
+use Rattle.feed.specs.Changes.{Lives}
+use Rattle.feed.specs.Live.{Live}
+
+-- the place of a feed that lives
+abbrev pub place_at : Lives → ℕ → Option Place
+place_at live f = option_map (λ (l : Live). l.place) (lookup (nat_eq f) live)
+
+-- what is told of it
+abbrev pub report_at : Lives → ℕ → Option FeedReport
+report_at live f = option_map (feed_report f) (place_at live f)

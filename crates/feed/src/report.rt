@@ -1,0 +1,59 @@
+//! What a report tells of the feeds.
+ghost use Rattle.std.specs.Prelude.{◌≡◌, IfOk, filter_map, is_some, nat_eq};
+ghost use Rattle.std.specs.List.{IsDistinct};
+ghost use Rattle.std.specs.List.Sorted.{IsStrictlyIncreasing};
+ghost use Rattle.std.specs.Map.{keys_of};
+ghost use Rattle.kept.specs.Lists.{AreThose};
+ghost use Rattle.kept.specs.Reports.{AreLive};
+ghost use Rattle.feed.specs.Reports.{place_at, report_at};
+
+use crate::live::LiveFeed;
+use indexmap::IndexMap;
+use spans::report::FeedReport;
+use std::alloc::{AllocError, Global};
+
+/// The feeds that live, numbers rising.
+pub(crate) fn feed_reports(
+    alloc: Global,
+    live: &IndexMap<u64, LiveFeed>,
+) -> Result<Vec<FeedReport>, AllocError>
+    ensures { IfOk result (λ ns. AreLive (place_at live.now.entries) ns.items) }
+{
+    let numbers = rising_numbers(alloc, live)?;
+    reports_of(alloc, live, numbers.as_slice())
+}
+
+/// Those of these numbers.
+fn reports_of(
+    alloc: Global,
+    live: &IndexMap<u64, LiveFeed>,
+    numbers: &[u64],
+) -> Result<Vec<FeedReport>, AllocError>
+    ensures { IfOk result (λ ns. ns.items ≡ filter_map (report_at live.now.entries) numbers.now) }
+{
+    let mut reports = Vec::new(alloc);
+    for number in numbers {
+        if let Some(feed) = live.get(number) {
+            reports.push(feed.report(*number)?)?;
+        }
+    }
+    Ok(reports)
+}
+
+/// Their numbers, rising.
+fn rising_numbers(alloc: Global, live: &IndexMap<u64, LiveFeed>) -> Result<Vec<u64>, AllocError>
+    ensures rising { IfOk result (λ fs. IsStrictlyIncreasing fs.items) }
+    ensures those { IfOk result (λ fs. AreThose (λ f. is_some (place_at live.now.entries f)) fs.items) }
+{
+    let mut numbers = numbers_of(alloc, live)?;
+    numbers.sort_unstable();
+    Ok(numbers)
+}
+
+/// Their numbers.
+fn numbers_of(alloc: Global, live: &IndexMap<u64, LiveFeed>) -> Result<Vec<u64>, AllocError>
+    ensures keys { IfOk result (λ fs. fs.items ≡ keys_of live.now.entries) }
+    ensures distinct { IsDistinct nat_eq (keys_of live.now.entries) }
+{
+    live.keys().copied().collect(alloc)
+}

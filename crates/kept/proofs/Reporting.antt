@@ -1,0 +1,169 @@
+-- A report of what is kept is the live report of the history.
+use Rattle.std.proofs.Common.{Bool, List, None, Option, Some, [], ap, arith, cond, false, inl, inr, map, not, refl, reverse, subst, sym, true, ℕ, ◌++◌, ◌<◌, ◌==◌, ◌∙◌, ◌∷◌, ◌≡◌, ◌≤◌}
+use Rattle.std.specs.Prelude.{filter, max, nat_lt, option_map, ◌↔◌}
+use Rattle.std.proofs.lemmas.Bool.{ltb-false, ltb-true}
+use Rattle.std.proofs.lemmas.Bool.Decides.{nat_tests}
+use Rattle.std.proofs.lemmas.List.{map-append, reverse-append}
+use Rattle.std.proofs.lemmas.List.Elements.{All-weaker}
+use Rattle.spans.specs.Collection.{LiveFeed, live_feeds}
+use Rattle.spans.specs.Effects.{Cancels, Effect, Opens, effects_of}
+use Rattle.spans.specs.Feeds.{Feed, feed_of, feeds_opened, last_resolved, start_of, told_to}
+use Rattle.spans.specs.Kept.{IsKeptOf, Kept, Place, place_with, transaction_with}
+use Rattle.spans.specs.Report.{AreFeeds, AreUndecided, IsFeedReport, IsReport, last_told, protection_report}
+use Rattle.spans.specs.Transactions.{closed_of, owner_of}
+use Rattle.spans.specs.Versions.{write_count}
+use Rattle.spans.specs.declared.calls.events.Event.{Event}
+use Rattle.spans.specs.declared.calls.messages.Message.{Message}
+use Rattle.spans.specs.declared.calls.messages.Message.TheVariants as messages
+use Rattle.spans.specs.declared.report.FeedReport.{FeedReport}
+use Rattle.spans.specs.declared.report.Report.{Report}
+use Rattle.spans.specs.declared.report.TransactionReport.{TransactionReport}
+use Rattle.spans.proofs.Copies.{AllAllowed}
+use Rattle.spans.proofs.Feeding.{ResolvedRise, feed_rises, feeding, unopened}
+use Rattle.spans.proofs.Legal.{legal_allowed}
+use Rattle.spans.proofs.Members.{Has, has_filter}
+use Rattle.spans.proofs.Steps.{by_test}
+use Rattle.kept.specs.Places.{live_feed}
+use Rattle.kept.specs.Reports.{AreLive, AreOpen, IsKeptReport, feed_report, if_above, resolved_at, transaction_report}
+use Rattle.kept.specs.StandsFor.{StandsFor}
+use Rattle.kept.proofs.AfterCloses.{open_is}
+use Rattle.kept.proofs.Contained.{contains_has}
+use Rattle.kept.proofs.Counts.{has_live, has_number, number_has, versions_count, write_set_length}
+use Rattle.kept.proofs.Floors.{live_is, place_floor_is, placed_by, told_through_is}
+use Rattle.kept.proofs.Rising.{Falls, Rises, has_last, increasing_rises, rises_last, same_rising}
+
+-- ---- transactions
+
+-- what the table has of an undecided transaction is its owner and its write set
+transaction_right : (k : Kept) (p : List Effect) → IsKeptOf k p → (n : TransactionReport) → option_map (transaction_report n.timestamp) (k.transaction n.timestamp) ≡ Some n
+    → (owner_of p n.timestamp ≡ Some n.seat) × (n.keys ≡ write_count p n.timestamp)
+transaction_right k p fits n is = by_owner (nat_lt (closed_of p) n.timestamp) (owner_of p n.timestamp) refl (sym (ap (option_map (transaction_report n.timestamp)) (fits.transactions n.timestamp)) ∙ is)
+  where
+    by_owner : (b : Bool) (o : Option ℕ) → owner_of p n.timestamp ≡ o → option_map (transaction_report n.timestamp) (cond b (option_map (transaction_with p n.timestamp) o) None) ≡ Some n
+        → (owner_of p n.timestamp ≡ Some n.seat) × (n.keys ≡ write_count p n.timestamp)
+    by_owner false o e is = cc
+    by_owner true None e is = cc
+    by_owner true (Some seat) e is =
+        let same : transaction_report n.timestamp (transaction_with p n.timestamp seat) ≡ n = cc in (
+          e ∙ ap (λ (m : TransactionReport). Some m.seat) same,
+          sym (ap (λ (m : TransactionReport). m.keys) same) ∙ write_set_length p n.timestamp,
+        )
+
+transactions_are : (k : Kept) (p : List Effect) → AllAllowed p → IsKeptOf k p → (ns : List TransactionReport) → AreOpen k.transaction ns → AreUndecided p ns
+transactions_are k p all fits ns open' = record {
+  rising = open'.rising;
+  each = λ t. (λ i. sym (open_is k p all fits t) ∙ (open'.each t).0 i, λ is. (open'.each t).1 (open_is k p all fits t ∙ is));
+  right = All-weaker (λ (n : TransactionReport). option_map (transaction_report n.timestamp) (k.transaction n.timestamp) ≡ Some n)
+      (λ (n : TransactionReport). (owner_of p n.timestamp ≡ Some n.seat) × (n.keys ≡ write_count p n.timestamp)) (λ n is. transaction_right k p fits n is) ns open'.right;
+}
+
+-- ---- numbers of feeds
+
+abbrev numbers : List LiveFeed → List ℕ
+numbers ws = map (λ (n : LiveFeed). n.number) ws
+
+-- a feed that lives was opened
+live_low : (p : List Effect) → AllAllowed p → (f c : ℕ) → Has (live_feed f c) (live_feeds p) → f ≤ feeds_opened p
+live_low p all f c i = let l = live_is p all f c i in by_test (nat_lt (feeds_opened p) f)
+    (λ is. absurd (let no' : None ≡ Some l.0 = sym (unopened p all f (ltb-true _ _ is)).0 ∙ l.1 in cc))
+    (λ isnt. ltb-false _ _ isnt)
+
+falls_filter : (q : LiveFeed → Bool) (ws : List LiveFeed) → Falls (numbers ws) → Falls (numbers (filter q ws))
+falls_filter q [] falls = tt
+falls_filter q (w ∷ ws) falls = let more = falls_filter q ws falls.1 in by_test (q w)
+    (λ is. rw is (λ y i. falls.0 y (still y ws i), more))
+    (λ isnt. rw isnt more)
+  where
+    still : (y : ℕ) (ws : List LiveFeed) → Has y (numbers (filter q ws)) → Has y (numbers ws)
+    still y ws i = let m = has_number y (filter q ws) i in number_has y m.0 ws ((has_filter q (live_feed y m.0) ws).0 m.1).1
+
+-- the feeds that live stand with the newest first
+live_falls : (p : List Effect) → AllAllowed p → Falls (numbers (live_feeds p))
+live_falls [] all = tt
+live_falls (Opens f seat kind span cursor ∷ p) all = (
+  λ y i. let m = has_number y (live_feeds p) i in let low : y ≤ feeds_opened p = live_low p all.1 y m.0 m.1 in omega (arith, all.0.0),
+  live_falls p all.1,
+)
+live_falls (Cancels f ∷ p) all = falls_filter (λ (n : LiveFeed). not (n.number == f)) (live_feeds p) (live_falls p all.1)
+live_falls (_ ∷ p) all = live_falls p all.1
+
+back : (w : LiveFeed) (ws : List LiveFeed) → numbers (reverse (w ∷ ws)) ≡ numbers (reverse ws) ++ w.number ∷ []
+back w ws = ap numbers (reverse-append (w ∷ []) ws) ∙ map-append (λ (n : LiveFeed). n.number) (reverse ws) (w ∷ [])
+
+has_back : (f : ℕ) (ws : List LiveFeed) → Has f (numbers (reverse ws)) ↔ Has f (numbers ws)
+has_back f [] = (λ i. i, λ i. i)
+has_back f (w ∷ ws) = let more = has_back f ws in let l = has_last f w.number (numbers (reverse ws)) in (
+  λ i. elim (l.0 (subst (Has f) (back w ws) i)) [ inl there ↦ inr (more.0 there) | inr e ↦ inl e ],
+  λ i. subst (Has f) (sym (back w ws)) (l.1 (elim i [ inl e ↦ inr e | inr there ↦ inl (more.1 there) ])),
+)
+
+rises_back : (ws : List LiveFeed) → Falls (numbers ws) → Rises (numbers (reverse ws))
+rises_back [] falls = tt
+rises_back (w ∷ ws) falls = subst Rises (sym (back w ws)) (rises_last w.number (numbers (reverse ws)) (rises_back ws falls.1) (λ y i. falls.0 y ((has_back y ws).0 i)))
+
+-- ---- feeds
+
+-- where resolved timestamps rise, the last is the greatest
+last_is : (s a : ℕ) (ms : List Message) → s ≤ a → ResolvedRise a ms → if_above s (last_resolved a ms) ≡ last_told (if_above s a) ms
+last_is s a [] low rise = refl
+last_is s a (messages.Row r ∷ ms) low rise = last_is s a ms low rise
+last_is s a (messages.Resolved t ∷ ms) low rise =
+    let e : max a t ≡ t = omega (arith, rise.0) in
+    let above : nat_lt s t ≡ true = (let l : s < t = omega (arith, rise.0) in grind (arith, nat_tests)) in
+    ap (λ n. if_above s (last_resolved n ms)) e ∙ last_is s t ms (omega (arith, rise.0)) rise.1 ∙ ap (λ b. last_told (cond b (Some t) None) ms) above
+
+-- a place resolved what its feed resolved
+resolved_is : (p : List Effect) → AllAllowed p → (f : ℕ) (feed : Feed) → feed_of p f ≡ Some feed → resolved_at (place_with p f feed) ≡ last_told None (told_to p f)
+resolved_is p all f feed is =
+    let none : nat_lt (start_of feed) (start_of feed) ≡ false = grind (arith, nat_tests) in
+    last_is (start_of feed) (start_of feed) (told_to p f) (omega arith) (feed_rises p f feed (feeding p all f feed is)) ∙ ap (λ b. last_told (cond b (Some (start_of feed)) None) (told_to p f)) none
+
+report_right : (p : List Effect) → AllAllowed p → (f : ℕ) (feed : Feed) → feed_of p f ≡ Some feed → IsFeedReport false p (feed_report f (place_with p f feed))
+report_right p all f feed is = record {
+  feed = feed;
+  is = is;
+  seat = refl;
+  kind = refl;
+  span = refl;
+  cursor = refl;
+  row = refl;
+  resolved = resolved_is p all f feed is;
+  complete = ap (λ n. cond (nat_lt n feed.cursor) None (Some n)) (sym (told_through_is p all f feed is));
+  floor = place_floor_is p all f feed is;
+  untold = refl;
+}
+
+feed_right : (k : Kept) (p : List Effect) → AllAllowed p → IsKeptOf k p → (n : FeedReport) → option_map (feed_report n.number) (k.feed n.number) ≡ Some n → IsFeedReport false p n
+feed_right k p all fits n is = by_place (k.feed n.number) refl is
+  where
+    by_place : (o : Option Place) → k.feed n.number ≡ o → option_map (feed_report n.number) o ≡ Some n → IsFeedReport false p n
+    by_place None e is = cc
+    by_place (Some place) e is =
+        let l = placed_by k p fits n.number place e in
+        let told : feed_report n.number place ≡ n = cc in
+        subst (IsFeedReport false p) (ap (feed_report n.number) l.3 ∙ told) (report_right p all n.number l.0 l.1)
+
+feeds_are : (k : Kept) (p : List Effect) → AllAllowed p → IsKeptOf k p → (ns : List FeedReport) → AreLive k.feed ns → AreFeeds false p ns
+feeds_are k p all fits ns live = record {
+  numbers = same_rising (map (λ (n : FeedReport). n.number) ns) (numbers (reverse (live_feeds p))) (increasing_rises (map (λ (n : FeedReport). n.number) ns) live.rising) (rises_back (live_feeds p) (live_falls p all)) (λ f.
+      let c = contains_has f (map (λ (n : FeedReport). n.number) ns) in let h = has_live k p all fits f in let b = has_back f (live_feeds p) in (
+        λ i. b.1 (h.1 ((live.each f).0 (c.1 i))),
+        λ i. c.0 ((live.each f).1 (h.0 (b.0 i))),
+      ));
+  right = All-weaker (λ (n : FeedReport). option_map (feed_report n.number) (k.feed n.number) ≡ Some n) (IsFeedReport false p) (λ n is. feed_right k p all fits n is) ns live.right;
+}
+
+-- ---- the whole of it
+
+pub report_is : (k : Kept) (h : List Event) (r : Report) → StandsFor k h → IsKeptReport k r → IsReport false (effects_of h) r
+report_is k h r stands is =
+    let all = legal_allowed h stands.legal in
+    let fits = stands.fits in record {
+      closed = is.closed ∙ fits.closed_at;
+      horizon = is.horizon ∙ fits.horizon_at;
+      versions = is.versions.2 ∙ versions_count k (effects_of h) all fits is.versions.0 is.versions.1;
+      removable = is.removable;
+      transactions = transactions_are k (effects_of h) all fits r.transactions.items is.transactions;
+      protections = is.protections ∙ ap (λ ps. map protection_report (reverse ps)) fits.protected;
+      feeds = feeds_are k (effects_of h) all fits r.feeds.items is.feeds;
+    }

@@ -1,0 +1,74 @@
+-- What a live report says of what is kept.
+use Rattle.std.specs.Prelude.{All, Contains, List, None, Option, Some, if◌then◌else◌, is_some, length, map, max, nat_lt, option_map, reverse, true, ℕ, ◌↔◌, ◌≡◌}
+use Rattle.std.specs.List.Sorted.{IsStrictlyIncreasing}
+use Rattle.spans.specs.Collection.{VersionName}
+use Rattle.spans.specs.Feeds.{start_at}
+use Rattle.spans.specs.Kept.{Kept, Place, Transaction}
+use Rattle.spans.specs.Report.{protection_report}
+use Rattle.spans.specs.declared.report.FeedReport.{FeedReport}
+use Rattle.spans.specs.declared.report.Report.{Report}
+use Rattle.spans.specs.declared.report.TransactionReport.{TransactionReport}
+use Rattle.kept.specs.Lists.{AreThose}
+use Rattle.kept.specs.Places.{place_floor, row_floor}
+use Rattle.kept.specs.Table.{is_open}
+
+-- a transaction: its seat, and how many keys it wrote
+abbrev pub transaction_report : ℕ → Transaction → TransactionReport
+transaction_report t n = record { timestamp = t; seat = n.seat; keys = length n.keys }
+
+-- the undecided transactions of the table, timestamps rising
+pub record AreOpen (table : ℕ → Option Transaction) (ns : List TransactionReport) : Type 0 where
+  pub rising : IsStrictlyIncreasing (map (λ (n : TransactionReport). n.timestamp) ns)
+  pub each : (t : ℕ) → Contains (map (λ (n : TransactionReport). n.timestamp) ns) t ↔ (is_open (table t) ≡ true)
+  pub right : All (λ (n : TransactionReport). option_map (transaction_report n.timestamp) (table n.timestamp) ≡ Some n) ns
+
+-- a number that is above a bound
+abbrev pub if_above : ℕ → ℕ → Option ℕ
+if_above bound n = if nat_lt bound n then Some n else None
+
+-- what was resolved last: a place that resolved nothing is at the feed's start
+abbrev pub resolved_at : Place → Option ℕ
+resolved_at place = if_above (start_at place.kind place.cursor) place.after
+
+-- up to where all is told, which is below the cursor while an initial feed tells what is there
+abbrev pub told_through : Place → ℕ
+told_through place = max place.after (row_floor place.row)
+
+-- where it isn't below the cursor
+abbrev pub complete_at : Place → Option ℕ
+complete_at place = if nat_lt (told_through place) place.cursor then None else Some (told_through place)
+
+-- a feed at a place
+abbrev pub feed_report : ℕ → Place → FeedReport
+feed_report f place = record {
+  number = f;
+  seat = place.seat;
+  kind = place.kind;
+  span = place.span;
+  cursor = place.cursor;
+  row = place.row;
+  resolved = resolved_at place;
+  complete = complete_at place;
+  floor = place_floor place;
+  untold = None;
+}
+
+-- the feeds that live, numbers rising
+pub record AreLive (feed : ℕ → Option Place) (ns : List FeedReport) : Type 0 where
+  pub rising : IsStrictlyIncreasing (map (λ (n : FeedReport). n.number) ns)
+  pub each : (f : ℕ) → Contains (map (λ (n : FeedReport). n.number) ns) f ↔ (is_some (feed f) ≡ true)
+  pub right : All (λ (n : FeedReport). option_map (feed_report n.number) (feed n.number) ≡ Some n) ns
+
+-- n is how many versions are kept
+abbrev pub IsVersionCount : Kept → ℕ → Type 0
+IsVersionCount k n = (vs : List VersionName) × AreThose (λ v. is_some (k.version v.key v.ts)) vs × (n ≡ length vs)
+
+-- the report of what is kept
+pub record IsKeptReport (k : Kept) (r : Report) : Type 0 where
+  pub closed : r.closed ≡ k.closed
+  pub horizon : r.horizon ≡ k.horizon
+  pub versions : IsVersionCount k r.versions
+  pub removable : r.removable ≡ None
+  pub transactions : AreOpen k.transaction r.transactions.items
+  pub protections : r.protections.items ≡ map protection_report (reverse k.protections)
+  pub feeds : AreLive k.feed r.feeds.items

@@ -1,0 +1,16 @@
+//! The report that is made of what is kept.
+ghost use Rattle.std.specs.Prelude.{List, false};
+ghost use Rattle.spans.specs.declared.calls.events.Event.{Event};
+ghost use Rattle.spans.specs.declared.report.Report.{Report};
+ghost use Rattle.spans.specs.Effects.{effects_of};
+ghost use Rattle.spans.specs.Kept.{Kept};
+ghost use Rattle.spans.specs.Report.{IsReport};
+ghost use Rattle.kept.specs.Reports.{IsKeptReport};
+ghost use Rattle.kept.specs.StandsFor.{StandsFor};
+
+/// Where k stands for a history, a report of what is kept is the live report of that history.
+///
+/// It does nothing. Its contract is the theorem.
+pub fn kept_report()
+    ensures { (k : Kept) (h : List Event) (r : Report) → StandsFor k h → IsKeptReport k r → IsReport false (effects_of h) r }
+{}
