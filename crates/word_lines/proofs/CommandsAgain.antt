@@ -102,6 +102,31 @@ module _ (format : Format) where
         read = read ∙ rw (number_again n (bound_word span.lo ∷ bound_word span.hi ∷ rest) is, span_again span rest lawful) (ap (λ (x : Cmd). Ok (x, rest)) (sym made));
       }
 
+  -- a command of a span and a cursor
+  cursor_read : (c : Cmd) (row : Row) (make : Span → ℕ → Cmd) (span : Span) (n : ℕ) (rest : List (List ℕ)) → c ≡ make span n → row_at table (words_of c ++ rest) ≡ Ok (row, bound_word span.lo ∷ bound_word span.hi ∷ decimal n ∷ rest) → 3 ≡ row.arguments
+      → arguments_at format row.verb (bound_word span.lo ∷ bound_word span.hi ∷ decimal n ∷ rest) ≡ (span_at format (bound_word span.lo ∷ bound_word span.hi ∷ decimal n ∷ rest) >>= λ s. number_at s.1 >>= λ n. Ok (make s.0 n.0, n.1)) → IsSpan format span → IsNumber n → IsRead c rest
+  cursor_read c row make span n rest made named count read lawful is =
+      record {
+        row = row;
+        front = bound_word span.lo ∷ bound_word span.hi ∷ decimal n ∷ [];
+        named = named;
+        count = count;
+        read = read ∙ rw (span_again span (decimal n ∷ rest) lawful, number_again n rest is) (ap (λ (x : Cmd). Ok (x, rest)) (sym made));
+      }
+
+  -- a command of a span, a cursor and a gap
+  gap_read : (c : Cmd) (row : Row) (make : Span → ℕ → ℕ → Cmd) (span : Span) (n gap : ℕ) (rest : List (List ℕ)) → c ≡ make span n gap → row_at table (words_of c ++ rest) ≡ Ok (row, bound_word span.lo ∷ bound_word span.hi ∷ decimal n ∷ decimal gap ∷ rest) → 4 ≡ row.arguments
+      → arguments_at format row.verb (bound_word span.lo ∷ bound_word span.hi ∷ decimal n ∷ decimal gap ∷ rest) ≡ (span_at format (bound_word span.lo ∷ bound_word span.hi ∷ decimal n ∷ decimal gap ∷ rest) >>= λ s. number_at s.1 >>= λ n. number_at n.1 >>= λ gap. Ok (make s.0 n.0 gap.0, gap.1))
+      → IsSpan format span → IsNumber n → IsNumber gap → IsRead c rest
+  gap_read c row make span n gap rest made named count read lawful is apart =
+      record {
+        row = row;
+        front = bound_word span.lo ∷ bound_word span.hi ∷ decimal n ∷ decimal gap ∷ [];
+        named = named;
+        count = count;
+        read = read ∙ rw (span_again span (decimal n ∷ decimal gap ∷ rest) lawful, number_again n (decimal gap ∷ rest) is, number_again gap rest apart) (ap (λ (x : Cmd). Ok (x, rest)) (sym made));
+      }
+
   -- each command is read from its words, whatever stands behind them
   pub read_again : (c : Cmd) (rest : List (List ℕ)) → IsCommand format c → IsRead c rest
   unfolding row_at words_of arguments_at IsCommand
@@ -126,30 +151,11 @@ module _ (format : Format) where
   read_again (cmd.Protect t) rest is = number_read (cmd.Protect t) (record { name = codes "protect"; verb = verb.Protect; arguments = 1 }) cmd.Protect t rest refl refl refl refl is
   read_again (cmd.Release id) rest is = number_read (cmd.Release id) (record { name = codes "release"; verb = verb.Release; arguments = 1 }) cmd.Release id rest refl refl refl refl is
   read_again (cmd.Collect to) rest is = number_read (cmd.Collect to) (record { name = codes "collect"; verb = verb.Collect; arguments = 1 }) cmd.Collect to rest refl refl refl refl is
-  read_again (cmd.Open span cursor) rest is =
-      record {
-        row = record { name = codes "open"; verb = verb.Open; arguments = 3 };
-        front = bound_word span.lo ∷ bound_word span.hi ∷ decimal cursor ∷ [];
-        named = refl;
-        count = refl;
-        read = rw (span_again span (decimal cursor ∷ rest) is.0, number_again cursor rest is.1) refl;
-      }
-  read_again (cmd.OpenInitial span cursor) rest is =
-      record {
-        row = record { name = codes "openinitial"; verb = verb.OpenInitial; arguments = 3 };
-        front = bound_word span.lo ∷ bound_word span.hi ∷ decimal cursor ∷ [];
-        named = refl;
-        count = refl;
-        read = rw (span_again span (decimal cursor ∷ rest) is.0, number_again cursor rest is.1) refl;
-      }
-  read_again (cmd.OpenEvery span cursor gap) rest is =
-      record {
-        row = record { name = codes "openevery"; verb = verb.OpenEvery; arguments = 4 };
-        front = bound_word span.lo ∷ bound_word span.hi ∷ decimal cursor ∷ decimal gap ∷ [];
-        named = refl;
-        count = refl;
-        read = rw (span_again span (decimal cursor ∷ decimal gap ∷ rest) is.0, number_again cursor (decimal gap ∷ rest) is.1, number_again gap rest is.2) refl;
-      }
+  read_again (cmd.Open span cursor) rest is = cursor_read (cmd.Open span cursor) (record { name = codes "open"; verb = verb.Open; arguments = 3 }) cmd.Open span cursor rest refl refl refl refl is.0 is.1
+  read_again (cmd.OpenInitial span cursor) rest is = cursor_read (cmd.OpenInitial span cursor) (record { name = codes "openinitial"; verb = verb.OpenInitial; arguments = 3 }) cmd.OpenInitial span cursor rest refl refl refl refl is.0 is.1
+  read_again (cmd.OpenEvery span cursor gap) rest is = gap_read (cmd.OpenEvery span cursor gap) (record { name = codes "openevery"; verb = verb.OpenEvery; arguments = 4 }) cmd.OpenEvery span cursor gap rest refl refl refl refl is.0 is.1 is.2
+  read_again (cmd.OpenInitialEvery span cursor gap) rest is =
+      gap_read (cmd.OpenInitialEvery span cursor gap) (record { name = codes "openinitialevery"; verb = verb.OpenInitialEvery; arguments = 4 }) cmd.OpenInitialEvery span cursor gap rest refl refl refl refl is.0 is.1 is.2
   read_again (cmd.Poll feed max) rest is =
       record {
         row = record { name = codes "poll"; verb = verb.Poll; arguments = 2 };

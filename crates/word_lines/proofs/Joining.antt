@@ -41,6 +41,7 @@ some_words (cmd.Collect to) = omega arith
 some_words (cmd.Open span cursor) = omega arith
 some_words (cmd.OpenInitial span cursor) = omega arith
 some_words (cmd.OpenEvery span cursor gap) = omega arith
+some_words (cmd.OpenInitialEvery span cursor gap) = omega arith
 some_words (cmd.Poll feed max) = omega arith
 some_words (cmd.Cancel feed) = omega arith
 some_words cmd.Stats = omega arith

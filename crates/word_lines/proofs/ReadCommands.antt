@@ -43,6 +43,7 @@ name_of verb.Collect = codes "collect"
 name_of verb.Open = codes "open"
 name_of verb.OpenInitial = codes "openinitial"
 name_of verb.OpenEvery = codes "openevery"
+name_of verb.OpenInitialEvery = codes "openinitialevery"
 name_of verb.Poll = codes "poll"
 name_of verb.Cancel = codes "cancel"
 name_of verb.Stats = codes "stats"
@@ -66,6 +67,7 @@ arity_of verb.Collect = 1
 arity_of verb.Open = 3
 arity_of verb.OpenInitial = 3
 arity_of verb.OpenEvery = 4
+arity_of verb.OpenInitialEvery = 4
 arity_of verb.Poll = 2
 arity_of verb.Cancel = 1
 arity_of verb.Stats = 0
@@ -105,6 +107,28 @@ module _ (format : Format) where
       subst (λ (y : Cmd × List (List ℕ)). Begins name 3 words y) (ok_is (make n.0.0 k.0.0, k.0.1) x k.2)
       (record { text = ap (λ (z : List (List ℕ)). name ∷ z) (w.0 ∙ ap (λ (z : List (List ℕ)). decimal n.0.0 ∷ z) v.0) ∙ ap (λ (z : List (List ℕ)). z ++ k.0.1) (sym (text n.0.0 k.0.0)); count = ap length (text n.0.0 k.0.0) ∙ omega arith; lawful = lawful n.0.0 k.0.0 w.1 v.1 })
 
+  with_cursor : (name : List ℕ) (make : Span → ℕ → Cmd) (words : List (List ℕ)) (x : Cmd × List (List ℕ)) → ((s : Span) (n : ℕ) → words_of (make s n) ≡ name ∷ bound_word s.lo ∷ bound_word s.hi ∷ decimal n ∷ []) → ((s : Span) (n : ℕ) → IsSpan format s → IsNumber n → IsCommand format (make s n))
+      → (span_at format words >>= λ span. number_at span.1 >>= λ n. Ok (make span.0 n.0, n.1)) ≡ Ok x → Begins name 3 words x
+  with_cursor name make words x text lawful e =
+      let s = bind_ok (span_at format words) (λ span. number_at span.1 >>= λ n. Ok (make span.0 n.0, n.1)) x e in
+      let n = bind_ok (number_at s.0.1) (λ n. Ok (make s.0.0 n.0, n.1)) x s.2 in
+      let a = span_words format words s.0 s.1 in
+      let b = number_word s.0.1 n.0 n.1 in
+      subst (λ (y : Cmd × List (List ℕ)). Begins name 3 words y) (ok_is (make s.0.0 n.0.0, n.0.1) x n.2)
+      (record { text = ap (λ (z : List (List ℕ)). name ∷ z) (a.0 ∙ ap (λ (z : List (List ℕ)). bound_word s.0.0.lo ∷ bound_word s.0.0.hi ∷ z) b.0) ∙ ap (λ (z : List (List ℕ)). z ++ n.0.1) (sym (text s.0.0 n.0.0)); count = ap length (text s.0.0 n.0.0) ∙ omega arith; lawful = lawful s.0.0 n.0.0 a.1 b.1 })
+
+  with_gap : (name : List ℕ) (make : Span → ℕ → ℕ → Cmd) (words : List (List ℕ)) (x : Cmd × List (List ℕ)) → ((s : Span) (n g : ℕ) → words_of (make s n g) ≡ name ∷ bound_word s.lo ∷ bound_word s.hi ∷ decimal n ∷ decimal g ∷ []) → ((s : Span) (n g : ℕ) → IsSpan format s → IsNumber n → IsNumber g → IsCommand format (make s n g))
+      → (span_at format words >>= λ span. number_at span.1 >>= λ n. number_at n.1 >>= λ gap. Ok (make span.0 n.0 gap.0, gap.1)) ≡ Ok x → Begins name 4 words x
+  with_gap name make words x text lawful e =
+      let s = bind_ok (span_at format words) (λ span. number_at span.1 >>= λ n. number_at n.1 >>= λ gap. Ok (make span.0 n.0 gap.0, gap.1)) x e in
+      let n = bind_ok (number_at s.0.1) (λ n. number_at n.1 >>= λ gap. Ok (make s.0.0 n.0 gap.0, gap.1)) x s.2 in
+      let g = bind_ok (number_at n.0.1) (λ gap. Ok (make s.0.0 n.0.0 gap.0, gap.1)) x n.2 in
+      let a = span_words format words s.0 s.1 in
+      let b = number_word s.0.1 n.0 n.1 in
+      let d = number_word n.0.1 g.0 g.1 in
+      subst (λ (y : Cmd × List (List ℕ)). Begins name 4 words y) (ok_is (make s.0.0 n.0.0 g.0.0, g.0.1) x g.2)
+      (record { text = ap (λ (z : List (List ℕ)). name ∷ z) (a.0 ∙ ap (λ (z : List (List ℕ)). bound_word s.0.0.lo ∷ bound_word s.0.0.hi ∷ z) (b.0 ∙ ap (λ (z : List (List ℕ)). decimal n.0.0 ∷ z) d.0)) ∙ ap (λ (z : List (List ℕ)). z ++ g.0.1) (sym (text s.0.0 n.0.0 g.0.0)); count = ap length (text s.0.0 n.0.0 g.0.0) ∙ omega arith; lawful = lawful s.0.0 n.0.0 g.0.0 a.1 b.1 d.1 })
+
   pub arguments_found : (v : Verb) (ws : List (List ℕ)) (x : Cmd × List (List ℕ)) → arguments_at format v ws ≡ Ok x → Begins (name_of v) (arity_of v) ws x
   unfolding arguments_at words_of IsCommand
   arguments_found verb.Begin ws x e = with_number (codes "begin") cmd.Begin ws x (λ n. refl) (λ n h. h) e
@@ -129,29 +153,10 @@ module _ (format : Format) where
   arguments_found verb.Protect ws x e = with_number (codes "protect") cmd.Protect ws x (λ n. refl) (λ n h. h) e
   arguments_found verb.Release ws x e = with_number (codes "release") cmd.Release ws x (λ n. refl) (λ n h. h) e
   arguments_found verb.Collect ws x e = with_number (codes "collect") cmd.Collect ws x (λ n. refl) (λ n h. h) e
-  arguments_found verb.Open ws x e =
-      let s = bind_ok (span_at format ws) (λ span. number_at span.1 >>= λ n. Ok (cmd.Open span.0 n.0, n.1)) x e in
-      let n = bind_ok (number_at s.0.1) (λ n. Ok (cmd.Open s.0.0 n.0, n.1)) x s.2 in
-      let a = span_words format ws s.0 s.1 in
-      let b = number_word s.0.1 n.0 n.1 in
-      subst (λ (y : Cmd × List (List ℕ)). Begins (codes "open") 3 ws y) (ok_is (cmd.Open s.0.0 n.0.0, n.0.1) x n.2)
-      (record { text = ap (λ (z : List (List ℕ)). codes "open" ∷ z) (a.0 ∙ ap (λ (z : List (List ℕ)). bound_word s.0.0.lo ∷ bound_word s.0.0.hi ∷ z) b.0); count = omega arith; lawful = (a.1, b.1) })
-  arguments_found verb.OpenInitial ws x e =
-      let s = bind_ok (span_at format ws) (λ span. number_at span.1 >>= λ n. Ok (cmd.OpenInitial span.0 n.0, n.1)) x e in
-      let n = bind_ok (number_at s.0.1) (λ n. Ok (cmd.OpenInitial s.0.0 n.0, n.1)) x s.2 in
-      let a = span_words format ws s.0 s.1 in
-      let b = number_word s.0.1 n.0 n.1 in
-      subst (λ (y : Cmd × List (List ℕ)). Begins (codes "openinitial") 3 ws y) (ok_is (cmd.OpenInitial s.0.0 n.0.0, n.0.1) x n.2)
-      (record { text = ap (λ (z : List (List ℕ)). codes "openinitial" ∷ z) (a.0 ∙ ap (λ (z : List (List ℕ)). bound_word s.0.0.lo ∷ bound_word s.0.0.hi ∷ z) b.0); count = omega arith; lawful = (a.1, b.1) })
-  arguments_found verb.OpenEvery ws x e =
-      let s = bind_ok (span_at format ws) (λ span. number_at span.1 >>= λ n. number_at n.1 >>= λ gap. Ok (cmd.OpenEvery span.0 n.0 gap.0, gap.1)) x e in
-      let n = bind_ok (number_at s.0.1) (λ n. number_at n.1 >>= λ gap. Ok (cmd.OpenEvery s.0.0 n.0 gap.0, gap.1)) x s.2 in
-      let g = bind_ok (number_at n.0.1) (λ gap. Ok (cmd.OpenEvery s.0.0 n.0.0 gap.0, gap.1)) x n.2 in
-      let a = span_words format ws s.0 s.1 in
-      let b = number_word s.0.1 n.0 n.1 in
-      let d = number_word n.0.1 g.0 g.1 in
-      subst (λ (y : Cmd × List (List ℕ)). Begins (codes "openevery") 4 ws y) (ok_is (cmd.OpenEvery s.0.0 n.0.0 g.0.0, g.0.1) x g.2)
-      (record { text = ap (λ (z : List (List ℕ)). codes "openevery" ∷ z) (a.0 ∙ ap (λ (z : List (List ℕ)). bound_word s.0.0.lo ∷ bound_word s.0.0.hi ∷ z) (b.0 ∙ ap (λ (z : List (List ℕ)). decimal n.0.0 ∷ z) d.0)); count = omega arith; lawful = (a.1, b.1, d.1) })
+  arguments_found verb.Open ws x e = with_cursor (codes "open") cmd.Open ws x (λ s n. refl) (λ s n h i. (h, i)) e
+  arguments_found verb.OpenInitial ws x e = with_cursor (codes "openinitial") cmd.OpenInitial ws x (λ s n. refl) (λ s n h i. (h, i)) e
+  arguments_found verb.OpenEvery ws x e = with_gap (codes "openevery") cmd.OpenEvery ws x (λ s n g. refl) (λ s n g h i j. (h, i, j)) e
+  arguments_found verb.OpenInitialEvery ws x e = with_gap (codes "openinitialevery") cmd.OpenInitialEvery ws x (λ s n g. refl) (λ s n g h i j. (h, i, j)) e
   arguments_found verb.Poll ws x e =
       let n = bind_ok (number_at ws) (λ n. number_at n.1 >>= λ most. Ok (cmd.Poll n.0 most.0, most.1)) x e in
       let m = bind_ok (number_at n.0.1) (λ most. Ok (cmd.Poll n.0.0 most.0, most.1)) x n.2 in
@@ -184,7 +189,7 @@ row_found (row ∷ rows) name r right e = row_by (bytes_eq row.name name) row ro
 
 -- each row has the name and the number of arguments of its verb
 pub table_right : AllByRecursion IsRight table
-table_right = (record { name = refl; arguments = refl }, (record { name = refl; arguments = refl }, (record { name = refl; arguments = refl }, (record { name = refl; arguments = refl }, (record { name = refl; arguments = refl }, (record { name = refl; arguments = refl }, (record { name = refl; arguments = refl }, (record { name = refl; arguments = refl }, (record { name = refl; arguments = refl }, (record { name = refl; arguments = refl }, (record { name = refl; arguments = refl }, (record { name = refl; arguments = refl }, (record { name = refl; arguments = refl }, (record { name = refl; arguments = refl }, (record { name = refl; arguments = refl }, (record { name = refl; arguments = refl }, (record { name = refl; arguments = refl }, (record { name = refl; arguments = refl }, (record { name = refl; arguments = refl }, (record { name = refl; arguments = refl }, tt))))))))))))))))))))
+table_right = (record { name = refl; arguments = refl }, (record { name = refl; arguments = refl }, (record { name = refl; arguments = refl }, (record { name = refl; arguments = refl }, (record { name = refl; arguments = refl }, (record { name = refl; arguments = refl }, (record { name = refl; arguments = refl }, (record { name = refl; arguments = refl }, (record { name = refl; arguments = refl }, (record { name = refl; arguments = refl }, (record { name = refl; arguments = refl }, (record { name = refl; arguments = refl }, (record { name = refl; arguments = refl }, (record { name = refl; arguments = refl }, (record { name = refl; arguments = refl }, (record { name = refl; arguments = refl }, (record { name = refl; arguments = refl }, (record { name = refl; arguments = refl }, (record { name = refl; arguments = refl }, (record { name = refl; arguments = refl }, (record { name = refl; arguments = refl }, tt)))))))))))))))))))))
 
 -- ---- lines
 

@@ -46,6 +46,7 @@ IsCommand format (cmd.Collect to) = IsNumber to
 IsCommand format (cmd.Open span cursor) = IsSpan format span × IsNumber cursor
 IsCommand format (cmd.OpenInitial span cursor) = IsSpan format span × IsNumber cursor
 IsCommand format (cmd.OpenEvery span cursor gap) = IsSpan format span × IsNumber cursor × IsNumber gap
+IsCommand format (cmd.OpenInitialEvery span cursor gap) = IsSpan format span × IsNumber cursor × IsNumber gap
 IsCommand format (cmd.Poll feed max) = IsNumber feed × IsNumber max
 IsCommand format (cmd.Cancel feed) = IsNumber feed
 IsCommand format cmd.Stats = Unit {0}

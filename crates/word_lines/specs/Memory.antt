@@ -26,6 +26,7 @@ has_bytes verb.ScanAt = true
 has_bytes verb.Open = true
 has_bytes verb.OpenInitial = true
 has_bytes verb.OpenEvery = true
+has_bytes verb.OpenInitialEvery = true
 has_bytes _ = false
 
 -- the verb was read, and its command has such a part

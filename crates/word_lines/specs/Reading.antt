@@ -94,7 +94,7 @@ row_at rows words = do
   r ← ok_or (row_of rows w.0) UnknownCommand
   Ok (r, w.1)
 
--- one argument, and what makes a command of it
+-- the arguments of a form, and what makes a command of them
 abbrev with_number : (ℕ → Cmd) → List (List ℕ) → Result (Cmd × List (List ℕ)) LineFault
 with_number make words = do
   n ← number_at words
@@ -111,6 +111,19 @@ with_span format make words = do
   n ← number_at words
   span ← span_at format n.1
   Ok (make n.0 span.0, span.1)
+
+abbrev with_cursor : Format → (Span → ℕ → Cmd) → List (List ℕ) → Result (Cmd × List (List ℕ)) LineFault
+with_cursor format make words = do
+  span ← span_at format words
+  cursor ← number_at span.1
+  Ok (make span.0 cursor.0, cursor.1)
+
+abbrev with_gap : Format → (Span → ℕ → ℕ → Cmd) → List (List ℕ) → Result (Cmd × List (List ℕ)) LineFault
+with_gap format make words = do
+  span ← span_at format words
+  cursor ← number_at span.1
+  gap ← number_at cursor.1
+  Ok (make span.0 cursor.0 gap.0, gap.1)
 
 -- the command of a verb, from the words of its arguments
 unfoldable pub arguments_at : Format → Verb → List (List ℕ) → Result (Cmd × List (List ℕ)) LineFault
@@ -132,19 +145,10 @@ arguments_at format verb.ScanAt words = with_span format cmd.ScanAt words
 arguments_at format verb.Protect words = with_number cmd.Protect words
 arguments_at format verb.Release words = with_number cmd.Release words
 arguments_at format verb.Collect words = with_number cmd.Collect words
-arguments_at format verb.Open words = do
-  span ← span_at format words
-  n ← number_at span.1
-  Ok (cmd.Open span.0 n.0, n.1)
-arguments_at format verb.OpenInitial words = do
-  span ← span_at format words
-  n ← number_at span.1
-  Ok (cmd.OpenInitial span.0 n.0, n.1)
-arguments_at format verb.OpenEvery words = do
-  span ← span_at format words
-  n ← number_at span.1
-  gap ← number_at n.1
-  Ok (cmd.OpenEvery span.0 n.0 gap.0, gap.1)
+arguments_at format verb.Open words = with_cursor format cmd.Open words
+arguments_at format verb.OpenInitial words = with_cursor format cmd.OpenInitial words
+arguments_at format verb.OpenEvery words = with_gap format cmd.OpenEvery words
+arguments_at format verb.OpenInitialEvery words = with_gap format cmd.OpenInitialEvery words
 arguments_at format verb.Poll words = do
   n ← number_at words
   most ← number_at n.1

@@ -18,7 +18,7 @@ table =
     ∷ row (codes "commit") verb.Commit 1 ∷ row (codes "abort") verb.Abort 1 ∷ row (codes "close") verb.Close 1 ∷ row (codes "scan") verb.Scan 3
     ∷ row (codes "closehard") verb.CloseHard 1 ∷ row (codes "readat") verb.ReadAt 2 ∷ row (codes "scanat") verb.ScanAt 3 ∷ row (codes "protect") verb.Protect 1
     ∷ row (codes "release") verb.Release 1 ∷ row (codes "collect") verb.Collect 1 ∷ row (codes "open") verb.Open 3 ∷ row (codes "openinitial") verb.OpenInitial 3 ∷ row (codes "openevery") verb.OpenEvery 4
-    ∷ row (codes "poll") verb.Poll 2
+    ∷ row (codes "openinitialevery") verb.OpenInitialEvery 4 ∷ row (codes "poll") verb.Poll 2
     ∷ row (codes "cancel") verb.Cancel 1 ∷ row (codes "stats") verb.Stats 0 ∷ []
 
 -- the row of a name

@@ -194,6 +194,11 @@ pub fn take_arguments(
             cursor: take_number(words)?,
             gap: take_number(words)?,
         },
+        Verb::OpenInitialEvery => Cmd::OpenInitialEvery {
+            span: take_span(alloc, words, format)?,
+            cursor: take_number(words)?,
+            gap: take_number(words)?,
+        },
         Verb::Poll => Cmd::Poll {
             feed: take_number(words)?,
             max: take_number(words)?,
@@ -272,8 +277,10 @@ pub(crate) fn put_words(out: &mut Vec<u8>, cmd: &Cmd) -> Result<(), AllocError>
         Cmd::Open { span, cursor } => put_opening(out, b" open", span, *cursor),
         Cmd::OpenInitial { span, cursor } => put_opening(out, b" openinitial", span, *cursor),
         Cmd::OpenEvery { span, cursor, gap } => {
-            put_opening(out, b" openevery", span, *cursor)?;
-            put_named(out, b" ", *gap)
+            put_opening_every(out, b" openevery", span, *cursor, *gap)
+        }
+        Cmd::OpenInitialEvery { span, cursor, gap } => {
+            put_opening_every(out, b" openinitialevery", span, *cursor, *gap)
         }
         Cmd::Poll { feed, max } => {
             put_named(out, b" poll ", *feed)?;
@@ -293,6 +300,22 @@ fn put_opening(out: &mut Vec<u8>, name: &[u8], span: &Span, cursor: u64) -> Resu
     out.extend_from_slice(name)?;
     put_span(out, span)?;
     put_named(out, b" ", cursor)
+}
+
+/// Writes a name, a span, a cursor and a gap.
+#[tactic(auto, using(crate::proofs::Writing::keeping))]
+fn put_opening_every(
+    out: &mut Vec<u8>,
+    name: &[u8],
+    span: &Span,
+    cursor: u64,
+    gap: u64,
+) -> Result<(), AllocError>
+    ensures ok { OnOk result (out.new.items ≡ out.old.items ++ (name.now ++ 32 ∷ joined (bound_word span.now.lo ∷ bound_word span.now.hi ∷ decimal cursor ∷ decimal gap ∷ []))) }
+    ensures err { OnErr result (Keeps out.old.items out.new.items) }
+{
+    put_opening(out, name, span, cursor)?;
+    put_named(out, b" ", gap)
 }
 
 /// Writes a name, which ends in a space, and a number.

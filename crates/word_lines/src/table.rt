@@ -22,6 +22,7 @@ pub enum Verb {
     Open,
     OpenInitial,
     OpenEvery,
+    OpenInitialEvery,
     Poll,
     Cancel,
     Stats,
@@ -36,7 +37,7 @@ pub struct Form {
 }
 
 /// All commands, the most frequent first.
-pub(crate) static FORMS: [Form; 20] = [
+pub(crate) static FORMS: [Form; 21] = [
     Form {
         name: b"begin",
         verb: Verb::Begin,
@@ -120,6 +121,11 @@ pub(crate) static FORMS: [Form; 20] = [
     Form {
         name: b"openevery",
         verb: Verb::OpenEvery,
+        arguments: 4,
+    },
+    Form {
+        name: b"openinitialevery",
+        verb: Verb::OpenInitialEvery,
         arguments: 4,
     },
     Form {
