@@ -1,8 +1,6 @@
 -- Where the rows begin that a feed was not told.
 use Rattle.std.specs.Prelude.{ℕ, List, ◌≡◌, ◌&&◌, nat_le, nat_lt, max, Bool, true, false, if◌then◌else◌, Option, Some, None}
 use Rattle.std.specs.Option.{option_copied}
-use Rattle.spans.specs.declared.kind.Kind.{Kind}
-use Rattle.spans.specs.declared.kind.Kind.TheVariants.{Initial}
 use Rattle.spans.specs.Collection.{VersionName}
 use Rattle.plain_feeds.specs.declared.record.FeedRecord.{FeedRecord}
 use Rattle.plain_feeds.specs.declared.place.Place.{Place}
@@ -18,13 +16,9 @@ abbrev pub key_above : ℕ → Option VersionName → Option (List ℕ)
 key_above ts None = None
 key_above ts (Some row) = if nat_lt ts row.ts then Some row.key else None
 
-abbrev pub is_initial : Kind → Bool
-is_initial Initial = true
-is_initial kind = false
-
 -- an initial feed that resolved nothing from its cursor on, and was told no row above it, may have rows of the snapshot left
 abbrev pub tells_snapshot : FeedRecord → Bool
-tells_snapshot x = is_initial x.kind && (nat_lt x.told.resolved x.cursor && nat_le (row_ts x.told.row) x.cursor)
+tells_snapshot x = x.kind.initial && (nat_lt x.told.resolved x.cursor && nat_le (row_ts x.told.row) x.cursor)
 
 -- all rows at or below this timestamp were told
 abbrev pub told_through : FeedRecord → ℕ

@@ -5,7 +5,6 @@ ghost use Rattle.plain_feeds.specs.Places.{IsPlace, key_above, row_ts, tells_sna
 
 use crate::record::FeedRecord;
 use crate::told::RowName;
-use spans::kind::Kind;
 use timestamps::key::Key;
 
 /// Where the rows begin that a feed was not told. Those of an initial feed begin in the snapshot at its cursor.
@@ -38,12 +37,9 @@ impl FeedRecord {
     fn tells_snapshot(&self) -> bool
         ensures { result ≡ tells_snapshot self.now }
     {
-        match self.kind {
-            Kind::Plain | Kind::Every { .. } => false,
-            Kind::Initial => {
-                self.told.resolved < self.cursor && ts_of(self.told.row.as_ref()) <= self.cursor
-            }
-        }
+        self.kind.initial
+            && self.told.resolved < self.cursor
+            && ts_of(self.told.row.as_ref()) <= self.cursor
     }
 }
 
