@@ -13,7 +13,9 @@ ghost use Rattle.replica.specs.Right.{ReplicasAreRight};
 
 /// Of a feed that was opened in a legal history, newest event first: a replica that began as its consumer is to
 /// begin refuses none of the messages that the feed told, unless memory is wanting, and after each resolved
-/// message it has the span's part of the map at its timestamp, and says so.
+/// message it has the span's part of the map at its timestamp, and says so. Where a row is to be taken before which
+/// it is ready, it has the map too. What it says that it was told all through is right: all that is told later is
+/// above that, and a replica that goes on with its rows, of a feed that was opened there, is as right.
 ///
 /// A consumer of an initial feed is to begin empty. Any other is to begin with what the span holds at the cursor:
 /// with the rows of a scan there, which no replica refuses.
