@@ -1,10 +1,8 @@
 -- A replica of a feed is complete at each resolved timestamp.
-use Rattle.std.proofs.Common.{◌≡◌, ℕ, true, cond, List, [], ◌∷◌, ◌++◌, Some, refl, sym, ◌∙◌, ap, subst}
+use Rattle.std.proofs.Common.{◌≡◌, ℕ, true, false, cond, List, [], ◌∷◌, ◌++◌, Some, refl, sym, ◌∙◌, ap, subst}
 use Rattle.std.specs.Prelude.{bytes_eq}
 use Rattle.spans.specs.declared.calls.messages.Message.{Message}
 use Rattle.spans.specs.declared.calls.messages.Message.TheVariants as messages
-use Rattle.spans.specs.declared.kind.Kind.{Kind}
-use Rattle.spans.specs.declared.kind.Kind.TheVariants.{Plain, Initial, Every}
 use Rattle.spans.specs.Effects.{Effect}
 use Rattle.spans.specs.Keys.{AreRows}
 use Rattle.spans.specs.Serial.{Map, put, map_at, span_part}
@@ -61,28 +59,18 @@ replica_is_right p f feed s starts right complete others = record {
   };
 }
 
-pub starts_initial : (p : List Effect) (feed : Feed) → feed.kind ≡ Initial → IsStartOf p feed (initial_start feed.span feed.cursor)
+pub starts_initial : (p : List Effect) (feed : Feed) → feed.kind.initial ≡ true → IsStartOf p feed (initial_start feed.span feed.cursor)
 starts_initial p feed is = record {
   span = refl;
   cursor = refl;
-  start = ap (λ k. start_at k feed.cursor) (sym is);
-  rows = λ x. ap (λ k. seed_of k p feed.span feed.cursor x) (sym is);
+  start = rw is refl;
+  rows = λ x. rw is refl;
 }
 
-pub starts_seeded : (p : List Effect) (feed : Feed) (rows : List (List ℕ × List ℕ)) → (feed.kind ≡ Initial → ⊥) → AreRows feed.span (map_at p feed.cursor) rows → IsStartOf p feed (seeded_start feed.span feed.cursor rows)
+pub starts_seeded : (p : List Effect) (feed : Feed) (rows : List (List ℕ × List ℕ)) → feed.kind.initial ≡ false → AreRows feed.span (map_at p feed.cursor) rows → IsStartOf p feed (seeded_start feed.span feed.cursor rows)
 starts_seeded p feed rows isnt are = record {
   span = refl;
   cursor = refl;
-  start = starts feed.kind refl;
-  rows = λ x. among_part feed.span (map_at p feed.cursor) rows are x ∙ seeds feed.kind refl x;
+  start = rw isnt refl;
+  rows = λ x. rw isnt (among_part feed.span (map_at p feed.cursor) rows are x);
 }
-  where
-    starts : (k : Kind) → feed.kind ≡ k → feed.cursor ≡ start_at feed.kind feed.cursor
-    starts Plain e = ap (λ k. start_at k feed.cursor) (sym e)
-    starts Initial e = absurd (isnt e)
-    starts (Every gap) e = ap (λ k. start_at k feed.cursor) (sym e)
-
-    seeds : (k : Kind) → feed.kind ≡ k → (x : List ℕ) → span_part feed.span (map_at p feed.cursor) x ≡ seed_of feed.kind p feed.span feed.cursor x
-    seeds Plain e x = ap (λ k. seed_of k p feed.span feed.cursor x) (sym e)
-    seeds Initial e x = absurd (isnt e)
-    seeds (Every gap) e x = ap (λ k. seed_of k p feed.span feed.cursor x) (sym e)

@@ -1,11 +1,10 @@
 -- Where a replica begins, and which rows it may begin with.
-use Rattle.std.specs.Prelude.{ℕ, List, [], ◌∷◌, true, ◌≡◌, Option, Some, None}
+use Rattle.std.specs.Prelude.{ℕ, List, [], ◌∷◌, true, false, ◌≡◌, Option, Some, None}
 use Rattle.spans.specs.declared.span.Span.{Span}
 use Rattle.spans.specs.declared.calls.messages.Message.{Message}
 use Rattle.spans.specs.declared.calls.messages.Message.TheVariants as messages
-use Rattle.spans.specs.declared.kind.Kind.TheVariants.{Initial}
 use Rattle.spans.specs.Keys.{in_span, AreRows, IsPairIn, KeysRise, value_among}
-use Rattle.spans.specs.Effects.{Effect}
+use Rattle.spans.specs.Effects.{Effect, kind_of}
 use Rattle.spans.specs.Serial.{Map, map_at}
 use Rattle.spans.specs.Feeds.{Feed, start_at, start_of}
 use Rattle.spans.specs.Consumer.{seed_of}
@@ -31,7 +30,7 @@ seeded_start s cursor pairs = record { span = s; cursor = cursor; start = cursor
 
 -- with no row, for an initial feed, which tells what the span holds at the cursor
 abbrev pub initial_start : Span → ℕ → Start
-initial_start s cursor = record { span = s; cursor = cursor; start = start_at Initial cursor; first = None; rows = λ x. None }
+initial_start s cursor = record { span = s; cursor = cursor; start = start_at (kind_of true None) cursor; first = None; rows = λ x. None }
 
 -- at which timestamp a replica is complete after the messages: at that of a resolved message until a row comes
 abbrev pub resolved_at : Option ℕ → List Message → Option ℕ
@@ -65,7 +64,7 @@ pub record IsStartOf (p : List Effect) (feed : Feed) (s : Start) : Type 0 where
 
 -- the feed is no initial one, and the rows are what its span holds at its cursor
 abbrev pub IsSeedAt : List Effect → Feed → Pairs → Type 0
-IsSeedAt p feed pairs = (feed.kind ≡ Initial → ⊥) × AreRows feed.span (map_at p feed.cursor) pairs
+IsSeedAt p feed pairs = (feed.kind.initial ≡ false) × AreRows feed.span (map_at p feed.cursor) pairs
 
 -- the start of a feed's replica with these rows
 abbrev pub seeded_by : Feed → Pairs → Start

@@ -1,8 +1,7 @@
 //! The law of replicas: what holds of the replicas of every legal history's feeds, as the contract of one function.
-ghost use Rattle.std.specs.Prelude.{List, ℕ, ◌≡◌};
+ghost use Rattle.std.specs.Prelude.{List, ℕ, true, ◌≡◌};
 ghost use Rattle.spans.specs.declared.calls.events.Event.{Event};
 ghost use Rattle.spans.specs.declared.span.Span.{Span};
-ghost use Rattle.spans.specs.declared.kind.Kind.TheVariants.{Initial};
 ghost use Rattle.spans.specs.Effects.{Effect, effects_of};
 ghost use Rattle.spans.specs.Legal.{IsLegal};
 ghost use Rattle.spans.specs.Keys.{AreRows};
@@ -23,7 +22,7 @@ ghost use Rattle.replica.specs.Right.{ReplicasAreRight};
 /// It does nothing. Its contract is the theorem.
 pub fn law_of_replicas()
     ensures right { (h : List Event) (f : ℕ) → IsLegal h → ReplicasAreRight (effects_of h) f }
-    ensures initial { (p : List Effect) (feed : Feed) → feed.kind ≡ Initial → IsStartOf p feed (initial_start feed.span feed.cursor) }
+    ensures initial { (p : List Effect) (feed : Feed) → feed.kind.initial ≡ true → IsStartOf p feed (initial_start feed.span feed.cursor) }
     ensures seeded { (p : List Effect) (feed : Feed) (rows : Pairs) → IsSeedAt p feed rows → IsStartOf p feed (seeded_by feed rows) }
     ensures begins { (span : Span) (m : Map) (rows : Pairs) → AreRows span m rows → MayBegin span rows }
 {}

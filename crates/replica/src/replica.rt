@@ -83,7 +83,11 @@ impl Replica {
     pub fn new_initial(alloc: Global, span: Span, cursor: u64) -> Replica
         ensures { Follows result (initial_start span cursor) [] }
     {
-        let start = Kind::Initial.start(cursor);
+        let kind = Kind {
+            initial: true,
+            gap: None,
+        };
+        let start = kind.start(cursor);
         Replica {
             span,
             cursor,
