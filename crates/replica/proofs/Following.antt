@@ -1,6 +1,6 @@
 -- A replica after one message more.
-use Rattle.std.proofs.Common.{◌≡◌, ℕ, ◌<◌, Bool, true, false, cond, not, ◌&&◌, List, [], ◌∷◌, ◌++◌, Option, Some, None, refl, sym, ◌∙◌, ap, subst, arith}
-use Rattle.std.specs.Prelude.{nat_lt, max, option_map}
+use Rattle.std.proofs.Common.{◌≡◌, ℕ, ◌-◌, ◌<◌, Bool, true, false, cond, not, ◌&&◌, List, [], ◌∷◌, ◌++◌, Option, Some, None, refl, sym, ◌∙◌, ap, subst, arith}
+use Rattle.std.specs.Prelude.{nat_lt, max, option_map, is_none}
 use Rattle.std.proofs.lemmas.Bool.Decides.{nat_tests}
 use Rattle.timestamps.specs.declared.row.Row.{Row}
 use Rattle.spans.specs.declared.span.Span.{Span}
@@ -11,14 +11,16 @@ use Rattle.spans.specs.Serial.{Map, put}
 use Rattle.spans.specs.Feeds.{last_resolved}
 use Rattle.spans.specs.Consumer as consumer
 use Rattle.spans.specs.Consumer.{view_of, last_row, is_after, reaches, apply_fault, ApplyFault}
+use Rattle.spans.specs.Completeness.{ready_after, complete_after, is_row_of, is_new}
 use Rattle.spans.proofs.Feeding.{resolved_join}
+use Rattle.spans.proofs.Floors.{floor_join}
 use Rattle.replica.specs.declared.replica.Replica.{Replica}
 use Rattle.replica.specs.declared.fault.Fault.{Fault}
 use Rattle.replica.specs.declared.fault.Fault.TheVariants as faults
-use Rattle.replica.specs.Places.{place_of, is_past, is_over}
-use Rattle.replica.specs.Starts.{resolved_at}
-use Rattle.replica.specs.Replicas.{view_in, Takes, IsFaultAt, test_of}
-use Rattle.replica.specs.Tests.{fault_in}
+use Rattle.replica.specs.Places.{place_of, is_past, is_over, is_place_of}
+use Rattle.replica.specs.Starts.{Start, resolved_at}
+use Rattle.replica.specs.Replicas.{view_in, Follows, through_in, Takes, IsFaultAt, test_of}
+use Rattle.replica.specs.Tests.{fault_in, is_first_in, ready_in}
 
 pub view_join : (m : Map) (ms ns : List Message) → view_of m (ms ++ ns) ≡ view_of (view_of m ms) ns
 view_join m [] ns = refl
@@ -40,9 +42,11 @@ put_like m n k a x same = rw same refl
 
 -- a row was taken
 pub takes_row : (old new : Replica) (r : Row) → new.span ≡ old.span → new.resolved ≡ old.resolved → ((x : List ℕ) → view_in new x ≡ put (view_in old) r.key r.after x)
-    → new.last ≡ Some (place_of r) → new.complete ≡ None → Takes old new (messages.Row r)
-takes_row old new r span resolved rows last complete s ms before = record {
+    → new.last ≡ Some (place_of r) → new.complete ≡ None → new.cursor ≡ old.cursor → new.floor ≡ r.ts - 1 → Takes old new (messages.Row r)
+takes_row old new r span resolved rows last complete cursor floor s ms before = record {
   span = span ∙ before.span;
+  cursor = cursor ∙ before.cursor;
+  floor = floor ∙ sym (floor_join s.start ms (messages.Row r));
   rows = λ x. rows x ∙ put_like (view_in old) (view_of s.rows ms) r.key r.after x (before.rows x) ∙ ap (λ (m : Map). m x) (sym (view_join s.rows ms (messages.Row r ∷ [])));
   resolved = resolved ∙ before.resolved ∙ sym (resolved_join s.start ms (messages.Row r ∷ []));
   last = last ∙ ap (option_map place_of) (sym (last_join None ms (messages.Row r ∷ [])));
@@ -51,9 +55,11 @@ takes_row old new r span resolved rows last complete s ms before = record {
 
 -- a resolved message was taken
 pub takes_resolved : (old new : Replica) (t : ℕ) → new.span ≡ old.span → new.table ≡ old.table → old.resolved < t → new.resolved ≡ t
-    → new.last ≡ old.last → new.complete ≡ Some t → Takes old new (messages.Resolved t)
-takes_resolved old new t span rows above resolved last complete s ms before = record {
+    → new.last ≡ old.last → new.complete ≡ Some t → new.cursor ≡ old.cursor → new.floor ≡ t → Takes old new (messages.Resolved t)
+takes_resolved old new t span rows above resolved last complete cursor floor s ms before = record {
   span = span ∙ before.span;
+  cursor = cursor ∙ before.cursor;
+  floor = floor ∙ sym (floor_join s.start ms (messages.Resolved t));
   rows = λ x. ap (λ l. view_at l x) rows ∙ before.rows x ∙ ap (λ (m : Map). m x) (sym (view_join s.rows ms (messages.Resolved t ∷ [])));
   resolved = resolved ∙ higher (last_resolved s.start ms) (subst (λ n. n < t) before.resolved above) ∙ sym (resolved_join s.start ms (messages.Resolved t ∷ []));
   last = last ∙ before.last ∙ ap (option_map place_of) (sym (last_join None ms (messages.Resolved t ∷ [])));
@@ -120,3 +126,46 @@ resolved_above r t none = above (nat_lt r.resolved t) (is_over r.last t) refl no
     above : (a b : Bool) → nat_lt r.resolved t ≡ a → cond (not (a && b)) (Some faults.ResolvedBack) None ≡ None → r.resolved < t
     above true b is e = grind (arith, nat_tests)
     above false b is e = cc
+
+-- through where all was told, by what the replica holds and by the messages that it has taken
+pub through_is : (r : Replica) (s : Start) (ms : List Message) → Follows r s ms → through_in r ≡ complete_after s.start s.cursor ms
+through_is r s ms follows = rw (follows.floor, follows.cursor) refl
+
+place_row : (o : Option Row) (t : ℕ) → is_place_of (option_map place_of o) t ≡ is_row_of o t
+place_row None t = refl
+place_row (Some q) t = refl
+
+none_row : (a b : Bool) → let found = cond (not a) (Some faults.NotAfter) (cond (not b) (Some faults.OutsideSpan) None) in is_none found ≡ is_none (tests_of found)
+none_row true true = refl
+none_row true false = refl
+none_row false b = refl
+
+-- where it is ready
+pub ready_is : (r : Replica) (m : Message) (s : Start) (ms : List Message) → Follows r s ms → ready_in r m ≡ ready_after s.span s.start s.cursor ms m
+ready_is r (messages.Resolved t) s ms follows = refl
+ready_is r (messages.Row row) s ms follows = ap (λ b. at (b && is_first_in r row)) passed ∙ ap (λ b. at (is_none (apply_fault s.span s.start ms (messages.Row row)) && b)) first
+  where
+    at : Bool → Option ℕ
+    at b = cond b (Some (row.ts - 1)) None
+
+    passed : is_none (fault_in r (messages.Row row)) ≡ is_none (apply_fault s.span s.start ms (messages.Row row))
+    passed = none_row (nat_lt r.resolved row.ts && is_past r.last row) (in_span r.span row.key) ∙ ap is_none (sym (faults_agree r (messages.Row row) s ms follows))
+
+    first : is_first_in r row ≡ is_new s.cursor ms row.ts
+    first = ap (λ n. nat_lt n row.ts && not (is_place_of r.last row.ts)) follows.cursor
+        ∙ ap (λ o. nat_lt s.cursor row.ts && not (is_place_of o row.ts)) follows.last
+        ∙ ap (λ b. nat_lt s.cursor row.ts && not b) (place_row (last_row None ms) row.ts)
+
+-- a message that shows that it is ready is a row, the first of its timestamp
+pub ready_row : (r : Replica) (m : Message) (n : ℕ) (s : Start) (ms : List Message) → Follows r s ms → ready_in r m ≡ Some n
+    → (row : Row) × (m ≡ messages.Row row) × (is_new s.cursor ms row.ts ≡ true) × (row.ts - 1 ≡ n)
+ready_row r m n s ms follows is = by_message m (sym (ready_is r m s ms follows) ∙ is)
+  where
+    by_message : (m : Message) → ready_after s.span s.start s.cursor ms m ≡ Some n → (row : Row) × (m ≡ messages.Row row) × (is_new s.cursor ms row.ts ≡ true) × (row.ts - 1 ≡ n)
+    by_message (messages.Resolved t) e = cc
+    by_message (messages.Row row) e = let both = shown (is_none (apply_fault s.span s.start ms (messages.Row row))) (is_new s.cursor ms row.ts) (row.ts - 1) e in (row, refl, both.0, both.1)
+      where
+        shown : (a b : Bool) (k : ℕ) → cond (a && b) (Some k) None ≡ Some n → (b ≡ true) × (k ≡ n)
+        shown true true k e = (refl, cc)
+        shown true false k e = cc
+        shown false b k e = cc

@@ -5,4 +5,5 @@ pub mod Places
 pub mod Starts
 pub mod Replicas
 pub mod Tests
+pub mod Faults
 pub mod Right

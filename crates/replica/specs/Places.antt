@@ -1,5 +1,5 @@
 -- What comes after a place among rows.
-use Rattle.std.specs.Prelude.{ℕ, Bool, true, ◌&&◌, ◌||◌, ◌==◌, nat_lt, nat_le, Option, Some, None}
+use Rattle.std.specs.Prelude.{ℕ, Bool, true, false, ◌&&◌, ◌||◌, ◌==◌, nat_lt, nat_le, Option, Some, None}
 use Rattle.timestamps.specs.declared.row.Row.{Row}
 use Rattle.spans.specs.KeyOrder.{key_lt}
 use Rattle.replica.specs.declared.place.Place.{Place}
@@ -17,3 +17,8 @@ is_past (Some p) r = nat_lt p.ts r.ts || ((p.ts == r.ts) && key_lt p.key r.key)
 abbrev pub is_over : Option Place → ℕ → Bool
 is_over None t = true
 is_over (Some p) t = nat_le p.ts t
+
+-- the place is there, and of t
+abbrev pub is_place_of : Option Place → ℕ → Bool
+is_place_of None t = false
+is_place_of (Some p) t = p.ts == t

@@ -1,9 +1,10 @@
 -- What a replica holds, and what it has taken.
-use Rattle.std.specs.Prelude.{ℕ, List, [], ◌∷◌, ◌++◌, ◌≡◌, Option, Some, None, option_map}
+use Rattle.std.specs.Prelude.{ℕ, List, [], ◌∷◌, ◌++◌, ◌≡◌, nat_lt, if◌then◌else◌, Option, Some, None, option_map}
 use Rattle.spans.specs.declared.calls.messages.Message.{Message}
 use Rattle.spans.specs.declared.span.Span.{Span}
 use Rattle.spans.specs.Serial.{Map}
 use Rattle.spans.specs.Feeds.{last_resolved}
+use Rattle.spans.specs.Collection.{floor_after}
 use Rattle.spans.specs.Consumer as consumer
 use Rattle.spans.specs.Consumer.{view_of, last_row, apply_fault, ApplyFault}
 use Rattle.replica.specs.declared.fault.Fault.{Fault}
@@ -28,12 +29,18 @@ resolved_in r = r.resolved
 abbrev pub complete_in : Replica → Option ℕ
 complete_in r = r.complete
 
+-- through where a replica was told all
+abbrev pub through_in : Replica → Option ℕ
+through_in r = if nat_lt r.floor r.cursor then None else Some r.floor
+
 -- the replica that began so has taken these messages, the oldest first
 pub record Follows (r : Replica) (s : Start) (messages : List Message) : Type 0 where
   pub span : r.span ≡ s.span
+  pub cursor : r.cursor ≡ s.cursor
   pub rows : (x : List ℕ) → view_in r x ≡ view_of s.rows messages x
   pub resolved : r.resolved ≡ last_resolved s.start messages
   pub last : r.last ≡ option_map place_of (last_row None messages)
+  pub floor : r.floor ≡ floor_after s.start messages
   pub complete : r.complete ≡ resolved_at s.first messages
 
 -- after whatever the old replica has taken, the new one has taken one message more

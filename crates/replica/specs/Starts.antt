@@ -1,11 +1,10 @@
 -- Where a replica begins, and which rows it may begin with.
-use Rattle.std.specs.Prelude.{ℕ, List, [], ◌∷◌, true, ◌≡◌, Option, Some, None}
+use Rattle.std.specs.Prelude.{ℕ, List, [], ◌∷◌, true, false, ◌≡◌, Option, Some, None}
 use Rattle.spans.specs.declared.span.Span.{Span}
 use Rattle.spans.specs.declared.calls.messages.Message.{Message}
 use Rattle.spans.specs.declared.calls.messages.Message.TheVariants as messages
-use Rattle.spans.specs.declared.kind.Kind.TheVariants.{Initial}
 use Rattle.spans.specs.Keys.{in_span, AreRows, IsPairIn, KeysRise, value_among}
-use Rattle.spans.specs.Effects.{Effect}
+use Rattle.spans.specs.Effects.{Effect, kind_of}
 use Rattle.spans.specs.Serial.{Map, map_at}
 use Rattle.spans.specs.Feeds.{Feed, start_at, start_of}
 use Rattle.spans.specs.Consumer.{seed_of}
@@ -16,21 +15,22 @@ use Rattle.replica.specs.declared.fault.Fault.TheVariants as faults
 abbrev pub Pairs : Type 0
 Pairs = List (List ℕ × List ℕ)
 
--- of which span a replica is, above which timestamp all that it takes lies, at which timestamp it is complete at first, and
--- which rows it has then
+-- of which span a replica is, its cursor, above which timestamp all that it takes lies, at which timestamp it is complete at
+-- first, and which rows it has then
 pub record Start : Type 0 where
   pub span : Span
+  pub cursor : ℕ
   pub start : ℕ
   pub first : Option ℕ
   pub rows : Map
 
 -- with the rows that the span holds at the cursor
 abbrev pub seeded_start : Span → ℕ → List (List ℕ × List ℕ) → Start
-seeded_start s cursor pairs = record { span = s; start = cursor; first = Some cursor; rows = value_among pairs }
+seeded_start s cursor pairs = record { span = s; cursor = cursor; start = cursor; first = Some cursor; rows = value_among pairs }
 
 -- with no row, for an initial feed, which tells what the span holds at the cursor
 abbrev pub initial_start : Span → ℕ → Start
-initial_start s cursor = record { span = s; start = start_at Initial cursor; first = None; rows = λ x. None }
+initial_start s cursor = record { span = s; cursor = cursor; start = start_at (kind_of true None) cursor; first = None; rows = λ x. None }
 
 -- at which timestamp a replica is complete after the messages: at that of a resolved message until a row comes
 abbrev pub resolved_at : Option ℕ → List Message → Option ℕ
@@ -55,15 +55,16 @@ IsSeedFault s pairs faults.OutsideSpan = KeysRise pairs × (AreInside s pairs �
 IsSeedFault s pairs faults.ResolvedBack = ⊥
 IsSeedFault s pairs faults.NoMemory = MayBegin s pairs
 
--- a replica of the feed may begin so: with the feed's span and start, and with the rows that its consumer is to begin with
+-- a replica of the feed may begin so: with the feed's span, cursor and start, and with the rows that its consumer is to begin with
 pub record IsStartOf (p : List Effect) (feed : Feed) (s : Start) : Type 0 where
   pub span : s.span ≡ feed.span
+  pub cursor : s.cursor ≡ feed.cursor
   pub start : s.start ≡ start_of feed
   pub rows : (x : List ℕ) → s.rows x ≡ seed_of feed.kind p feed.span feed.cursor x
 
 -- the feed is no initial one, and the rows are what its span holds at its cursor
 abbrev pub IsSeedAt : List Effect → Feed → Pairs → Type 0
-IsSeedAt p feed pairs = (feed.kind ≡ Initial → ⊥) × AreRows feed.span (map_at p feed.cursor) pairs
+IsSeedAt p feed pairs = (feed.kind.initial ≡ false) × AreRows feed.span (map_at p feed.cursor) pairs
 
 -- the start of a feed's replica with these rows
 abbrev pub seeded_by : Feed → Pairs → Start

@@ -1,8 +1,7 @@
 //! The law of replicas: what holds of the replicas of every legal history's feeds, as the contract of one function.
-ghost use Rattle.std.specs.Prelude.{List, ℕ, ◌≡◌};
+ghost use Rattle.std.specs.Prelude.{List, ℕ, true, ◌≡◌};
 ghost use Rattle.spans.specs.declared.calls.events.Event.{Event};
 ghost use Rattle.spans.specs.declared.span.Span.{Span};
-ghost use Rattle.spans.specs.declared.kind.Kind.TheVariants.{Initial};
 ghost use Rattle.spans.specs.Effects.{Effect, effects_of};
 ghost use Rattle.spans.specs.Legal.{IsLegal};
 ghost use Rattle.spans.specs.Keys.{AreRows};
@@ -13,7 +12,9 @@ ghost use Rattle.replica.specs.Right.{ReplicasAreRight};
 
 /// Of a feed that was opened in a legal history, newest event first: a replica that began as its consumer is to
 /// begin refuses none of the messages that the feed told, unless memory is wanting, and after each resolved
-/// message it has the span's part of the map at its timestamp, and says so.
+/// message it has the span's part of the map at its timestamp, and says so. Where a row is to be taken before which
+/// it is ready, it has the map too. What it says that it was told all through is right: all that is told later is
+/// above that, and a replica that goes on with its rows, of a feed that was opened there, is as right.
 ///
 /// A consumer of an initial feed is to begin empty. Any other is to begin with what the span holds at the cursor:
 /// with the rows of a scan there, which no replica refuses.
@@ -21,7 +22,7 @@ ghost use Rattle.replica.specs.Right.{ReplicasAreRight};
 /// It does nothing. Its contract is the theorem.
 pub fn law_of_replicas()
     ensures right { (h : List Event) (f : ℕ) → IsLegal h → ReplicasAreRight (effects_of h) f }
-    ensures initial { (p : List Effect) (feed : Feed) → feed.kind ≡ Initial → IsStartOf p feed (initial_start feed.span feed.cursor) }
+    ensures initial { (p : List Effect) (feed : Feed) → feed.kind.initial ≡ true → IsStartOf p feed (initial_start feed.span feed.cursor) }
     ensures seeded { (p : List Effect) (feed : Feed) (rows : Pairs) → IsSeedAt p feed rows → IsStartOf p feed (seeded_by feed rows) }
     ensures begins { (span : Span) (m : Map) (rows : Pairs) → AreRows span m rows → MayBegin span rows }
 {}

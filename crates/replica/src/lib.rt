@@ -8,17 +8,19 @@
 //! 1. The index has a key under a value exactly where the rows have that value at the key.
 //! 2. A message that is refused changes nothing, also where memory is wanting.
 //! 3. After a resolved message of its feed the rows are those of the database at its timestamp, for the whole span.
+//! 4. Between resolved messages it knows through where it was told all, and before which rows its rows are the map.
 //!
 //! ```text
-//! message                 rows                 by value           resolved   complete at
-//! (new, of all keys)                                              0          0
-//! b = 1 at 10             b 1                  1: b               0          -
-//! a = 1 at 10             refused: it doesn't come after b at 10
-//! a = 1 at 20             a 1, b 1             1: a b             0          -
-//! resolved 19             refused: a row of 20 was told
-//! resolved 20             a 1, b 1             1: a b             20         20
-//! b = 2 at 25             a 1, b 2             1: a, 2: b         20         -
-//! a deleted at 26         b 2                  2: b               20         -
+//! message                 ready   rows                 by value           resolved   complete at   through
+//! (new, of all keys)                                                      0          0             0
+//! b = 1 at 10             9       b 1                  1: b               0          -             9
+//! a = 1 at 10             -       refused: it doesn't come after b at 10
+//! a = 1 at 20             19      a 1, b 1             1: a b             0          -             19
+//! resolved 19             -       refused: a row of 20 was told
+//! resolved 20             -       a 1, b 1             1: a b             20         20            20
+//! b = 2 at 25             24      a 1, b 2             1: a, 2: b         20         -             24
+//! c = 1 at 25             -       a 1, b 2, c 1        1: a c, 2: b       20         -             24
+//! a deleted at 26         25      b 2, c 1             1: c, 2: b         20         -             25
 //! ```
 //!
 //! `Follows` in `specs/` says which rows a replica has after some messages. [`law::law_of_replicas`] says that they are
@@ -29,7 +31,7 @@
 //! - `new`: O(n log n)
 //! - `apply`, `get`, each step of `rows`: O(log n)
 //! - `keys_with`: O(log n), and a copy of each key that it answers
-//! - `new_initial`, `at_resolved`, `span`, `len`, `is_empty`: O(1)
+//! - `new_initial`, `at_resolved`, `complete_through`, `ready`, `span`, `len`, `is_empty`: O(1)
 //!
 //! A row takes memory for its key twice, and for its value once more where no other key has it. `new` and `apply` take
 //! that, and `keys_with` takes it for its answer. A delete and a resolved message take none, nor do the other calls.

@@ -1,6 +1,6 @@
 //! Where rows stand among all rows.
 ghost use Rattle.std.specs.Prelude.{◌≡◌};
-ghost use Rattle.replica.specs.Places.{is_past, is_over};
+ghost use Rattle.replica.specs.Places.{is_past, is_over, is_place_of};
 
 use std::cmp::Ordering;
 use timestamps::key::Key;
@@ -34,5 +34,15 @@ pub(crate) fn reaches(t: u64, place: &Option<Place>) -> bool
     match place {
         None => true,
         Some(place) => place.ts.get() <= t,
+    }
+}
+
+/// Whether a place is there, and of the timestamp.
+pub(crate) fn is_of(place: &Option<Place>, t: u64) -> bool
+    ensures { result ≡ is_place_of place.now t }
+{
+    match place {
+        None => false,
+        Some(place) => place.ts.get() == t,
     }
 }

@@ -4,7 +4,7 @@ ghost use Rattle.std.specs.Option.{option_copied};
 ghost use Rattle.spans.specs.declared.calls.messages.Message.TheVariants as messages;
 
 use crate::fault::Fault;
-use crate::place::{Place, comes_after, reaches};
+use crate::place::{Place, comes_after, is_of, reaches};
 use crate::seed::{are_inside, rise, table_of};
 use crate::table::Table;
 use spans::calls::Message;
@@ -23,10 +23,14 @@ pub type Rows<'a> = Iter<'a, Key, Value>;
 #[derive(Debug, Drop)]
 pub struct Replica {
     span: Span,
+    /// What its feed was opened at.
+    cursor: u64,
     /// What was resolved last, or where it started.
     resolved: u64,
     /// The row that was taken last.
     last: Option<Place>,
+    /// All at or below it was told, if it isn't below the cursor: what is taken next is above it.
+    floor: u64,
     /// The timestamp whose rows it has, all of them and none besides.
     complete: Option<u64>,
     table: Table,
@@ -37,8 +41,11 @@ impl Replica {
     ghost use Rattle.spans.specs.Effects.{After};
     ghost use Rattle.replica.specs.Rows.{AreRowsOf, AreKeysWith, IsCountOf};
     ghost use Rattle.replica.specs.Starts.{Start, seeded_start, initial_start, resolved_at, MayBegin, IsSeedFault};
-    ghost use Rattle.replica.specs.Replicas.{view_in, span_in, resolved_in, complete_in, Follows, Takes, IsFaultAt, test_of};
-    ghost use Rattle.replica.specs.Tests.{fault_in};
+    ghost use Rattle.replica.specs.Replicas.{view_in, span_in, resolved_in, complete_in, through_in, Follows, Takes, IsFaultAt, test_of};
+    ghost use Rattle.replica.specs.Tests.{fault_in, is_first_in, ready_in};
+    ghost use Rattle.replica.specs.Faults.{AddsValue};
+    ghost use Rattle.replica.specs.declared.fault.Fault.TheVariants.{NoMemory};
+    ghost use Rattle.spans.specs.Completeness.{complete_after, ready_after};
 
     /// A replica of what a span holds at a cursor: the pairs that a snapshot answered there, keys rising.
     /// It is for a feed of the span that was opened at this cursor.
@@ -62,8 +69,10 @@ impl Replica {
         let table = table_of(alloc, rows)?;
         Ok(Replica {
             span,
+            cursor,
             resolved: cursor,
             last: None,
+            floor: cursor,
             complete: Some(cursor),
             table,
         })
@@ -74,21 +83,29 @@ impl Replica {
     pub fn new_initial(alloc: Global, span: Span, cursor: u64) -> Replica
         ensures { Follows result (initial_start span cursor) [] }
     {
+        let kind = Kind {
+            initial: true,
+            gap: None,
+        };
+        let start = kind.start(cursor);
         Replica {
             span,
-            resolved: Kind::Initial.start(cursor),
+            cursor,
+            resolved: start,
             last: None,
+            floor: start,
             complete: None,
             table: Table::new(alloc),
         }
     }
 
-    /// Takes a message.
+    /// Takes a message. Only a row with a value wants memory.
     pub fn apply(&mut self, message: Message) -> Result<(), Fault>
         ensures ok { OnOk result (Takes self.old self.new message) }
         ensures accepted { OnOk result (IsFaultAt self.old message None) }
         ensures err { OnErr result (self.new ≡ self.old) }
         ensures refused { IfErr result (λ fault. IsFaultAt self.old message (test_of fault)) }
+        ensures memory { IfErr result (λ fault. fault ≡ NoMemory → AddsValue message) }
     {
         if let Some(fault) = self.fault(&message) {
             return Err(fault);
@@ -96,8 +113,10 @@ impl Replica {
         match message {
             Message::Row(row) => self.take_row(row)?,
             Message::Resolved(ts) => {
-                self.resolved = ts.get();
-                self.complete = Some(ts.get());
+                let at = ts.get();
+                self.resolved = at;
+                self.floor = at;
+                self.complete = Some(at);
             }
         }
         Ok(())
@@ -130,9 +149,11 @@ impl Replica {
     fn take_row(&mut self, row: Row) -> Result<(), AllocError>
         ensures ok { OnOk result (Takes self.old self.new (messages.Row row)) }
         ensures err { OnErr result (self.new ≡ self.old) }
+        ensures memory { OnErr result (AddsValue (messages.Row row)) }
     {
         let Row { ts, key, after } = row;
         self.table.change(&key, after)?;
+        self.floor = ts.get() - 1;
         self.last = Some(Place { ts, key });
         self.complete = None;
         Ok(())
@@ -145,6 +166,42 @@ impl Replica {
         ensures messages { (s : Start) (messages : List Message) → Follows self.now s messages → result ≡ resolved_at s.first messages }
     {
         self.complete
+    }
+
+    /// The timestamp through which it was told all: no row and no resolved timestamp at or below it comes any more. None
+    /// among the first rows of an initial feed. After a row the rows are no map, since more rows of its timestamp may come.
+    pub fn complete_through(&self) -> Option<u64>
+        ensures through { result ≡ through_in self.now }
+        ensures messages { (s : Start) (messages : List Message) → Follows self.now s messages → result ≡ complete_after s.start s.cursor messages }
+    {
+        if self.floor < self.cursor {
+            return None;
+        }
+        Some(self.floor)
+    }
+
+    /// The timestamp at which its rows are the map as they stand, where a message shows it that is to be taken next: the
+    /// first row of a later timestamp, above the cursor, shows that all below it was told.
+    pub fn ready(&self, message: &Message) -> Option<u64>
+        ensures ready { result ≡ ready_in self.now message.now }
+        ensures messages { (s : Start) (taken : List Message) → Follows self.now s taken → result ≡ ready_after s.span s.start s.cursor taken message.now }
+    {
+        match message {
+            Message::Row(row) => {
+                if self.fault(message).is_some() || !self.is_first(row) {
+                    return None;
+                }
+                Some(row.ts.get() - 1)
+            }
+            Message::Resolved(_) => None,
+        }
+    }
+
+    /// Whether a row is the first of its timestamp, and above the cursor.
+    fn is_first(&self, row: &Row) -> bool
+        ensures { result ≡ is_first_in self.now row.now }
+    {
+        self.cursor < row.ts.get() && !is_of(&self.last, row.ts.get())
     }
 
     /// The span.

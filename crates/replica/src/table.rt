@@ -1,5 +1,5 @@
 //! Rows with an index by value.
-ghost use Rattle.std.specs.Prelude.{◌≡◌, ℕ, List, [], None, Some, OnOk, OnErr, IfOk, length};
+ghost use Rattle.std.specs.Prelude.{◌≡◌, ℕ, List, [], None, Some, IsSome, OnOk, OnErr, IfOk, length};
 ghost use Rattle.std.specs.Option.{option_copied};
 ghost use Rattle.spans.specs.Serial.{put};
 ghost use Rattle.replica.specs.Rows.{value_at, AreRowsOf, AreKeysWith};
@@ -90,6 +90,7 @@ impl Table {
     pub(crate) fn change(&mut self, key: &Key, after: Option<Value>) -> Result<(), AllocError>
         ensures ok { OnOk result ((x : List ℕ) → value_at self.new x ≡ put (value_at self.old) key.now after x) }
         ensures err { OnErr result (self.new ≡ self.old) }
+        ensures memory { OnErr result (IsSome after) }
     {
         match after {
             None => {

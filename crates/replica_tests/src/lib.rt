@@ -21,6 +21,8 @@
 //! resolved 19=3     resolved through 19              3: a row of 20 was told
 //! resolved 20=0     resolved through 20              0: taken
 //! at=20             the timestamp of all rows        20
+//! before 25 b 2=24  the rows before b is 2 at 25     24: they are the map there
+//! through=20        through where all was told       20
 //! ```
 #![tactic(auto)]
 

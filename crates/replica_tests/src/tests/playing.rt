@@ -60,15 +60,24 @@ fn ask(
 ) -> Option<()> {
     match name {
         b'a' => put_number_or_none(alloc, out, replica.at_resolved()),
+        b't' => put_number_or_none(alloc, out, replica.complete_through()),
+        b'b' => put_number_or_none(alloc, out, replica.ready(&message(alloc, words)?)),
         b'l' => put_length(alloc, out, replica),
         b'k' => put_keys(alloc, out, replica, words.word()),
         b'g' => put_value(alloc, out, replica, words.word()),
         b'r' => match words.rest.split_once(' ') {
             None if words.rest.is_empty() => put_rows(out, replica),
-            None => put_code(alloc, out, replica.apply(resolved(words)?)),
-            Some(_) => put_code(alloc, out, replica.apply(row(alloc, words)?)),
+            _ => put_code(alloc, out, replica.apply(message(alloc, words)?)),
         },
         _ => None,
+    }
+}
+
+/// A message: a row, or a timestamp alone, which is resolved.
+fn message(alloc: Global, words: &mut Words<'_>) -> Option<Message> {
+    match words.rest.split_once(' ') {
+        None => resolved(words),
+        Some(_) => row(alloc, words),
     }
 }
 

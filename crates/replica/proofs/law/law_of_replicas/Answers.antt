@@ -1,22 +1,26 @@
+use Rattle.std.proofs.Common.{◌≡◌, ℕ, Some}
 use Rattle.spans.specs.Effects.{effects_of}
+use Rattle.spans.specs.Feeds.{Feed, feed_of}
 use Rattle.spans.specs.Consumer.{ConsumerIsRight}
 use Rattle.spans.proofs.Legal.{legal_allowed}
 use Rattle.spans.proofs.Feeding.{fed, feed_rises, feeding}
 use Rattle.spans.proofs.Taking.{told_taken}
 use Rattle.spans.proofs.Viewing.{views}
+use Rattle.spans.proofs.GoingOn.{complete_is_right}
 use Rattle.replica.proofs.Completing.{replica_is_right, starts_initial, starts_seeded}
 use Rattle.replica.proofs.law.law_of_replicas.Goals as goal
 
 pub returns-clause-right : goal.returns-clause-right
 returns-clause-right c = λ h f legal feed is s starts.
     let all = legal_allowed h legal in
-    let right = fed (effects_of h) all f feed is in
-    let so_far = feeding (effects_of h) all f feed is in
-    let consumer : ConsumerIsRight (effects_of h) f feed = record {
-      takes = told_taken (effects_of h) f feed so_far.begins.0 so_far.begins.1 so_far.divides (feed_rises (effects_of h) f feed so_far) so_far.below;
-      views = views (effects_of h) f feed right.divides (feed_rises (effects_of h) f feed so_far);
+    let consumer : (g : ℕ) (next : Feed) → feed_of (effects_of h) g ≡ Some next → ConsumerIsRight (effects_of h) g next = λ g next opened.
+    let so_far = feeding (effects_of h) all g next opened in record {
+      takes = told_taken (effects_of h) g next so_far.begins.0 so_far.begins.1 so_far.divides (feed_rises (effects_of h) g next so_far) so_far.below;
+      views = views (effects_of h) g next so_far.divides (feed_rises (effects_of h) g next so_far);
     } in
-    replica_is_right (effects_of h) f feed s starts consumer
+    replica_is_right (effects_of h) f feed s starts (consumer f feed is)
+    (complete_is_right (effects_of h) f feed (fed (effects_of h) all f feed is) (consumer f feed is).takes (λ g next opened. fed (effects_of h) all g next opened))
+    consumer
 
 pub returns-clause-initial : goal.returns-clause-initial
 returns-clause-initial c = starts_initial

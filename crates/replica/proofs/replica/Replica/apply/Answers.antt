@@ -10,5 +10,6 @@ returns-in-Some-clause-refused c = fault_is c.args.self.now c.args.message c.in-
 pub returns-in-Resolved-clause-ok : goal.returns-in-Resolved-clause-ok
 returns-in-Resolved-clause-ok c =
     let none : fault_in c.args.self.now c.args.message ≡ None = sym c.fault.ensures ∙ none_of c.fault.result c.in_default.not-Some in
-    rw c.in-Resolved.is (takes_resolved c.args.self.now (record c.args.self.now { resolved = c.get-self.result; complete = Some c.get.result }) c.in-Resolved.ts
-    refl refl (resolved_above c.args.self.now c.in-Resolved.ts (subst (λ m. fault_in c.args.self.now m ≡ None) c.in-Resolved.is none)) c.get-self.ensures.number refl (ap Some c.get.ensures.number))
+    let at : c.get-at.result ≡ c.in-Resolved.ts = c.get-at.ensures.number in
+    rw c.in-Resolved.is (takes_resolved c.args.self.now (record c.args.self.now { resolved = c.get-at.result; floor = c.get-at.result; complete = Some c.get-at.result }) c.in-Resolved.ts
+    refl refl (resolved_above c.args.self.now c.in-Resolved.ts (subst (λ m. fault_in c.args.self.now m ≡ None) c.in-Resolved.is none)) at refl (ap Some at) refl at)

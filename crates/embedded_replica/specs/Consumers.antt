@@ -1,0 +1,126 @@
+-- What a consumer that is called by text holds, and what each call does to it (this project's own).
+use Rattle.std.specs.Prelude.{ℕ, List, [], Bool, true, false, ◌≡◌, ◌≢◌, ◌⊎◌, ◌<◌, nat_le, length, take, drop, ◌++◌, flat_map, if◌then◌else◌, Option, Some, None, option_and_then, Ok, Err}
+use Rattle.timestamps.specs.declared.ts.TheConstants.{MAX}
+use Rattle.timestamps.specs.declared.key.TheConstants.{MAX_KEY_BYTES}
+use Rattle.timestamps.specs.declared.key.KeyError.{KeyError}
+use Rattle.timestamps.specs.declared.key.KeyError.TheVariants.{KeyLength, NoMemory}
+use Rattle.spans.specs.declared.span.Span.{Span}
+use Rattle.spans.specs.declared.calls.commands.Cmd.{Cmd}
+use Rattle.spans.specs.declared.calls.commands.Cmd.TheVariants.{Open, OpenInitial, OpenEvery, OpenInitialEvery}
+use Rattle.spans.specs.declared.calls.messages.Message.{Message}
+use Rattle.text_format.specs.declared.Format.TheVariants.{Two}
+use Rattle.json_lines.specs.declared.fault.MessageFault.{MessageFault}
+use Rattle.json_lines.specs.declared.fault.MessageFault.TheVariants as lines
+use Rattle.json_lines.specs.Messages.{IsMessage, message_line}
+use Rattle.json_lines.specs.Tests.{message_at}
+use Rattle.word_lines.specs.Reading.{command_at}
+use Rattle.word_lines.specs.Replies.{row_line}
+use Rattle.word_lines.specs.Table.{table}
+use Rattle.replica.specs.declared.fault.Fault.{Fault}
+use Rattle.replica.specs.declared.fault.Fault.TheVariants as faults
+use Rattle.replica.specs.declared.replica.Replica.{Replica}
+use Rattle.replica.specs.Faults.{AddsValue}
+use Rattle.replica.specs.Replicas.{view_in, Follows, Takes, IsFaultAt, test_of}
+use Rattle.replica.specs.Rows.{AreRowsOf}
+use Rattle.replica.specs.Tests.{ready_in}
+use Rattle.replica.specs.Starts.{Start, seeded_start, initial_start}
+use Rattle.embedded_replica.specs.declared.consumer.Consumer.{Consumer}
+use Rattle.embedded_replica.specs.declared.consumer.Opening.{Opening}
+use Rattle.embedded_replica.specs.declared.consumer.OpenError.{OpenError}
+use Rattle.embedded_replica.specs.declared.consumer.OpenError.TheVariants as errors
+use Rattle.embedded_replica.specs.declared.consumer.TakeError.{TakeError}
+use Rattle.embedded_replica.specs.declared.consumer.TakeError.TheVariants as takes
+
+-- the replica of a consumer
+abbrev pub replica_of : Consumer → Replica
+replica_of c = c.replica
+
+abbrev pub opening : Span → ℕ → Bool → Opening
+opening span cursor initial = record { span = span; cursor = cursor; initial = initial }
+
+-- what a command opens, if it opens a feed
+abbrev pub opening_of : Cmd → Option Opening
+opening_of (Open span cursor) = Some (opening span cursor false)
+opening_of (OpenInitial span cursor) = Some (opening span cursor true)
+opening_of (OpenEvery span cursor gap) = Some (opening span cursor false)
+opening_of (OpenInitialEvery span cursor gap) = Some (opening span cursor true)
+opening_of cmd = None
+
+-- with what a replica of the feed begins: none above the greatest timestamp
+abbrev pub start_at : Opening → Option Start
+start_at o = if nat_le o.cursor MAX then Some (if o.initial then initial_start o.span o.cursor else seeded_start o.span o.cursor []) else None
+
+abbrev pub start_of : Cmd → Option Start
+start_of cmd = option_and_then start_at (opening_of cmd)
+
+-- the replica begins as the one of the feed that the command opens, or there is none
+abbrev pub BeginsBy : Cmd → Option Replica → Type 0
+BeginsBy cmd None = start_of cmd ≡ None
+BeginsBy cmd (Some r) = (start : Start) × (start_of cmd ≡ Some start) × Follows r start []
+
+-- the replica begins as the one of the feed that the line's command opens
+pub record Begins (line : List ℕ) (new : Replica) : Type 0 where
+  pub seat : ℕ
+  pub command : Cmd
+  pub read : command_at Two table 64 line ≡ Ok (seat, command)
+  pub begins : BeginsBy command (Some new)
+
+-- why none begins
+abbrev pub IsUnopened : List ℕ → OpenError → Type 0
+IsUnopened line (errors.Fault f) = command_at Two table 64 line ≡ Err f
+IsUnopened line errors.NoFeed = (seat : ℕ) × (command : Cmd) × (command_at Two table 64 line ≡ Ok (seat, command)) × BeginsBy command None
+IsUnopened line errors.NoMemory = Unit {0}
+
+-- the line is that of the message
+pub record IsLineOf (line : List ℕ) (m : Message) : Type 0 where
+  pub lawful : IsMessage Two m
+  pub is : line ≡ message_line m
+
+-- the line's message was taken
+pub record HasTaken (line : List ℕ) (old new : Replica) : Type 0 where
+  pub message : Message
+  pub line_of : IsLineOf line message
+  pub right : IsFaultAt old message None
+  pub taken : Takes old new message
+
+-- the line's message is refused
+pub record HasRefused (line : List ℕ) (old : Replica) (fault : Fault) : Type 0 where
+  pub message : Message
+  pub line_of : IsLineOf line message
+  pub test : IsFaultAt old message (test_of fault)
+  pub memory : fault ≡ faults.NoMemory → AddsValue message
+
+-- the line is no message's, by the first test that it doesn't pass, or memory is wanting
+abbrev pub IsNoMessage : List ℕ → MessageFault → Type 0
+IsNoMessage line fault = fault ≢ lines.NoMemory → message_at Two line ≡ Err fault
+
+-- the timestamp at which the rows are the map, where the line's message shows it
+pub record IsReady (line : List ℕ) (r : Replica) (at : Option ℕ) : Type 0 where
+  pub message : Message
+  pub line_of : IsLineOf line message
+  pub ready : at ≡ ready_in r message
+
+-- why a line isn't taken
+abbrev pub IsRefused : List ℕ → Replica → TakeError → Type 0
+IsRefused line old (takes.Line fault) = IsNoMessage line fault
+IsRefused line old (takes.Message fault) = HasRefused line old fault
+
+-- the bytes are too few or too many for a key, or memory is wanting
+abbrev pub IsNoKey : List ℕ → KeyError → Type 0
+IsNoKey key KeyLength = (length key ≡ 0) ⊎ (MAX_KEY_BYTES < length key)
+IsNoKey key NoMemory = Unit {0}
+
+-- the text stands at the front of the bytes, as far as there is room, the other bytes are as they were, and its whole length is told
+abbrev pub IsShown : List ℕ → (before after : List ℕ) → ℕ → Type 0
+IsShown text before after told = (told ≡ length text) × (after ≡ take (length before) text ++ drop (length text) before)
+
+-- the value that the replica has at the key is shown, as far as there is room, or there is none, and nothing is
+abbrev pub Shows : Replica → List ℕ → (before after : List ℕ) → Option ℕ → Type 0
+Shows r key before after None = (view_in r key ≡ None) × (after ≡ before)
+Shows r key before after (Some n) = (value : List ℕ) × (view_in r key ≡ Some value) × IsShown value before after n
+
+-- the lines of all rows are shown, as far as there is room, keys rising
+pub record ShowsRows (r : Replica) (before after : List ℕ) (n : ℕ) : Type 0 where
+  pub rows : List (List ℕ × List ℕ)
+  pub all : AreRowsOf (view_in r) rows
+  pub shown : IsShown (flat_map row_line rows) before after n

@@ -1,0 +1,205 @@
+//! The consumer of one feed.
+ghost use Rattle.std.specs.Prelude.{◌≡◌, [], IfOk, IfErr, OnErr};
+ghost use Rattle.replica.specs.Replicas.{through_in, complete_in, Follows};
+ghost use Rattle.replica.specs.Starts.{seeded_start};
+ghost use Rattle.embedded_replica.specs.Consumers.{replica_of, opening_of, Begins, BeginsBy, IsUnopened, HasTaken, IsRefused, IsReady, IsNoMessage, IsNoKey, Shows, ShowsRows};
+
+use crate::showing::{show, text_of};
+use json_lines::{MessageFault, read_message};
+use replica::{Fault, Replica};
+use spans::calls::{Cmd, Message};
+use spans::span::Span;
+use std::alloc::{AllocError, Global};
+use text_format::Format;
+use timestamps::key::{Key, KeyError};
+use timestamps::ts::MAX;
+use word_lines::commands::read_command;
+use word_lines::fault::{LineFault, ReadError};
+
+/// A replica of a feed's span, with the program's heap.
+#[derive(Drop)]
+pub struct Consumer {
+    alloc: Global,
+    pub(crate) replica: Replica,
+}
+
+/// Why no consumer begins by a line.
+#[derive(Clone, Copy, Debug)]
+pub enum OpenError {
+    /// The line is faulty.
+    Fault(LineFault),
+    /// The line's command opens no feed, or opens it above the greatest timestamp.
+    NoFeed,
+    /// A growth of memory was refused.
+    NoMemory,
+}
+
+/// Why a line was not taken. Nothing changed.
+#[derive(Clone, Copy, Debug)]
+pub enum TakeError {
+    /// It isn't the line of a message, or found no memory.
+    Line(MessageFault),
+    /// Its message is refused, or found no memory.
+    Message(Fault),
+}
+
+impl Consumer {
+    /// The consumer of the feed that a line's command opens, from any seat: a line of format two, with its newline.
+    ///
+    /// It begins empty. One of an initial feed is told what the span held at the cursor; any other is to be told only
+    /// of a feed whose span held nothing there.
+    pub fn open(alloc: Global, line: &[u8]) -> Result<Consumer, OpenError>
+        ensures ok { IfOk result (λ c. Begins line.now (replica_of c)) }
+        ensures err { IfErr result (IsUnopened line.now) }
+    {
+        let cmd = match read_command(alloc, line, 64, Format::Two) {
+            Ok((_, cmd)) => cmd,
+            Err(ReadError::Fault(fault)) => return Err(OpenError::Fault(fault)),
+            Err(ReadError::NoMemory) => return Err(OpenError::NoMemory),
+        };
+        match begun(alloc, cmd) {
+            Ok(Some(replica)) => Ok(Consumer { alloc, replica }),
+            Ok(None) => Err(OpenError::NoFeed),
+            Err(_) => Err(OpenError::NoMemory),
+        }
+    }
+
+    /// Takes the line of a message, with its newline.
+    pub fn take(&mut self, line: &[u8]) -> Result<(), TakeError>
+        ensures ok { IfOk result (λ _. HasTaken line.now (replica_of self.old) (replica_of self.new)) }
+        ensures err { OnErr result (self.new ≡ self.old) }
+        ensures refused { IfErr result (IsRefused line.now (replica_of self.old)) }
+    {
+        let message = match read_message(self.alloc, line, Format::Two) {
+            Ok(message) => message,
+            Err(fault) => return Err(TakeError::Line(fault)),
+        };
+        match self.replica.apply(message) {
+            Ok(()) => Ok(()),
+            Err(fault) => Err(TakeError::Message(fault)),
+        }
+    }
+
+    /// The timestamp at which the rows are the map as they stand, where the line's message shows it, which is to be taken
+    /// next.
+    pub fn ready(&self, line: &[u8]) -> Result<Option<u64>, MessageFault>
+        ensures ok { IfOk result (λ at. IsReady line.now (replica_of self.now) at) }
+        ensures err { IfErr result (IsNoMessage line.now) }
+    {
+        let message = read_message(self.alloc, line, Format::Two)?;
+        Ok(self.replica.ready(&message))
+    }
+
+    /// The timestamp through which it was told all.
+    pub fn complete_through(&self) -> Option<u64>
+        ensures { result ≡ through_in (replica_of self.now) }
+    {
+        self.replica.complete_through()
+    }
+
+    /// The timestamp at which its rows are the map, after a resolved message and before all messages of a feed that is not
+    /// initial.
+    pub fn at_resolved(&self) -> Option<u64>
+        ensures { result ≡ complete_in (replica_of self.now) }
+    {
+        self.replica.at_resolved()
+    }
+
+    /// Shows the value of a key, and tells its whole length, or none where the key has no value.
+    pub fn get(&self, key: &[u8], out: &mut [u8]) -> Result<Option<usize>, KeyError>
+        ensures ok { IfOk result (Shows (replica_of self.now) key.now out.old out.new) }
+        ensures err { OnErr result (out.new ≡ out.old) }
+        ensures refused { IfErr result (IsNoKey key.now) }
+    {
+        let key = Key::new(self.alloc, key)?;
+        match self.replica.get(&key) {
+            None => Ok(None),
+            Some(value) => Ok(Some(show(value.bytes(), out))),
+        }
+    }
+
+    /// Shows the lines of all rows, keys rising, and tells their whole length.
+    pub fn rows(&self, out: &mut [u8]) -> Result<usize, AllocError>
+        ensures ok { IfOk result (ShowsRows (replica_of self.now) out.old out.new) }
+        ensures err { OnErr result (out.new ≡ out.old) }
+    {
+        let text = text_of(self.alloc, self.replica.rows())?;
+        Ok(show(text.as_slice(), out))
+    }
+}
+
+/// What a command opens.
+#[derive(Drop)]
+struct Opening {
+    span: Span,
+    cursor: u64,
+    initial: bool,
+}
+
+/// What a command opens, if it opens a feed.
+fn opening_of(cmd: Cmd) -> Option<Opening>
+    ensures { result ≡ opening_of cmd }
+{
+    match cmd {
+        Cmd::Open { span, cursor }
+        | Cmd::OpenEvery {
+            span,
+            cursor,
+            gap: _,
+        } => Some(Opening {
+            span,
+            cursor,
+            initial: false,
+        }),
+        Cmd::OpenInitial { span, cursor }
+        | Cmd::OpenInitialEvery {
+            span,
+            cursor,
+            gap: _,
+        } => {
+            Some(Opening {
+                span,
+                cursor,
+                initial: true,
+            })
+        }
+        _ => None,
+    }
+}
+
+/// The replica of the feed that a command opens, if it opens one at a timestamp.
+fn begun(alloc: Global, cmd: Cmd) -> Result<Option<Replica>, AllocError>
+    ensures { IfOk result (BeginsBy cmd) }
+{
+    let Some(
+        Opening {
+            span,
+            cursor,
+            initial,
+        },
+    ) = opening_of(cmd)
+    else {
+        return Ok(None);
+    };
+    if cursor > MAX {
+        return Ok(None);
+    }
+    if initial {
+        return Ok(Some(Replica::new_initial(alloc, span, cursor)));
+    }
+    let replica = empty(alloc, span, cursor)?;
+    Ok(Some(replica))
+}
+
+/// A replica with no rows at a cursor.
+fn empty(alloc: Global, span: Span, cursor: u64) -> Result<Replica, AllocError>
+    ensures { IfOk result (λ r. Follows r (seeded_start span cursor []) []) }
+{
+    match Replica::new(alloc, span, cursor, Vec::new(alloc)) {
+        Ok(replica) => Ok(replica),
+        // no rows are no fault
+        Err(Fault::NoMemory | Fault::NotAfter | Fault::OutsideSpan | Fault::ResolvedBack) => {
+            Err(AllocError)
+        }
+    }
+}

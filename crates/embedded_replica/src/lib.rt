@@ -1,0 +1,35 @@
+//! A replica of a feed's span that is called by text, as programs in other languages call it: the line of the command
+//! that opened the feed begins it, and the lines of the feed's messages go in.
+//!
+//! It knows no C. The static library `ripsawbean` is the caller: it keeps one behind each handle. The rules are those of
+//! `replica`: which messages are taken, which rows there are, and when they are the map.
+//!
+//! 1. A line that isn't taken changes nothing.
+//! 2. The rows are those of the messages that were taken.
+//!
+//! ```text
+//!                                                          answer             rows       through   complete at
+//! open "0 open - - 5\n"                                    done               none       5         5
+//! take {"after":"MQ==","key":"YQ==","updated":"10"}        done               a 1        9         -
+//! take {"after":"MQ==","key":"YQ==","updated":"10"}        Message(NotAfter)  (as before)
+//! take {"after":"MQ==",                                    Line(NotJson)      (as before)
+//! ready {"after":"Mg==","key":"Yg==","updated":"20"}       19                 (as before)
+//! take {"resolved":"30"}                                   done               a 1        30        30
+//! ```
+//!
+//! Costs, where it has n rows:
+//!
+//! - `open`: its line
+//! - `take`, `ready`: its line, and O(log n)
+//! - `get`: O(log n), and the bytes copied
+//! - `rows`: the text of all rows
+//! - `complete_through`, `at_resolved`: O(1)
+//!
+//! `open`, `take` and `ready` take memory for what their line has, `take` for a row with a value once more, `get` for its key,
+//! and `rows` for its text, which is given back at once.
+#![tactic(auto)]
+
+mod consumer;
+mod showing;
+
+pub use consumer::{Consumer, OpenError, TakeError};
