@@ -11,7 +11,7 @@ const SYMBOLS: [u8; 64] = *b"ABCDEFGHIJKLMNOPQRSTUVWXYZabcdefghijklmnopqrstuvwxy
 
 /// Writes the base64 of bytes.
 #[tactic(auto, using(crate::proofs::Writing::keeping))]
-pub(crate) fn put_base64(out: &mut Vec<u8>, bytes: &[u8]) -> Result<(), AllocError>
+pub fn put_base64(out: &mut Vec<u8>, bytes: &[u8]) -> Result<(), AllocError>
     ensures ok { OnOk result (out.new.items ≡ out.old.items ++ base64 bytes.now) }
     ensures err { OnErr result (Keeps out.old.items out.new.items) }
 {

@@ -1,7 +1,7 @@
 //! Messages of a feed as lines of JSON, and back.
 //!
 //! `script` reads the messages of a transcript by it, and `jobs` those of a feed that is followed. `word_lines` writes
-//! messages, and shares its number words and its buffers.
+//! messages, and shares its number words and its buffers. `report_lines` shares those and its base64.
 //!
 //! A line is one object and a newline. Its members stand in byte order of their names, there are no spaces, a timestamp
 //! is a number word in quotes, and bytes are base64 (RFC 4648, with padding). So each message has one line, and only
@@ -25,6 +25,7 @@
 //!   faulty line has a tree built of it as well
 //! - `write_message`, `write_message_line`: O(b), each byte once
 //! - `number_of`, `put_number`: O(b), each digit once
+//! - `put_base64`: O(b), each byte once
 //! - `or_undo`: O(1)
 //!
 //! `read_message` takes memory for a key and a value, at most twice each, and for the tree of a faulty line. The
@@ -32,7 +33,7 @@
 //! `or_undo` take none.
 #![tactic(auto)]
 
-mod base64_text;
+pub mod base64_text;
 pub mod buffer;
 mod fault;
 mod message_line;

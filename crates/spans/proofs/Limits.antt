@@ -16,7 +16,7 @@ use Rattle.spans.specs.Transactions.{closed_of}
 use Rattle.spans.specs.Feeds.{Feed, feed_of, feeds_opened}
 use Rattle.spans.specs.Collection.{Protection, LiveFeed, live_feeds, protections_of, floor_of}
 use Rattle.spans.specs.Legal.{IsLegal}
-use Rattle.spans.specs.Report.{limit, first_least, protection_limit, feed_limit, limit_of, protection_report, IsFeedReport, IsReport, told_protection, told_feed}
+use Rattle.spans.specs.Report.{limit, first_least, protection_limit, feed_limit, limit_of, protection_report, IsFeedReport, IsReport, told_protection, told_feed, limit_in}
 use Rattle.spans.proofs.Copies.{AllAllowed}
 use Rattle.spans.proofs.Feeding.{unopened}
 use Rattle.spans.proofs.Legal.{legal_allowed}
@@ -77,16 +77,13 @@ feed_limits whole p (n ∷ ns) (w ∷ ws) e rs os =
     ap (λ l. l ∷ map told_feed ns) here ∙ ap (λ l. feed_limit p w ∷ l) more
 
 -- the limit that is found in a report of a legal history
-pub report_limit : (h : List Event) → IsLegal h → (whole : Bool) (r : Report) → IsReport whole (effects_of h) r
-    → first_least (first_least (limit r.closed holders.Closed) (map told_protection r.protections.items)) (map told_feed r.feeds.items) ≡ limit_of (effects_of h)
+pub report_limit : (h : List Event) → IsLegal h → (whole : Bool) (r : Report) → IsReport whole (effects_of h) r → limit_in r ≡ limit_of (effects_of h)
 report_limit h legal whole r is =
     let p = effects_of h in
     let ps = map protection_limit (reverse (protections_of p)) in
     let fs = map (feed_limit p) (reverse (live_feeds p)) in
     let protections : map told_protection r.protections.items ≡ ps = ap (map told_protection) is.protections ∙ protection_limits (reverse (protections_of p)) in
-    let feeds : map told_feed r.feeds.items ≡ fs =
-    feed_limits whole p r.feeds.items (reverse (live_feeds p)) is.feeds.numbers is.feeds.right (All-reverse (WasOpened p) (live_feeds p) (lives_opened p (legal_allowed h legal))) in
-    ap (λ t. first_least (first_least (limit t holders.Closed) (map told_protection r.protections.items)) (map told_feed r.feeds.items)) is.closed
-    ∙ ap (λ l. first_least (first_least (limit (closed_of p) holders.Closed) l) (map told_feed r.feeds.items)) protections
-    ∙ ap (λ l. first_least (first_least (limit (closed_of p) holders.Closed) ps) l) feeds
-    ∙ sym (first_least-append (limit (closed_of p) holders.Closed) ps fs)
+    let feeds : map told_feed r.feeds.items ≡ fs = feed_limits whole p r.feeds.items (reverse (live_feeds p)) is.feeds.numbers is.feeds.right (All-reverse (WasOpened p) (live_feeds p) (lives_opened p (legal_allowed h legal))) in
+    ap (λ t. first_least (limit t holders.Closed) (map told_protection r.protections.items ++ map told_feed r.feeds.items)) is.closed
+    ∙ ap (λ l. first_least (limit (closed_of p) holders.Closed) (l ++ map told_feed r.feeds.items)) protections
+    ∙ ap (λ l. first_least (limit (closed_of p) holders.Closed) (ps ++ l)) feeds

@@ -47,6 +47,9 @@ told_protection n = limit n.timestamp (holders.Protection n.number)
 abbrev pub told_feed : FeedReport → Limit
 told_feed n = limit n.floor (holders.Feed n.number)
 
+abbrev pub limit_in : Report → Limit
+limit_in r = first_least (limit r.closed holders.Closed) (map told_protection r.protections.items ++ map told_feed r.feeds.items)
+
 -- the timestamp that was resolved last
 abbrev pub last_told : Option ℕ → List Message → Option ℕ
 last_told o [] = o

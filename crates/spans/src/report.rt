@@ -108,10 +108,11 @@ impl Report {
     ghost use Rattle.spans.specs.declared.calls.events.Event.{Event};
     ghost use Rattle.spans.specs.Effects.{effects_of};
     ghost use Rattle.spans.specs.Legal.{IsLegal};
-    ghost use Rattle.spans.specs.Report.{IsReport, limit_of};
+    ghost use Rattle.spans.specs.Report.{IsReport, limit_in, limit_of};
 
     /// How far a collection can go now, and what keeps it there.
     pub fn limit(&self) -> Limit
+        ensures exact { result ≡ limit_in self.now }
         ensures whole { (h : List Event) → IsLegal h → IsReport true (effects_of h) self.now → result ≡ limit_of (effects_of h) }
         ensures live { (h : List Event) → IsLegal h → IsReport false (effects_of h) self.now → result ≡ limit_of (effects_of h) }
     {
