@@ -6,10 +6,12 @@ import importlib.machinery
 import importlib.util
 import io
 import os
+import sys
 import tempfile
 import unittest
 
 TOP = os.path.dirname(os.path.dirname(os.path.abspath(__file__)))
+sys.dont_write_bytecode = True
 loader = importlib.machinery.SourceFileLoader("checks", os.path.join(TOP, "checks"))
 checks = importlib.util.module_from_spec(importlib.util.spec_from_loader("checks", loader))
 loader.exec_module(checks)

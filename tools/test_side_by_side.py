@@ -10,6 +10,7 @@ import time
 import unittest
 
 HERE = os.path.dirname(os.path.abspath(__file__))
+sys.dont_write_bytecode = True
 sys.path.insert(0, HERE)
 import side_by_side  # noqa: E402
 from side_by_side import Crate  # noqa: E402
