@@ -11,6 +11,8 @@ import subprocess
 import sys
 from collections import defaultdict
 
+sys.dont_write_bytecode = True
+
 TOP = os.path.dirname(os.path.dirname(os.path.abspath(__file__)))
 LONGEST_CLAUSE = 160
 MOST_LINES = 600
@@ -264,9 +266,21 @@ def paths_of_machines(house):
 
 
 @rule
+def pictures(house):
+    """A picture is what its text says: `docs/pictures/draw.py` draws it."""
+    sys.path.insert(0, os.path.join(TOP, "docs", "pictures"))
+    import draw
+
+    for path in house.ending(".txt", under="docs/pictures/"):
+        svg = path[:-4] + ".svg"
+        if svg not in house.paths or house.text(svg) != draw.drawn(house.text(path)):
+            yield svg, 1, "it isn't what its text says"
+
+
+@rule
 def words(house):
-    """The pages have at most 22,000 words together."""
-    count = sum(len(house.text(it).split()) for it in house.pages() if it != WRITTEN)
+    """The pages have at most 22,000 words together; a word has a letter or a digit."""
+    count = sum(len(re.findall(r"\S*\w\S*", house.text(it))) for it in house.pages() if it != WRITTEN)
     if count > MOST_WORDS:
         yield "docs", 1, "the pages have %d words" % count
 

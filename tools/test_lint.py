@@ -77,6 +77,9 @@ PLANTED = {
     "file_length": [("docs/GUIDE.md", "\n## First", "\n" * 600 + "## First")],
     "line_length": [("docs/GUIDE.md", "For users.", "For users." + " word" * 30)],
     "paths_of_machines": [("README.md", "more", "/ho" + "me/me/more")],
+    "pictures": [
+        ("docs/pictures/one.txt", "", "layers One\nrow: box\n"),
+    ],
     "words": [("docs/GUIDE.md", "For users.", "For users." + "\nword" * 500)],
 }
 
