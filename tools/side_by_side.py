@@ -173,8 +173,6 @@ def rooms_of(top):
     rooms = os.path.join(asked.stdout.strip(), "side-by-side")
     os.makedirs(rooms, exist_ok=True)
     yield rooms
-    with contextlib.suppress(OSError):
-        os.rmdir(rooms)
 
 
 def copied(top, room, name, parts):
@@ -325,12 +323,21 @@ class Build:
         return True
 
 
+def is_made_since(top, name, moment):
+    """Whether another build has made the crate since this moment."""
+    made = [os.path.join(top, "crates", name, "out", it) for it in (name, "lib%s.a" % name, "rlib")]
+    return any(os.path.exists(it) and os.stat(it).st_ctime >= moment for it in made)
+
+
 def main(words):
     if not words:
         sys.exit("tools/side_by_side.py CRATE [WORD..]")
+    began = time.time()
     with rooms_of(TOP) as rooms:
         build = Build(TOP, rooms, words[0], words[1:])
         with locked(rooms, build.say):
+            if is_made_since(TOP, words[0], began):
+                return 0
             signal.signal(signal.SIGTERM, build.end)
             signal.signal(signal.SIGINT, build.end)
             return 0 if build.run() else 1

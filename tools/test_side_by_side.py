@@ -124,7 +124,7 @@ class Builds(unittest.TestCase):
         self.assertIn("top begins run --jobs", self.noted()[-2])
         self.assertIn("-- run", self.noted()[-2])
         self.assertIn("none left", told)
-        self.assertFalse(os.path.exists(self.rooms()))
+        self.assertEqual(os.listdir(self.rooms()), [])
 
     def test_what_was_proved_is_not_proved_again(self):
         self.build()
@@ -140,6 +140,15 @@ class Builds(unittest.TestCase):
         self.write("crates/left/src/lib.rt", "as left\n")
         self.assertEqual(self.build()[0], 0)
 
+    def test_of_two_at_once_one_waits_and_finds_all_made(self):
+        open(self.notes, "w").close()
+        both = [self.started(), self.started()]
+        told = [it.communicate(timeout=50)[1] for it in both]
+        self.assertEqual([it.returncode for it in both], [0, 0])
+        self.assertEqual(len([it for it in self.noted() if " ends" in it]), 4)
+        self.assertEqual(len([it for it in self.noted() if " begins" in it]), 4)
+        self.assertEqual(sum("waiting for it" in it for it in told), 1)
+
     def test_a_run_that_is_broken_off_loses_nothing(self):
         self.write("crates/left/src/lib.rt", "slow\n")
         open(self.notes, "w").close()
@@ -150,7 +159,7 @@ class Builds(unittest.TestCase):
         ran.send_signal(signal.SIGINT)
         ran.communicate(timeout=30)
         self.assertNotEqual(ran.returncode, 0)
-        self.assertTrue(os.path.isdir(self.rooms()))
+        self.assertEqual(os.listdir(self.rooms()), ["left"])
         status, _, proved = self.build()
         self.assertEqual((status, "low" in proved, "left" in proved), (0, False, True))
         with open(os.path.join(self.top, "crates/left/out/incremental/work"), encoding="utf-8") as it:
