@@ -206,6 +206,20 @@ def links(house):
 
 
 @rule
+def claims(house):
+    """A function or clause that PROOF claims something of is public in a crate that its section's heading names."""
+    crates = []
+    for number, line in house.lines("docs/PROOF.md") if "docs/PROOF.md" in house.paths else ():
+        if line.startswith("## "):
+            crates = re.findall(r"`(?:crates/)?(\w+)", line)
+        elif crates and line.startswith("| `"):
+            text = "".join(house.text(it) for crate in crates for it in house.ending(".rt", under="crates/%s/src/" % crate))
+            for name in re.findall(r"`(?:\w+::)?(\w+)`", line.split("|")[1]):
+                if not re.search(r"pub (?:unsafe )?(?:extern \"C\" )?(?:const )?fn %s\b|ensures %s " % (name, name), text):
+                    yield "docs/PROOF.md", number, "no crate of its heading has a public %s" % name
+
+
+@rule
 def kit_version(house):
     """README names the kit that is installed, as `rt version` says it."""
     told = re.findall(r"rattle-kit-\w+ logic \w+", house.text("README.md"))

@@ -67,6 +67,9 @@ PLANTED = {
         ("README.md", "#first", "#last"),
         ("docs/GUIDE.md", "src/lib.rt", "src/lob.rt"),
     ],
+    "claims": [
+        ("docs/PROOF.md", "", "# Proof\n\nFor auditors.\n\n## Low (crate `low`)\n\n| `Low::one` | one |\n| `two` | two |\n"),
+    ],
     "kit_version": [("README.md", "kit-1a", "kit-1b"), ("README.md", KIT, "")],
     "heads": [
         (LIB, "//! Low.\n", ""),
