@@ -1,8 +1,9 @@
 #!/usr/bin/env python3
-"""`tools/lint.py [RULE..]` looks for breaches of the house's own rules, which no proof and no test sees. It takes a second.
+"""`tools/lint.py [RULE..]` looks for breaches of the house's own rules, which no proof and no test sees. It takes a
+second.
 
-Each function below is a rule, and its comment says it. A breach is a line `path:line: rule: what`, and the status is then 1.
-`tools/test_lint.py` plants a breach of each rule in a small house.
+Each function below is a rule, and its comment says it. A breach is a line `path:line: rule: what`, and the status is
+then 1. `tools/test_lint.py` plants a breach of each rule in a small house.
 """
 
 import os
@@ -20,10 +21,13 @@ LONGEST_LINE = 120
 MOST_WORDS = 22000
 # Pages that other rules of words and figures leave alone: it is written by a script.
 WRITTEN = "docs/LAST-RUN.md"
-UNITS = "zero one two three four five six seven eight nine ten eleven twelve thirteen fourteen fifteen sixteen seventeen eighteen nineteen".split()
+UNITS = """zero one two three four five six seven eight nine ten eleven twelve thirteen fourteen fifteen sixteen
+seventeen eighteen nineteen""".split()
 TENS = {"twenty": 20, "thirty": 30, "forty": 40, "fifty": 50, "sixty": 60}
 # Benchmarks keep one program a file, so that one compiler call builds it.
 MAY_BE_LONG = ("bench/",)
+# Files that nobody reads line by line.
+NOT_READ = (".svg", ".lock", ".tsv", ".transcript", ".json", ".png", ".wasm")
 
 RULES = {}
 
@@ -40,7 +44,9 @@ class House:
         self.top = top
         listed = subprocess.run(
             ["git", "-C", top, "ls-files", "-z", "--cached", "--others", "--exclude-standard"],
-            capture_output=True, check=True, text=True,
+            capture_output=True,
+            check=True,
+            text=True,
         ).stdout
         self.paths = sorted({it for it in listed.split("\0") if it and os.path.isfile(os.path.join(top, it))})
         self.read = {}
@@ -59,7 +65,7 @@ class House:
         return [it for it in self.paths if it.endswith(endings) and it.startswith(under)]
 
     def pages(self):
-        """README.md and the pages of docs/, but for those of docs/web and docs/server, which say what stands round the proved core."""
+        """README.md and the pages of docs/, and not those of docs/web and docs/server, which stand round the core."""
         return [it for it in self.paths if re.fullmatch(r"README\.md|docs/[\w-]+\.md", it)]
 
     def crates(self):
@@ -101,14 +107,18 @@ def clause_length(house):
 
 @rule
 def names_once(house):
-    """The name of a public type stands in one crate. Those of tools/names-twice are known, and go from there when they are mended."""
+    """The name of a public type stands in one crate, but for those of tools/names-twice, which shrinks."""
     standing = defaultdict(dict)
     for path in house.ending(".rt", under="crates/"):
         for found in re.finditer(r"^ *pub (?:struct|enum|trait|type) (\w+)", house.text(path), re.M):
             standing[found[1]].setdefault(path.split("/")[1], (path, line_at(house.text(path), found.start())))
     twice = {name: places for name, places in standing.items() if len(places) > 1}
     listed = house.text("tools/names-twice") if "tools/names-twice" in house.paths else ""
-    known = {line.split(":")[0]: (number, set(line.split(":")[1].split())) for number, line in enumerate(listed.splitlines(), 1) if ":" in line and not line.startswith("#")}
+    known = {}
+    for number, line in enumerate(listed.splitlines(), 1):
+        if not line.startswith("#"):
+            name, _, crates = line.partition(":")
+            known[name] = number, set(crates.split())
     for name, places in sorted(twice.items()):
         if not set(places) <= known.get(name, (0, set()))[1]:
             path, number = list(places.values())[-1]
@@ -172,7 +182,8 @@ def figures(house):
             for found in re.finditer(r"(?<![\d,.])\b([\w-]+)\s+%s\b" % kind, house.text(path)):
                 told = number_of(found[1])
                 if told is not None and told != count and told > 10:
-                    yield path, line_at(house.text(path), found.start()), "`%s`, and there are %d" % (" ".join(found[0].split()), count)
+                    number, said = line_at(house.text(path), found.start()), " ".join(found[0].split())
+                    yield path, number, "`%s`, and there are %d" % (said, count)
 
 
 def anchors(text):
@@ -183,7 +194,7 @@ def anchors(text):
 
 @rule
 def links(house):
-    """A link leads somewhere, and a path in a page is there. Build products (in an `out`) and names in capitals stand for others."""
+    """A link leads somewhere, and a path in a page is there, unless it is in an `out` or has a name in capitals."""
     folders = {"/".join(it.split("/")[:n]) for it in house.paths for n in range(1, it.count("/") + 1)}
     for path in [it for it in house.paths if it.endswith(".md")]:
         at = os.path.dirname(path)
@@ -213,9 +224,10 @@ def claims(house):
         if line.startswith("## "):
             crates = re.findall(r"`(?:crates/)?(\w+)", line)
         elif crates and line.startswith("| `"):
-            text = "".join(house.text(it) for crate in crates for it in house.ending(".rt", under="crates/%s/src/" % crate))
+            sources = [it for crate in crates for it in house.ending(".rt", under="crates/%s/src/" % crate)]
+            text = "".join(house.text(it) for it in sources)
             for name in re.findall(r"`(?:\w+::)?(\w+)`", line.split("|")[1]):
-                if not re.search(r"pub (?:unsafe )?(?:extern \"C\" )?(?:const )?fn %s\b|ensures %s " % (name, name), text):
+                if not re.search(r"pub (?:[\w\"]+ )*fn %s\b|ensures %s " % (name, name), text):
                     yield "docs/PROOF.md", number, "no crate of its heading has a public %s" % name
 
 
@@ -227,7 +239,8 @@ def kit_version(house):
         yield "README.md", 1, "it names no kit"
     for it in told:
         if it != house.version():
-            yield "README.md", 1 + house.text("README.md").split(it)[0].count("\n"), "it names %s, and the kit is %s" % (it, house.version())
+            number = line_at(house.text("README.md"), house.text("README.md").index(it))
+            yield "README.md", number, "it names %s, and the kit is %s" % (it, house.version())
 
 
 @rule
@@ -241,7 +254,7 @@ def heads(house):
                 yield path, 1, "it begins with no comment"
         elif re.match(r"crates/\w+/specs/", path) and not path.endswith("/Lib.antt") and not first.startswith("--"):
             yield path, 1, "it begins with no comment"
-        elif first.startswith("#!") and not re.match(r"#!.*\n(?:#.*coding.*\n)?\s*(?:#|\"\"\"|//|/\*)", text) and path != ".ci/run":
+        elif first.startswith("#!") and path != ".ci/run" and not re.match(r"#!.*\n\s*(?:#|\"\"\"|//|/\*)", text):
             yield path, 1, "it begins with no comment"
         elif path in house.pages() and not re.match(r"# [^\n]*\n(?:\s*<!--.*?-->)?\s*\*?For ", text, re.S):
             yield path, 1, "its first words don't say whom it is for"
@@ -251,7 +264,7 @@ def heads(house):
 def file_length(house):
     """A file that people read has at most 600 lines."""
     for path in house.paths:
-        if path.endswith((".svg", ".lock", ".tsv", ".transcript", ".json", ".png", ".wasm")) or path.startswith(MAY_BE_LONG):
+        if path.endswith(NOT_READ) or path.startswith(MAY_BE_LONG):
             continue
         count = house.text(path).count("\n")
         if count > MOST_LINES:

@@ -1,16 +1,17 @@
 #!/usr/bin/env python3
 """`tools/side_by_side.py CRATE [WORD..]` makes a crate, and all crates that it stands on, side by side.
 
-`rt lib` makes the libraries below a crate one after another, and keeps every other `rt` out of their folders meanwhile. So
-each crate is proved in a room of its own: a folder with its files, the files of the crates below, and their finished
-libraries, which are laid in by links. What a room made moves into the checkout at once, and any later `rt` finds it there.
+`rt lib` makes the libraries below a crate one after another, and keeps every other `rt` out of their folders
+meanwhile. So each crate is proved in a room of its own: a folder with its files, the files of the crates below, and
+their finished libraries, which are laid in by links. What a room made moves into the checkout at once, and any later
+`rt` finds it there.
 
-Crates that don't wait for one another are proved at the same time, those with the longest chain behind them first. A crate
-gets a second processor, or up to four, where no other crate waits for one. Memory is shared out too.
+Crates that don't wait for one another are proved at the same time, those with the longest chain behind them first. A
+crate gets a second processor, or up to four, where no other crate waits for one. Memory is shared out too.
 
-A run that is broken off loses nothing: rooms stand in the folder of git, and the next run goes on in them. Without git they
-stand in a temporary folder and go when the run ends. A program is run once on no input, with the words that are given.
-Lines on standard error say how many crates and about how many minutes are left.
+A run that is broken off loses nothing: rooms stand in the folder of git, and the next run goes on in them. Without git
+they stand in a temporary folder and go when the run ends. A program is run once on no input, with the words that are
+given. Lines on standard error say how many crates and about how many minutes are left.
 """
 
 import contextlib
@@ -297,7 +298,8 @@ class Build:
         )
         with ThreadPoolExecutor(self.processors) as pool:
             while self.waiting or running:
-                for crate, jobs in chosen(self.waiting, self.made, list(running.values()), self.processors, self.memory):
+                now = list(running.values())
+                for crate, jobs in chosen(self.waiting, self.made, now, self.processors, self.memory):
                     self.waiting.remove(crate)
                     running[pool.submit(self.prove, crate, jobs)] = (crate, jobs)
                 for task in wait(running, return_when=FIRST_COMPLETED).done:

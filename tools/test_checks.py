@@ -24,7 +24,9 @@ class Checks(unittest.TestCase):
             return (*checks.run(check, dict(os.environ), limit)[:2], told.getvalue())
 
     def test_a_check_passes_with_its_count(self):
-        self.assertEqual(self.result("echo 3 tests; echo 4 tests", (r"(\d+) tests", "tests")), ("passed", "4 tests", ""))
+        self.assertEqual(
+            self.result("echo 3 tests; echo 4 tests", (r"(\d+) tests", "tests")), ("passed", "4 tests", "")
+        )
 
     def test_a_check_that_fails_shows_what_it_told(self):
         self.assertEqual(self.result("echo why >&2; false"), ("failed", "", "    why\n"))
@@ -41,7 +43,10 @@ class Checks(unittest.TestCase):
                 os.stat(late)
 
     def test_the_gate_s_row_is_the_last_count_of_its_log(self):
-        for text, told in {"3 passed, 0 failed\n": "passed", "3 passed, 0 failed\n9 passed, 1 failed (a)\n": "failed"}.items():
+        for text, told in {
+            "3 passed, 0 failed\n": "passed",
+            "3 passed, 0 failed\n9 passed, 1 failed (a)\n": "failed",
+        }.items():
             with tempfile.NamedTemporaryFile("w") as log:
                 log.write("rt: low proved\n" + text)
                 log.flush()

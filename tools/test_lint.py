@@ -1,5 +1,6 @@
 #!/usr/bin/env python3
-"""Plants a breach of each rule of lint.py in a small house that keeps them all, and sees that the rule, and no other, tells it."""
+"""Plants a breach of each rule of lint.py in a small house that keeps them all, and sees that the rule, and no other,
+tells it."""
 
 import os
 import subprocess
@@ -13,15 +14,21 @@ import lint  # noqa: E402
 
 KIT = "rattle-kit-1a logic 00ff"
 SOUND = {
-    "README.md": "# House\n\nFor readers. It has 12 crates and eleven commands; [more](docs/GUIDE.md#first-steps).\n\nKit: %s\n" % KIT,
-    "docs/GUIDE.md": "# Guide\n\nFor users.\n\n## First steps\n\nSee `crates/low/src/lib.rt`, and 12 must-fail edits.\n",
+    "README.md": "# House\n\nFor readers. It has 12 crates and eleven commands; [more](docs/GUIDE.md#first-steps).\n\n"
+    "Kit: %s\n" % KIT,
+    "docs/GUIDE.md": "# Guide\n\nFor users.\n\n## First steps\n\n"
+    "See `crates/low/src/lib.rt`, and 12 must-fail edits.\n",
     "crates.txt": "low: # the lowest\n" + "".join("c%d: low\n" % n for n in range(11)),
-    "crates/low/src/lib.rt": "//! Low.\n\npub struct Low;\n\npub fn one() -> u8\n    ensures { result \u2261 1 }\n{\n    1\n}\n",
-    "crates/spans/src/calls/commands.rt": "//! Commands.\n\npub enum Cmd {\n%s}\n" % "".join("    C%d { ts: u64 },\n" % n for n in range(11)),
+    "crates/low/src/lib.rt": "//! Low.\n\npub struct Low;\n\n"
+    "pub fn one() -> u8\n    ensures { result \u2261 1 }\n{\n    1\n}\n",
+    "crates/spans/src/calls/commands.rt": "//! Commands.\n\npub enum Cmd {\n%s}\n"
+    % "".join("    C%d { ts: u64 },\n" % n for n in range(11)),
     "crates/low/specs/Ones.antt": "-- what one is\n",
     "tools/run": "#!/bin/sh\n# Runs it.\n",
 }
-SOUND.update({"crates/low/must-fail/e%d.edit" % n: "file: src/lib.rt\nold:     1\nnew:     %d\n" % (n + 2) for n in range(12)})
+SOUND.update(
+    {"crates/low/must-fail/e%d.edit" % n: "file: src/lib.rt\nold:     1\nnew:     %d\n" % (n + 2) for n in range(12)}
+)
 
 
 def breaches(files, rules=None):
@@ -68,7 +75,11 @@ PLANTED = {
         ("docs/GUIDE.md", "src/lib.rt", "src/lob.rt"),
     ],
     "claims": [
-        ("docs/PROOF.md", "", "# Proof\n\nFor auditors.\n\n## Low (crate `low`)\n\n| `Low::one` | one |\n| `two` | two |\n"),
+        (
+            "docs/PROOF.md",
+            "",
+            "# Proof\n\nFor auditors.\n\n## Low (crate `low`)\n\n| `Low::one` | one |\n| `two` | two |\n",
+        ),
     ],
     "kit_version": [("README.md", "kit-1a", "kit-1b"), ("README.md", KIT, "")],
     "heads": [
@@ -109,7 +120,9 @@ class Rules(unittest.TestCase):
 
     def test_an_edit_of_two_pairs_is_read_in_its_order(self):
         both = "file: src/lib.rt\nold:     1\nnew:     2\nold:     2\nnew:     3\n"
-        self.assertEqual(breaches(planted("crates/low/must-fail/e3.edit", SOUND["crates/low/must-fail/e3.edit"], both)), [])
+        self.assertEqual(
+            breaches(planted("crates/low/must-fail/e3.edit", SOUND["crates/low/must-fail/e3.edit"], both)), []
+        )
 
     def test_numbers_are_read_in_words(self):
         told = {"12": 12, "twenty": 20, "twenty-one": 21, "Nineteen": 19, "several": None, "and": None}

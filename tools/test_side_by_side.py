@@ -1,5 +1,6 @@
 #!/usr/bin/env python3
-"""Tests of side_by_side.py: which crates are started when, and whole builds of a small repository by an `rt` that only plays one."""
+"""Tests of side_by_side.py: which crates are started when, and whole builds of a small repository by an `rt` that only
+plays one."""
 
 import os
 import signal
@@ -41,7 +42,9 @@ def crate(name, *deps, seconds=10, memory=1):
 
 class Choice(unittest.TestCase):
     def chosen(self, waiting, made=(), running=(), processors=4, memory=100):
-        return [(it.name, jobs) for it, jobs in side_by_side.chosen(waiting, set(made), list(running), processors, memory)]
+        return [
+            (it.name, jobs) for it, jobs in side_by_side.chosen(waiting, set(made), list(running), processors, memory)
+        ]
 
     def test_those_with_the_longest_chain_behind_them_come_first(self):
         crates = [crate("a"), crate("b", seconds=5), crate("c", "b", seconds=50)]
@@ -119,7 +122,8 @@ class Builds(unittest.TestCase):
 
     def test_a_program_is_made_with_all_below_it_and_nothing_else(self):
         status, told, proved = self.build()
-        self.assertEqual((status, proved[0], proved[-1], sorted(proved)), (0, "low", "top", ["left", "low", "right", "top"]))
+        self.assertEqual((status, proved[0], proved[-1]), (0, "low", "top"))
+        self.assertEqual(sorted(proved), ["left", "low", "right", "top"])
         self.assertTrue(os.path.isfile(os.path.join(self.top, "crates/top/out/top")))
         self.assertIn("top begins run --jobs", self.noted()[-2])
         self.assertIn("-- run", self.noted()[-2])

@@ -1,5 +1,6 @@
 #!/usr/bin/env python3
-"""Tests of the script `wrong-bodies` by an `rt` that only notes which edits it was given, and refuses none that is named `let-through`."""
+"""Tests of the script `wrong-bodies` by an `rt` that only notes which edits it was given, and refuses none that is
+named `let-through`."""
 
 import os
 import shutil
@@ -61,9 +62,18 @@ class WrongBodies(unittest.TestCase):
         open(self.notes, "w").close()
         path = os.path.join(self.room.name, "bin") + os.pathsep + os.environ["PATH"]
         ran = subprocess.run(
-            ["./wrong-bodies", *given], cwd=self.top, env={**os.environ, "PATH": path, "NOTES": self.notes}, capture_output=True, text=True)
+            ["./wrong-bodies", *given],
+            cwd=self.top,
+            env={**os.environ, "PATH": path, "NOTES": self.notes},
+            capture_output=True,
+            text=True,
+        )
         with open(self.notes, encoding="utf-8") as it:
-            return ran.returncode, ran.stdout.splitlines()[-1] if ran.stdout else ran.stderr, sorted(it.read().split())
+            return (
+                ran.returncode,
+                ran.stdout.splitlines()[-1] if ran.stdout else ran.stderr,
+                sorted(it.read().split()),
+            )
 
     def test_all_are_tried_and_none_of_the_gate_s(self):
         last = "wrong bodies: 4 tried in 3 crates, 0 crates left; each was refused"
@@ -85,10 +95,12 @@ class WrongBodies(unittest.TestCase):
         self.write("crates/other/README.md", "no source\n")
         self.commit()
         self.assertEqual(self.tried("--since", "HEAD~1")[2], ["top/three"])
-        self.assertEqual(self.tried("--since", "HEAD")[1:], ("wrong bodies: 0 tried in 0 crates, 0 crates left; each was refused", []))
+        last = "wrong bodies: 0 tried in 0 crates, 0 crates left; each was refused"
+        self.assertEqual(self.tried("--since", "HEAD")[1:], (last, []))
 
     def test_no_crate_is_begun_once_the_time_is_up(self):
-        self.assertEqual(self.tried("--minutes", "0")[1:], ("wrong bodies: 0 tried in 0 crates, 3 crates left; each was refused", []))
+        last = "wrong bodies: 0 tried in 0 crates, 3 crates left; each was refused"
+        self.assertEqual(self.tried("--minutes", "0")[1:], (last, []))
         self.assertEqual(len(self.tried("--minutes", "5")[2]), 4)
 
 

@@ -1,10 +1,11 @@
 #!/usr/bin/env python3
-"""`docs/pictures/draw.py [NAME..]` draws each docs/pictures/NAME.txt as NAME.svg, which follows the reader's light or dark colours.
+"""`docs/pictures/draw.py [NAME..]` draws each docs/pictures/NAME.txt as NAME.svg, which follows the reader's light or
+dark colours.
 
-A text begins with `layers TITLE` or `sequence TITLE`. In layers each line is `LABEL: BOX | BOX ..`, the highest first. In a
-sequence the line `who: A | B ..` names the columns, and each further line is one step: `A -> B: TEXT` is an arrow, `A: TEXT` a
-box in the column of A, and `-- TEXT` a rule across with words. A ` / ` in a text breaks it. With `--check` nothing is written,
-and the status is 1 where a picture isn't what its text says.
+A text begins with `layers TITLE` or `sequence TITLE`. In layers each line is `LABEL: BOX | BOX ..`, the highest first.
+In a sequence the line `who: A | B ..` names the columns, and each further line is one step: `A -> B: TEXT` is an
+arrow, `A: TEXT` a box in the column of A, and `-- TEXT` a rule across with words. A ` / ` in a text breaks it. With
+`--check` nothing is written, and the status is 1 where a picture isn't what its text says.
 """
 
 import html
@@ -55,13 +56,19 @@ def words(x, y, text, kind="", anchor="middle"):
     told = ""
     for at, line in enumerate(broken(text)):
         told += '<text x="%.0f" y="%.0f" text-anchor="%s" class="%s">%s</text>\n' % (
-            x, y + LINE * at + 4.5, anchor, kind, html.escape(line, quote=False))
+            x,
+            y + LINE * at + 4.5,
+            anchor,
+            kind,
+            html.escape(line, quote=False),
+        )
     return told
 
 
 def box(x, y, width, text, kind="box"):
     """A box with its middle at x and its top at y."""
-    rect = '<rect x="%.0f" y="%.0f" width="%.0f" height="%.0f" rx="5" class="%s"/>\n' % (x - width / 2, y, width, height_of(text), kind)
+    size = (x - width / 2, y, width, height_of(text), kind)
+    rect = '<rect x="%.0f" y="%.0f" width="%.0f" height="%.0f" rx="5" class="%s"/>\n' % size
     return rect + words(x, y + (LINE + PAD) / 2, text)
 
 
@@ -75,7 +82,8 @@ def page(title, width, height, body):
 
 def layers(title, lines):
     """Rows of boxes, each with its label at the left."""
-    rows = [(label.strip(), [it.strip() for it in boxes.split("|")]) for label, _, boxes in (it.partition(":") for it in lines)]
+    parts = [it.partition(":") for it in lines]
+    rows = [(label.strip(), [it.strip() for it in boxes.split("|")]) for label, _, boxes in parts]
     left = max(width_of(label) for label, _ in rows) + PAD
     y, right, body = 44.0, 0.0, ""
     for label, boxes in rows:
@@ -145,7 +153,9 @@ def sequence(title, lines):
         body += '<line x1="%.0f" y1="%.0f" x2="%.0f" y2="%.0f" class="line"/>\n' % (begin, y + 6, end, y + 6)
         body += '<path d="M %.0f %.0f l %d -4 v 8 z" class="tip"/>\n' % (end, y + 6, tip)
         y += LINE + 4
-    rails = "".join('<line x1="%.0f" y1="44" x2="%.0f" y2="%.0f" class="rail"/>\n' % (x, x, y) for x in place.values())
+    rails = "".join(
+        '<line x1="%.0f" y1="44" x2="%.0f" y2="%.0f" class="rail"/>\n' % (x, x, y) for x in place.values()
+    )
     heads = "".join(box(place[it], 40, width_of(it), it, "who") for it in who)
     return page(title, right, y + PAD, rails + heads + body)
 
@@ -158,7 +168,9 @@ def drawn(text):
 
 def main(given):
     is_check = "--check" in given
-    names = [it for it in given if it != "--check"] or sorted(it[:-4] for it in os.listdir(HERE) if it.endswith(".txt"))
+    names = [it for it in given if it != "--check"] or sorted(
+        it[:-4] for it in os.listdir(HERE) if it.endswith(".txt")
+    )
     stale = 0
     for name in names:
         with open(os.path.join(HERE, name + ".txt"), encoding="utf-8") as it:
