@@ -16,7 +16,8 @@ sys.path.insert(0, HERE)
 import side_by_side  # noqa: E402
 from side_by_side import Crate  # noqa: E402
 
-# It makes a library only where those below are made, and notes when it began and ended. A crate `slow` takes long.
+# It makes a library only where those below are made, and notes when it began and ended. A crate `slow` takes long the first
+# time, and one that is `brief` some seconds.
 PLAYER = """#!/bin/sh
 name=$(basename "$PWD")
 echo "$name begins $*" >>"$NOTES"
@@ -28,6 +29,7 @@ mkdir -p out/incremental out/rlib
 echo begun >>out/incremental/work
 grep -q wrong src/*.rt && { echo "$name is not proved"; exit 1; }
 if grep -q slow src/*.rt && [ "$(wc -l <out/incremental/work)" = 1 ]; then sleep 60; fi
+if grep -q brief src/*.rt; then sleep 3; fi
 cp src/*.rt out/rlib/made
 [ ! -f src/main.rt ] || cp src/main.rt "out/$name"
 echo "logic=proved functions=1"
@@ -145,6 +147,7 @@ class Builds(unittest.TestCase):
         self.assertEqual(self.build()[0], 0)
 
     def test_of_two_at_once_one_waits_and_finds_all_made(self):
+        self.write("crates/left/src/lib.rt", "brief\n")
         open(self.notes, "w").close()
         both = [self.started(), self.started()]
         told = [it.communicate(timeout=50)[1] for it in both]
@@ -163,7 +166,7 @@ class Builds(unittest.TestCase):
         ran.send_signal(signal.SIGINT)
         ran.communicate(timeout=30)
         self.assertNotEqual(ran.returncode, 0)
-        self.assertEqual(os.listdir(self.rooms()), ["left"])
+        self.assertIn("left", os.listdir(self.rooms()))
         status, _, proved = self.build()
         self.assertEqual((status, "low" in proved, "left" in proved), (0, False, True))
         with open(os.path.join(self.top, "crates/left/out/incremental/work"), encoding="utf-8") as it:
