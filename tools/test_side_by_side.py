@@ -16,8 +16,8 @@ sys.path.insert(0, HERE)
 import side_by_side  # noqa: E402
 from side_by_side import Crate  # noqa: E402
 
-# It makes a library only where those below are made, and notes when it began and ended. A crate `slow` takes long the first
-# time, and one that is `brief` some seconds.
+# It makes a library only where those below are made, and notes when it began and ended. A crate `slow` takes long the
+# first time, and one that is `brief` some seconds.
 PLAYER = """#!/bin/sh
 name=$(basename "$PWD")
 echo "$name begins $*" >>"$NOTES"
