@@ -1,0 +1,329 @@
+#!/usr/bin/env python3
+"""`tools/lint.py [RULE..]` looks for breaches of the house's own rules, which no proof and no test sees. It takes a
+second.
+
+Each function below is a rule, and its comment says it. A breach is a line `path:line: rule: what`, and the status is
+then 1. `tools/test_lint.py` plants a breach of each rule in a small house.
+"""
+
+import os
+import re
+import subprocess
+import sys
+from collections import defaultdict
+
+sys.dont_write_bytecode = True
+
+TOP = os.path.dirname(os.path.dirname(os.path.abspath(__file__)))
+LONGEST_CLAUSE = 160
+MOST_LINES = 600
+LONGEST_LINE = 120
+MOST_WORDS = 22000
+# Pages that other rules of words and figures leave alone: it is written by a script.
+WRITTEN = "docs/LAST-RUN.md"
+UNITS = """zero one two three four five six seven eight nine ten eleven twelve thirteen fourteen fifteen sixteen
+seventeen eighteen nineteen""".split()
+TENS = {"twenty": 20, "thirty": 30, "forty": 40, "fifty": 50, "sixty": 60}
+# Benchmarks keep one program a file, so that one compiler call builds it.
+MAY_BE_LONG = ("bench/",)
+# Files that nobody reads line by line.
+NOT_READ = (".svg", ".lock", ".tsv", ".transcript", ".json", ".png", ".wasm")
+
+RULES = {}
+
+
+def rule(function):
+    RULES[function.__name__] = function
+    return function
+
+
+class House:
+    """The files that git knows, and those that it doesn't know yet and doesn't ignore."""
+
+    def __init__(self, top, version=None):
+        self.top = top
+        listed = subprocess.run(
+            ["git", "-C", top, "ls-files", "-z", "--cached", "--others", "--exclude-standard"],
+            capture_output=True,
+            check=True,
+            text=True,
+        ).stdout
+        self.paths = sorted({it for it in listed.split("\0") if it and os.path.isfile(os.path.join(top, it))})
+        self.read = {}
+        self.given_version = version
+
+    def text(self, path):
+        if path not in self.read:
+            with open(os.path.join(self.top, path), encoding="utf-8", errors="replace") as it:
+                self.read[path] = it.read()
+        return self.read[path]
+
+    def lines(self, path):
+        return enumerate(self.text(path).splitlines(), 1)
+
+    def ending(self, *endings, under=""):
+        return [it for it in self.paths if it.endswith(endings) and it.startswith(under)]
+
+    def pages(self):
+        """README.md and the pages of docs/, and not those of docs/web and docs/server, which stand round the core."""
+        return [it for it in self.paths if re.fullmatch(r"README\.md|docs/[\w-]+\.md", it)]
+
+    def crates(self):
+        names = [line.partition("#")[0].partition(":") for line in self.text("crates.txt").splitlines()]
+        return [head.split()[0] for head, colon, _ in names if colon]
+
+    def version(self):
+        """The kit's line, as `rt version` says it."""
+        if self.given_version:
+            return self.given_version
+        return subprocess.run(["rt", "version"], capture_output=True, check=True, text=True).stdout.strip()
+
+
+def line_at(text, at):
+    return text.count("\n", 0, at) + 1
+
+
+def closed_at(text, at):
+    """Where the brace that opens at this place is closed."""
+    depth = 0
+    for place in range(at, len(text)):
+        depth += {"{": 1, "}": -1}.get(text[place], 0)
+        if depth == 0:
+            return place
+    return len(text) - 1
+
+
+@rule
+def clause_length(house):
+    """A clause of a public function has at most 160 characters."""
+    for path in house.ending(".rt", under="crates/"):
+        text = house.text(path)
+        for found in re.finditer(r"^ *(?:requires|ensures)\b[^{\n]*\{", text, re.M):
+            functions = re.findall(r"^ *((?:pub(?:\([a-z]+\))? )?)(?:const )?fn \w+", text[: found.start()], re.M)
+            clause = " ".join(text[found.end() - 1 : closed_at(text, found.end() - 1) + 1].split())
+            if functions and functions[-1] == "pub " and len(clause) > LONGEST_CLAUSE:
+                yield path, line_at(text, found.start()), "a clause of %d characters" % len(clause)
+
+
+@rule
+def names_once(house):
+    """The name of a public type stands in one crate, but for those of tools/names-twice, which shrinks."""
+    standing = defaultdict(dict)
+    for path in house.ending(".rt", under="crates/"):
+        for found in re.finditer(r"^ *pub (?:struct|enum|trait|type) (\w+)", house.text(path), re.M):
+            standing[found[1]].setdefault(path.split("/")[1], (path, line_at(house.text(path), found.start())))
+    twice = {name: places for name, places in standing.items() if len(places) > 1}
+    listed = house.text("tools/names-twice") if "tools/names-twice" in house.paths else ""
+    known = {}
+    for number, line in enumerate(listed.splitlines(), 1):
+        if not line.startswith("#"):
+            name, _, crates = line.partition(":")
+            known[name] = number, set(crates.split())
+    for name, places in sorted(twice.items()):
+        if not set(places) <= known.get(name, (0, set()))[1]:
+            path, number = list(places.values())[-1]
+            yield path, number, "the type %s stands in the crates %s" % (name, ", ".join(sorted(places)))
+    for name, (number, crates) in sorted(known.items()):
+        if set(twice.get(name, ())) != crates:
+            yield "tools/names-twice", number, "%s no longer stands in all of these crates: mend this line" % name
+
+
+@rule
+def edits_apply(house):
+    """The text that an edit replaces stands in its file exactly once, after the edit's earlier pairs."""
+    for path in house.ending(".edit", under="crates/"):
+        crate = "/".join(path.split("/")[:2])
+        file, old, text, changed = None, None, "", 0
+        for number, line in house.lines(path):
+            if line.startswith("file: "):
+                file = "%s/%s" % (crate, line[6:].strip())
+                if file not in house.paths:
+                    yield path, number, "there is no file %s" % line[6:]
+                    break
+                text = house.text(file)
+            elif line.startswith("old: "):
+                old = line[5:]
+                if not file or text.count(old) != 1:
+                    yield path, number, "its old text stands there %d times" % text.count(old)
+                    break
+            elif line.startswith("new:") and old:
+                text = text.replace(old, line[5:])
+                changed += 1
+        else:
+            if not changed:
+                yield path, 1, "it changes nothing"
+
+
+def number_of(word):
+    """The number that digits or a word spell, or None."""
+    if re.fullmatch(r"\d+", word):
+        return int(word)
+    tens, _, unit = word.lower().partition("-")
+    if tens in TENS and (not unit or unit in UNITS):
+        return TENS[tens] + (UNITS.index(unit) if unit else 0)
+    return UNITS.index(tens) if tens in UNITS and not unit else None
+
+
+@rule
+def figures(house):
+    """A count above ten in a page, of crates, must-fail edits, more wrong bodies or commands, is what stands there."""
+    commands = re.search(r"pub enum Cmd \{(.*?)^\}", house.text("crates/spans/src/calls/commands.rt"), re.M | re.S)
+    edits = [it.split("/")[2] for it in house.ending(".edit", under="crates/")]
+    counts = {
+        "crates": len(house.crates()),
+        "must-fail edits": edits.count("must-fail"),
+        "more wrong bodies": edits.count("wrong-bodies"),
+        "commands": len(re.findall(r"^    [A-Z]\w*(?: \{|,)", commands[1], re.M)) if commands else 0,
+    }
+    for path in house.pages():
+        if path == WRITTEN:
+            continue
+        for kind, count in counts.items():
+            for found in re.finditer(r"(?<![\d,.])\b([\w-]+)\s+%s\b" % kind, house.text(path)):
+                told = number_of(found[1])
+                if told is not None and told != count and told > 10:
+                    number, said = line_at(house.text(path), found.start()), " ".join(found[0].split())
+                    yield path, number, "`%s`, and there are %d" % (said, count)
+
+
+def anchors(text):
+    """The anchors of a page's headings."""
+    heads = re.findall(r"^#+ (.*)$", text, re.M)
+    return {re.sub(r"[^\w\- ]", "", it.lower()).replace(" ", "-") for it in heads}
+
+
+@rule
+def links(house):
+    """A link leads somewhere, and a path in a page is there, unless it is in an `out` or has a name in capitals."""
+    folders = {"/".join(it.split("/")[:n]) for it in house.paths for n in range(1, it.count("/") + 1)}
+    for path in [it for it in house.paths if it.endswith(".md")]:
+        at = os.path.dirname(path)
+        for number, line in house.lines(path):
+            for target in re.findall(r"\]\(([^)\s]+)\)", line):
+                file, _, anchor = target.partition("#")
+                if re.match(r"[a-z]+:", target):
+                    continue
+                to = os.path.normpath(os.path.join(at, file)) if file else path
+                if to not in house.paths and to not in folders:
+                    yield path, number, "the link %s leads nowhere" % target
+                elif anchor and to in house.paths and anchor not in anchors(house.text(to)):
+                    yield path, number, "%s has no heading #%s" % (to, anchor)
+            for named in re.findall(r"`((?:crates|docs|embed|examples|bench|server|web|tools)/[\w./-]+)`", line):
+                to = named.rstrip("/")
+                if "/out" in to or re.search(r"\b[A-Z]+(?:/|$)", to.replace(".md", "")):
+                    continue
+                if to not in house.paths and to not in folders and not any(it.startswith(to) for it in house.paths):
+                    yield path, number, "there is no %s" % named
+
+
+@rule
+def claims(house):
+    """A function or clause that PROOF claims something of is public in a crate that its section's heading names."""
+    crates = []
+    for number, line in house.lines("docs/PROOF.md") if "docs/PROOF.md" in house.paths else ():
+        if line.startswith("## "):
+            crates = re.findall(r"`(?:crates/)?(\w+)", line)
+        elif crates and line.startswith("| `"):
+            sources = [it for crate in crates for it in house.ending(".rt", under="crates/%s/src/" % crate)]
+            text = "".join(house.text(it) for it in sources)
+            for name in re.findall(r"`(?:\w+::)?(\w+)`", line.split("|")[1]):
+                if not re.search(r"pub (?:[\w\"]+ )*fn %s\b|ensures %s " % (name, name), text):
+                    yield "docs/PROOF.md", number, "no crate of its heading has a public %s" % name
+
+
+@rule
+def kit_version(house):
+    """README names the kit that is installed, as `rt version` says it."""
+    told = re.findall(r"rattle-kit-\w+ logic \w+", house.text("README.md"))
+    if not told:
+        yield "README.md", 1, "it names no kit"
+    for it in told:
+        if it != house.version():
+            number = line_at(house.text("README.md"), house.text("README.md").index(it))
+            yield "README.md", number, "it names %s, and the kit is %s" % (it, house.version())
+
+
+@rule
+def heads(house):
+    """A file says at its top what it is: a source, a definition, a script; and a page for whom it is."""
+    for path in house.paths:
+        text = house.text(path) if not path.endswith((".png", ".wasm", ".ico")) else ""
+        first = text.lstrip().split("\n", 1)[0]
+        if path.endswith(".rt") and path.startswith("crates/"):
+            if not first.startswith("//!") and not re.match(r"(?:ghost use [^\n]*\n|use [^\n]*\n|\s)*///", text):
+                yield path, 1, "it begins with no comment"
+        elif re.match(r"crates/\w+/specs/", path) and not path.endswith("/Lib.antt") and not first.startswith("--"):
+            yield path, 1, "it begins with no comment"
+        elif first.startswith("#!") and path != ".ci/run" and not re.match(r"#!.*\n\s*(?:#|\"\"\"|//|/\*)", text):
+            yield path, 1, "it begins with no comment"
+        elif path in house.pages() and not re.match(r"# [^\n]*\n(?:\s*<!--.*?-->)?\s*\*?For ", text, re.S):
+            yield path, 1, "its first words don't say whom it is for"
+
+
+@rule
+def file_length(house):
+    """A file that people read has at most 600 lines."""
+    for path in house.paths:
+        if path.endswith(NOT_READ) or path.startswith(MAY_BE_LONG):
+            continue
+        count = house.text(path).count("\n")
+        if count > MOST_LINES:
+            yield path, MOST_LINES, "it has %d lines" % count
+
+
+@rule
+def line_length(house):
+    """A line of a page has at most 120 columns, unless it is of a table or of a block of code."""
+    for path in house.ending(".md"):
+        inside = False
+        for number, line in house.lines(path):
+            inside ^= line.startswith("```")
+            if not inside and len(line) > LONGEST_LINE and not re.match(r" *\||<|.*\]\(", line):
+                yield path, number, "a line of %d columns" % len(line)
+
+
+@rule
+def paths_of_machines(house):
+    """No file names a place that is one machine's own."""
+    own = re.compile(r"(?<![\w.$}/])/(?:work|root|opt|home|Users)\b(?!-)")
+    for path in house.paths:
+        for number, line in house.lines(path):
+            if own.search(line) and not path.startswith("tools/"):
+                yield path, number, "the path %s" % own.search(line)[0]
+
+
+@rule
+def pictures(house):
+    """A picture is what its text says: `docs/pictures/draw.py` draws it."""
+    sys.path.insert(0, os.path.join(TOP, "docs", "pictures"))
+    import draw
+
+    for path in house.ending(".txt", under="docs/pictures/"):
+        svg = path[:-4] + ".svg"
+        if svg not in house.paths or house.text(svg) != draw.drawn(house.text(path)):
+            yield svg, 1, "it isn't what its text says"
+
+
+@rule
+def words(house):
+    """The pages have at most 22,000 words together; a word has a letter or a digit."""
+    count = sum(len(re.findall(r"\S*\w\S*", house.text(it))) for it in house.pages() if it != WRITTEN)
+    if count > MOST_WORDS:
+        yield "docs", 1, "the pages have %d words" % count
+
+
+def main(names):
+    unknown = [it for it in names if it not in RULES]
+    if unknown:
+        sys.exit("there is no rule %s; there are %s" % (unknown[0], ", ".join(RULES)))
+    house, found = House(TOP), 0
+    for name in names or RULES:
+        for path, number, what in RULES[name](house):
+            print("%s:%d: %s: %s" % (path, number, name, what))
+            found += 1
+    print("lint: %d rules, %d breaches" % (len(names or RULES), found))
+    return 1 if found else 0
+
+
+if __name__ == "__main__":
+    sys.exit(main(sys.argv[1:]))

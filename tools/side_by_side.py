@@ -1,0 +1,351 @@
+#!/usr/bin/env python3
+"""`tools/side_by_side.py CRATE [WORD..]` makes a crate, and all crates that it stands on, side by side.
+
+`rt lib` makes the libraries below a crate one after another, and keeps every other `rt` out of their folders
+meanwhile. So each crate is proved in a room of its own: a folder with its files, the files of the crates below, and
+their finished libraries, which are laid in by links. What a room made moves into the checkout at once, and any later
+`rt` finds it there.
+
+Crates that don't wait for one another are proved at the same time, those with the longest chain behind them first. A
+crate gets a second processor, or up to four, where no other crate waits for one. Memory is shared out too.
+
+A run that is broken off loses nothing: rooms stand in the folder of git, and the next run goes on in them. Without git
+they stand in a temporary folder and go when the run ends. A program is run once on no input, with the words that are
+given. Lines on standard error say how many crates and about how many minutes are left.
+"""
+
+import contextlib
+import fcntl
+import os
+import shutil
+import signal
+import subprocess
+import sys
+import tempfile
+import time
+from concurrent.futures import FIRST_COMPLETED, ThreadPoolExecutor, wait
+from dataclasses import dataclass
+
+TOP = os.path.dirname(os.path.dirname(os.path.abspath(__file__)))
+PARTS = ("src", "specs", "proofs")
+MOST_JOBS = 4
+
+
+@dataclass(frozen=True)
+class Crate:
+    """A crate of the repository: those right below it, and what its proof is likely to take."""
+
+    name: str
+    deps: tuple
+    is_program: bool
+    seconds: float
+    memory: float
+
+
+def lines_of(folder, ending):
+    """How many lines the files of that ending have, in a crate's folder."""
+    count = 0
+    for part in PARTS:
+        for at, _, names in os.walk(os.path.join(folder, part)):
+            for name in names:
+                if name.endswith(ending):
+                    with open(os.path.join(at, name), "rb") as it:
+                        count += it.read().count(b"\n")
+    return count
+
+
+def listed(text):
+    """The crates of a crates.txt, each with those that it names."""
+    found = {}
+    for line in text.splitlines():
+        head, colon, deps = line.partition("#")[0].partition(":")
+        if colon:
+            found[head.split()[0]] = deps.split()
+    return found
+
+
+def below(deps, name):
+    """The crates that one stands on, lowest first."""
+    found = []
+
+    def visit(it):
+        for dep in deps[it]:
+            if dep in deps and dep not in found:
+                visit(dep)
+                found.append(dep)
+
+    visit(name)
+    return found
+
+
+def crates_for(top, name):
+    """The crate and all that it stands on, lowest first."""
+    with open(os.path.join(top, "crates.txt"), encoding="utf-8") as it:
+        deps = listed(it.read())
+    if name not in deps:
+        sys.exit("crates.txt lists no crate %s" % name)
+    code = {it: lines_of(os.path.join(top, "crates", it), ".rt") for it in deps}
+    crates = []
+    for it in [*below(deps, name), name]:
+        folder = os.path.join(top, "crates", it)
+        under = sum(code[dep] for dep in below(deps, it))
+        crates.append(
+            Crate(
+                name=it,
+                deps=tuple(dep for dep in deps[it] if dep in deps),
+                is_program=os.path.isfile(os.path.join(folder, "src", "main.rt")),
+                # Fitted to the minutes that the gate tells of each crate's proof.
+                seconds=20 + 0.1 * code[it] + 0.015 * under,
+                memory=1.5e9 + 1e6 * code[it] + 2e5 * lines_of(folder, ".antt") + 8e4 * under,
+            )
+        )
+    return crates
+
+
+def behind(crates):
+    """For each crate the seconds of the longest chain of crates that begins with it."""
+    found = {}
+    for crate in reversed(crates):
+        above = [found[it.name] for it in crates if crate.name in it.deps]
+        found[crate.name] = crate.seconds + max(above, default=0)
+    return found
+
+
+def chosen(waiting, made, running, processors, memory):
+    """The crates to start now, each with its number of jobs, when these are running: pairs of a crate and its jobs."""
+    behind_of, found = behind(waiting), []
+    ready = [it for it in waiting if all(dep in made for dep in it.deps)]
+    ready.sort(key=lambda it: -behind_of[it.name])
+    idle = processors - sum(jobs for _, jobs in running)
+    room = memory - sum(taken(it, jobs) for it, jobs in running)
+    for at, crate in enumerate(ready):
+        if idle < 1 or (crate.memory > room and (running or found)):
+            break
+        jobs = max(1, min(MOST_JOBS, idle // (len(ready) - at)))
+        while jobs > 1 and taken(crate, jobs) > room:
+            jobs -= 1
+        found.append((crate, jobs))
+        idle -= jobs
+        room -= taken(crate, jobs)
+    return found
+
+
+def taken(crate, jobs):
+    """The memory of a proof with so many jobs."""
+    return crate.memory * (1 + 0.6 * (jobs - 1))
+
+
+def seconds_left(crates, processors):
+    """How long these crates take at least: their longest chain, or their work shared out."""
+    return max(max(behind(crates).values(), default=0), sum(it.seconds for it in crates) / processors)
+
+
+def free_memory():
+    """Most of the memory that is free: some proofs take more than is planned."""
+    with open("/proc/meminfo", encoding="ascii") as it:
+        words = next(line for line in it if line.startswith("MemAvailable:")).split()
+    return 0.85 * 1024 * int(words[1])
+
+
+@contextlib.contextmanager
+def locked(path, say=None):
+    """Keeps others out of a folder, as `rt` does."""
+    at = os.open(path, os.O_RDONLY)
+    try:
+        try:
+            fcntl.flock(at, fcntl.LOCK_EX | fcntl.LOCK_NB)
+        except BlockingIOError:
+            if say:
+                say("another build works in this checkout: waiting for it")
+            fcntl.flock(at, fcntl.LOCK_EX)
+        yield
+    finally:
+        os.close(at)
+
+
+@contextlib.contextmanager
+def rooms_of(top):
+    """The folder of the rooms. In the folder of git it outlasts a run that is broken off."""
+    asked = subprocess.run(["git", "-C", top, "rev-parse", "--absolute-git-dir"], capture_output=True, text=True)
+    if asked.returncode:
+        with tempfile.TemporaryDirectory() as rooms:
+            yield rooms
+        return
+    rooms = os.path.join(asked.stdout.strip(), "side-by-side")
+    os.makedirs(rooms, exist_ok=True)
+    yield rooms
+
+
+def copied(top, room, name, parts):
+    for part in parts:
+        whole = os.path.join(top, "crates", name, part)
+        if os.path.isdir(whole):
+            shutil.copytree(whole, os.path.join(room, "crates", name, part))
+
+
+def link_or_copy(one, other):
+    try:
+        os.link(one, other)
+    except OSError:
+        shutil.copy2(one, other)
+
+
+def furnish(top, room, name, lower):
+    """Makes a crate's room from the checkout. What an earlier run left of the crate's own work stays, or moves in."""
+    crates = os.path.join(room, "crates")
+    own = os.path.join(crates, name, "out")
+    os.makedirs(os.path.dirname(own), exist_ok=True)
+    for it in os.listdir(crates):
+        if it != name:
+            shutil.rmtree(os.path.join(crates, it))
+    for part in PARTS:
+        shutil.rmtree(os.path.join(crates, name, part), ignore_errors=True)
+    os.makedirs(os.path.join(room, ".git"), exist_ok=True)
+    with open(os.path.join(top, "crates.txt"), encoding="utf-8") as whole:
+        lines = [it for it in whole if listed(it).keys() & {*lower, name}]
+    with open(os.path.join(room, "crates.txt"), "w", encoding="utf-8") as part:
+        part.writelines(lines)
+    for it in [*lower, name]:
+        copied(top, room, it, PARTS)
+    for it in lower:
+        made = os.path.join(top, "crates", it, "out", "rlib")
+        if os.path.isdir(made):
+            shutil.copytree(made, os.path.join(crates, it, "out", "rlib"), copy_function=link_or_copy)
+    kept = os.path.join(top, "crates", name, "out")
+    if not os.path.isdir(own) and os.path.isdir(kept):
+        with locked(os.path.dirname(kept)):
+            os.rename(kept, own) if same_disk(kept, room) else shutil.move(kept, own)
+
+
+def same_disk(one, other):
+    return os.stat(one).st_dev == os.stat(other).st_dev
+
+
+def clear(top, room, name):
+    """Moves what the room made into the checkout, and removes the room."""
+    made = os.path.join(room, "crates", name, "out")
+    to = os.path.join(top, "crates", name, "out")
+    if os.path.isdir(made):
+        with locked(os.path.dirname(to)):
+            os.makedirs(to, exist_ok=True)
+            for it in os.listdir(made):
+                was = os.path.join(to, it)
+                shutil.rmtree(was) if os.path.isdir(was) else os.path.exists(was) and os.remove(was)
+                shutil.move(os.path.join(made, it), was)
+    shutil.rmtree(room)
+
+
+class Build:
+    """One run: the crates that wait, those that are made, and those that are being proved."""
+
+    def __init__(self, top, rooms, name, words):
+        self.top, self.rooms, self.words = top, rooms, words
+        self.name = name
+        self.crates = crates_for(top, name)
+        self.deps = {it.name: it.deps for it in self.crates}
+        self.processors, self.memory = len(os.sched_getaffinity(0)), free_memory()
+        self.waiting, self.made = list(self.crates), set()
+        self.children, self.is_ending = [], False
+        self.planned, self.spent = 0.0, 0.0
+
+    def say(self, text):
+        print("%s: %s" % (self.name, text), file=sys.stderr, flush=True)
+
+    def prove(self, crate, jobs):
+        """Proves one crate in its room. The answer is the crate, its status, its seconds, and what was told."""
+        room = os.path.join(self.rooms, crate.name)
+        furnish(self.top, room, crate.name, below(self.deps, crate.name))
+        if self.is_ending:
+            return crate, 130, 0, ""
+        verb = ["rt", "run" if crate.is_program else "lib", "--jobs", str(jobs)]
+        verb += ["--", *self.words] if crate.is_program else []
+        began, log = time.monotonic(), tempfile.TemporaryFile("w+", errors="replace")
+        with log:
+            ran = subprocess.Popen(
+                verb,
+                cwd=os.path.join(room, "crates", crate.name),
+                stdin=subprocess.DEVNULL,
+                stdout=log,
+                stderr=subprocess.STDOUT,
+                start_new_session=True,
+            )
+            self.children.append(ran)
+            status = ran.wait()
+            log.seek(0)
+            told = log.read()
+        if not self.is_ending:
+            clear(self.top, room, crate.name)
+        return crate, status, time.monotonic() - began, told
+
+    def end(self, *_):
+        """Ends what was begun. The rooms stay for the next run."""
+        self.is_ending = True
+        for ran in self.children:
+            with contextlib.suppress(ProcessLookupError):
+                os.killpg(ran.pid, signal.SIGTERM)
+        sys.exit(130)
+
+    def minutes_left(self):
+        """About how many minutes are left, by the pace so far."""
+        pace = self.spent / self.planned if self.planned else 1.0
+        left = [it for it in self.crates if it.name not in self.made]
+        return round(0.4 + pace * seconds_left(left, self.processors) / 60)
+
+    def run(self):
+        """Whether all was made."""
+        running = {}
+        self.say(
+            "%d crates, on %d processors; about %d minutes, and less where some were proved before"
+            % (len(self.crates), self.processors, self.minutes_left())
+        )
+        with ThreadPoolExecutor(self.processors) as pool:
+            while self.waiting or running:
+                now = list(running.values())
+                for crate, jobs in chosen(self.waiting, self.made, now, self.processors, self.memory):
+                    self.waiting.remove(crate)
+                    running[pool.submit(self.prove, crate, jobs)] = (crate, jobs)
+                for task in wait(running, return_when=FIRST_COMPLETED).done:
+                    running.pop(task)
+                    if not self.take(*task.result()):
+                        self.waiting.clear()
+        return len(self.made) == len(self.crates)
+
+    def take(self, crate, status, seconds, told):
+        """Notes that a crate has ended, and says so."""
+        if status:
+            print(told, end="", file=sys.stderr)
+            self.say("%s failed, so nothing above it is made" % crate.name)
+            return False
+        self.made.add(crate.name)
+        is_new = "logic=proved" in told
+        if is_new:
+            self.planned += crate.seconds
+            self.spent += seconds
+        count = len(self.crates) - len(self.made)
+        rest = "%d left, about %d minutes" % (count, self.minutes_left()) if count else "none left"
+        self.say("%s %s, %s" % (crate.name, "is proved" if is_new else "was proved before", rest))
+        return True
+
+
+def is_made_since(top, name, moment):
+    """Whether another build has made the crate since this moment."""
+    made = [os.path.join(top, "crates", name, "out", it) for it in (name, "lib%s.a" % name, "rlib")]
+    return any(os.path.exists(it) and os.stat(it).st_ctime >= moment for it in made)
+
+
+def main(words):
+    if not words:
+        sys.exit("tools/side_by_side.py CRATE [WORD..]")
+    began = time.time()
+    with rooms_of(TOP) as rooms:
+        build = Build(TOP, rooms, words[0], words[1:])
+        with locked(rooms, build.say):
+            if is_made_since(TOP, words[0], began):
+                return 0
+            signal.signal(signal.SIGTERM, build.end)
+            signal.signal(signal.SIGINT, build.end)
+            return 0 if build.run() else 1
+
+
+if __name__ == "__main__":
+    sys.exit(main(sys.argv[1:]))

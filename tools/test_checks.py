@@ -1,0 +1,72 @@
+#!/usr/bin/env python3
+"""Tests of the script `checks`: what it makes of a check's end, and how it keeps the rows of its page."""
+
+import contextlib
+import importlib.machinery
+import importlib.util
+import io
+import os
+import sys
+import tempfile
+import unittest
+
+TOP = os.path.dirname(os.path.dirname(os.path.abspath(__file__)))
+sys.dont_write_bytecode = True
+loader = importlib.machinery.SourceFileLoader("checks", os.path.join(TOP, "checks"))
+checks = importlib.util.module_from_spec(importlib.util.spec_from_loader("checks", loader))
+loader.exec_module(checks)
+
+
+class Checks(unittest.TestCase):
+    def result(self, script, counts=(), limit=20):
+        check = checks.Check("one", "a check", ["sh", "-c", script], counts)
+        with contextlib.redirect_stdout(io.StringIO()) as told:
+            return (*checks.run(check, dict(os.environ), limit)[:2], told.getvalue())
+
+    def test_a_check_passes_with_its_count(self):
+        self.assertEqual(
+            self.result("echo 3 tests; echo 4 tests", (r"(\d+) tests", "tests")), ("passed", "4 tests", "")
+        )
+
+    def test_a_check_that_fails_shows_what_it_told(self):
+        self.assertEqual(self.result("echo why >&2; false"), ("failed", "", "    why\n"))
+
+    def test_a_check_that_tells_no_count_fails(self):
+        self.assertEqual(self.result("echo none", (r"(\d+) tests", "tests"))[:2], ("failed", ""))
+
+    def test_a_check_is_cut_off_with_all_that_it_started(self):
+        with tempfile.TemporaryDirectory() as room:
+            late = os.path.join(room, "late")
+            self.assertEqual(self.result("(sleep 3; touch %s) & sleep 60" % late, limit=1)[0], "cut off")
+            with self.assertRaises(FileNotFoundError):
+                checks.time.sleep(3)
+                os.stat(late)
+
+    def test_the_gate_s_row_is_the_last_count_of_its_log(self):
+        for text, told in {
+            "3 passed, 0 failed\n": "passed",
+            "3 passed, 0 failed\n9 passed, 1 failed (a)\n": "failed",
+        }.items():
+            with tempfile.NamedTemporaryFile("w") as log:
+                log.write("rt: low proved\n" + text)
+                log.flush()
+                self.assertEqual(checks.from_log(log.name)[0], told)
+
+    def test_rows_of_other_checks_stay(self):
+        with tempfile.TemporaryDirectory() as room:
+            checks.PAGE = os.path.join(room, "page.md")
+            row = ["passed", "3 tests", "5", "`abc`", "1 May 2026", "4 processors, 8 GB"]
+            checks.write_page({"b": row, "a": row}, ["a", "b", "c"])
+            checks.write_page({"b": ["failed", *row[1:]]}, ["a", "b", "c"])
+            with open(checks.PAGE, encoding="utf-8") as it:
+                told = [line for line in it.read().splitlines() if line.startswith("| `")]
+            self.assertEqual([it.split(" | ")[:2] for it in told], [["| `a`", "passed"], ["| `b`", "failed"]])
+
+    def test_each_name_stands_once(self):
+        given = checks.argparse.Namespace(minutes=1, is_bounded=False, since=None)
+        names = [it.name for it in checks.checks_of(given)]
+        self.assertEqual(len(names), len(set(names)))
+
+
+if __name__ == "__main__":
+    unittest.main()

@@ -1,0 +1,133 @@
+#!/usr/bin/env python3
+"""Plants a breach of each rule of lint.py in a small house that keeps them all, and sees that the rule, and no other,
+tells it."""
+
+import os
+import subprocess
+import sys
+import tempfile
+import unittest
+
+sys.dont_write_bytecode = True
+sys.path.insert(0, os.path.dirname(os.path.abspath(__file__)))
+import lint  # noqa: E402
+
+KIT = "rattle-kit-1a logic 00ff"
+SOUND = {
+    "README.md": "# House\n\nFor readers. It has 12 crates and eleven commands; [more](docs/GUIDE.md#first-steps).\n\n"
+    "Kit: %s\n" % KIT,
+    "docs/GUIDE.md": "# Guide\n\nFor users.\n\n## First steps\n\n"
+    "See `crates/low/src/lib.rt`, and 12 must-fail edits.\n",
+    "crates.txt": "low: # the lowest\n" + "".join("c%d: low\n" % n for n in range(11)),
+    "crates/low/src/lib.rt": "//! Low.\n\npub struct Low;\n\n"
+    "pub fn one() -> u8\n    ensures { result \u2261 1 }\n{\n    1\n}\n",
+    "crates/spans/src/calls/commands.rt": "//! Commands.\n\npub enum Cmd {\n%s}\n"
+    % "".join("    C%d { ts: u64 },\n" % n for n in range(11)),
+    "crates/low/specs/Ones.antt": "-- what one is\n",
+    "tools/run": "#!/bin/sh\n# Runs it.\n",
+}
+SOUND.update(
+    {"crates/low/must-fail/e%d.edit" % n: "file: src/lib.rt\nold:     1\nnew:     %d\n" % (n + 2) for n in range(12)}
+)
+
+
+def breaches(files, rules=None):
+    """The rules that are broken in a house of these files."""
+    with tempfile.TemporaryDirectory() as top:
+        for path, text in files.items():
+            os.makedirs(os.path.dirname(os.path.join(top, path)), exist_ok=True)
+            with open(os.path.join(top, path), "w", encoding="utf-8") as it:
+                it.write(text)
+        subprocess.run(["git", "-C", top, "init", "-q"], check=True)
+        house = lint.House(top, version=KIT)
+        return [name for name in rules or lint.RULES for _ in lint.RULES[name](house)]
+
+
+def planted(path, old, new):
+    """The small house with one text changed, or a file added where there is no old text."""
+    files = dict(SOUND)
+    files[path] = files[path].replace(old, new, 1) if old else new
+    assert files[path] != SOUND.get(path)
+    return files
+
+
+LIB = "crates/low/src/lib.rt"
+PLANTED = {
+    "clause_length": [(LIB, "result \u2261 1", "result \u2261 1" + " + 0" * 50)],
+    "names_once": [
+        ("crates/c1/src/lib.rt", "", "//! Another.\n\npub enum Low { One }\n"),
+        ("tools/names-twice", "", "Low: low c1\n"),
+    ],
+    "edits_apply": [
+        ("crates/low/must-fail/e3.edit", "    1", "    one"),
+        ("crates/low/must-fail/e3.edit", "lib.rt", "gone.rt"),
+        ("crates/low/must-fail/e3.edit", "old:     1\n", "old: 1\n"),
+    ],
+    "figures": [
+        ("README.md", "12 crates", "13 crates"),
+        ("README.md", "eleven", "twenty-one"),
+        ("docs/GUIDE.md", "12 must-fail", "14 must-fail"),
+        ("docs/GUIDE.md", "12 must-fail edits", "12 must-fail edits, 30 more wrong bodies"),
+    ],
+    "links": [
+        ("README.md", "docs/GUIDE.md", "docs/GUIDES.md"),
+        ("README.md", "#first", "#last"),
+        ("docs/GUIDE.md", "src/lib.rt", "src/lob.rt"),
+    ],
+    "claims": [
+        (
+            "docs/PROOF.md",
+            "",
+            "# Proof\n\nFor auditors.\n\n## Low (crate `low`)\n\n| `Low::one` | one |\n| `two` | two |\n",
+        ),
+    ],
+    "kit_version": [("README.md", "kit-1a", "kit-1b"), ("README.md", KIT, "")],
+    "heads": [
+        (LIB, "//! Low.\n", ""),
+        ("crates/low/specs/Ones.antt", "-- ", ""),
+        ("tools/run", "# Runs it.\n", "exec true\n"),
+        ("docs/GUIDE.md", "For users", "Use it"),
+    ],
+    "file_length": [("docs/GUIDE.md", "\n## First", "\n" * 600 + "## First")],
+    "line_length": [("docs/GUIDE.md", "For users.", "For users." + " word" * 30)],
+    "paths_of_machines": [("README.md", "more", "/ho" + "me/me/more")],
+    "pictures": [
+        ("docs/pictures/one.txt", "", "layers One\nrow: box\n"),
+    ],
+    "words": [("docs/GUIDE.md", "For users.", "For users." + "\nword" * 500)],
+}
+
+
+class Rules(unittest.TestCase):
+    def setUp(self):
+        self.most = lint.MOST_WORDS
+        lint.MOST_WORDS = 400
+
+    def tearDown(self):
+        lint.MOST_WORDS = self.most
+
+    def test_a_sound_house_breaks_none(self):
+        self.assertEqual(breaches(SOUND), [])
+
+    def test_each_rule_has_a_planted_breach(self):
+        self.assertEqual(set(PLANTED), set(lint.RULES))
+
+    def test_each_planted_breach_is_told(self):
+        for rule, plants in PLANTED.items():
+            for path, old, new in plants:
+                with self.subTest(rule=rule, path=path, old=old):
+                    self.assertEqual(set(breaches(planted(path, old, new))), {rule})
+
+    def test_an_edit_of_two_pairs_is_read_in_its_order(self):
+        both = "file: src/lib.rt\nold:     1\nnew:     2\nold:     2\nnew:     3\n"
+        self.assertEqual(
+            breaches(planted("crates/low/must-fail/e3.edit", SOUND["crates/low/must-fail/e3.edit"], both)), []
+        )
+
+    def test_numbers_are_read_in_words(self):
+        told = {"12": 12, "twenty": 20, "twenty-one": 21, "Nineteen": 19, "several": None, "and": None}
+        self.assertEqual({it: lint.number_of(it) for it in told}, told)
+
+
+if __name__ == "__main__":
+    unittest.main()

@@ -1,0 +1,177 @@
+#!/usr/bin/env python3
+"""Tests of side_by_side.py: which crates are started when, and whole builds of a small repository by an `rt` that only
+plays one."""
+
+import os
+import signal
+import subprocess
+import sys
+import tempfile
+import time
+import unittest
+
+HERE = os.path.dirname(os.path.abspath(__file__))
+sys.dont_write_bytecode = True
+sys.path.insert(0, HERE)
+import side_by_side  # noqa: E402
+from side_by_side import Crate  # noqa: E402
+
+# It makes a library only where those below are made, and notes when it began and ended. A crate `slow` takes long the
+# first time, and one that is `brief` some seconds.
+PLAYER = """#!/bin/sh
+name=$(basename "$PWD")
+echo "$name begins $*" >>"$NOTES"
+for below in $(sed -n "s/^$name://p" ../../crates.txt); do
+    [ -f "../$below/out/rlib/made" ] || { echo "$below is not made"; exit 1; }
+done
+if [ -f out/rlib/made ] && cmp -s out/rlib/made src/*.rt; then exit 0; fi
+mkdir -p out/incremental out/rlib
+echo begun >>out/incremental/work
+grep -q wrong src/*.rt && { echo "$name is not proved"; exit 1; }
+if grep -q slow src/*.rt && [ "$(wc -l <out/incremental/work)" = 1 ]; then sleep 60; fi
+if grep -q brief src/*.rt; then sleep 3; fi
+cp src/*.rt out/rlib/made
+[ ! -f src/main.rt ] || cp src/main.rt "out/$name"
+echo "logic=proved functions=1"
+echo "$name ends" >>"$NOTES"
+"""
+DEPS = {"low": [], "left": ["low"], "right": ["low"], "lone": [], "top": ["left", "right"]}
+
+
+def crate(name, *deps, seconds=10, memory=1):
+    return Crate(name, deps, False, seconds, memory)
+
+
+class Choice(unittest.TestCase):
+    def chosen(self, waiting, made=(), running=(), processors=4, memory=100):
+        return [
+            (it.name, jobs) for it, jobs in side_by_side.chosen(waiting, set(made), list(running), processors, memory)
+        ]
+
+    def test_those_with_the_longest_chain_behind_them_come_first(self):
+        crates = [crate("a"), crate("b", seconds=5), crate("c", "b", seconds=50)]
+        self.assertEqual(self.chosen(crates, processors=2), [("b", 1), ("a", 1)])
+
+    def test_a_crate_waits_for_those_below(self):
+        self.assertEqual(self.chosen([crate("a", "b")]), [])
+        self.assertEqual(self.chosen([crate("a", "b")], made={"b"}), [("a", 4)])
+
+    def test_processors_that_nobody_waits_for_are_shared_out(self):
+        self.assertEqual(self.chosen([crate("a"), crate("b")]), [("a", 2), ("b", 2)])
+        self.assertEqual(self.chosen([crate("a")], running=[(crate("x"), 3)]), [("a", 1)])
+        self.assertEqual(self.chosen([crate("a")], running=[(crate("x"), 4)]), [])
+
+    def test_memory_bounds_both(self):
+        crates = [crate("a", memory=60), crate("b", memory=60)]
+        self.assertEqual(self.chosen(crates), [("a", 2)])
+        self.assertEqual(self.chosen([crate("a", memory=90)]), [("a", 1)])
+        self.assertEqual(self.chosen([crate("a", memory=900)]), [("a", 1)])
+        self.assertEqual(self.chosen([crate("a", memory=90)], running=[(crate("x", memory=20), 1)]), [])
+
+    def test_what_is_left_is_a_chain_or_the_work_shared_out(self):
+        chain = [crate("a"), crate("b", "a"), crate("c", "b")]
+        self.assertEqual(side_by_side.seconds_left(chain, 4), 30)
+        self.assertEqual(side_by_side.seconds_left([crate(it) for it in "abcdefgh"], 2), 40)
+        self.assertEqual(side_by_side.seconds_left([], 2), 0)
+
+
+class Builds(unittest.TestCase):
+    def setUp(self):
+        self.room = tempfile.TemporaryDirectory()
+        self.top = os.path.join(self.room.name, "house")
+        self.notes = os.path.join(self.room.name, "notes")
+        os.makedirs(os.path.join(self.room.name, "bin"))
+        self.write("../bin/rt", PLAYER)
+        os.chmod(os.path.join(self.room.name, "bin", "rt"), 0o755)
+        with open(os.path.join(HERE, "side_by_side.py"), encoding="utf-8") as it:
+            self.write("tools/side_by_side.py", it.read())
+        self.write("crates.txt", "".join("%s: %s\n" % (name, " ".join(deps)) for name, deps in DEPS.items()))
+        for name in DEPS:
+            self.write("crates/%s/src/%s.rt" % (name, "main" if name == "top" else "lib"), "as %s\n" % name)
+        subprocess.run(["git", "-C", self.top, "init", "-q"], check=True)
+
+    def tearDown(self):
+        self.room.cleanup()
+
+    def write(self, path, text):
+        whole = os.path.join(self.top, path)
+        os.makedirs(os.path.dirname(whole), exist_ok=True)
+        with open(whole, "w", encoding="utf-8") as it:
+            it.write(text)
+
+    def started(self):
+        path = os.path.join(self.room.name, "bin") + os.pathsep + os.environ["PATH"]
+        return subprocess.Popen(
+            [sys.executable, os.path.join(self.top, "tools/side_by_side.py"), "top", "run"],
+            env={**os.environ, "PATH": path, "NOTES": self.notes},
+            stderr=subprocess.PIPE,
+            text=True,
+        )
+
+    def build(self):
+        """The status, what was told, and which crates were proved, in their order."""
+        open(self.notes, "w").close()
+        ran = self.started()
+        told = ran.communicate(timeout=50)[1]
+        return ran.returncode, told, [it.split()[0] for it in self.noted() if " ends" in it]
+
+    def noted(self):
+        with open(self.notes, encoding="utf-8") as it:
+            return it.read().splitlines()
+
+    def rooms(self):
+        return os.path.join(self.top, ".git", "side-by-side")
+
+    def test_a_program_is_made_with_all_below_it_and_nothing_else(self):
+        status, told, proved = self.build()
+        self.assertEqual((status, proved[0], proved[-1]), (0, "low", "top"))
+        self.assertEqual(sorted(proved), ["left", "low", "right", "top"])
+        self.assertTrue(os.path.isfile(os.path.join(self.top, "crates/top/out/top")))
+        self.assertIn("top begins run --jobs", self.noted()[-2])
+        self.assertIn("-- run", self.noted()[-2])
+        self.assertIn("none left", told)
+        self.assertEqual(os.listdir(self.rooms()), [])
+
+    def test_what_was_proved_is_not_proved_again(self):
+        self.build()
+        self.assertEqual(self.build()[2], [])
+        self.write("crates/right/src/lib.rt", "as right, anew\n")
+        self.assertEqual(self.build()[2], ["right"])
+
+    def test_a_crate_that_is_not_proved_ends_the_build(self):
+        self.write("crates/left/src/lib.rt", "wrong\n")
+        status, told, proved = self.build()
+        self.assertEqual((status, "top" in proved), (1, False))
+        self.assertIn("left is not proved", told)
+        self.write("crates/left/src/lib.rt", "as left\n")
+        self.assertEqual(self.build()[0], 0)
+
+    def test_of_two_at_once_one_waits_and_finds_all_made(self):
+        self.write("crates/left/src/lib.rt", "brief\n")
+        open(self.notes, "w").close()
+        both = [self.started(), self.started()]
+        told = [it.communicate(timeout=50)[1] for it in both]
+        self.assertEqual([it.returncode for it in both], [0, 0])
+        self.assertEqual(len([it for it in self.noted() if " ends" in it]), 4)
+        self.assertEqual(len([it for it in self.noted() if " begins" in it]), 4)
+        self.assertEqual(sum("waiting for it" in it for it in told), 1)
+
+    def test_a_run_that_is_broken_off_loses_nothing(self):
+        self.write("crates/left/src/lib.rt", "slow\n")
+        open(self.notes, "w").close()
+        ran = self.started()
+        while not any(it.startswith("left begins") for it in self.noted()):
+            time.sleep(0.05)
+        time.sleep(0.5)
+        ran.send_signal(signal.SIGINT)
+        ran.communicate(timeout=30)
+        self.assertNotEqual(ran.returncode, 0)
+        self.assertIn("left", os.listdir(self.rooms()))
+        status, _, proved = self.build()
+        self.assertEqual((status, "low" in proved, "left" in proved), (0, False, True))
+        with open(os.path.join(self.top, "crates/left/out/incremental/work"), encoding="utf-8") as it:
+            self.assertEqual(it.read(), "begun\nbegun\n")
+
+
+if __name__ == "__main__":
+    unittest.main()
