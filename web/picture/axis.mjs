@@ -1,21 +1,19 @@
-// Where timestamps stand from left to right. They are drawn to scale where that can be read. Else wide gaps are made narrow,
-// and each timestamp that something happened at keeps a place of its own.
+// Where timestamps stand from left to right. They are drawn to scale where that can be read. Else wide gaps are made
+// narrow, and each timestamp at which something happened keeps a place of its own.
 import { ascending } from "./words.mjs";
 
-const NARROW = 24; // pixels between two neighbours, at least, as long as they are drawn to scale
+const NARROW = 24; // pixels between neighbours, at least, where they are drawn to scale
+const TAIL = 64; // pixels behind the last point, at least, for what stands from there on
 
 export class Axis {
-  /**
-   * Of the points `all`, `count` are shown, and `later` of them are left out at the right. left and right are the edges in
-   * pixels; behind the last point is room for what stands from there on.
-   */
+  /** Of all points `count` are shown, and `later` of them are left out at the right. The edges are in pixels. */
   constructor(all, { count, later }, left, right) {
     const sorted = [...new Set([0n, ...all])].sort(ascending);
     const end = Math.max(1, sorted.length - later);
     this.points = sorted.slice(Math.max(0, end - count), end);
     [this.before, this.after] = [Math.max(0, end - count), sorted.length - end];
     [this.left, this.right] = [left, right];
-    this.places = this.#places(Math.max(64, (right - left) * 0.14));
+    this.places = this.#places(Math.max(TAIL, (right - left) * 0.14));
   }
 
   // The place of each point. The first stands at the left edge, and the last leaves a tail.

@@ -2,7 +2,7 @@
 //
 // Nothing here looks into a database. A moment is made of the answers alone, so it can be made for each event of a
 // transcript that somebody kept. A transcript may begin in the middle: what it never names isn't there.
-import { bytesOf, holds } from "./words.mjs";
+import { ascending, bytesOf, holds } from "./words.mjs";
 
 const EVENT = /^(\d+) (\d+) ([a-z]+)((?: \S+)*) => (\S+)((?: \S+)*)$/;
 
@@ -24,16 +24,18 @@ export class History {
     this.add(text);
   }
 
-  /** Adds the lines of whole events. A line that belongs to no transcript is an Error, and adds nothing. */
+  /** Adds the lines of whole events. A line that belongs to no transcript is an Error, and then nothing is added. */
   add(text) {
-    const events = [...this.events];
+    const events = [];
+    let fault = this.fault;
     for (const line of text.split("\n")) {
       const event = EVENT.exec(line);
-      if (event) events.push(eventOf(event, events.length));
-      else if (/^(fault|spent) /.test(line)) this.fault = line;
+      if (event) events.push(eventOf(event, this.events.length + events.length));
+      else if (/^(fault|spent) /.test(line)) fault = line;
       else if (line !== "" && line !== "mvfeed 2") follow(events.at(-1), line);
     }
-    this.events = events;
+    this.events.push(...events);
+    this.fault = fault;
   }
 
   /** The database after the event at this place in the list, and before all with -1. It is good until the next ask. */
@@ -50,7 +52,8 @@ export class History {
 function eventOf([, position, seat, command, words, answer, details], place) {
   const listed = (text) => text.split(" ").slice(1);
   return {
-    place, position, seat: Number(seat), command, words: listed(words), answer, details: listed(details), rows: [], messages: [],
+    place, position, seat: Number(seat), command, words: listed(words),
+    answer, details: listed(details), rows: [], messages: [],
   };
 }
 
@@ -67,14 +70,14 @@ function messageOf(told, event) {
   return { key: atob(told.key), value: told.after === null ? null : atob(told.after), ts: BigInt(told.updated), event };
 }
 
-/** What the answers up to one event tell. Timestamps are BigInts; an undecided transaction's versions are among the others. */
+/** What the answers up to one event tell. Timestamps are BigInts. Versions of undecided transactions are among them. */
 class Moment {
   event = null;
   closed = 0n;
   horizon = 0n;
   transactions = new Map(); // timestamp: {ts, seat, standing, keys, began, ended}
-  versions = new Map(); // key: [{key, ts, value, transaction, event}], timestamps rising; a value of null is a delete
-  reads = []; // {ts, seat, lo, hi, key, found, event}: found has the version that was read, of each key that had one
+  versions = new Map(); // key: [{key, ts, value, transaction, event}], timestamps rising; null is the value of a delete
+  reads = []; // {ts, seat, lo, hi, key, found, event}; found has the timestamp that was read of each key that had one
   refusals = []; // the events that were refused
   feeds = new Map(); // number: {number, seat, initial, gap, lo, hi, cursor, told, cancelled}
   protections = new Map(); // number: {number, ts, event}
@@ -87,8 +90,8 @@ class Moment {
 
   /** The transaction of a timestamp. One that began before the transcript did is made when it is first named. */
   transaction(ts, event) {
-    if (!this.transactions.has(ts))
-      this.transactions.set(ts, { ts, seat: event.seat, standing: "undecided", keys: new Set(), began: event, ended: null });
+    const begun = { ts, seat: event.seat, standing: "undecided", keys: new Set(), began: event, ended: null };
+    if (!this.transactions.has(ts)) this.transactions.set(ts, begun);
     return this.transactions.get(ts);
   }
 
@@ -120,13 +123,15 @@ class Moment {
   }
 
   feed(number, event) {
-    if (!this.feeds.has(number))
-      this.feeds.set(number, { number, seat: event.seat, initial: false, gap: null, lo: "", hi: "", cursor: 0n, told: [], cancelled: null });
+    const { seat } = event;
+    const opened = { number, seat, initial: false, gap: null, lo: "", hi: "", cursor: 0n, told: [], cancelled: null };
+    if (!this.feeds.has(number)) this.feeds.set(number, opened);
     return this.feeds.get(number);
   }
 
   undecided() {
-    return [...this.transactions.values()].filter((it) => it.standing === "undecided").sort((a, b) => (a.ts < b.ts ? -1 : 1));
+    const undecided = [...this.transactions.values()].filter((it) => it.standing === "undecided");
+    return undecided.sort((a, b) => ascending(a.ts, b.ts));
   }
 
   /** The version that is read in place of this one from some timestamp on, if there is one. */
@@ -178,8 +183,8 @@ const CHANGES = {
   opened: (moment, event) => {
     const [lo, hi, cursor, gap] = event.words;
     Object.assign(moment.feed(event.details[0], event), {
-      initial: event.command === "openinitial", gap: gap === undefined ? null : BigInt(gap), lo: bytesOf(lo), hi: bytesOf(hi),
-      cursor: BigInt(cursor),
+      initial: event.command === "openinitial", gap: gap === undefined ? null : BigInt(gap),
+      lo: bytesOf(lo), hi: bytesOf(hi), cursor: BigInt(cursor),
     });
   },
   cancelled: (moment, event) => {

@@ -1,4 +1,4 @@
-// Text of a page or a drawing, in which every value is escaped unless it is markup itself. So a key named <b> stays a key.
+// Text of a page or a drawing. Every value in it is escaped, unless it is markup itself: a key named <b> stays a key.
 
 class Markup {
   constructor(text) {

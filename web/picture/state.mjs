@@ -1,12 +1,13 @@
-// A database's state as text: a line of JSON for the database, and one for each undecided transaction, each protection and
-// each live feed. ripsawbean_state writes it for a live database. stateText writes the same text of a transcript's moment,
-// so that the state can also be shown after an earlier event, or where only a transcript is at hand.
+// A database's state as text: a line of JSON for the database, and one for each undecided transaction, each protection
+// and each live feed. ripsawbean_state writes it for a live database. stateText writes the same text of a transcript's
+// moment. So the state can also be shown after an earlier event, or where only a transcript is at hand.
 
-/** The lines of a state's text as objects: {database, transactions, protections, feeds}. Numbers are BigInts. */
+/** The lines of a state's text, as {database, transactions, protections, feeds}. Numbers are BigInts. */
 export function stateOf(text) {
   const lines = text.split("\n").filter((it) => it !== "").map((it) => membersOf(JSON.parse(it)));
   const of = (kind) => lines.filter((it) => it.kind === kind);
-  return { database: of("database")[0], transactions: of("transaction"), protections: of("protection"), feeds: of("feed") };
+  const [database] = of("database");
+  return { database, transactions: of("transaction"), protections: of("protection"), feeds: of("feed") };
 }
 
 const WORDS = new Set(["kind", "holder"]);
@@ -46,8 +47,9 @@ function databaseLine(moment, oldest, protections, feeds) {
   const first = holders.reduce((least, it) => (it.at < least.at ? it : least));
   const versions = [...moment.versions.values()].flat().filter((it) => !moment.isDead(it));
   return {
-    kind: "database", closed: `${moment.closed}`, horizon: `${moment.horizon}`, limit: `${first.at}`, holder: first.holder,
-    holder_number: first.number, oldest: digits(oldest?.ts), oldest_seat: digits(oldest?.seat), versions: `${versions.length}`,
+    kind: "database", closed: `${moment.closed}`, horizon: `${moment.horizon}`, limit: `${first.at}`,
+    holder: first.holder, holder_number: first.number,
+    oldest: digits(oldest?.ts), oldest_seat: digits(oldest?.seat), versions: `${versions.length}`,
   };
 }
 
@@ -57,8 +59,9 @@ function feedLine(feed, closed) {
   const told = toldThrough(feed);
   const floor = told < feed.cursor ? feed.cursor : told;
   return {
-    kind: "feed", number: feed.number, seat: `${feed.seat}`, initial: feed.initial, gap: digits(feed.gap), lo: base64(feed.lo),
-    hi: base64(feed.hi), cursor: `${feed.cursor}`, updated: digits(row?.ts), key: row ? btoa(row.key) : null,
+    kind: "feed", number: feed.number, seat: `${feed.seat}`, initial: feed.initial, gap: digits(feed.gap),
+    lo: base64(feed.lo), hi: base64(feed.hi), cursor: `${feed.cursor}`,
+    updated: digits(row?.ts), key: row ? btoa(row.key) : null,
     resolved: digits(resolved?.resolved), complete: told < feed.cursor ? null : `${told}`, floor: `${floor}`,
     behind: `${closed > floor ? closed - floor : 0n}`,
   };

@@ -20,10 +20,16 @@ export function short(word, most) {
   return word.length > most ? `${word.slice(0, Math.max(0, most - 1))}…` : word;
 }
 
-/** A long number, as its ends. */
-export function brief(number) {
-  const digits = String(number);
-  return digits.length > 10 ? `${digits.slice(0, 4)}…${digits.slice(-4)}` : digits;
+/** A long timestamp by its last digits, since neighbours differ there. */
+export function brief(ts) {
+  const digits = String(ts);
+  return digits.length > 10 ? `…${digits.slice(-7)}` : digits;
+}
+
+/** A long count by its size. */
+export function rough(count) {
+  const digits = String(count);
+  return digits.length > 10 ? `${digits[0]}.${digits[1]}e${digits.length - 1}` : digits;
 }
 
 /** A span in words. An empty bound is none. */
