@@ -8,7 +8,7 @@ import { reasonOf } from "./reasons.mjs";
 import { LETTER, line, Sheet } from "./sheet.mjs";
 import { ascending, brief, bytesOf } from "./words.mjs";
 
-const TOP = 44; // pixels that the names of closed and the horizon have, above the lanes
+const TOP = 38; // where the grounds begin, below the names of closed and the horizon
 const NARROW = 560; // pixels below which names have less room
 
 /**
@@ -18,7 +18,8 @@ const NARROW = 560; // pixels below which names have less room
 export function drawingOf(history, moment, state, { zoom, width, mostKeys }) {
   const [left, right] = [width < NARROW ? 104 : 118, width - 12];
   const axis = new Axis(pointsOf(moment, state), zoom(right - left), left, right);
-  const sheet = new Sheet(axis, { left, right, y: TOP + 4 });
+  const hasFlags = state.database.closed > 0n;
+  const sheet = new Sheet(axis, { left, right, y: hasFlags ? TOP + 10 : 4 });
   const refusals = refusalsOf(history, moment);
   const { keys, keysLeft } = keysOf(moment, refusals, axis, mostKeys);
   drawTransactions(sheet, moment, refusals.find((it) => it.key === null));
@@ -112,9 +113,9 @@ function drawFlags(sheet, state) {
 
 function drawGround(sheet, kind, ts) {
   const { axis, left, bottom } = sheet;
-  const [x, y] = [axis.x(ts), TOP - 6];
-  const size = markup`width="${x - left}" height="${bottom - y}"`;
-  if (x > left) sheet.ground.push(markup`<rect class="ground ${kind}" x="${left}" y="${y}" ${size}/>`);
+  const x = axis.x(ts);
+  const size = markup`width="${x - left}" height="${bottom - TOP}"`;
+  if (x > left) sheet.ground.push(markup`<rect class="ground ${kind}" x="${left}" y="${TOP}" ${size}/>`);
 }
 
 function drawFlag(sheet, { kind, ts, name, y, meaning }) {

@@ -36,9 +36,16 @@ export function drawKey(sheet, moment, key, refusals) {
   const versions = moment.versions.get(key) ?? [];
   versions.forEach((it, i) => drawVersion(sheet, moment, it, versions[i + 1], y));
   const lines = drawReads(sheet, moment, key, y + TALL + READ);
-  const edges = versions.map((it) => sheet.axis.x(it.ts));
-  for (const it of refusals) drawRefusal(sheet, it, y + TALL / 2, edges);
+  const taken = versions.map((it, i) => roomOf(sheet, it, versions[i + 1]));
+  for (const it of refusals) drawRefusal(sheet, it, y + TALL / 2, taken);
   sheet.end(TALL + 14 + READ * lines);
+}
+
+// Where the edge and the word of a version stand, from left to right.
+function roomOf(sheet, { ts, value }, next) {
+  const [from, end] = [sheet.axis.x(ts), next ? sheet.axis.x(next.ts) : sheet.right];
+  const wide = value === null ? 18 : 10 + LETTER * wordOf(value).length;
+  return { from, to: Math.min(from + wide, end) };
 }
 
 function drawVersion(sheet, moment, version, next, y) {
@@ -151,12 +158,13 @@ function drawProtection(sheet, moment, protection) {
   sheet.mark(mark, circle("hit", x, y + 8, 11), shield, sheet.text(x + 10, y + 13, number, 60, "small"));
 }
 
-// A command that was refused, where it would have had its place. Its answer stands beside it if no edge is in the way.
-function drawRefusal(sheet, { event, ts, says, meaning }, y, edges) {
+// A command that was refused, where it would have had its place. Its answer stands beside it if nothing is in the way.
+function drawRefusal(sheet, { event, ts, says, meaning }, y, taken) {
   if (!sheet.axis.has(ts)) return;
   const x = sheet.axis.x(ts);
   const wide = says.length * LETTER + 14;
-  const isFree = (from, to) => from >= sheet.left && to <= sheet.right + 8 && !edges.some((it) => from < it && it < to);
+  const isWithin = (from, to) => from >= sheet.left && to <= sheet.right + 8;
+  const isFree = (from, to) => isWithin(from, to) && !taken.some((it) => it.from < to && from < it.to);
   const text = isFree(x + 2, x + wide) ? markup`<text x="${x + 10}" y="${y + 4}">${says}</text>`
     : isFree(x - wide, x - 2) && markup`<text class="before" x="${x - 10}" y="${y + 4}">${says}</text>`;
   const mark = {

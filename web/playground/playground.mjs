@@ -10,7 +10,7 @@ import { Transcript } from "./transcript.mjs";
 
 const MOST_SEATS = 64;
 const FIRST_SEATS = 3;
-const PROMPTS = ["begin 10", "get 10 apple", "open - - 0"];
+const PROMPTS = ["such as begin 10", "such as begin 20", "such as open - - 0"];
 const COMMANDS = `begin TS
 get TS KEY             scan TS LO HI
 put TS KEY VALUE       del TS KEY
@@ -103,8 +103,8 @@ class Page {
 
   #drawMoment(place, last) {
     const [line] = this.#run.textOf(place).split("\n", 1);
-    const back = markup`<button type="button">Back to now</button>`;
-    part("moment").innerHTML = markup`<code>${line || "a new database"}</code>${place < last && back}`;
+    const back = place < last && markup`<button type="button">Back to now</button>`;
+    part("moment").innerHTML = markup`<code>${line || "a new database: type a command into a session"}</code>${back}`;
   }
 
   // Inputs stay while they are typed in. Only what belongs to their sessions is drawn anew.
@@ -120,15 +120,14 @@ class Page {
 
   #drawTour() {
     const step = TOUR[this.#step - 1];
+    const hasFocus = part("tour").contains(document.activeElement);
     part("tour").innerHTML = step ? stepOf(step, this.#step) : INVITATION;
+    if (hasFocus) part("tour").querySelector(".main").focus();
   }
 
   #tourClicked(event) {
     const { step } = event.target.dataset;
-    if (step === undefined) return;
-    location.hash = step === "0" ? "new" : `tour-${step}`;
-    // The button that was pressed is drawn anew, and keeps the focus where it still is.
-    requestAnimationFrame(() => (part("tour").querySelector(".main") ?? part("tour").querySelector("button")).focus());
+    if (step !== undefined) location.hash = step === "0" ? "new" : `tour-${step}`;
   }
 
   #typedIn(event) {

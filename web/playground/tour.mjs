@@ -4,8 +4,8 @@ export const TOUR = [
   {
     title: "Begin",
     says:
-      "A transaction is its timestamp: session 0 begins at 10 and writes two keys, which are dashed here, since it may " +
-      "still abort.",
+      "A transaction is its timestamp: session 0 begins at 10 and writes two keys, which are dashed here, since it " +
+      "may still abort.",
     lines: ["0 begin 10", "0 put 10 apple 3", "0 put 10 pear 5"],
   },
   {
