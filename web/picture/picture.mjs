@@ -44,6 +44,7 @@ export function draw(element, history, options = {}) {
 const ROOM_OF_A_POINT = 27; // pixels for a timestamp, on the average, before anybody zooms
 const FEWEST = 6; // timestamps, however little room there is
 const CLOSEST = 3; // timestamps, however often one zooms
+const LEAST_WIDTH = 300; // pixels
 const KEYS = 8; // lanes of keys, before anybody asks for more
 
 class Picture {
@@ -51,6 +52,7 @@ class Picture {
   #history;
   #options;
   #drawing;
+  #width; // of the drawing, in pixels
   #zoom; // {count, later}: how many timestamps are shown, null for as many as fit; and how many are left out after them
   #mostKeys;
   #chosen; // the id of the mark that is told of, or null
@@ -64,7 +66,7 @@ class Picture {
       <div class="drawing"></div>${legend()}<div class="state"></div>`;
     element.addEventListener("click", (event) => this.#clicked(event));
     element.addEventListener("keydown", (event) => this.#pressed(event));
-    new ResizeObserver(() => this.#history && this.#render()).observe(element);
+    new ResizeObserver(() => this.#history && this.#width !== this.#fullWidth() && this.#render()).observe(element);
   }
 
   show(history, options) {
@@ -73,6 +75,10 @@ class Picture {
     this.#history = history;
     this.#options = options;
     this.#render();
+  }
+
+  #fullWidth() {
+    return Math.max(LEAST_WIDTH, this.#part("drawing").clientWidth);
   }
 
   #part(name) {
@@ -84,10 +90,10 @@ class Picture {
     const moment = this.#history.after(place);
     const state = stateOf(this.#options.state ?? stateText(moment));
     const hasFocus = this.#part("drawing").contains(document.activeElement);
-    const width = Math.max(300, this.#part("drawing").clientWidth);
+    this.#width = this.#fullWidth();
     const fitting = (pixels) => Math.max(FEWEST, Math.floor(pixels / ROOM_OF_A_POINT));
     const zoom = (pixels) => ({ count: this.#zoom.count ?? fitting(pixels), later: this.#zoom.later });
-    this.#drawing = drawingOf(this.#history, moment, state, { width, zoom, mostKeys: this.#mostKeys });
+    this.#drawing = drawingOf(this.#history, moment, state, { width: this.#width, zoom, mostKeys: this.#mostKeys });
     this.#part("drawing").innerHTML = this.#drawing.svg;
     this.#part("zoom").innerHTML = zoomOf(this.#drawing, this.#zoom);
     this.#part("state").innerHTML = panelOf(state);

@@ -4,6 +4,8 @@ import assert from "node:assert/strict";
 import { execFileSync, spawnSync } from "node:child_process";
 import { readFileSync } from "node:fs";
 import test from "node:test";
+import { drawingOf } from "../picture/drawing.mjs";
+import { historyOf, reasonOf, stateOf, stateText } from "../picture/picture.mjs";
 import { answerOf, load, messagesOf, NEEDS, rowsOf, spell, StatusError, unspell } from "../ripsawbean.mjs";
 import { EXAMPLES } from "../playground/examples.mjs";
 import { TOUR } from "../playground/tour.mjs";
@@ -59,6 +61,40 @@ test("random scripts, beside the native library", () => {
     const ring = [1, 2, 1024][seed % 3];
     const options = { input: script.join(""), encoding: "latin1", maxBuffer: 2 ** 28 };
     assert.equal(run(script, ring), execFileSync(process.env.NATIVE, [`${ring}`], options), `seed ${seed}`);
+  }
+});
+
+// The picture's state after each call is compared with what the database says of itself: by `stats`, by a collection to
+// the greatest timestamp, and by ripsawbean_state where the module has it.
+test("the picture's state, beside the database, in random scripts", () => {
+  for (let seed = 301; seed <= 360; seed++) {
+    const [db, history] = [library.open(), historyOf()];
+    for (const line of randomScript(seed, 200)) {
+      const text = told(db, line);
+      if (!text.startsWith("status")) history.add(text);
+      const state = stateText(history.after(history.events.length - 1));
+      assert.equal(state, db.state() ?? state);
+    }
+    const { database, transactions, feeds } = stateOf(stateText(history.after(history.events.length - 1)));
+    const counts = [database.versions, transactions.length, feeds.length, database.closed, database.horizon];
+    assert.equal(answerOf(db.call("0 stats\n")), `stats ${counts.join(" ")}`, `seed ${seed}`);
+    const [, horizon] = answerOf(db.call("0 collect 9223372036854775807\n")).split(" ");
+    assert.equal(horizon, `${database.limit}`, `seed ${seed}`);
+    db.close();
+  }
+});
+
+test("each moment of random scripts is drawn, and each event and mark has a sentence", () => {
+  for (let seed = 401; seed <= 410; seed++) {
+    const history = historyOf(run(randomScript(seed, 120)).replace(/^status .*\n/gm, ""));
+    for (const { place } of history.events) {
+      const moment = history.after(place);
+      const zoom = () => ({ count: 12, later: 0 });
+      const { svg, marks } = drawingOf(history, moment, stateOf(stateText(moment)), { zoom, width: 400, mostKeys: 8 });
+      assert.doesNotMatch(`${svg}`, /NaN|undefined|Infinity/);
+      for (const sentence of [reasonOf(history, place), ...marks.map((it) => it.meaning())])
+        assert.match(sentence, /^(?!.*(undefined|null|NaN))\S.*\.$/);
+    }
   }
 });
 

@@ -127,3 +127,13 @@ test("a line of no transcript is an error, and adds nothing", () => {
   history.add("fault 2 1 wordcount\n");
   assert.equal(history.fault, "fault 2 1 wordcount");
 });
+
+test("a transcript that begins in the middle is drawn as far as it goes", () => {
+  const { marks } = drawn("15 1 get 26 pear => value 5\n16 1 del 26 kiwi => written\n17 1 commit 26 => committed 1\n" +
+    '19 0 close 28 => closed 28 0\n20 2 poll 1 10 => messages 2\n{"after":null,"key":"a2l3aQ==","updated":"26"}\n' +
+    '{"resolved":"28"}\n21 0 put 29 a 1 => written\n22 0 release 7 => released\n23 3 cancel 4 => cancelled\n');
+  const ids = marks.map((it) => it.id);
+  const wanted = ["version kiwi 26", "row 1 kiwi 26", "resolved 1 28", "transaction 29"];
+  for (const id of wanted) assert.ok(ids.includes(id), id);
+  for (const mark of marks) assert.doesNotMatch(mark.meaning(), /undefined|null/);
+});
