@@ -1,0 +1,139 @@
+// The picture without a browser: what it reads of a transcript, the state that it tells, its sentences, and its drawing
+// as text. The states were written by hand from their definitions. web/test runs it.
+import assert from "node:assert/strict";
+import { readdirSync } from "node:fs";
+import test from "node:test";
+import { Axis } from "../picture/axis.mjs";
+import { drawingOf } from "../picture/drawing.mjs";
+import { markup } from "../picture/markup.mjs";
+import { historyOf, reasonOf, stateOf, stateText } from "../picture/picture.mjs";
+import { bytesOf, wordOf } from "../picture/words.mjs";
+import { exampleTranscripts, guideTranscripts, read } from "./guide.mjs";
+
+const last = (history) => history.after(history.events.length - 1);
+const zoom = () => ({ count: Infinity, later: 0 });
+
+function drawn(transcript, options = {}) {
+  const history = historyOf(transcript);
+  const moment = last(history);
+  return drawingOf(history, moment, stateOf(stateText(moment)), { zoom, width: 800, mostKeys: 8, ...options });
+}
+
+test("the state of each worked transcript, byte for byte", () => {
+  const names = readdirSync(new URL("states", import.meta.url)).filter((it) => it.endsWith(".transcript"));
+  assert.equal(names.length, 10);
+  for (const name of names) {
+    const state = read(`web/tests/states/${name.replace("transcript", "state")}`);
+    assert.equal(stateText(last(historyOf(read(`web/tests/states/${name}`)))), state, name);
+  }
+});
+
+test("a state's text as objects", () => {
+  const { database, transactions, protections, feeds } = stateOf(read("web/tests/states/ties.state"));
+  const { holder, holder_number, limit, oldest } = database;
+  assert.deepEqual([holder, holder_number, limit, oldest], ["protection", 2n, 6n, null]);
+  assert.deepEqual([transactions.length, protections.length, feeds.length], [0, 2, 2]);
+  assert.deepEqual([feeds[1].hi, feeds[1].lo, feeds[1].initial, feeds[1].gap], ["c", null, false, 4n]);
+});
+
+test("each event of the guide has a sentence, and each mark a meaning", () => {
+  for (const it of [...guideTranscripts(), ...exampleTranscripts()]) {
+    const history = historyOf(it);
+    for (const { place } of history.events) {
+      assert.match(reasonOf(history, place), /^\S.*\.$/, `${place} of\n${it}`);
+      assert.doesNotMatch(reasonOf(history, place), /undefined|null|NaN/);
+    }
+    for (const mark of drawn(it).marks) assert.match(mark.meaning(), /^\S.*\.$/, mark.id);
+  }
+});
+
+test("a moment in the middle is the end of a shorter transcript", () => {
+  for (const it of guideTranscripts()) {
+    const history = historyOf(it);
+    last(history);
+    for (let place = history.events.length - 1; place >= 0; place--) {
+      const shorter = history.events.slice(0, place + 1).map(textOf).join("");
+      assert.equal(stateText(history.after(place)), stateText(last(historyOf(shorter))));
+    }
+  }
+});
+
+// An event's text, without the rows of a scan, which change nothing.
+function textOf({ position, seat, command, words, answer, details, messages }) {
+  const told = messages.map((it) => ("resolved" in it ? { resolved: `${it.resolved}` }
+    : { after: it.value === null ? null : btoa(it.value), key: btoa(it.key), updated: `${it.ts}` }));
+  const first = [position, seat, command, ...words, "=>", answer, ...details].join(" ");
+  return [first, ...told.map((it) => JSON.stringify(it)), ""].join("\n");
+}
+
+test("why a write came too late", () => {
+  const history = historyOf(guideTranscripts().find((it) => it.includes("3 0 put 10 a 1 => toolate")));
+  const why = /^Transaction 20 has read a and found nothing\. A write at 10 would make that answer wrong/;
+  assert.match(reasonOf(history, 3), why);
+  assert.match(reasonOf(history, 4), /^Transaction 10 was aborted when its write of a came too late/);
+});
+
+test("what is drawn of a story", () => {
+  const { marks, svg } = drawn(read("web/tests/states/lagging.transcript"));
+  const ids = marks.map((it) => it.id);
+  const wanted = ["closed", "horizon", "transaction 5", "version a 10", "cursor 1", "row 1 a 10"];
+  for (const id of wanted) assert.ok(ids.includes(id), id);
+  assert.ok(!ids.some((it) => it.startsWith("resolved")));
+  assert.match(`${svg}`, /21 behind/);
+  const meaning = marks.find((it) => it.id === "version a 5").meaning();
+  assert.match(meaning, /^a is 1 from 5 on, until 10, .* never change\.$/);
+});
+
+test("a read keeps writes out from the version that it found", () => {
+  const { marks } = drawn("0 0 begin 5 => started\n1 0 put 5 a 1 => written\n2 0 commit 5 => committed 1\n" +
+    "3 1 begin 9 => started\n4 1 get 9 a => value 1\n5 1 get 9 b => none\n");
+  const meaning = (id) => marks.find((it) => it.id === id).meaning();
+  assert.match(meaning("read a 5 9"), /no write of a between 5 and 9/);
+  assert.match(meaning("read b 0 9"), /found nothing, so no write of b below 9/);
+});
+
+test("keys and values are escaped, and spelled as in the transcript", () => {
+  const { svg } = drawn("0 0 begin 5 => started\n1 0 put 5 <b>&\"' <i> => written\n2 0 put 5 %FF => => written\n");
+  assert.doesNotMatch(`${svg}`, /<b>|<i>/);
+  assert.match(`${svg}`, />%FF</);
+  const link = markup`<a title="${'"'}">${["<", markup`<br>`, null, false, 0]}</a>`;
+  assert.equal(`${link}`, '<a title="&#34;">&#60;<br>0</a>');
+  for (const word of ["-", "%2D", "a%20b", "%FF%00", "x-y"]) assert.equal(wordOf(bytesOf(word)), word);
+});
+
+test("a long history is drawn by its last part", () => {
+  const begun = Array.from({ length: 500 }, (_, i) => `${i} 0 begin ${3 * i + 1} => started\n`).join("");
+  const { axis, marks } = drawn(begun, { zoom: () => ({ count: 20, later: 0 }) });
+  assert.deepEqual([axis.points.length, axis.before, axis.after, axis.points.at(-1)], [20, 481, 0, 1498n]);
+  assert.equal(marks.length, 20);
+  const earlier = drawn(begun, { zoom: () => ({ count: 20, later: 30 }) });
+  assert.deepEqual([earlier.axis.points.at(-1), earlier.axis.after], [1408n, 30]);
+});
+
+test("timestamps stand in their order, to scale where that can be read", () => {
+  for (const points of [[1n, 2n, 3n], [1n, 2n, 10n ** 18n], [5n], []]) {
+    const axis = new Axis(points, zoom(), 100, 700);
+    const places = [0n, ...points].map((it) => axis.x(it));
+    assert.deepEqual(places, places.toSorted((a, b) => a - b));
+    assert.ok(places[0] === 100 && places.at(-1) <= 700);
+    assert.equal(axis.isToScale, points.at(-1) !== 10n ** 18n);
+  }
+});
+
+test("a line of no transcript is an error, and adds nothing", () => {
+  const history = historyOf("mvfeed 2\n0 0 begin 5 => started\n");
+  assert.throws(() => history.add("1 0 commit 5 => committed 0\nwhat\n"), /no line of a transcript: what/);
+  assert.equal(history.events.length, 1);
+  history.add("fault 2 1 wordcount\n");
+  assert.equal(history.fault, "fault 2 1 wordcount");
+});
+
+test("a transcript that begins in the middle is drawn as far as it goes", () => {
+  const { marks } = drawn("15 1 get 26 pear => value 5\n16 1 del 26 kiwi => written\n17 1 commit 26 => committed 1\n" +
+    '19 0 close 28 => closed 28 0\n20 2 poll 1 10 => messages 2\n{"after":null,"key":"a2l3aQ==","updated":"26"}\n' +
+    '{"resolved":"28"}\n21 0 put 29 a 1 => written\n22 0 release 7 => released\n23 3 cancel 4 => cancelled\n');
+  const ids = marks.map((it) => it.id);
+  const wanted = ["version kiwi 26", "row 1 kiwi 26", "resolved 1 28", "transaction 29"];
+  for (const id of wanted) assert.ok(ids.includes(id), id);
+  for (const mark of marks) assert.doesNotMatch(mark.meaning(), /undefined|null/);
+});
