@@ -1,0 +1,59 @@
+"""`GET /metrics`: the server's numbers in Prometheus' text format. Reading them makes no call."""
+
+import os
+
+from aiohttp import web
+
+from .replies import arguments
+
+PAGE = os.sysconf("SC_PAGE_SIZE")
+
+
+class Metrics:
+    def __init__(self, shared, consumers, streams):
+        self.shared, self.ledger, self.consumers, self.streams = shared, shared.ledger, consumers, streams
+
+    async def handle(self, request):
+        arguments(request)
+        text = "".join(_family(*family) for family in (*self._plain(), *self._labelled()))
+        return web.Response(body=text.encode(), headers={"Content-Type": "text/plain; version=0.0.4; charset=utf-8"})
+
+    def _plain(self):
+        shared, ledger = self.shared, self.ledger
+        for name, kind, meaning, value in (
+            ("closed", "gauge", "The closed timestamp.", ledger.closed),
+            ("horizon", "gauge", "The collection horizon.", ledger.horizon),
+            ("limit", "gauge", "Where a collection would have to stop.", ledger.limit()[0]),
+            ("undecided", "gauge", "Undecided transactions.", len(ledger.undecided)),
+            ("feeds", "gauge", "Live feeds.", len(ledger.feeds)),
+            ("streams", "gauge", "Feeds that are streamed.", self.streams.open),
+            ("protections", "gauge", "Protections that stand.", len(ledger.protections)),
+            ("sessions", "gauge", "Seats that are taken.", len(shared.seats.taken)),
+            ("calls_total", "counter", "Calls of the database.", ledger.calls),
+            ("rows_total", "counter", "Committed rows that are closed.", ledger.rows.total),
+            ("collected_total", "counter", "Versions that a collection let go.", ledger.collected),
+            ("shouts_total", "counter", "Answers that were not the expected ones.", shared.shouts),
+            ("memory_bytes", "gauge", "Resident memory of the server.", _memory()),
+        ):
+            yield name, kind, meaning, [("", value)]
+
+    def _labelled(self):
+        ledger, names = self.ledger, self.consumers.names
+        yield "refusals_total", "counter", "Refusals and faults by name.", [
+            ('{name="%s"}' % name, count) for name, count in sorted(ledger.refusals.items())]
+        yield "consumer_lag_rows", "gauge", "Rows closed above what a consumer has stored.", [
+            ('{name="%s"}' % name, ledger.rows.above(one.stored)) for name, one in sorted(names.items()) if one.stored is not None]
+        yield "consumer_held", "gauge", "Whether the horizon is held for a consumer.", [
+            ('{name="%s"}' % name, int(one.protection is not None)) for name, one in sorted(names.items())]
+        yield "feed_lag_rows", "gauge", "Rows closed above a feed's floor.", [
+            ('{feed="%d"}' % number, ledger.rows.above(feed.floor)) for number, feed in sorted(ledger.feeds.items())]
+
+
+def _family(name, kind, meaning, samples):
+    lines = ["# HELP ripsawbean_%s %s" % (name, meaning), "# TYPE ripsawbean_%s %s" % (name, kind)]
+    return "\n".join(lines + ["ripsawbean_%s%s %d" % (name, labels, value) for labels, value in samples]) + "\n"
+
+
+def _memory():
+    with open("/proc/self/statm") as words:
+        return int(words.read().split()[1]) * PAGE

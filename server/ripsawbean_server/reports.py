@@ -1,0 +1,68 @@
+"""What an operator may ask.
+
+`GET /state` is the database's own report: JSON lines about closed, the horizon and what holds them, exactly as the
+library writes them.
+
+`GET /holders` is what the server knows beside it, because the database can't: ages of transactions, rows of lag,
+whose name a feed or a protection has, whether a stream waits for its reader. Numbers of the database are strings of
+digits, counts and seconds are numbers.
+"""
+
+import time
+
+from aiohttp import web
+
+from .replies import arguments, lines_of, refuse
+
+
+class Reports:
+    def __init__(self, shared, consumers):
+        self.shared, self.ledger, self.consumers = shared, shared.ledger, consumers
+
+    async def state(self, request):
+        arguments(request)
+        if not hasattr(self.shared.database, "state"):
+            refuse(501, "state", "this library has no state report; GET /holders tells what the server itself knows")
+        return web.Response(text=self.shared.database.state(), content_type="application/x-ndjson")
+
+    async def holders(self, request):
+        arguments(request)
+        return lines_of((
+            self._server(),
+            *self._transactions(),
+            *self._protections(),
+            *self._feeds(),
+            *(self.consumers.told(name) for name in sorted(self.consumers.names)),
+        ))
+
+    def _server(self):
+        shared, ledger = self.shared, self.ledger
+        limit, kind, number = ledger.limit()
+        return {
+            "kind": "server", "identity": shared.identity, "closed": str(ledger.closed), "horizon": str(ledger.horizon),
+            "greatest": str(ledger.greatest), "limit": str(limit), "holder": kind, "holder_number": number and str(number),
+            "oldest": str(min(ledger.undecided)) if ledger.undecided else None, "sessions": len(shared.seats.taken),
+            "calls": ledger.calls, "rows": ledger.rows.total, "first": shared.transcript.first, "next": shared.transcript.next,
+            "shouts": shared.shouts,
+        }
+
+    def _transactions(self):
+        now = time.monotonic()
+        for timestamp, one in sorted(self.ledger.undecided.items()):
+            yield {"kind": "transaction", "timestamp": str(timestamp), "seat": one.session.seat, "age": round(now - one.since, 3)}
+
+    def _protections(self):
+        for number, one in sorted(self.ledger.protections.items()):
+            yield {
+                "kind": "protection", "number": str(number), "timestamp": str(one.timestamp), "consumer": one.consumer,
+                "seat": None if one.consumer else one.owner.seat, "lag": self.ledger.rows.above(one.timestamp),
+            }
+
+    def _feeds(self):
+        for number, one in sorted(self.ledger.feeds.items()):
+            is_streamed = one.owner is self.shared.own
+            yield {
+                "kind": "feed", "number": str(number), "opened": one.opened, "consumer": one.consumer, "streamed": is_streamed,
+                "seat": None if is_streamed else one.owner.seat, "floor": str(one.floor), "told": one.told,
+                "lag": self.ledger.rows.above(one.floor), "waits": one.waits,
+            }
