@@ -1,8 +1,8 @@
 """Closing and collecting: the server's own work on the database.
 
     soon after a transaction was decided    close as far as transactions are decided
-    each second                             abort transactions that are too old, by their own seat; collect what was closed some seconds
-                                            ago; let go of what lags too far; tidy connections; wake the streams
+    each second                             abort transactions that are too old, by their own seat; let go of what
+                                            lags too far; collect what was closed some seconds ago; wake the streams
 
 A hard closing would abort younger transactions below an old one too, so it isn't used. A collection stays `--history`
 seconds behind closed, so that a timestamp that was just seen can be read.
@@ -16,9 +16,9 @@ import time
 
 
 class Closing:
-    def __init__(self, shared, consumers, options):
+    def __init__(self, shared, consumers, options, each_second):
         self.shared, self.ledger, self.consumers, self.options = shared, shared.ledger, consumers, options
-        self.each_second = []  # further work
+        self.each_second = each_second  # further work
 
     async def run(self):
         last = time.monotonic()
@@ -49,8 +49,7 @@ class Closing:
         self._abort_before(now - self.options.max_age)
         self._let_go_beyond(self.options.max_lag)
         self._collect_before(now - self.options.history)
-        for work in self.each_second:
-            work()
+        self.each_second()
         self.shared.moved.ring()
 
     def _abort_before(self, then):

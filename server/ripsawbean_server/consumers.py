@@ -44,7 +44,7 @@ class Consumers:
     def check_identity(self, given, is_needed):
         if "identity" not in given:
             if is_needed:
-                refuse(400, "identity", "a timestamp means something only together with the identity of its database", identity=self.shared.identity)
+                refuse(400, "identity", "a timestamp means nothing without its identity", identity=self.shared.identity)
         elif given["identity"] != self.shared.identity.encode():
             refuse(409, "identity", "this is another database: begin anew", identity=self.shared.identity)
 
@@ -113,7 +113,7 @@ class Consumers:
     def _check_stored(self, consumer, stored, generation):
         ledger = self.shared.ledger
         if stored > ledger.closed:
-            refuse(409, "notclosed", "what this timestamp will hold isn't settled yet", closed=str(ledger.closed))
+            refuse(409, "notclosed", "this timestamp is above closed", closed=str(ledger.closed))
         if generation != consumer.generation:
             refuse(409, "fenced", "a later consumer has this name: end", generation=str(consumer.generation))
         if consumer.stored is not None and stored < consumer.stored:

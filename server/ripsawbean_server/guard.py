@@ -5,8 +5,9 @@ loopback, so the name by which the server is called (Host) and the page that cal
 its own. A token, where there is one, is asked of every request.
 
 `Connections` makes the protocol of each new connection. HTTP itself is aiohttp's. Here a connection is ended that has
-sent no whole head in time, or whose reader takes nothing of what waits for it; streams are exempt, because a feed's
-reader may be slow up to its lag. When too many are open, the one that has been silent for longest makes room.
+sent no whole head in time, that sends many requests ahead of their answers, or whose reader takes nothing of what waits
+for it; streams are exempt, because a feed's reader may be slow up to its lag. When too many are open, the one that has
+been silent for longest makes room.
 
 1. About `most` connections are served, and no more than the kernel hands over at once beyond them.
 2. A connection in `silent` has had no request yet that passed the gate.
@@ -20,9 +21,10 @@ import time
 
 from aiohttp import web
 
-from .replies import refuse
+from .replies import Refusal, refusal_of, refuse
 
 HEAD_SECONDS = 10
+MOST_AHEAD = 64  # requests of one connection that wait for their turn
 LOOPBACK_NAMES = ("127.0.0.1", "localhost", "[::1]")
 
 
@@ -31,14 +33,19 @@ class Gate:
         ports = (":%d" % port, "") if port == 80 else (":%d" % port,)
         self.token, self.connections = token, connections
         self.hosts = frozenset(name + end for name in names for end in ports)
-        self.origins = frozenset("http://" + host for host in self.hosts) | frozenset("https://" + host for host in self.hosts)
+        self.origins = frozenset(scheme + host for scheme in ("http://", "https://") for host in self.hosts)
 
     def middleware(self):
         @web.middleware
         async def gate(request, handler):
-            self.check(request.headers)
-            self.connections.spoke(request.protocol)
-            return await handler(request)
+            try:
+                self.check(request.headers)
+                self.connections.spoke(request.protocol)
+                return await handler(request)
+            except Refusal as refusal:
+                return refusal.response()
+            except web.HTTPException as end:
+                return refusal_of(end).response()
 
         return gate
 
@@ -64,6 +71,17 @@ def _shown(authorization):
         return b""
 
 
+class Protocol(web.RequestHandler):
+    """aiohttp's, which puts no limit to the requests that wait for their turn."""
+
+    __slots__ = ()
+
+    def data_received(self, data):
+        super().data_received(data)
+        if len(self._messages) > MOST_AHEAD:
+            self.transport.abort()
+
+
 class Full(asyncio.Protocol):
     """Served where there is no room at all."""
 
@@ -83,7 +101,7 @@ class Connections:
         """The protocol of a new connection to aiohttp's server."""
         if len(server.connections) >= self.most and not self._make_room():
             return Full()
-        protocol = server()
+        protocol = Protocol(server, loop=asyncio.get_running_loop(), access_log=None)
         self.silent[protocol] = time.monotonic()
         return protocol
 
@@ -104,7 +122,8 @@ class Connections:
         for protocol in [one for one, since in self.silent.items() if now - since > HEAD_SECONDS]:
             del self.silent[protocol]
             _cut(protocol)
-        self._stuck = {one: self._stuck_since(one, now) for one in connections if one not in self.exempt and _waiting(one)}
+        full = [one for one in connections if one not in self.exempt and _waiting(one)]
+        self._stuck = {one: self._stuck_since(one, now) for one in full}
         for protocol in [one for one, (_, since) in self._stuck.items() if now - since > self.patience]:
             _cut(protocol)
 

@@ -4,7 +4,7 @@
 
     begin            the timestamp is drawn: above closed and above each that began
     get . KEY        `.` is the timestamp that the session began last; so in scan, put, del, commit and abort
-    begin TS         is refused far ahead of all others, and so are close and closehard: they would end the database for everyone
+    begin TS         is refused far ahead of all others, and so are close and closehard: it would end the database
     poll, release    are refused for what the server holds for a stream or a name
 
 1. A line is answered by exactly one event or one `fault LINE CODE NAME`, in its order. LINE counts the session's
@@ -77,8 +77,9 @@ class Lines:
 
     def _bound(self, session, line, rest):
         digits = rest[:-1]
-        if digits.isdigit() and (len(digits) > GREATEST_LENGTH or int(digits) >= self.shared.ledger.next_timestamp() + self.ahead):
-            raise Fault(65, "ahead")
+        if digits.isdigit():
+            if len(digits) > GREATEST_LENGTH or int(digits) >= self.shared.ledger.next_timestamp() + self.ahead:
+                raise Fault(65, "ahead")
         return line
 
     def _begin(self, session, line, rest):
@@ -106,6 +107,7 @@ def _number_in(rest):
 
 RULES = {
     b"begin\n": Lines._draw, b"begin": Lines._begin, b"close": Lines._bound, b"closehard": Lines._bound,
-    b"get": Lines._dot, b"scan": Lines._dot, b"put": Lines._dot, b"del": Lines._dot, b"commit": Lines._dot, b"abort": Lines._dot,
+    b"get": Lines._dot, b"scan": Lines._dot, b"put": Lines._dot, b"del": Lines._dot, b"commit": Lines._dot,
+    b"abort": Lines._dot,
     b"poll": Lines._poll, b"release": Lines._release,
 }

@@ -38,15 +38,17 @@ class Metrics:
             yield name, kind, meaning, [("", value)]
 
     def _labelled(self):
-        ledger, names = self.ledger, self.consumers.names
-        yield "refusals_total", "counter", "Refusals and faults by name.", [
-            ('{name="%s"}' % name, count) for name, count in sorted(ledger.refusals.items())]
-        yield "consumer_lag_rows", "gauge", "Rows closed above what a consumer has stored.", [
-            ('{name="%s"}' % name, ledger.rows.above(one.stored)) for name, one in sorted(names.items()) if one.stored is not None]
-        yield "consumer_held", "gauge", "Whether the horizon is held for a consumer.", [
-            ('{name="%s"}' % name, int(one.protection is not None)) for name, one in sorted(names.items())]
-        yield "feed_lag_rows", "gauge", "Rows closed above a feed's floor.", [
-            ('{feed="%d"}' % number, ledger.rows.above(feed.floor)) for number, feed in sorted(ledger.feeds.items())]
+        ledger, above, names = self.ledger, self.ledger.rows.above, self.consumers.names
+        lags = {name: above(one.stored) for name, one in names.items() if one.stored is not None}
+        held = {name: one.protection is not None for name, one in names.items()}
+        feeds = {number: above(feed.floor) for number, feed in ledger.feeds.items()}
+        for name, kind, meaning, label, values in (
+            ("refusals_total", "counter", "Refusals and faults by name.", "name", ledger.refusals),
+            ("consumer_lag_rows", "gauge", "Rows closed above what a consumer has stored.", "name", lags),
+            ("consumer_held", "gauge", "Whether the horizon is held for a consumer.", "name", held),
+            ("feed_lag_rows", "gauge", "Rows closed above a feed's floor.", "feed", feeds),
+        ):
+            yield name, kind, meaning, [('{%s="%s"}' % (label, key), value) for key, value in sorted(values.items())]
 
 
 def _family(name, kind, meaning, samples):

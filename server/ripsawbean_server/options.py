@@ -26,14 +26,17 @@ SECONDS = (  # name, default, least, what it is
 
 
 def options_from(arguments):
-    parser = argparse.ArgumentParser(prog="server/run", description="Serves one Ripsawbean database over HTTP and WebSocket.")
+    parser = argparse.ArgumentParser(prog="server/run", description="Serves one Ripsawbean database over HTTP.")
+    add = parser.add_argument
     for name, default, least, most, meaning in WHOLE:
-        parser.add_argument("--" + name, type=_within(int, least, most), default=default, metavar="N", help="%s (%d)" % (meaning, default))
+        help = "%s (%d)" % (meaning, default)
+        add("--" + name, type=_within(int, least, most), default=default, metavar="N", help=help)
     for name, default, least, meaning in SECONDS:
-        parser.add_argument("--" + name, type=_within(float, least, 1e9), default=default, metavar="S", help="%s (%g)" % (meaning, default))
-    parser.add_argument("--address", default="127.0.0.1", metavar="A", help="the address (127.0.0.1); others than loopback need a token")
-    parser.add_argument("--host", action="append", default=[], metavar="H", help="a further name by which browsers may call the server")
-    parser.add_argument("--token", metavar="FILE", help="a file whose first line every request has to show")
+        help = "%s (%g)" % (meaning, default)
+        add("--" + name, type=_within(float, least, 1e9), default=default, metavar="S", help=help)
+    add("--address", default="127.0.0.1", metavar="A", help="the address (127.0.0.1); another one needs a token")
+    add("--host", action="append", default=[], metavar="H", help="a further name by which the server may be called")
+    add("--token", metavar="FILE", help="a file whose first line every request has to show")
     options = parser.parse_args(arguments)
     _check_address(parser, options)
     options.token = _token_in(parser, options.token) if options.token else None

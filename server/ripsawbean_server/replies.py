@@ -11,19 +11,34 @@ from urllib.parse import unquote_to_bytes
 
 from aiohttp import web
 
-KINDS = {
-    400: web.HTTPBadRequest, 401: web.HTTPUnauthorized, 403: web.HTTPForbidden, 409: web.HTTPConflict, 410: web.HTTPGone,
-    429: web.HTTPTooManyRequests, 501: web.HTTPNotImplemented, 503: web.HTTPServiceUnavailable,
-}
 NUMBERS = frozenset(("from", "gap", "stored", "generation", "since"))
 NUMBER = re.compile(rb"0|[1-9][0-9]{0,18}")
 GREATEST = (1 << 63) - 1
 
 
+class Refusal(Exception):
+    def __init__(self, status, error, why, **members):
+        super().__init__(why)
+        self.status, self.members = status, {"error": error, "why": why, **members}
+
+    def response(self):
+        headers = {"WWW-Authenticate": 'Basic realm="ripsawbean", charset="UTF-8"'} if self.status == 401 else None
+        text = json.dumps(self.members) + "\n"
+        return web.Response(status=self.status, text=text, content_type="application/json", headers=headers)
+
+
 def refuse(status, error, why, **members):
-    body = {"error": error, "why": why, **members}
-    headers = {"WWW-Authenticate": 'Basic realm="ripsawbean", charset="UTF-8"'} if status == 401 else None
-    raise KINDS[status](text=json.dumps(body) + "\n", content_type="application/json", headers=headers)
+    raise Refusal(status, error, why, **members)
+
+
+def refusal_of(end):
+    """The refusal for one of aiohttp's own."""
+    error, why = {
+        404: ("path", "the server has no such path"),
+        405: ("method", "this path takes other methods"),
+        413: ("toolong", "the body is longer than --max-message"),
+    }.get(end.status, ("http", end.reason))
+    return Refusal(end.status, error, why)
 
 
 def lines_of(values):
@@ -33,7 +48,7 @@ def lines_of(values):
 
 
 def arguments(request, *names):
-    """The query's values, each given once at most: numbers where NUMBERS has their name, else bytes, because a bound may be any."""
+    """The query's values, each given once: numbers where NUMBERS has their name, else bytes, as a bound may be any."""
     found = {}
     for part in filter(None, request.rel_url.raw_query_string.split("&")):
         name, _, value = part.partition("=")

@@ -40,16 +40,17 @@ class Reports:
         limit, kind, number = ledger.limit()
         return {
             "kind": "server", "identity": shared.identity, "closed": str(ledger.closed), "horizon": str(ledger.horizon),
-            "greatest": str(ledger.greatest), "limit": str(limit), "holder": kind, "holder_number": number and str(number),
-            "oldest": str(min(ledger.undecided)) if ledger.undecided else None, "sessions": len(shared.seats.taken),
-            "calls": ledger.calls, "rows": ledger.rows.total, "first": shared.transcript.first, "next": shared.transcript.next,
-            "shouts": shared.shouts,
+            "greatest": str(ledger.greatest), "limit": str(limit), "holder": kind,
+            "holder_number": number and str(number), "oldest": str(min(ledger.undecided)) if ledger.undecided else None,
+            "sessions": len(shared.seats.taken), "calls": ledger.calls, "rows": ledger.rows.total,
+            "first": str(shared.transcript.first), "next": str(shared.transcript.next), "shouts": shared.shouts,
         }
 
     def _transactions(self):
         now = time.monotonic()
         for timestamp, one in sorted(self.ledger.undecided.items()):
-            yield {"kind": "transaction", "timestamp": str(timestamp), "seat": one.session.seat, "age": round(now - one.since, 3)}
+            age = round(now - one.since, 3)
+            yield {"kind": "transaction", "timestamp": str(timestamp), "seat": one.session.seat, "age": age}
 
     def _protections(self):
         for number, one in sorted(self.ledger.protections.items()):
@@ -62,7 +63,7 @@ class Reports:
         for number, one in sorted(self.ledger.feeds.items()):
             is_streamed = one.owner is self.shared.own
             yield {
-                "kind": "feed", "number": str(number), "opened": one.opened, "consumer": one.consumer, "streamed": is_streamed,
-                "seat": None if is_streamed else one.owner.seat, "floor": str(one.floor), "told": one.told,
-                "lag": self.ledger.rows.above(one.floor), "waits": one.waits,
+                "kind": "feed", "number": str(number), "opened": one.opened, "consumer": one.consumer,
+                "streamed": is_streamed, "seat": None if is_streamed else one.owner.seat, "floor": str(one.floor),
+                "told": one.told, "lag": self.ledger.rows.above(one.floor), "waits": one.waits,
             }

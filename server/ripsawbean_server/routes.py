@@ -30,7 +30,8 @@ class Talk:
 
     async def session(self, request):
         arguments(request)
-        socket = web.WebSocketResponse(compress=False, heartbeat=self.options.heartbeat, max_msg_size=self.options.max_message)
+        socket = web.WebSocketResponse(
+            compress=False, heartbeat=self.options.heartbeat, max_msg_size=self.options.max_message)
         if not socket.can_prepare(request):
             refuse(400, "websocket", "a session is a WebSocket; POST /call takes lines without one")
         with self._seat() as session, contextlib.suppress(ConnectionError):
@@ -59,12 +60,15 @@ class Talk:
 
 async def transcript(request, shared):
     """The events kept, as a transcript of format two."""
-    since = arguments(request, "since").get("since", shared.transcript.first)
-    if since < shared.transcript.first:
-        refuse(410, "gone", "events below this position are kept no longer; --keep says how many are", first=str(shared.transcript.first))
-    events = shared.transcript.since(since)
-    response = web.StreamResponse(headers={"Content-Type": "text/plain; charset=us-ascii", "Ripsawbean-Identity": shared.identity,
-                                           "Ripsawbean-Next": str(shared.transcript.next), "Cache-Control": "no-store"})
+    kept = shared.transcript
+    since = arguments(request, "since").get("since", kept.first)
+    if since < kept.first:
+        refuse(410, "gone", "events below the first one are kept no longer", first=str(kept.first))
+    events = kept.since(since)
+    response = web.StreamResponse(headers={
+        "Content-Type": "text/plain; charset=us-ascii", "Cache-Control": "no-store",
+        "Ripsawbean-Identity": shared.identity, "Ripsawbean-Next": str(kept.next),
+    })
     await response.prepare(request)
     await response.write(b"mvfeed 2\n")
     for at in range(0, len(events), 1000):

@@ -47,7 +47,7 @@ class Shared:
         self.shouts = 0
 
     def call(self, session, line):
-        """The text of the event of a line, which has its newline and no seat. It raises where the database makes no call."""
+        """The event's text of a line, which has its newline and no seat. It raises where the database makes no call."""
         try:
             text = self.database.call(session.prefix + line).text
         except Unwritten:

@@ -24,15 +24,15 @@ import time
 
 from aiohttp import web
 
-from ripsawbean import Error, spell
+from ripsawbean import LineFault, UnknownCommand, spell
 
 from .replies import arguments, refuse
 
 IDLE_SECONDS = 15  # an idle stream is written to so often, so that a reader that is gone is found out
-LINGER_SECONDS = 5  # how long the last message waits for its reader
 SEND_BUFFER = 1 << 18  # bytes that the kernel may hold for one reader
-LITTLE, MUCH = 1 << 15, 1 << 17  # a poll gives less or more bytes than these: the next asks for more or for fewer messages
+LITTLE, MUCH = 1 << 15, 1 << 17  # bytes: after a poll that gave less or more, the next asks for more or fewer messages
 MOST = 1000  # messages a poll
+LOOK_SECONDS = 0.25  # a stream whose reader has no room looks so often whether its feed has ended
 
 
 class JsonLines:
@@ -80,7 +80,8 @@ class ServerSentEvents:
 
 class Streams:
     def __init__(self, shared, consumers, connections, options):
-        self.shared, self.consumers, self.connections, self.most = shared, consumers, connections, options.max_feeds
+        self.shared, self.consumers, self.connections = shared, consumers, connections
+        self.most, self.patience = options.max_feeds, options.patience
         self.open = 0
 
     async def handle(self, request):
@@ -89,19 +90,18 @@ class Streams:
         name = self.consumers.name_in(given["consumer"].decode("latin-1")) if given.get("consumer") else None
         self.consumers.check_identity(given, "from" in given)
         if given.get("from", 0) > shared.ledger.closed:
-            refuse(409, "notclosed", "what this timestamp will hold isn't settled yet", closed=str(shared.ledger.closed))
+            refuse(409, "notclosed", "this timestamp is above closed", closed=str(shared.ledger.closed))
         if self.open >= self.most:
             refuse(503, "feeds", "the server streams as many feeds as it may")
         number = self._open_feed(given)
         values = {"identity": shared.identity, "from": str(shared.ledger.feeds[number].floor), "feed": str(number)}
         if name:
             values["generation"] = str(self.consumers.follow(name, number))
-        form = ServerSentEvents(shared.identity) if "text/event-stream" in request.headers.get("Accept", "") else JsonLines()
-        stream = Stream(shared, number, form, request, values)
+        stream = Stream(shared, number, _form(request, shared.identity), request, values)
         self.open += 1
         self.connections.exempt.add(request.protocol)
         try:
-            return await stream.run()
+            return await stream.run(self.patience)
         finally:
             self.open -= 1
             self.connections.exempt.discard(request.protocol)
@@ -109,22 +109,25 @@ class Streams:
 
     def _open_feed(self, given):
         """The number of a new feed of the server's own."""
-        shared, cursor = self.shared, given.get("from")
-        start = shared.ledger.closed if cursor is None else cursor
-        command = ("openinitial" if cursor is None else "open") + ("every" if "gap" in given and cursor is None else "")
-        command = "openevery" if "gap" in given and cursor is not None else command
-        span = " ".join(spell(given[bound]) if given.get(bound) else "-" for bound in ("lo", "hi"))
-        gap = " %d" % given["gap"] if "gap" in given else ""
+        shared = self.shared
+        command = "open" + ("" if "from" in given else "initial") + ("every" if "gap" in given else "")
+        words = [spell(given[bound]) if given.get(bound) else "-" for bound in ("lo", "hi")]
+        words += [str(given.get("from", shared.ledger.closed)), *([str(given["gap"])] if "gap" in given else [])]
         try:
-            answer = shared.ask("%s %s %d%s" % (command, span, start, gap))
-        except Error as error:
-            if command == "openinitialevery":
-                refuse(501, "gap", "this library has no feed with an initial scan and a gap; leave out one of the two")
-            refuse(400, type(error).__name__.lower(), "a bound has at most 257 bytes")
+            answer = shared.ask(" ".join([command, *words]))
+        except UnknownCommand:
+            refuse(501, "gap", "this library has no feed with an initial scan and a gap; leave out one of the two")
+        except LineFault as fault:
+            refuse(400, type(fault).__name__.lower(), "a bound has 257 bytes at most")
         if answer[0] != "opened":
-            status = 400 if answer[0] == "gaprange" else 503 if answer[0] == "nomemory" else 409
-            refuse(status, answer[0], "the database opens no such feed: begin anew without from", horizon=str(shared.ledger.horizon))
+            status = {"gaprange": 400, "nomemory": 503}.get(answer[0], 409)
+            refuse(status, answer[0], "the database opens no such feed", horizon=str(shared.ledger.horizon))
         return int(answer[1])
+
+
+def _form(request, identity):
+    wants_events = "text/event-stream" in request.headers.get("Accept", "")
+    return ServerSentEvents(identity) if wants_events else JsonLines()
 
 
 def _asked(request):
@@ -146,13 +149,14 @@ class Stream:
         headers.update({"Ripsawbean-" + name.capitalize(): value for name, value in values.items()})
         self.response = web.StreamResponse(headers=headers)
 
-    async def run(self):
+    async def run(self, patience):
+        """Follows the feed to its end. The last message waits for its reader, but not for ever."""
         try:
             self.request.transport.get_extra_info("socket").setsockopt(socket.SOL_SOCKET, socket.SO_SNDBUF, SEND_BUFFER)
             await self.response.prepare(self.request)
             await self._write(self.form.opening(self.values))
             await self._follow()
-            await asyncio.wait_for(self._finish(), LINGER_SECONDS)
+            await asyncio.wait_for(self._finish(), patience)
         except (ConnectionError, asyncio.TimeoutError):
             if self.request.transport:
                 self.request.transport.abort()
@@ -198,7 +202,7 @@ class Stream:
         self.feed.waits = True
         try:
             while not writing.done() and self.feed.end is None:
-                await asyncio.wait((writing, asyncio.ensure_future(self.shared.moved.next().wait())), return_when=asyncio.FIRST_COMPLETED)
+                await asyncio.wait((writing,), timeout=LOOK_SECONDS)
         finally:
             self.feed.waits = False
             if not writing.done():
