@@ -18,8 +18,9 @@ POLICY = (
     "default-src 'none'; script-src 'self'; style-src 'self' 'unsafe-inline'; connect-src 'self'; "
     "img-src 'self' data:; base-uri 'none'; form-action 'none'; frame-ancestors 'none'"
 )
-EVENT = re.compile(r"\d+ (\d+) (\S.*) => (.+)")
-HEADING = re.compile(r"#+ (.*)")
+FENCE = re.compile("^```.*$", re.MULTILINE)
+HEADING = re.compile("^#+ (.*)$", re.MULTILINE)
+EVENT = re.compile("^\\d+ (\\d+) (.+) => (.+)$", re.MULTILINE)
 
 
 class Page:
@@ -49,16 +50,12 @@ def _file(path):
 
 
 def examples_in(text):
-    """Each transcript of the guide: its heading, and its lines with the answers that the guide gives."""
-    found, heading, events = [], "", None
-    for line in text.splitlines():
-        event = EVENT.fullmatch(line)
-        if line.startswith("```"):
-            if events:
-                found.append({"heading": heading, "events": events})
-            events = [] if events is None else None
-        elif events is not None and event:
-            events.append({"seat": event[1], "line": event[2], "answer": event[3]})
-        elif events is None and HEADING.fullmatch(line):
-            heading = HEADING.fullmatch(line)[1]
+    """Each transcript of the guide: the heading where it stands, and its lines with the answers that the guide gives."""
+    found, heading = [], ""
+    for at, part in enumerate(FENCE.split(text)):
+        if at % 2 == 0:
+            heading = ([heading] + HEADING.findall(part))[-1]
+        elif not part.startswith("\n$"):  # a shell's
+            events = [{"seat": seat, "line": line, "answer": answer} for seat, line, answer in EVENT.findall(part)]
+            found += [{"heading": heading, "events": events}] if events else []
     return found

@@ -1,0 +1,49 @@
+// Who holds what, as a list: the lowest first, because that one decides how far closed or the horizon may go.
+import { markup } from "/picture/markup.mjs";
+import { bytesOf, counted, spanOf } from "/picture/words.mjs";
+
+export function holdersList({ server, transaction, protection, feed, consumer }) {
+  const held = [
+    ...consumer.filter((it) => it.stored !== null).map((it) => consumerItem(it, feed)),
+    ...feed.map(feedItem),
+    ...protection.filter((it) => it.consumer === null).map(protectionItem),
+  ].sort((a, b) => (BigInt(a.at) < BigInt(b.at) ? -1 : 1));
+  return markup`<p class="sentence">${sentence(server, held)}</p>
+    ${list(transaction.map(transactionItem))}${list(held.map((it) => ({ ...it, holds: it.at === server.limit && it.isHeld })))}`;
+}
+
+function sentence({ closed, horizon, limit, sessions }, held) {
+  const holders = held.filter((it) => it.isHeld && it.at === limit && limit !== closed).length;
+  const free = holders === 0 ? "Nothing holds the horizon below closed." : `Versions from ${limit} on are kept.`;
+  return `${counted(sessions, "session")} of 64. Closed is ${closed}, the horizon ${horizon}. ${free}`;
+}
+
+const list = (items) => items.length > 0 && markup`<ul>${items.map(itemOf)}</ul>`;
+
+function itemOf({ name, says, at, lag, isLate, holds }) {
+  return markup`<li class="${holds && "holds"} ${isLate && "late"}"><b>${name}</b> ${says}
+    <span class="at">${at}</span><span class="lag">${lag}${holds && markup` <strong>holds the horizon</strong>`}</span></li>`;
+}
+
+const behind = (lag) => (lag === 0 ? "up to date" : `${lag.toLocaleString("en")} ${lag === 1 ? "row" : "rows"} behind`);
+
+function transactionItem({ timestamp, seat, age }) {
+  return { name: `transaction ${timestamp}`, says: `of session ${seat} holds closed`, at: "", lag: `undecided for ${Math.round(age)} s`, isLate: age > 5 };
+}
+
+function consumerItem({ name, stored, held, generation, feed, lag }, feeds) {
+  const by = feeds.some((it) => it.number === feed) ? `followed by feed ${feed}` : held ? "not connected" : "let go: it has to begin anew";
+  return { name, says: `consumer, generation ${generation}, ${by}`, at: stored, lag: behind(lag), isLate: !held, isHeld: held };
+}
+
+function feedItem({ number, opened, consumer, streamed, seat, floor, lag, told, waits }) {
+  const [, lo, hi] = opened.split(" ");
+  const whose = consumer ? `of ${consumer}` : streamed ? "of a stream" : `of session ${seat}`;
+  const room = waits ? "; its reader has no room" : "";
+  const says = `${whose}, ${spanOf({ lo: bytesOf(lo), hi: bytesOf(hi) })}, ${told.toLocaleString("en")} told${room}`;
+  return { name: `feed ${number}`, says, at: floor, lag: behind(lag), isLate: waits, isHeld: true };
+}
+
+function protectionItem({ number, timestamp, seat, lag }) {
+  return { name: `protection ${number}`, says: `of session ${seat}`, at: timestamp, lag: behind(lag), isHeld: true };
+}
