@@ -2,6 +2,7 @@
 import { markup } from "/picture/markup.mjs";
 import { REFUSALS } from "/picture/picture.mjs";
 import { seatColour } from "/picture/sheet.mjs";
+import { counted } from "/picture/words.mjs";
 
 const MOST = 200;
 
@@ -52,7 +53,8 @@ export class Events {
 function eventOf({ place, position, seat, command, words, answer, details, rows, messages }, isShown) {
   const kind = REFUSALS.has(answer) ? "no" : "ok";
   const more = rows.length + messages.length;
+  const behind = more > 0 && markup` <span class="position">and ${counted(more, "line")}</span>`;
   return markup`<div class="event" id="event-${place}" role="option" data-place="${place}" aria-selected="${isShown}"
-    style="--seat: ${seatColour(seat)}"><span class="position">${position}</span> <b>${seat}</b> ${[command, ...words].join(" ")}
-    =&gt; <span class="${kind}">${[answer, ...details].join(" ")}</span>${more > 0 && markup` <span class="position">and ${more} more</span>`}</div>`;
+    style="--seat: ${seatColour(seat)}"><span class="position">${position}</span> <b>${seat}</b>
+    ${[command, ...words].join(" ")} =&gt; <span class="${kind}">${[answer, ...details].join(" ")}</span>${behind}</div>`;
 }

@@ -3,8 +3,8 @@
 
 // Which words of a command are timestamps.
 const TIMESTAMPS = {
-  begin: 0, get: 0, scan: 0, put: 0, del: 0, commit: 0, abort: 0, close: 0, closehard: 0, readat: 0, scanat: 0, protect: 0,
-  collect: 0, open: 2, openinitial: 2, openevery: 2, openinitialevery: 2,
+  begin: 0, get: 0, scan: 0, put: 0, del: 0, commit: 0, abort: 0, close: 0, closehard: 0, readat: 0, scanat: 0,
+  protect: 0, collect: 0, open: 2, openinitial: 2, openevery: 2, openinitialevery: 2,
 };
 // Which answer has given the number that a command names.
 const NUMBERED = { poll: "opened", cancel: "opened", release: "protected" };

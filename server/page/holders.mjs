@@ -8,32 +8,36 @@ export function holdersList({ server, transaction, protection, feed, consumer })
     ...feed.map(feedItem),
     ...protection.filter((it) => it.consumer === null).map(protectionItem),
   ].sort((a, b) => (BigInt(a.at) < BigInt(b.at) ? -1 : 1));
-  return markup`<p class="sentence">${sentence(server, held)}</p>
-    ${list(transaction.map(transactionItem))}${list(held.map((it) => ({ ...it, holds: it.at === server.limit && it.isHeld })))}`;
+  const holds = (it) => it.isHeld && it.at === server.limit && it.at !== server.closed;
+  return markup`<p class="sentence">${sentence(server, held.some(holds))}</p>
+    ${list(transaction.map(transactionItem))}${list(held.map((it) => ({ ...it, holds: holds(it) })))}`;
 }
 
-function sentence({ closed, horizon, limit, sessions }, held) {
-  const holders = held.filter((it) => it.isHeld && it.at === limit && limit !== closed).length;
-  const free = holders === 0 ? "Nothing holds the horizon below closed." : `Versions from ${limit} on are kept.`;
-  return `${counted(sessions, "session")} of 64. Closed is ${closed}, the horizon ${horizon}. ${free}`;
+function sentence({ closed, horizon, limit, sessions }, isHeld) {
+  const kept = isHeld ? `All from ${limit} on is kept.` : "Nothing holds the horizon below closed.";
+  return `${sessions} of 64 seats are taken. Closed is ${closed}, the horizon ${horizon}. ${kept}`;
 }
 
 const list = (items) => items.length > 0 && markup`<ul>${items.map(itemOf)}</ul>`;
 
 function itemOf({ name, says, at, lag, isLate, holds }) {
-  return markup`<li class="${holds && "holds"} ${isLate && "late"}"><b>${name}</b> ${says}
-    <span class="at">${at}</span><span class="lag">${lag}${holds && markup` <strong>holds the horizon</strong>`}</span></li>`;
+  const held = holds && markup` <strong>holds the horizon</strong>`;
+  return markup`<li class="${holds && "holds"} ${isLate && "late"}"><b>${name}</b> <span class="at">${at}</span>
+    <span class="says">${says}</span> <span class="lag">${lag}${held}</span></li>`;
 }
 
 const behind = (lag) => (lag === 0 ? "up to date" : `${lag.toLocaleString("en")} ${lag === 1 ? "row" : "rows"} behind`);
 
 function transactionItem({ timestamp, seat, age }) {
-  return { name: `transaction ${timestamp}`, says: `of session ${seat} holds closed`, at: "", lag: `undecided for ${Math.round(age)} s`, isLate: age > 5 };
+  const lag = `undecided for ${counted(Math.round(age), "second")}`;
+  return { name: `transaction ${timestamp}`, says: `of session ${seat}; closed stays below it`, at: "", lag, isLate: age > 5 };
 }
 
 function consumerItem({ name, stored, held, generation, feed, lag }, feeds) {
-  const by = feeds.some((it) => it.number === feed) ? `followed by feed ${feed}` : held ? "not connected" : "let go: it has to begin anew";
-  return { name, says: `consumer, generation ${generation}, ${by}`, at: stored, lag: behind(lag), isLate: !held, isHeld: held };
+  const away = held ? "not connected" : "let go: it has to begin anew";
+  const by = feeds.some((it) => it.number === feed) ? `it follows feed ${feed}` : away;
+  const says = `a consumer, generation ${generation}; ${by}`;
+  return { name, says, at: stored, lag: behind(lag), isLate: !held, isHeld: held };
 }
 
 function feedItem({ number, opened, consumer, streamed, seat, floor, lag, told, waits }) {

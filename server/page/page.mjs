@@ -81,8 +81,8 @@ class Page {
     this.#events.show(history, place);
     part("holders").innerHTML = holdersList(holders);
     const event = history.events[place];
-    const line = event && [event.position, event.seat, event.command, ...event.words, "=>", event.answer, ...event.details].join(" ");
-    part("moment").innerHTML = markup`<code>${line ?? "no event is kept"}</code>${place < last && markup`<button type="button">Back to now</button>`}`;
+    const back = place < last && markup`<button type="button">Back to now</button>`;
+    part("moment").innerHTML = markup`<code>${event ? lineOf(event) : "no event is kept"}</code>${back}`;
   }
 
   // ---- commands
@@ -130,7 +130,8 @@ class Page {
 
   async #offerExamples() {
     this.#examples = await examples();
-    part("guide").innerHTML = markup`${this.#examples.map(({ title }, i) => markup`<option value="${i}">${title}</option>`)}`;
+    const options = this.#examples.map(({ title }, i) => markup`<option value="${i}">${title}</option>`);
+    part("guide").innerHTML = markup`${options}`;
   }
 
   #log(answers) {
@@ -143,6 +144,10 @@ class Page {
     part("end").disabled = !this.#session.isOpen;
     part("seat").textContent = this.#session.isOpen ? "has a seat" : "";
   }
+}
+
+function lineOf({ position, seat, command, words, answer, details }) {
+  return [position, seat, command, ...words, "=>", answer, ...details].join(" ");
 }
 
 // A line of an answer: an event, a row or message behind one, or a fault.

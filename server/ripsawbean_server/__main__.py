@@ -13,7 +13,7 @@ from .options import options_from
 
 
 def is_own_fault(record):
-    """Not a request that is no HTTP, which is answered 400, nor aiohttp's assertion where a connection is gone already."""
+    """Not a request that is no HTTP, which is answered 400, nor aiohttp's assertion where a connection is gone."""
     return not (record.exc_info and isinstance(record.exc_info[1], (HttpProcessingError, AssertionError)))
 
 

@@ -1,6 +1,6 @@
 """Closing and collecting: the server's own work on the database.
 
-    soon after a transaction was decided    close as far as transactions are decided
+    --close-every after one was decided     close as far as transactions are decided
     each second                             abort transactions that are too old, by their own seat; let go of what
                                             lags too far; collect what was closed some seconds ago; wake the streams
 
@@ -19,33 +19,41 @@ class Closing:
     def __init__(self, shared, consumers, options, each_second):
         self.shared, self.ledger, self.consumers, self.options = shared, shared.ledger, consumers, options
         self.each_second = each_second  # further work
+        self._loop = asyncio.get_running_loop()
+        self._failed = self._loop.create_future()
+        self._is_due = False
+        self.ledger.on_decided = self.decided
 
     async def run(self):
-        last = time.monotonic()
-        while True:
-            await self._wait_for_work(last + 1 - time.monotonic())
-            self.close()
-            if time.monotonic() - last >= 1:
-                last = time.monotonic()
-                self.tidy()
+        """The work of each second, until it or a closing fails."""
+        while not self._failed.done():
+            await asyncio.wait((self._failed,), timeout=1)
+            self.tidy()
+        self._failed.result()
 
-    async def _wait_for_work(self, seconds):
+    def decided(self):
+        """A transaction has ended, so closed may move: once, after all that is ready to run now."""
+        if not self._is_due:
+            self._is_due = True
+            self._loop.call_later(self.options.close_every, self._close_when_due)
+
+    def _close_when_due(self):
+        self._is_due = False
         try:
-            await asyncio.wait_for(self.shared.decided.wait(), max(seconds, 0))
-            await asyncio.sleep(self.options.close_every)
-        except asyncio.TimeoutError:
-            pass
-        self.shared.decided.clear()
+            self.close()
+        except Exception as error:
+            self._failed.set_exception(error)
 
     def close(self):
         """Closes up to the greatest timestamp that began, or to just below the oldest undecided transaction."""
         ledger = self.ledger
-        limit = min(ledger.undecided, default=ledger.greatest + 1) - 1
+        limit = (ledger.oldest() or ledger.greatest + 1) - 1
         if limit > ledger.closed:
             self.shared.demand("close %d" % ledger.greatest, "closed %d 0" % limit)
 
     def tidy(self):
         now = time.monotonic()
+        self.close()
         self._abort_before(now - self.options.max_age)
         self._let_go_beyond(self.options.max_lag)
         self._collect_before(now - self.options.history)

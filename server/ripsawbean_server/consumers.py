@@ -23,6 +23,7 @@ NAME = re.compile(r"[A-Za-z0-9._-]{1,64}")
 class Consumer:
     def __init__(self):
         self.stored = self.protection = self.feed = None
+        self.below = 0  # rows closed at or below `stored`
         self.generation = 0
 
 
@@ -104,9 +105,13 @@ class Consumers:
             "kind": "consumer", "name": name, "identity": self.shared.identity, "stored": _shown(consumer.stored),
             "held": consumer.protection is not None, "generation": str(consumer.generation),
             "protection": _shown(consumer.protection), "feed": _shown(consumer.feed) if is_followed else None,
-            "lag": None if consumer.stored is None else ledger.rows.above(consumer.stored),
+            "lag": self.lag(consumer),
             "closed": str(ledger.closed), "horizon": str(ledger.horizon),
         }
+
+    def lag(self, consumer):
+        """Rows closed above what a consumer has stored, also of one that was let go."""
+        return None if consumer.stored is None else self.shared.ledger.rows.total - consumer.below
 
     # ---- protections that move
 
@@ -127,7 +132,8 @@ class Consumers:
         if answer[0] != "protected":
             refuse(409, answer[0], "versions there may be gone: begin anew", horizon=str(self.shared.ledger.horizon))
         self._let_go(consumer)
-        consumer.stored, consumer.protection = stored, int(answer[1])
+        rows = self.shared.ledger.rows
+        consumer.stored, consumer.below, consumer.protection = stored, rows.total - rows.above(stored), int(answer[1])
         self.shared.ledger.protections[consumer.protection].consumer = name
 
     def _let_go(self, consumer):
@@ -138,7 +144,7 @@ class Consumers:
     def let_go_beyond(self, most):
         """Lets go of names above which too many rows are closed. They stand, unheld, so that all can see it."""
         for consumer in self.names.values():
-            if consumer.protection is not None and self.shared.ledger.rows.above(consumer.stored) > most:
+            if consumer.protection is not None and self.lag(consumer) > most:
                 self._let_go(consumer)
 
 

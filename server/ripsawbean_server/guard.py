@@ -10,7 +10,7 @@ for it; streams are exempt, because a feed's reader may be slow up to its lag. W
 been silent for longest makes room.
 
 1. About `most` connections are served, and no more than the kernel hands over at once beyond them.
-2. A connection in `silent` has had no request yet that passed the gate.
+2. A connection in `silent` has no request that passed the gate and isn't answered.
 """
 
 import asyncio
@@ -23,7 +23,8 @@ from aiohttp import web
 
 from .replies import Refusal, refusal_of, refuse
 
-HEAD_SECONDS = 10
+HEAD_SECONDS = 10  # how long a new connection may take for its first request
+REST_SECONDS = 60  # how long it may rest between two
 MOST_AHEAD = 64  # requests of one connection that wait for their turn
 LOOPBACK_NAMES = ("127.0.0.1", "localhost", "[::1]")
 
@@ -40,12 +41,14 @@ class Gate:
         async def gate(request, handler):
             try:
                 self.check(request.headers)
-                self.connections.spoke(request.protocol)
+                self.connections.asks(request.protocol)
                 return await handler(request)
             except Refusal as refusal:
                 return refusal.response()
             except web.HTTPException as end:
                 return refusal_of(end).response()
+            finally:
+                self.connections.rests(request.protocol)
 
         return gate
 
@@ -93,7 +96,7 @@ class Full(asyncio.Protocol):
 class Connections:
     def __init__(self, most, patience):
         self.most, self.patience = most, patience
-        self.silent = {}  # protocol: since when, the oldest first
+        self.silent = {}  # protocol: until when it may be silent; the one that is silent for longest first
         self.exempt = set()
         self._stuck = {}  # protocol: (bytes that wait, since when)
 
@@ -101,12 +104,15 @@ class Connections:
         """The protocol of a new connection to aiohttp's server."""
         if len(server.connections) >= self.most and not self._make_room():
             return Full()
-        protocol = Protocol(server, loop=asyncio.get_running_loop(), access_log=None)
-        self.silent[protocol] = time.monotonic()
+        protocol = Protocol(server, loop=asyncio.get_running_loop(), access_log=None, auto_decompress=False)
+        self.silent[protocol] = time.monotonic() + HEAD_SECONDS
         return protocol
 
-    def spoke(self, protocol):
+    def asks(self, protocol):
         self.silent.pop(protocol, None)
+
+    def rests(self, protocol):
+        self.silent[protocol] = time.monotonic() + REST_SECONDS
 
     def _make_room(self):
         """Cuts the connection that has been silent for longest, if there is one."""
@@ -119,7 +125,7 @@ class Connections:
     def tidy(self, connections):
         """Cuts those that say nothing, and those that take nothing."""
         now = time.monotonic()
-        for protocol in [one for one, since in self.silent.items() if now - since > HEAD_SECONDS]:
+        for protocol in [one for one, until in self.silent.items() if until < now or one.transport is None]:
             del self.silent[protocol]
             _cut(protocol)
         full = [one for one in connections if one not in self.exempt and _waiting(one)]

@@ -17,6 +17,7 @@ refusal, and is counted by its name.
 """
 
 import collections
+import heapq
 import time
 from typing import NamedTuple
 
@@ -47,10 +48,12 @@ class Protection:
 
 
 class Ledger:
-    def __init__(self, on_decided, on_moved):
-        self.on_decided, self.on_moved = on_decided, on_moved
+    def __init__(self, on_moved):
+        self.on_moved = on_moved
+        self.on_decided = lambda: None  # `closing` puts its own here
         self.closed = self.horizon = self.greatest = 0
         self.undecided, self.feeds, self.protections = {}, {}, {}
+        self._begun = []  # undecided timestamps, and some that were decided meanwhile: a heap
         self.rows = ClosedRows()
         self.closings = collections.deque()  # (when, closed), not collected yet
         self.calls = self.collected = 0
@@ -67,6 +70,12 @@ class Ledger:
 
     def next_timestamp(self):
         return max(self.closed, self.greatest) + 1
+
+    def oldest(self):
+        """The least undecided timestamp, or None."""
+        while self._begun and self._begun[0] not in self.undecided:
+            heapq.heappop(self._begun)
+        return self._begun[0] if self._begun else None
 
     def holders(self):
         """(timestamp, kind, number) of all that holds the horizon below closed, or would."""
@@ -87,6 +96,7 @@ class Ledger:
         timestamp = int(session.last)
         session.begun.add(timestamp)
         self.undecided[timestamp] = Transaction(session, time.monotonic())
+        heapq.heappush(self._begun, timestamp)
         self.greatest = max(self.greatest, timestamp)
 
     def _committed(self, session, line, answer, text):

@@ -19,7 +19,7 @@ import io
 from ripsawbean import Error
 
 GREATEST_LENGTH = 19  # digits of the greatest timestamp
-LINES_A_TURN = 256  # others get a turn after so many lines
+LINES_A_TURN = 64  # others get a turn after so many lines of a session
 
 
 class Fault(Exception):
@@ -37,11 +37,11 @@ class Lines:
     async def answer(self, session, data):
         """The events of whole lines. Once they are too long, no further call is made."""
         texts, size = [], 0
-        for at, line in enumerate(io.BytesIO(data).readlines(), 1):
+        for line in io.BytesIO(data).readlines():
             text = self.take(session, line) if size < self.most else self._leave_out(session)
             texts.append(text)
             size += len(text)
-            if at % LINES_A_TURN == 0:
+            if session.lines % LINES_A_TURN == 0:
                 await asyncio.sleep(0)
         return "".join(texts)
 

@@ -39,7 +39,7 @@ class Metrics:
 
     def _labelled(self):
         ledger, above, names = self.ledger, self.ledger.rows.above, self.consumers.names
-        lags = {name: above(one.stored) for name, one in names.items() if one.stored is not None}
+        lags = {name: self.consumers.lag(one) for name, one in names.items() if one.stored is not None}
         held = {name: one.protection is not None for name, one in names.items()}
         feeds = {number: above(feed.floor) for number, feed in ledger.feeds.items()}
         for name, kind, meaning, label, values in (

@@ -50,7 +50,7 @@ def _file(path):
 
 
 def examples_in(text):
-    """Each transcript of the guide: the heading where it stands, and its lines with the answers that the guide gives."""
+    """Each transcript of the guide: the heading where it stands, and its lines with the guide's answers."""
     found, heading = [], ""
     for at, part in enumerate(FENCE.split(text)):
         if at % 2 == 0:

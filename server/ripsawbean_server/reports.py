@@ -1,4 +1,4 @@
-"""What an operator may ask.
+"""What an operator may ask. Nothing here makes a call.
 
 `GET /state` is the database's own report: JSON lines about closed, the horizon and what holds them, exactly as the
 library writes them.
@@ -6,13 +6,19 @@ library writes them.
 `GET /holders` is what the server knows beside it, because the database can't: ages of transactions, rows of lag,
 whose name a feed or a protection has, whether a stream waits for its reader. Numbers of the database are strings of
 digits, counts and seconds are numbers.
+
+`GET /transcript` has the events that are kept.
 """
 
+import heapq
 import time
 
 from aiohttp import web
 
 from .replies import arguments, lines_of, refuse
+
+MOST_TRANSACTIONS = 1000  # the oldest are told
+EVENTS_A_WRITE = 1000
 
 
 class Reports:
@@ -35,20 +41,38 @@ class Reports:
             *(self.consumers.told(name) for name in sorted(self.consumers.names)),
         ))
 
+    async def transcript(self, request):
+        """The events kept, as a transcript of format two."""
+        kept = self.shared.transcript
+        since = arguments(request, "since").get("since", kept.first)
+        if since < kept.first:
+            refuse(410, "gone", "events below the first one are kept no longer", first=str(kept.first))
+        events = kept.since(since)
+        response = web.StreamResponse(headers={
+            "Content-Type": "text/plain; charset=us-ascii", "Cache-Control": "no-store",
+            "Ripsawbean-Identity": self.shared.identity, "Ripsawbean-Next": str(kept.next),
+        })
+        await response.prepare(request)
+        await response.write(b"mvfeed 2\n")
+        for at in range(0, len(events), EVENTS_A_WRITE):
+            await response.write("".join(events[at : at + EVENTS_A_WRITE]).encode())
+        return response
+
     def _server(self):
         shared, ledger = self.shared, self.ledger
         limit, kind, number = ledger.limit()
         return {
             "kind": "server", "identity": shared.identity, "closed": str(ledger.closed), "horizon": str(ledger.horizon),
             "greatest": str(ledger.greatest), "limit": str(limit), "holder": kind,
-            "holder_number": number and str(number), "oldest": str(min(ledger.undecided)) if ledger.undecided else None,
+            "holder_number": number and str(number), "oldest": ledger.oldest() and str(ledger.oldest()),
             "sessions": len(shared.seats.taken), "calls": ledger.calls, "rows": ledger.rows.total,
             "first": str(shared.transcript.first), "next": str(shared.transcript.next), "shouts": shared.shouts,
         }
 
     def _transactions(self):
-        now = time.monotonic()
-        for timestamp, one in sorted(self.ledger.undecided.items()):
+        now, undecided = time.monotonic(), self.ledger.undecided
+        for timestamp in heapq.nsmallest(MOST_TRANSACTIONS, undecided):
+            one = undecided[timestamp]
             age = round(now - one.since, 3)
             yield {"kind": "transaction", "timestamp": str(timestamp), "seat": one.session.seat, "age": age}
 

@@ -3,11 +3,14 @@
 Every path stands in the table of `application`. docs in server/README.md say what each takes and gives.
 """
 
+import asyncio
 import contextlib
 
 from aiohttp import WSMsgType, web
 
 from .replies import arguments, refuse
+
+BODY_SECONDS = 10
 
 
 class Talk:
@@ -52,28 +55,13 @@ class Talk:
 
     async def call(self, request):
         arguments(request)
-        data = await request.read()
+        try:
+            data = await asyncio.wait_for(request.read(), BODY_SECONDS)
+        except asyncio.TimeoutError:
+            refuse(408, "slow", "the body didn't come in time")
         with self._seat() as session:
             text = await self.lines.answer(session, data if data.endswith(b"\n") else data + b"\n")
         return web.Response(text=text)
-
-
-async def transcript(request, shared):
-    """The events kept, as a transcript of format two."""
-    kept = shared.transcript
-    since = arguments(request, "since").get("since", kept.first)
-    if since < kept.first:
-        refuse(410, "gone", "events below the first one are kept no longer", first=str(kept.first))
-    events = kept.since(since)
-    response = web.StreamResponse(headers={
-        "Content-Type": "text/plain; charset=us-ascii", "Cache-Control": "no-store",
-        "Ripsawbean-Identity": shared.identity, "Ripsawbean-Next": str(kept.next),
-    })
-    await response.prepare(request)
-    await response.write(b"mvfeed 2\n")
-    for at in range(0, len(events), 1000):
-        await response.write("".join(events[at : at + 1000]).encode())
-    return response
 
 
 async def harden(request, response):
@@ -81,13 +69,13 @@ async def harden(request, response):
     response.headers["Cross-Origin-Resource-Policy"] = "same-origin"
 
 
-def application(shared, talk, streams, consumers, reports, metrics, page, gate, options):
+def application(talk, streams, consumers, reports, metrics, page, gate, options):
     app = web.Application(middlewares=[gate.middleware()], client_max_size=options.max_message)
     app.on_response_prepare.append(harden)
     app.add_routes([
-        web.get("/session", talk.session),
+        web.get("/session", talk.session, allow_head=False),
         web.post("/call", talk.call),
-        web.get("/feed", streams.handle),
+        web.get("/feed", streams.handle, allow_head=False),
         web.get("/consumer", consumers.list),
         web.get("/consumer/{name}", consumers.get),
         web.post("/consumer/{name}", consumers.post),
@@ -95,7 +83,7 @@ def application(shared, talk, streams, consumers, reports, metrics, page, gate, 
         web.get("/state", reports.state),
         web.get("/holders", reports.holders),
         web.get("/metrics", metrics.handle),
-        web.get("/transcript", lambda request: transcript(request, shared)),
+        web.get("/transcript", reports.transcript),
         *page.routes(),
     ])
     return app

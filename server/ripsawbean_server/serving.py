@@ -43,7 +43,7 @@ class Server:
         streams = Streams(shared, consumers, connections, options)
         self.talk = Talk(shared, Lines(shared, options), options)
         self.runner = web.AppRunner(application(
-            shared, self.talk, streams, consumers, Reports(shared, consumers), Metrics(shared, consumers, streams),
+            self.talk, streams, consumers, Reports(shared, consumers), Metrics(shared, consumers, streams),
             Page(), Gate(options.token, self._names(), self.port, connections), options,
         ), access_log=None)
         await self.runner.setup()

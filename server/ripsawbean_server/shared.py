@@ -12,7 +12,7 @@ import asyncio
 import logging
 import secrets
 
-from ripsawbean import Database, Unwritten
+from ripsawbean import Database, NoMemory, Unwritten
 
 from .ledger import Ledger
 from .sessions import SEATS, Seats, Session
@@ -40,9 +40,8 @@ class Shared:
         self.database = Database(options.ring)
         self.identity = secrets.token_hex(8)
         self.seats, self.own = Seats(), Session(SEATS - 1)
-        self.decided = asyncio.Event()  # a transaction has ended: `closing` has work
         self.moved = Tick()  # closed has moved, or a feed has ended: streams look
-        self.ledger = Ledger(self.decided.set, self.moved.ring)
+        self.ledger = Ledger(self.moved.ring)
         self.transcript = Transcript(options.keep, options.keep_bytes)
         self.shouts = 0
 
@@ -63,8 +62,11 @@ class Shared:
         return text[text.rindex(" => ", 0, end) + 4 : end].split(" ")
 
     def demand(self, line, expected, session=None):
-        """Asks what has one right answer, and shouts where another comes."""
-        answer = " ".join(self.ask(line, session))
+        """Asks what has one right answer, and shouts where another comes, or none for want of memory."""
+        try:
+            answer = " ".join(self.ask(line, session))
+        except NoMemory:
+            answer = "no memory"
         if answer != expected:
             self.shout("%s => %s, and not %s" % (line, answer, expected))
 

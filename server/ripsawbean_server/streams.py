@@ -94,14 +94,13 @@ class Streams:
         if self.open >= self.most:
             refuse(503, "feeds", "the server streams as many feeds as it may")
         number = self._open_feed(given)
-        values = {"identity": shared.identity, "from": str(shared.ledger.feeds[number].floor), "feed": str(number)}
-        if name:
-            values["generation"] = str(self.consumers.follow(name, number))
-        stream = Stream(shared, number, _form(request, shared.identity), request, values)
         self.open += 1
         self.connections.exempt.add(request.protocol)
         try:
-            return await stream.run(self.patience)
+            values = {"identity": shared.identity, "from": str(shared.ledger.feeds[number].floor), "feed": str(number)}
+            if name:
+                values["generation"] = str(self.consumers.follow(name, number))
+            return await Stream(shared, number, _form(request, shared.identity), request, values).run(self.patience)
         finally:
             self.open -= 1
             self.connections.exempt.discard(request.protocol)
