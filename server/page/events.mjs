@@ -56,5 +56,6 @@ function eventOf({ place, position, seat, command, words, answer, details, rows,
   const behind = more > 0 && markup` <span class="position">and ${counted(more, "line")}</span>`;
   return markup`<div class="event" id="event-${place}" role="option" data-place="${place}" aria-selected="${isShown}"
     style="--seat: ${seatColour(seat)}"><span class="position">${position}</span> <b>${seat}</b>
-    ${[command, ...words].join(" ")} =&gt; <span class="${kind}">${[answer, ...details].join(" ")}</span>${behind}</div>`;
+    ${[command, ...words].join(" ")} =&gt;
+    <span class="${kind}">${[answer, ...details].join(" ")}</span>${behind}</div>`;
 }

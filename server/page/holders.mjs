@@ -30,7 +30,8 @@ const behind = (lag) => (lag === 0 ? "up to date" : `${lag.toLocaleString("en")}
 
 function transactionItem({ timestamp, seat, age }) {
   const lag = `undecided for ${counted(Math.round(age), "second")}`;
-  return { name: `transaction ${timestamp}`, says: `of session ${seat}; closed stays below it`, at: "", lag, isLate: age > 5 };
+  const says = `of session ${seat}; closed stays below it`;
+  return { name: `transaction ${timestamp}`, says, at: "", lag, isLate: age > 5 };
 }
 
 function consumerItem({ name, stored, held, generation, feed, lag }, feeds) {

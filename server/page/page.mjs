@@ -33,6 +33,7 @@ class Page {
   #typed = [];
   #at = 0; // which of the typed lines is shown
   #examples = [];
+  #shown = null; // what the picture was drawn of
 
   constructor() {
     part("commands").textContent = COMMANDS;
@@ -42,6 +43,7 @@ class Page {
     part("run").onclick = () => this.#runExample(this.#examples[part("guide").value]);
     part("moment").addEventListener("click", (event) => event.target.matches("button") && this.#show(null));
     document.addEventListener("visibilitychange", () => this.#look());
+    document.addEventListener("keydown", (event) => this.#pressedAnywhere(event));
     this.#offerExamples();
     this.#look();
     setInterval(() => this.#look(), EVERY);
@@ -73,13 +75,17 @@ class Page {
     this.#draw();
   }
 
+  // What hasn't changed isn't drawn anew, so that it can be read and selected.
   #draw() {
     const { history, state, holders } = this.#live;
     const last = history.events.length - 1;
     const place = this.#place ?? last;
+    part("holders").innerHTML = holdersList(holders);
+    const shown = [history.events[last]?.position, place, state].join();
+    if (shown === this.#shown) return;
+    this.#shown = shown;
     draw(part("picture"), history, { place, state: place === last ? state : undefined });
     this.#events.show(history, place);
-    part("holders").innerHTML = holdersList(holders);
     const event = history.events[place];
     const back = place < last && markup`<button type="button">Back to now</button>`;
     part("moment").innerHTML = markup`<code>${event ? lineOf(event) : "no event is kept"}</code>${back}`;
@@ -101,6 +107,12 @@ class Page {
       this.#at = Math.max(0, Math.min(this.#typed.length, this.#at + (event.key === "ArrowUp" ? -1 : 1)));
       this.#fill(this.#typed[this.#at] ?? "");
     }
+  }
+
+  #pressedAnywhere(event) {
+    if (event.key !== "/" || event.target.matches("textarea, select")) return;
+    event.preventDefault();
+    part("lines").focus();
   }
 
   #fill(text) {
