@@ -23,8 +23,11 @@ function titleOf(all, { heading }, i) {
   return before === 0 ? heading : `${heading}, ${before + 1}`;
 }
 
-/** By how much an example's timestamps are moved, where `greatest` has begun. */
-export const shiftAbove = (greatest) => (BigInt(greatest) / STEP + 1n) * STEP;
+/** By how much an example's timestamps are moved: above all that began, and above closed. */
+export function shiftAbove({ greatest, closed }) {
+  const [begun, shut] = [BigInt(greatest), BigInt(closed)];
+  return ((begun > shut ? begun : shut) / STEP + 1n) * STEP;
+}
 
 /** Runs an example by `say(lines)`, which gives back the events. */
 export async function run({ events }, shift, say) {

@@ -133,7 +133,8 @@ class Page {
 
   async #runExample(example) {
     await this.#session.end();
-    const shift = shiftAbove(this.#live.holders.server.greatest);
+    await this.#live.refresh();
+    const shift = shiftAbove(this.#live.holders.server);
     this.#log([markup`<p class="title">${example.title}, its timestamps moved by ${shift}</p>`]);
     await run(example, shift, (lines) => this.#say(lines));
     this.#show(null);

@@ -27,7 +27,7 @@ class Ours:
     name = "Ripsawbean"
 
     def __init__(self):
-        command = [SERVER / "run", "--port", "0", "--keep", "0"]
+        command = [SERVER / "run", "--port", "0"]
         self.process = subprocess.Popen(command, stdout=subprocess.PIPE, text=True)
         self.base = self.process.stdout.readline().split()[-1]
 

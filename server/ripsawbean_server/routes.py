@@ -52,6 +52,7 @@ class Talk:
                 await socket.close(code=1003, message=b"lines are text")
                 return
             await socket.send_str(await self.lines.answer(session, message.data.encode()))
+        await socket.close(code=1001, message=b"shutdown")  # does nothing where the client has closed it
 
     async def call(self, request):
         arguments(request)
