@@ -23,17 +23,23 @@ from aiohttp import web
 
 from .replies import Refusal, refusal_of, refuse
 
+HTTP_PORT = 80  # where it is this one, browsers leave it out
 HEAD_SECONDS = 10  # how long a new connection may take for its first request
 REST_SECONDS = 60  # how long it may rest between two
 MOST_AHEAD = 64  # requests of one connection that wait for their turn
 LOOPBACK_NAMES = ("127.0.0.1", "localhost", "[::1]")
 
 
+def hosts_of(address, port, further):
+    """What `Host` may say: a name of loopback or the address, with the port; a further name also without one."""
+    own = [*LOOPBACK_NAMES, "[%s]" % address if ":" in address else address]
+    bare = [*further, *(own if port == HTTP_PORT else [])]
+    return bare + ["%s:%d" % (name, port) for name in own + further]
+
+
 class Gate:
-    def __init__(self, token, names, port, connections):
-        ports = (":%d" % port, "") if port == 80 else (":%d" % port,)
-        self.token, self.connections = token, connections
-        self.hosts = frozenset(name + end for name in names for end in ports)
+    def __init__(self, token, hosts, connections):
+        self.token, self.connections, self.hosts = token, connections, frozenset(hosts)
         self.origins = frozenset(scheme + host for scheme in ("http://", "https://") for host in self.hosts)
 
     def middleware(self):

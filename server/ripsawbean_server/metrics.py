@@ -26,6 +26,7 @@ class Metrics:
             ("limit", "gauge", "Where a collection would have to stop.", ledger.limit()[0]),
             ("undecided", "gauge", "Undecided transactions.", len(ledger.undecided)),
             ("feeds", "gauge", "Live feeds.", len(ledger.feeds)),
+            ("feeds_lag_rows", "gauge", "Rows closed above the lowest floor of a feed.", self._lag_of_feeds()),
             ("streams", "gauge", "Feeds that are streamed.", self.streams.open),
             ("protections", "gauge", "Protections that stand.", len(ledger.protections)),
             ("sessions", "gauge", "Seats that are taken.", len(shared.seats.taken)),
@@ -37,18 +38,20 @@ class Metrics:
         ):
             yield name, kind, meaning, [("", value)]
 
+    def _lag_of_feeds(self):
+        floors = [feed.floor for feed in self.ledger.feeds.values()]
+        return self.ledger.rows.above(min(floors)) if floors else 0
+
     def _labelled(self):
-        ledger, above, names = self.ledger, self.ledger.rows.above, self.consumers.names
+        ledger, names = self.ledger, self.consumers.names
         lags = {name: self.consumers.lag(one) for name, one in names.items() if one.stored is not None}
         held = {name: one.protection is not None for name, one in names.items()}
-        feeds = {number: above(feed.floor) for number, feed in ledger.feeds.items()}
-        for name, kind, meaning, label, values in (
-            ("refusals_total", "counter", "Refusals and faults by name.", "name", ledger.refusals),
-            ("consumer_lag_rows", "gauge", "Rows closed above what a consumer has stored.", "name", lags),
-            ("consumer_held", "gauge", "Whether the horizon is held for a consumer.", "name", held),
-            ("feed_lag_rows", "gauge", "Rows closed above a feed's floor.", "feed", feeds),
+        for name, kind, meaning, values in (
+            ("refusals_total", "counter", "Refusals and faults by name.", ledger.refusals),
+            ("consumer_lag_rows", "gauge", "Rows closed above what a consumer has stored.", lags),
+            ("consumer_held", "gauge", "Whether the horizon is held for a consumer.", held),
         ):
-            yield name, kind, meaning, [('{%s="%s"}' % (label, key), value) for key, value in sorted(values.items())]
+            yield name, kind, meaning, [('{name="%s"}' % key, value) for key, value in sorted(values.items())]
 
 
 def _family(name, kind, meaning, samples):

@@ -17,7 +17,7 @@ from aiohttp import web
 
 from .replies import arguments, lines_of, refuse
 
-MOST_TRANSACTIONS = 1000  # the oldest are told
+MOST_LINES = 1000  # of each kind: those that stand lowest
 EVENTS_A_WRITE = 1000
 
 
@@ -70,24 +70,28 @@ class Reports:
         }
 
     def _transactions(self):
-        now, undecided = time.monotonic(), self.ledger.undecided
-        for timestamp in heapq.nsmallest(MOST_TRANSACTIONS, undecided):
-            one = undecided[timestamp]
+        now = time.monotonic()
+        for timestamp, one in heapq.nsmallest(MOST_LINES, self.ledger.undecided.items()):
             age = round(now - one.since, 3)
             yield {"kind": "transaction", "timestamp": str(timestamp), "seat": one.session.seat, "age": age}
 
     def _protections(self):
-        for number, one in sorted(self.ledger.protections.items()):
+        for number, one in _lowest(self.ledger.protections, lambda one: one.timestamp):
             yield {
                 "kind": "protection", "number": str(number), "timestamp": str(one.timestamp), "consumer": one.consumer,
                 "seat": None if one.consumer else one.owner.seat, "lag": self.ledger.rows.above(one.timestamp),
             }
 
     def _feeds(self):
-        for number, one in sorted(self.ledger.feeds.items()):
+        for number, one in _lowest(self.ledger.feeds, lambda one: one.floor):
             is_streamed = one.owner is self.shared.own
             yield {
                 "kind": "feed", "number": str(number), "opened": one.opened, "consumer": one.consumer,
                 "streamed": is_streamed, "seat": None if is_streamed else one.owner.seat, "floor": str(one.floor),
                 "told": one.told, "lag": self.ledger.rows.above(one.floor), "waits": one.waits,
             }
+
+
+def _lowest(things, timestamp_of):
+    """(number, thing) of those that stand lowest, the lowest first."""
+    return heapq.nsmallest(MOST_LINES, things.items(), key=lambda item: (timestamp_of(item[1]), item[0]))

@@ -13,7 +13,7 @@ from aiohttp import web
 
 from .closing import Closing
 from .consumers import Consumers
-from .guard import LOOPBACK_NAMES, Connections, Gate
+from .guard import Connections, Gate, hosts_of
 from .lines import Lines
 from .metrics import Metrics
 from .page import Page
@@ -32,6 +32,7 @@ class Server:
         self.options = options
         self.listener = _listener(options.address, options.port)
         self.port = self.listener.getsockname()[1]
+        self.hosts = hosts_of(options.address, self.port, options.host)
 
     async def run(self):
         """Serves until a signal comes, or the work on the database fails."""
@@ -44,7 +45,7 @@ class Server:
         self.talk = Talk(shared, Lines(shared, options), options)
         self.runner = web.AppRunner(application(
             self.talk, streams, consumers, Reports(shared, consumers), Metrics(shared, consumers, streams),
-            Page(), Gate(options.token, self._names(), self.port, connections), options,
+            Page(), Gate(options.token, self.hosts, connections), options,
         ), access_log=None)
         await self.runner.setup()
         closing = Closing(shared, consumers, options, lambda: connections.tidy(self.runner.server.connections))
@@ -54,17 +55,16 @@ class Server:
         loop = asyncio.get_running_loop()
         server = await loop.create_server(
             lambda: connections.protocol_of(self.runner.server), sock=self.listener, backlog=BACKLOG)
-        print("ripsawbean %s on http://%s:%d" % (self.shared.identity, self._names()[-1], self.port), flush=True)
+        print("ripsawbean %s on http://%s" % (self.shared.identity, self._place()), flush=True)
         try:
             await _first_of(closing.run(), _signal())
         finally:
             server.close()
             await self._end()
 
-    def _names(self):
-        """The names by which the server may be called, the address last."""
+    def _place(self):
         address = self.options.address
-        return (*LOOPBACK_NAMES, *self.options.host, "[%s]" % address if ":" in address else address)
+        return "%s:%d" % ("[%s]" % address if ":" in address else address, self.port)
 
     async def _end(self):
         for number in list(self.shared.ledger.feeds):

@@ -199,7 +199,7 @@ class Guard(unittest.IsolatedAsyncioTestCase):
                 for path in ("/session", "/feed", "/holders", "/", "/nothing"):
                     self.assertEqual(await refusal(await client.get(path, headers=headers)), expected, (path, headers))
                 self.assertEqual(await refusal(await client.post("/call", headers=headers)), expected, headers)
-            hosts = ["%s:%d" % (name, client.port) for name in ("localhost", "[::1]", "db.example")]
+            hosts = ["db.example", *("%s:%d" % (name, client.port) for name in ("localhost", "[::1]", "db.example"))]
             for headers in ({}, {"Origin": own}, *({"Host": host} for host in hosts)):
                 self.assertEqual((await client.post("/call", data="stats", headers=headers)).status, 200, headers)
 
