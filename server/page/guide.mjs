@@ -1,6 +1,8 @@
 // The guide's examples, run on the live database: their timestamps are moved above all that began, and their feeds and
 // protections get the numbers that the database gives. All their lines are of one session here.
 
+import { textOf } from "./live.mjs";
+
 // Which words of a command are timestamps.
 const TIMESTAMPS = {
   begin: 0, get: 0, scan: 0, put: 0, del: 0, commit: 0, abort: 0, close: 0, closehard: 0, readat: 0, scanat: 0,
@@ -12,8 +14,8 @@ const STEP = 1000n;
 
 /** Examples that can be moved: those at the ends of all timestamps can't. */
 export async function examples() {
-  const reply = await fetch("/page/examples");
-  const all = (await reply.text()).split("\n").filter((it) => it !== "").map((it) => JSON.parse(it));
+  const text = await textOf("/page/examples");
+  const all = text.split("\n").filter((it) => it !== "").map((it) => JSON.parse(it));
   const fitting = all.filter(({ events }) => !events.some(({ line }) => /\d{10}/.test(line)));
   return fitting.map((it, i) => ({ ...it, title: titleOf(fitting, it, i) }));
 }

@@ -36,21 +36,25 @@ export class Live {
   }
 
   async #takeEvents() {
-    const reply = await fetch(`/transcript?since=${this.#next}`);
+    const reply = await ask(`/transcript?since=${this.#next}`);
     if (!reply.ok) return this.#begin(0); // dropped meanwhile: the next ask begins anew
     this.history.add(await reply.text());
     this.#next = Number(reply.headers.get("Ripsawbean-Next"));
   }
 
   async #askState() {
-    const reply = await fetch("/state");
+    const reply = await ask("/state");
     this.#hasState = reply.status !== 501;
     return reply.ok ? reply.text() : undefined;
   }
 }
 
-async function textOf(path) {
-  const reply = await fetch(path);
+// An address that has a token in it can't be asked from, so paths are of the bare origin.
+const ask = (path) => fetch(location.origin + path);
+
+/** The text of a path of the server. */
+export async function textOf(path) {
+  const reply = await ask(path);
   if (!reply.ok) throw new Error(`${path} is answered ${reply.status}`);
   return reply.text();
 }
