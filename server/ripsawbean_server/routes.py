@@ -1,6 +1,6 @@
 """The server's paths, and the two that take lines: `GET /session` and `POST /call`.
 
-Every path stands in the table of `application`. docs in server/README.md say what each takes and gives.
+Every path stands in the table of `application`. server/README.md says what each takes and gives.
 """
 
 import asyncio
@@ -10,7 +10,7 @@ from aiohttp import WSMsgType, web
 
 from .replies import arguments, refuse
 
-BODY_SECONDS = 10
+BODY_SECONDS = 10  # how long a body may take
 
 
 class Talk:

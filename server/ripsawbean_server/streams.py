@@ -85,9 +85,8 @@ class Streams:
         self.open = 0
 
     async def handle(self, request):
-        shared = self.shared
-        given = _asked(request)
-        name = self.consumers.name_in(given["consumer"].decode("latin-1")) if given.get("consumer") else None
+        shared, given = self.shared, _asked(request)
+        name = self.consumers.name_in(given["consumer"].decode("latin-1")) if "consumer" in given else None
         self.consumers.check_identity(given, "from" in given)
         if given.get("from", 0) > shared.ledger.closed:
             refuse(409, "notclosed", "this timestamp is above closed", closed=str(shared.ledger.closed))
@@ -199,15 +198,13 @@ class Stream:
             return
         writing = asyncio.ensure_future(self.response.write(data))
         self.feed.waits = True
-        try:
-            while not writing.done() and self.feed.end is None:
-                await asyncio.wait((writing,), timeout=LOOK_SECONDS)
-        finally:
-            self.feed.waits = False
-            if not writing.done():
-                writing.cancel()  # the transport has the bytes already
-        if writing.done() and not writing.cancelled():
+        while not writing.done() and self.feed.end is None:
+            await asyncio.wait((writing,), timeout=LOOK_SECONDS)
+        self.feed.waits = False
+        if writing.done():
             writing.result()
+        else:
+            writing.cancel()  # the transport has the bytes already
 
     async def _finish(self):
         await self.response.write(self.form.ending({"end": self.feed.end, "floor": str(self.feed.floor)}))
