@@ -1,0 +1,104 @@
+"""One tab of a headless Chromium, driven over its DevTools socket."""
+
+import asyncio
+import base64
+import contextlib
+import json
+import os
+import re
+import shutil
+import signal
+import subprocess
+import tempfile
+
+import aiohttp
+
+KEYS = {"Enter": 13, "Tab": 9, "Escape": 27, "ArrowUp": 38, "ArrowDown": 40, "End": 35}
+FLAGS = (
+    "--headless", "--no-sandbox", "--disable-gpu", "--no-first-run", "--hide-scrollbars", "--remote-debugging-port=0",
+)
+
+
+class Tab:
+    def __init__(self, socket):
+        self.socket, self.asked, self.waiting = socket, 0, {}
+        self.complaints = []  # exceptions and errors of the page
+
+    async def listen(self):
+        async for message in self.socket:
+            told = json.loads(message.data)
+            if "id" in told:
+                self.waiting.pop(told["id"]).set_result(told)
+            elif told["method"] in ("Runtime.exceptionThrown", "Log.entryAdded"):
+                self.complaints.append(json.dumps(told["params"]))
+
+    async def ask(self, method, **parameters):
+        self.asked += 1
+        answer = self.waiting[self.asked] = asyncio.get_running_loop().create_future()
+        await self.socket.send_str(json.dumps({"id": self.asked, "method": method, "params": parameters}))
+        told = await asyncio.wait_for(answer, 30)
+        if "error" in told:
+            raise RuntimeError("%s: %s" % (method, told["error"]))
+        return told["result"]
+
+    async def value(self, expression):
+        told = await self.ask("Runtime.evaluate", expression=expression, returnByValue=True)
+        return told["result"].get("value")
+
+    async def until(self, expression, seconds=5):
+        for _ in range(int(seconds * 20)):
+            if await self.value(expression):
+                return
+            await asyncio.sleep(0.05)
+        raise AssertionError("it never came: %s" % expression)
+
+    async def press(self, key, times=1):
+        text = {"Enter": "\r"}.get(key, key if len(key) == 1 else "")
+        for _ in range(times):
+            for kind in ("keyDown", "keyUp"):
+                event = {"type": kind, "key": key, "code": key, "windowsVirtualKeyCode": KEYS.get(key, 0)}
+                if text and kind == "keyDown":
+                    event["text"] = text
+                await self.ask("Input.dispatchKeyEvent", **event)
+
+    async def write(self, text):
+        await self.ask("Input.insertText", text=text)
+
+    async def look(self, width, height, scheme):
+        size = {"width": width, "height": height, "deviceScaleFactor": 1, "mobile": width < 600}
+        await self.ask("Emulation.setDeviceMetricsOverride", **size)
+        await self.ask("Emulation.setEmulatedMedia", features=[{"name": "prefers-color-scheme", "value": scheme}])
+        await asyncio.sleep(1)
+
+    async def keep(self, path, scale):
+        """The whole page as a picture."""
+        size = (await self.ask("Page.getLayoutMetrics"))["cssContentSize"]
+        clip = {"x": 0, "y": 0, "width": size["width"], "height": size["height"], "scale": scale}
+        told = await self.ask("Page.captureScreenshot", format="png", captureBeyondViewport=True, clip=clip)
+        path.write_bytes(base64.b64decode(told["data"]))
+
+
+@contextlib.asynccontextmanager
+async def tab_of(address):
+    home = tempfile.mkdtemp()
+    process = subprocess.Popen(
+        ["chromium", *FLAGS, "--user-data-dir=" + home, "about:blank"],
+        stdout=subprocess.DEVNULL, stderr=subprocess.PIPE, text=True, start_new_session=True)
+    try:
+        found = (re.search(r"ws://127.0.0.1:(\d+)/", line) for line in process.stderr)
+        port = next(one[1] for one in found if one)
+        async with aiohttp.ClientSession() as client:
+            pages = json.loads(await (await client.get("http://127.0.0.1:%s/json" % port)).text())
+            page = next(one for one in pages if one["type"] == "page")
+            async with client.ws_connect(page["webSocketDebuggerUrl"], max_msg_size=0) as socket:
+                tab = Tab(socket)
+                listening = asyncio.ensure_future(tab.listen())
+                for domain in ("Page", "Runtime", "Log"):
+                    await tab.ask(domain + ".enable")
+                await tab.ask("Page.navigate", url=address)
+                yield tab
+                listening.cancel()
+    finally:
+        os.killpg(process.pid, signal.SIGTERM)
+        process.wait()
+        shutil.rmtree(home, ignore_errors=True)
