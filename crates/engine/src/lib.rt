@@ -35,6 +35,7 @@
 //! - `collect`: O(log n) for each version written since the last horizon, up to its own
 //! - `poll`: O(log n), and its messages; from the store a search for each row
 //! - `stats`, `steps`, `closed`, `behind`: O(log n)
+//! - `report`: O(log n) for each undecided transaction, each protection and each feed
 //!
 //! Memory: begin, get, scan, put, del, readat, scanat, protect, open and poll take it before anything changes. Without it
 //! they answer so, and all is as it was. Abort, collect, release, cancel and stats take none. Commit, close and closehard
@@ -42,10 +43,11 @@
 //! closing sends feeds behind, which then read it in the store.
 #![tactic(auto)]
 
-ghost use Rattle.std.specs.Prelude.{◌≡◌, ℕ, List, ◌∷◌, [], ◌+◌, ◌<◌, ◌≤◌, is_some, length};
+ghost use Rattle.std.specs.Prelude.{◌≡◌, ℕ, List, ◌∷◌, [], ◌+◌, ◌<◌, ◌≤◌, IfOk, false, is_some, length};
 ghost use Rattle.spans.specs.declared.calls.events.Event.{Event};
 ghost use Rattle.spans.specs.Effects.{event, effects_of};
 ghost use Rattle.spans.specs.Kept.{place_of};
+ghost use Rattle.spans.specs.Report.{IsReport};
 ghost use Rattle.spans.specs.Transactions.{closed_of};
 ghost use Rattle.engine.specs.Layers.{HasHistory};
 
@@ -56,6 +58,7 @@ mod layers;
 mod openings;
 mod polls;
 mod releasing;
+mod report;
 mod running;
 mod snapshots;
 mod statistics;
@@ -63,7 +66,8 @@ mod transactions;
 
 use crate::layers::Layers;
 use spans::calls::{Cmd, Reply};
-use std::alloc::Global;
+use spans::report::Report;
+use std::alloc::{AllocError, Global};
 
 /// The layers, with a count of the commands that were answered.
 #[derive(Drop)]
@@ -121,5 +125,12 @@ impl Engine {
         ensures history { (h : List Event) → StandsFor self.now h → is_some result ≡ is_some (place_of (effects_of h) feed) }
     {
         self.layers.behind(feed)
+    }
+
+    /// What an operator may ask of it. It takes memory for the answer alone.
+    pub fn report(&self) -> Result<Report, AllocError>
+        ensures { (h : List Event) → StandsFor self.now h → IfOk result (IsReport false (effects_of h)) }
+    {
+        self.layers.report()
     }
 }
