@@ -30,6 +30,8 @@
 //!
 //! Both calls take memory for the rows told. `next_rows` takes it also for one place of each chain, where it turns to
 //! the chains. `next_snapshot` takes it also for a copy of the span. They change nothing, so a refusal leaves no trace.
+//!
+//! Tests: `engine_tests`, `job_tests`.
 #![tactic(auto)]
 
 mod heads;

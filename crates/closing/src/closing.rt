@@ -142,6 +142,7 @@ impl Closing {
             Some(first) => Some(first.0),
         }
     }
+
     /// The protections that stand, numbers rising. It takes memory for them alone.
     pub fn protections(&self) -> Result<Vec<ProtectionReport>, AllocError>
         ensures { IfOk result (λ ns. ns.items ≡ map protection_report (reverse (protections_in self.now))) }

@@ -28,6 +28,8 @@
 //!
 //! `protect` takes memory, for a place in the map and one in the set. Where it finds none, nothing is protected.
 //! `protections` takes it for its answer. The other calls take none.
+//!
+//! Tests: `layer_tests`.
 #![tactic(auto)]
 
 mod closing;

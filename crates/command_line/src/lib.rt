@@ -15,6 +15,8 @@
 //!
 //! No clause says what a command line asks for: `clap` promises no more than that its calls are safe. Tests in
 //! `job_tests` do. Memory is taken for the words and what they ask for.
+//!
+//! Tests: `job_tests`.
 #![tactic(auto)]
 
 mod arguments;

@@ -28,6 +28,8 @@
 //!
 //! `call` takes memory for the keys and values of its line, by the engine's step, and for the text, which keeps its
 //! room. `write` takes it for the text. `new` and `copy_text` take none.
+//!
+//! Tests: `embed/test`, `embed/random`, outside the gate.
 #![tactic(auto)]
 
 mod database;

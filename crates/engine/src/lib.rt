@@ -41,6 +41,8 @@
 //! they answer so, and all is as it was. Abort, collect, release, cancel and stats take none. Commit, close and closehard
 //! go on without it: a row that finds no memory at a commit is lost to the held back rows, and a row that finds none at a
 //! closing sends feeds behind, which then read it in the store.
+//!
+//! Tests: `engine_tests`, `growth_tests`, `job_tests`.
 #![tactic(auto)]
 
 ghost use Rattle.std.specs.Prelude.{◌≡◌, ℕ, List, ◌∷◌, [], ◌+◌, ◌<◌, ◌≤◌, IfOk, false, is_some, length};

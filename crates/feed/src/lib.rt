@@ -35,6 +35,8 @@
 //! made. Once offers have looked at more of these than there are slots, the order is made anew. `open`, `offer`, the polls
 //! and `report` take memory. An offer never refuses: without memory for the row it sends the feeds behind that want it, and
 //! without memory for the new order it keeps the old one. The other calls take none.
+//!
+//! Tests: `engine_tests`, `job_tests`.
 #![tactic(auto)]
 
 mod feeds;

@@ -27,6 +27,8 @@
 //!
 //! Only `add` takes memory: for a copy of the key and of the value, and for the row's place. It never refuses: a row
 //! that finds none is lost, and the set remembers that.
+//!
+//! Tests: `engine_tests`, `job_tests`.
 #![tactic(auto)]
 
 mod hold_back;

@@ -31,6 +31,8 @@
 //! All take memory. A run keeps the database, and a block of input and of output. A race keeps the whole script, a
 //! thread for each session, and all events until the end. A check keeps the whole transcript, the checker, and one
 //! event at a time. A follower keeps the rows, and a block of input and of output.
+//!
+//! Tests: `job_tests`.
 #![tactic(auto)]
 
 mod answer;

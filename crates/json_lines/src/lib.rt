@@ -31,6 +31,8 @@
 //! `read_message` takes memory for a key and a value, at most twice each, and for the tree of a faulty line. The
 //! writers take it where the buffer has to grow, and leave that as it was where they find none. `number_of` and
 //! `or_undo` take none.
+//!
+//! Tests: `text_tests`.
 #![tactic(auto)]
 
 pub mod base64_text;

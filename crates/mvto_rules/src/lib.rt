@@ -37,6 +37,8 @@
 //! A read copies readers that its key shares with others, and goes over all spans once these have doubled. Memory:
 //! `begin`, reads and writes take it, but for writes that are too late and reads that are blocked. The others take
 //! none.
+//!
+//! Tests: `layer_tests`.
 #![tactic(auto)]
 
 mod cut;

@@ -36,6 +36,8 @@
 //!
 //! `answer` takes memory for rows, values and messages. `record` takes it for a begin, get, scan, put, del, protect,
 //! opening or poll that is accepted, and none for other commands.
+//!
+//! Tests: `job_tests`, by random transcripts that are checked.
 #![tactic(auto)]
 
 mod closings;

@@ -27,6 +27,8 @@
 //!
 //! `open` takes memory for the record and its span, `protect` for a place in its list, `next_messages` for the list of
 //! messages, and `tell` for the key of the last row. The other calls take none.
+//!
+//! Tests: `job_tests`, by random transcripts that are checked.
 #![tactic(auto)]
 
 mod book;

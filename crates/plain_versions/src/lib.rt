@@ -34,6 +34,8 @@
 //!
 //! `begin` and `write` take memory for their places, and change nothing where they find none. `visible_rows`,
 //! `committed_rows`, `value_rows_after`, `rows_after` and `sources` take it for their lists. The other calls take none.
+//!
+//! Tests: `job_tests`, by random transcripts that are checked.
 #![tactic(auto)]
 
 mod chain_map;

@@ -34,6 +34,8 @@
 //! - `lists_of`: the calls, once
 //!
 //! Whether a race returns is not promised, nor in which way the calls of sessions mix.
+//!
+//! Tests: `session_tests`, `job_tests`.
 #![tactic(auto)]
 
 mod calls;

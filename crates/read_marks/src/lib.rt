@@ -39,6 +39,8 @@
 //! several pieces. A start of up to 24 bytes lies in its segment, and a longer one takes memory of its own. A sweep
 //! copies one start at a time. Where the copy of a long start is refused, it leaves the other segments to the next
 //! sweep.
+//!
+//! Tests: `layer_tests`.
 #![tactic(auto)]
 
 mod marks;

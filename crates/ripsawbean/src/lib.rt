@@ -38,6 +38,8 @@
 //! - `ripsawbean_text`: the bytes copied, and the text where it wasn't written
 //!
 //! Memory is the program's own `malloc`, `realloc` and `free`. All but `ripsawbean_close` may take it.
+//!
+//! Tests: `embed/test`, `embed/random`, outside the gate.
 #![tactic(auto)]
 
 ghost use Rattle.std.specs.Prelude.{◌≡◌, None, IfSome, IfNone};

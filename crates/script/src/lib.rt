@@ -30,6 +30,8 @@
 //! time, and `Events::new` takes none.
 //!
 //! Facts that no clause states are tested in `text_tests`, by the tables of the format.
+//!
+//! Tests: `text_tests`.
 #![tactic(auto)]
 
 pub mod events;

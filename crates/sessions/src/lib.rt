@@ -35,6 +35,8 @@
 //! keys and values, for the answer, and where the text of answers outgrows its block. `read_whole` takes it for a block
 //! and all bytes, `write_transcript` for a block, `write_whole` none. A read or a write that fails in any way, an
 //! interrupted one too, is not tried again.
+//!
+//! Tests: `job_tests`, `session_tests`.
 #![tactic(auto)]
 
 mod callers;

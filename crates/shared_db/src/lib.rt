@@ -34,6 +34,8 @@
 //! - `open`, `finish`: some for each seat
 //!
 //! Only `open` and the engine's steps take memory, and only `call` waits.
+//!
+//! Tests: `session_tests`.
 #![tactic(auto)]
 
 mod calls;

@@ -19,6 +19,8 @@
 //! - all other calls: O(1)
 //!
 //! No call takes memory.
+//!
+//! Tests: `text_tests`.
 #![tactic(auto)]
 
 ghost use Rattle.std.specs.Prelude.{◌≡◌, ◌≤◌, ◌+◌};

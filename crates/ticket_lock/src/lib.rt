@@ -33,6 +33,8 @@
 //!
 //! Each seat in line has a bed, a word of its own to sleep on. It sleeps there while its turn is far, or when it has
 //! waited for long, and is woken when the turn before its own ends. Only `new` takes memory, and only `turn` waits.
+//!
+//! Tests: `src/tests.rt`, `session_tests`.
 #![tactic(auto)]
 
 mod chronicle;

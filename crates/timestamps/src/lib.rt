@@ -21,6 +21,8 @@
 //! - `cmp` of keys: at most three numbers where both have up to 24 bytes, else their bytes
 //! - `draw`: 32 timestamps by two steps on one word; it takes no memory
 //! - a search by `BinarySearch`: as many timestamps as the length of the list has binary digits
+//!
+//! Tests: `word_tests`; leases also in `session_tests`.
 #![tactic(auto)]
 
 pub mod binary_search;

@@ -27,6 +27,8 @@
 //! - `check`: a `take` for each event, up to the first that isn't right
 //!
 //! `take` takes memory for one answer at a time, and for the event's trace in the database. A checker keeps no event.
+//!
+//! Tests: `job_tests`, `session_tests`.
 #![tactic(auto)]
 
 pub mod checker;

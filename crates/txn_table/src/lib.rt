@@ -30,6 +30,8 @@
 //! `add_key` takes it for a copy of the key and its place, and none where the key is noted. `undecided_report` takes it
 //! for its answer. The other calls take none.
 //! Ending a transaction only removes it from the set of the undecided, so it can't be refused.
+//!
+//! Tests: `layer_tests`, by the rules that use it.
 #![tactic(auto)]
 
 mod changes;

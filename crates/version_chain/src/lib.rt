@@ -37,6 +37,8 @@
 //! chain is moved where half of its places are left over.
 //!
 //! A write alone takes memory. A write that finds none for its place in the index takes its version out again.
+//!
+//! Tests: `layer_tests`.
 #![tactic(auto)]
 
 pub mod chain;

@@ -26,6 +26,8 @@
 //! pushes into the caller's buffer, takes memory where that has to grow, and where it finds none leaves that as it was.
 //!
 //! Facts that no clause states are tested in `text_tests`, by the tables of the format.
+//!
+//! Tests: `text_tests`.
 #![tactic(auto)]
 
 pub mod arguments;
