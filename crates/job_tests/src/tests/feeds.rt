@@ -224,6 +224,55 @@ pub(super) const TRANSCRIPTS: &str = "@ the order of commits is not that of the 
 13 0 close 26 => closed 26 0
 14 0 poll 2 5 => messages 1
 {'resolved':'26'}
+@ an initial feed with a gap: its snapshot at once, and then resolved messages the gap apart, from below the cursor on
+0 0 begin 5 => started
+1 0 put 5 a 1 => written
+2 0 commit 5 => committed 1
+3 0 close 7 => closed 7 0
+4 0 openinitialevery - - 7 3 => opened 1
+5 0 poll 1 9 => messages 1
+{'after':'MQ==','key':'YQ==','updated':'7'}
+6 0 close 8 => closed 8 0
+7 0 poll 1 9 => messages 0
+8 1 begin 9 => started
+9 1 put 9 b 2 => written
+10 1 commit 9 => committed 1
+11 0 close 9 => closed 9 0
+12 0 poll 1 1 => messages 1
+{'after':'Mg==','key':'Yg==','updated':'9'}
+13 0 poll 1 9 => messages 1
+{'resolved':'9'}
+14 0 close 11 => closed 11 0
+15 0 poll 1 9 => messages 0
+16 0 close 12 => closed 12 0
+17 0 poll 1 9 => messages 1
+{'resolved':'12'}
+@ the cursor 0 has nothing below it; a gap of 1 is that of an initial feed without one
+0 0 openinitialevery - - 0 2 => opened 1
+1 0 openinitialevery - - 0 1 => opened 2
+2 0 close 1 => closed 1 0
+3 0 poll 1 5 => messages 0
+4 0 poll 2 5 => messages 1
+{'resolved':'1'}
+5 0 openinitialevery - - 1 1 => opened 3
+6 0 poll 3 5 => messages 1
+{'resolved':'1'}
+7 0 close 2 => closed 2 0
+8 0 poll 1 5 => messages 1
+{'resolved':'2'}
+9 0 poll 3 5 => messages 1
+{'resolved':'2'}
+@ the tests of an initial feed with a gap in their order
+0 0 close 9 => closed 9 0
+1 0 collect 4 => collected 4 0
+2 0 openinitialevery - - 9223372036854775808 0 => tsrange
+3 0 openinitialevery - - 10 0 => gaprange
+4 0 openinitialevery - - 3 9223372036854775808 => gaprange
+5 0 openinitialevery - - 3 1 => belowhorizon 4
+6 0 openinitialevery - - 10 1 => notclosed 9
+7 0 openinitialevery - - 9 9223372036854775807 => opened 1
+8 0 poll 1 5 => messages 0
+9 0 stats => stats 0 0 1 9 4
 @ the greatest cursor and the greatest gap, and what is above them
 0 0 openinitial - - 9223372036854775808 => tsrange
 1 0 openevery - - 9223372036854775808 0 => tsrange

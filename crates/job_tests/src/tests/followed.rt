@@ -323,6 +323,25 @@ row apple 3
 row pear 5
 resolved 25 1
 row apple 4
+@ cache - - initial 10 1 yes
+0 begin 10
+0 put 10 apple 3
+0 put 10 pear 5
+0 commit 10
+0 close 10
+1 openinitialevery - - 10 5
+1 poll 1 10
+0 begin 12
+0 put 12 apple 4
+0 commit 12
+0 close 13
+1 poll 1 10
+0 close 14
+1 poll 1 10
+= done
+resolved 14 2
+row apple 4
+row pear 5
 @ cache - - cursor 0 1 yes
 0 open - - 0
 1 begin 10

@@ -15,7 +15,8 @@ const FORMS: &str =
     "A begin B\nA del B V\nA put B W X\nA commit B,A begin B\nA del B V\nA put B W X\nA commit B,A begin B\nA put B V X\nA put B W X,A begin B\nA put B V X\nA put B W X,A begin B\nA put B V X\nA put B W 2\nA commit B,A begin B\nA put B V X\nA put B W 2\nA commit B,A commit B,A commit B,A commit B,A abort B,1 close C,1 close C,2 closehard C,0 poll E F,0 poll E F,0 poll E F,0 poll E F,opening,opening,rarer";
 
 /// The forms of openings. What a feed tells first is all that its span holds: there is nothing at or below 9.
-const OPENINGS: &str = "0 openinitial Y Z D,0 openinitial Y Z D,0 open Y Z G,0 openevery Y Z G H";
+const OPENINGS: &str =
+    "0 openinitial Y Z D,0 openinitial Y Z D,0 open Y Z G,0 openevery Y Z G H,0 openinitialevery Y Z D H";
 
 /// The forms of what is rarer.
 const RARER: &str = "1 cancel E,1 poll E 5,0 scanat 9 - -,A scan B - -";
@@ -86,7 +87,7 @@ fn opened_in(line: &str) -> Option<Opened<'_>> {
     let low = words.next()?;
     let high = words.next()?;
     let cursor = words.next()?.parse::<u64>().ok()?;
-    let start = if name == "openinitial" {
+    let start = if name.starts_with("openinitial") {
         Start::Initial(cursor)
     } else {
         Start::Cursor(cursor)

@@ -89,7 +89,7 @@ const FORMS: &str =
 
 /// The forms of what is rarer.
 const RARER: &str =
-    "0 open - - D,0 open a b C,0 openinitial - c D,0 openinitial a - C,0 openevery - - D G,1 cancel E,1 protect C,1 protect C,3 stats";
+    "0 open - - D,0 open a b C,0 openinitial - c D,0 openinitial a - C,0 openevery - - D G,0 openinitialevery - - D G,1 cancel E,1 protect C,1 protect C,3 stats";
 
 /// A script of so many lines. Timestamps rise slowly with the turn, so that transactions cross one another and closings
 /// meet them, and there are about as many feeds and protections as are asked for.

@@ -61,7 +61,8 @@ A cancel C";
 const OPENINGS: &str = "A poll 2 9
 A open - - D
 A openinitial a - D
-A openevery - b D 7";
+A openevery - b D 7
+A openinitialevery - - D 3";
 
 /// The form of a turn.
 fn form_of(turn: u64) -> &'static str {

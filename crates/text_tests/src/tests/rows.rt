@@ -28,6 +28,8 @@ c 64 0 0 0 openinitial - - 7|
 c 64 0 0 1 openinitial %2D c%00 18446744073709551615|
 c 64 0 0 0 openevery - - 0 10|
 c 64 0 0 63 openevery b %2D 18446744073709551615 0|
+c 64 0 0 0 openinitialevery - - 7 10|
+c 64 0 0 63 openinitialevery %2D c%00 18446744073709551615 0|
 c 64 0 0 0 poll 1 10|
 c 64 0 0 1 cancel 1|
 c 64 0 0 0 stats|
@@ -54,21 +56,31 @@ c 64 1 1 0 openinitial - -|
 c 64 1 1 0 openinitial - - 7 1|
 c 64 1 1 0 openevery - - 7|
 c 64 1 1 0 openevery - - 7 1 1|
+c 64 1 1 0 openinitialevery - - 7|
+c 64 1 1 0 openinitialevery - - 7 1 1|
 c 64 1 2 0 openinitials - - 7|
 c 64 1 2 0 openevery7 - - 7 1|
+c 64 1 2 0 openinitialever - - 7 1|
+c 64 1 2 0 openeveryinitial - - 7 1|
 c 64 1 3 0 openinitial - - 07|
 c 64 1 3 0 openinitial - - 18446744073709551616|
 c 64 1 3 0 openevery - - x 1|
 c 64 1 3 0 openevery - - 7 x|
+c 64 1 3 0 openinitialevery - - 07 1|
+c 64 1 3 0 openinitialevery - - 7 x|
 c 64 1 9 0 openinitial %41 - 7|
 c 64 1 9 0 openinitial - %2d 7|
 c 64 1 9 0 openevery %41 - 7 1|
 c 64 1 9 0 openevery - %2d 7 1|
+c 64 1 9 0 openinitialevery %41 - 7 1|
+c 64 1 9 0 openinitialevery - %2d 7 1|
 c 64 1 6 64 openevery - - 7|
 c 64 1 1 0 openinitial - - x 1|
 c 64 1 1 0 openevery - - x|
+c 64 1 1 0 openinitialevery - - x|
 c 64 1 9 0 openinitial %41 - x|
 c 64 1 9 0 openevery - %41 x 1|
+c 64 1 9 0 openinitialevery - %41 x 1|
 c 64 1 1 0 openevery - - x |
 c 64 1 9 0 openevery - - x 1\r|
 c 64 1 6 64 jump|
@@ -123,6 +135,7 @@ t - 0 0 15 1 cancel 1 => cancelled|
 t - 0 0 16 0 stats => stats 1 0 1 30 18446744073709551615|
 t - 0 0 17 0 openinitial - %2D 7 => opened 2|
 t - 0 0 18 0 openevery a - 7 10 => opened 3|
+t - 0 0 19 0 openinitialevery a %2D 7 10 => opened 4|
 t - 0 0 18446744073709551615 0 stats => nomemory|
 t - 0 0 0 0 begin 0 => tsrange|
 t - 0 0 1 0 begin 5 => belowclosed 100|
@@ -141,6 +154,7 @@ t - 0 0 13 0 cancel 9 => feedcancelled|
 t - 0 0 14 0 stats => value =>|
 t - 0 0 15 0 openinitial - - 31 => notclosed 30|
 t - 0 0 16 0 openevery - - 7 0 => gaprange|
+t - 0 0 17 0 openinitialevery - - 31 1 => notclosed 30|
 t - 0 0 0 0 begin 10 => started|1 1 get 20 a => none|2 63 get 20 a => value -|3 0 scan 20 - - => rows 0|4 0 scan 20 b %2D => rows 2|row b 2|row c%00%FF -|5 0 put 10 a => => written|6 0 commit 10 => committed 2|
 ";
 
@@ -177,15 +191,19 @@ t - 1 10 0 0 stats => rows|
 t - 1 10 0 0 stats => rows 01|
 t - 0 0 0 0 openinitial - - 7 => gaprange|
 t - 0 0 0 0 openevery - - 7 0 => gaprange|
+t - 0 0 0 0 openinitialevery - - 7 0 => gaprange|
 t - 1 10 0 0 openevery - - 7 0 => gaprange 0|
 t - 1 10 0 0 openevery - - 7 0 => gapranges|
 t - 1 1 0 0 openinitial - - => opened 1|
 t - 1 1 0 0 openinitial - - 7 1 => opened 1|
 t - 1 1 0 0 openevery - - 7 => opened 1|
 t - 1 1 0 0 openevery - - 7 1 1 => opened 1|
+t - 1 1 0 0 openinitialevery - - 7 => opened 1|
+t - 1 1 0 0 openinitialevery - - 7 1 1 => opened 1|
 t - 1 3 0 0 openinitial - - x => opened 1|
 t - 1 3 0 0 openevery - - x 1 => opened 1|
 t - 1 3 0 0 openevery - - 7 x => gaprange 0|
+t - 1 3 0 0 openinitialevery - - 7 x => opened 1|
 t - 1 9 0 0 openinitial - %41 x => opened 1|
 t - 1 3 x 64 stats => nofeed|
 t - 1 6 0 64 jump => nofeed|
@@ -352,6 +370,9 @@ C 64 1 4 0 put 1 ~257*a; ~65537*a;|
 C 64 0 0 0 open ~257*a; ~257*b; 0|
 C 64 1 4 0 open ~258*a; - 0|
 C 64 1 4 0 open - ~258*a; 0|
+C 64 0 0 0 openinitialevery ~257*a; ~257*b; 0 1|
+C 64 1 4 0 openinitialevery ~258*a; - 0 1|
+C 64 1 4 0 openinitialevery - ~258*a; 0 x|
 C 64 0 0 0 scan 1 ~257*%00; ~257*%FF;|
 C 64 1 1 ~200000*x;|
 C 64 1 7 ~200000*x;
@@ -396,6 +417,9 @@ c 64 0 0 0 openevery ~65*a; - 0 1|
 c 64 1 4 0 openevery ~66*a; - x 1|
 c 64 0 0 0 openevery - ~65*a; 0 1|
 c 64 1 4 0 openevery - ~66*a; 0 x|
+c 64 0 0 0 openinitialevery ~65*a; ~65*b; 0 1|
+c 64 1 4 0 openinitialevery ~66*a; - x 1|
+c 64 1 4 0 openinitialevery - ~66*a; 0 x|
 c 64 1 7 ~4096*a;
 c 64 1 8 ~4097*a;
 c 64 1 1 ~4096*a;|
@@ -411,6 +435,8 @@ t - 0 0 0 0 openinitial ~65*a; - 0 => opened 1|
 t - 1 4 0 0 openinitial - ~66*a; x => opened 1|
 t - 0 0 0 0 openevery - ~65*a; 0 1 => opened 1|
 t - 1 4 0 0 openevery ~66*a; - 0 x => opened 1|
+t - 0 0 0 0 openinitialevery - ~65*a; 0 1 => opened 1|
+t - 1 4 0 0 openinitialevery - ~66*a; 0 x => opened 1|
 t - 0 0 0 0 scan 1 - ~65*a; => rows 0|
 t - 1 4 0 0 scan 1 - ~66*a; => rows 0|
 t - 0 0 0 0 put 1 a ~1024*a; => written|
