@@ -143,7 +143,7 @@ fn main() {
     let mut database = Database::new();
     load(&mut database);
     for seat in 0..threads {
-        database.answer(seat as u8, Cmd::Open { span: span_of(seat, threads), cursor: LOADED, kind: Kind::Plain });
+        database.answer(seat as u8, Cmd::Open { span: span_of(seat, threads), cursor: LOADED, kind: Kind { initial: false, gap: None } });
     }
     let (database, gate) = (&Mutex::new(database), &Gate { arrived: AtomicU64::new(0), next: AtomicU64::new(LOADED + 1) });
     let rounds = calls / ROUND / threads;

@@ -410,9 +410,13 @@ impl Script {
                     match self.below(8) {
                         0 => self.line(format_args!("0 open - - {closed}")),
                         1 => self.line(format_args!("0 open k{key:07} - {closed}")),
-                        2..=3 => {
+                        2 => {
                             self.line(format_args!("1 closehard {closed}"));
                             self.line(format_args!("0 openinitial k{key:07} k{:07} {closed}", key + 100));
+                        }
+                        3 => {
+                            self.line(format_args!("1 closehard {closed}"));
+                            self.line(format_args!("0 openinitialevery k{key:07} k{:07} {closed} 10", key + 100));
                         }
                         4 => self.line(format_args!("0 openevery - k{key:07} {closed} 10")),
                         _ => self.line(format_args!("0 open k{key:07} k{:07} {closed}", key + 50)),
@@ -466,6 +470,7 @@ impl Script {
                 35 => match self.below(4) {
                     0 => self.line(format_args!("{seat} openinitial - - {to}")),
                     1 => self.line(format_args!("{seat} openevery - k{key:07} {to} 5")),
+                    2 => self.line(format_args!("{seat} openinitialevery - k{key:07} {to} 5")),
                     _ => self.line(format_args!("{seat} open k{key:07} - {to}")),
                 },
                 36 if key < 4 => self.line(format_args!("{seat} cancel {}", key + 1)),

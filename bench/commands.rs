@@ -88,6 +88,12 @@ fn span<'a>(words: &mut impl Iterator<Item = &'a [u8]>) -> Option<Span> {
     Some(Span { lo: bound(words)?, hi: bound(words)? })
 }
 
+fn opening<'a>(words: &mut impl Iterator<Item = &'a [u8]>, initial: bool, has_gap: bool) -> Option<Cmd> {
+    let (span, cursor) = (span(words)?, number(words.next()?)?);
+    let gap = if has_gap { Some(number(words.next()?)?) } else { None };
+    Some(Cmd::Open { span, cursor, kind: Kind { initial, gap } })
+}
+
 fn take_command<'a>(words: &mut impl Iterator<Item = &'a [u8]>) -> Option<(u8, Cmd)> {
     let seat = number(words.next()?).filter(|n| *n < 64)? as u8;
     let cmd = match words.next()? {
@@ -105,9 +111,10 @@ fn take_command<'a>(words: &mut impl Iterator<Item = &'a [u8]>) -> Option<(u8, C
         b"protect" => Cmd::Protect { t: number(words.next()?)? },
         b"release" => Cmd::Release { id: number(words.next()?)? },
         b"collect" => Cmd::Collect { to: number(words.next()?)? },
-        b"open" => Cmd::Open { span: span(words)?, cursor: number(words.next()?)?, kind: Kind::Plain },
-        b"openinitial" => Cmd::Open { span: span(words)?, cursor: number(words.next()?)?, kind: Kind::Initial },
-        b"openevery" => Cmd::Open { span: span(words)?, cursor: number(words.next()?)?, kind: Kind::Every(number(words.next()?)?) },
+        b"open" => opening(words, false, false)?,
+        b"openinitial" => opening(words, true, false)?,
+        b"openevery" => opening(words, false, true)?,
+        b"openinitialevery" => opening(words, true, true)?,
         b"poll" => Cmd::Poll { feed: number(words.next()?)?, max: number(words.next()?)? },
         b"cancel" => Cmd::Cancel { feed: number(words.next()?)? },
         b"stats" => Cmd::Stats,
@@ -210,15 +217,17 @@ fn push_command(out: &mut Vec<u8>, cmd: &Cmd) {
         Cmd::Release { id } => push_named(out, b" release ", *id),
         Cmd::Collect { to } => push_named(out, b" collect ", *to),
         Cmd::Open { span, cursor, kind } => {
-            out.extend_from_slice(match kind {
-                Kind::Plain => b" open",
-                Kind::Initial => b" openinitial",
-                Kind::Every(_) => b" openevery",
-            });
+            out.extend_from_slice(b" open");
+            if kind.initial {
+                out.extend_from_slice(b"initial");
+            }
+            if kind.gap.is_some() {
+                out.extend_from_slice(b"every");
+            }
             push_span(out, span);
             push_named(out, b" ", *cursor);
-            if let Kind::Every(gap) = kind {
-                push_named(out, b" ", *gap);
+            if let Some(gap) = kind.gap {
+                push_named(out, b" ", gap);
             }
         }
         Cmd::Poll { feed, max } => {

@@ -227,11 +227,10 @@ struct Txn {
 
 // ---- feeds
 
-#[derive(Clone, Copy, PartialEq)]
-pub enum Kind {
-    Plain,
-    Initial,
-    Every(u64),
+#[derive(Clone, Copy)]
+pub struct Kind {
+    pub initial: bool,
+    pub gap: Option<u64>,
 }
 
 /// How far the snapshot of an initial feed was told.
@@ -253,12 +252,9 @@ struct Feed {
 
 impl Feed {
     fn is_due(&self, closed: u64) -> bool {
-        let base = self.resolved.unwrap_or(self.cursor);
-        match self.kind {
-            Kind::Plain => closed > base,
-            Kind::Every(gap) => closed > base && closed - base >= gap,
-            Kind::Initial => closed >= 1 && self.resolved.map_or(closed >= self.cursor, |told| closed > told),
-        }
+        let start = if self.kind.initial { self.cursor.saturating_sub(1) } else { self.cursor };
+        let base = self.resolved.unwrap_or(start);
+        closed > base && self.kind.gap.map_or(true, |gap| closed - base >= gap)
     }
 }
 
@@ -628,13 +624,13 @@ impl Database {
         if cursor > MAX {
             return TS_RANGE;
         }
-        if matches!(kind, Kind::Every(gap) if gap == 0 || gap > MAX) {
+        if kind.gap.is_some_and(|gap| gap == 0 || gap > MAX) {
             return Reply::Refused(b"gaprange");
         }
         if cursor < self.horizon {
             return Reply::RefusedAt(b"belowhorizon ", self.horizon);
         }
-        if kind == Kind::Initial && cursor > self.closed {
+        if kind.initial && cursor > self.closed {
             return Reply::RefusedAt(b"notclosed ", self.closed);
         }
         let mut queue = VecDeque::new();
@@ -645,7 +641,7 @@ impl Database {
                 queue.extend(inside.map(|key| row_of(&self.chains, ts, key)));
             }
         }
-        let snapshot = if kind == Kind::Initial { Snapshot::After(None) } else { Snapshot::Told };
+        let snapshot = if kind.initial { Snapshot::After(None) } else { Snapshot::Told };
         self.floors.insert((cursor, self.feeds.len()));
         self.feeds.push(Some(Box::new(Feed { seat, span, cursor, kind, snapshot, queue, resolved: None, floor: cursor })));
         self.live += 1;

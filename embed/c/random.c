@@ -122,7 +122,8 @@ static void start_in_transaction(const database *db, const char *name) {
 static void make_line(database *db) {
     static const char *const kinds[] = {"begin", "get",    "put",     "put",     "put",     "del",     "commit", "commit", "abort", "scan",
                                         "close", "readat", "scanat",  "protect", "release", "collect", "open",   "poll",   "poll",  "stats",
-                                        "put",   "get",    "opening", "every",   "cancel",  "begin",   "begin",  "hard"};
+                                        "put",   "get",    "cancel",  "begin",   "begin",   "hard",
+                                        "openinitial", "openevery", "openinitialevery"};
     const char *kind = kinds[below(sizeof kinds / sizeof *kinds)];
     unsigned seat = (unsigned)below(one_in(10) ? 64 : 4);
     if (strcmp(kind, "begin") == 0) {
@@ -171,13 +172,12 @@ static void make_line(database *db) {
     } else if (strcmp(kind, "collect") == 0) {
         start(seat, "collect");
         add(" %" PRIu64, near_timestamp(db));
-    } else if (strcmp(kind, "open") == 0 || strcmp(kind, "opening") == 0 || strcmp(kind, "every") == 0) {
-        bool is_every = strcmp(kind, "every") == 0;
-        start(seat, is_every ? "openevery" : kind[4] == '\0' ? "open" : "openinitial");
+    } else if (strncmp(kind, "open", 4) == 0) {
+        start(seat, kind);
         add_bound();
         add_bound();
         add(" %" PRIu64, one_in(3) ? 0 : near_timestamp(db));
-        if (is_every) add(" %" PRIu64, below(6));
+        if (strstr(kind, "every")) add(" %" PRIu64, below(6));
     } else if (strcmp(kind, "poll") == 0) {
         uint64_t feed = below(db->opened + 2);
         bool is_known = feed > 0 && feed <= db->opened && feed <= FEEDS;

@@ -206,6 +206,14 @@ class Feeds(unittest.TestCase):
             self.assertEqual(list(self.db.messages(feed, most, seat=3)), self.all)
             self.assertEqual(list(self.db.messages(feed, most, seat=3)), [])
 
+    def test_an_initial_feed_with_a_gap(self):
+        feed = self.db.make("openinitialevery", None, None, 20, 15).number
+        self.assertEqual(list(self.db.messages(feed, 3)), [Row(b"k%d" % i, b"%d" % i, 20) for i in (0, 1, 2, 4)])
+        self.db.make("close", 33)
+        self.assertEqual(list(self.db.messages(feed, 3)), [])
+        self.db.make("close", 34)
+        self.assertEqual(list(self.db.messages(feed, 3)), [Resolved(34)])
+
     def test_polls_are_made_as_messages_are_taken(self):
         feed = self.db.make("open", None, None, 0).number
         messages = self.db.messages(feed, 2)

@@ -97,9 +97,10 @@ fn each_command_has_its_line() {
         (Command::Open { span, cursor: 10 }, "open a z 10 => opened 1"),
         (Command::OpenInitial { span, cursor: 10 }, "openinitial a z 10 => opened 2"),
         (Command::OpenEvery { span, cursor: 10, gap: 5 }, "openevery a z 10 5 => opened 3"),
+        (Command::OpenInitialEvery { span, cursor: 10, gap: 5 }, "openinitialevery a z 10 5 => opened 4"),
         (Command::Poll { feed: 1, max: 1 }, "poll 1 1 => messages 0"),
         (Command::Cancel { feed: 1 }, "cancel 1 => cancelled"),
-        (Command::Stats, "stats => stats 1 0 2 10 8"),
+        (Command::Stats, "stats => stats 1 0 3 10 8"),
     ]
     .into_iter()
     .enumerate()
