@@ -1,3 +1,4 @@
 mod Heap
 mod LooseValues
 mod HandleValues
+mod ReplicaValues

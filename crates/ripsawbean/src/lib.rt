@@ -47,6 +47,8 @@ ghost use Rattle.ripsawbean.specs.Exports.{refusal_of, Opened, Numbered, Called,
 
 mod handle;
 mod loose;
+mod replica_handle;
+mod replicas;
 
 use crate::handle::Handle;
 use embedded::{CallError, Database};

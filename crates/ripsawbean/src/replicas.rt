@@ -1,0 +1,328 @@
+//! The functions of a replica, which C calls: the consumer's half of a feed.
+
+ghost use Rattle.std.specs.Prelude.{◌≡◌, None};
+ghost use Rattle.ripsawbean.specs.ReplicaExports.{Opened, Taken, TakenBy, Told, NoTime, Hidden, ReadyBy, CompleteBy, GotBy, RowsBy, number_or_none, open_number, line_number, message_number, take_number, key_number};
+
+use crate::replica_handle::ReplicaHandle;
+use crate::{CLOSED, NO_MEMORY, OPEN};
+use embedded_replica::{Consumer, OpenError, TakeError};
+use json_lines::MessageFault;
+use replica::Fault;
+use std::alloc::Global;
+use timestamps::key::KeyError;
+
+/// A key has no byte, or more than 256.
+const KEY_LENGTH: u8 = 4;
+/// The line is no message of a feed.
+const NO_MESSAGE: u8 = 18;
+/// A row comes too early.
+const NOT_AFTER: u8 = 19;
+/// A row lies outside the span.
+const OUTSIDE_SPAN: u8 = 20;
+/// A resolved timestamp comes too early.
+const RESOLVED_BACK: u8 = 21;
+/// The line's command opens no feed.
+const NO_FEED: u8 = 22;
+/// The key has no value.
+const NO_VALUE: u8 = 23;
+/// No timestamp.
+const NONE: u64 = 18446744073709551615;
+
+/// Opens a closed handle on the empty replica of the feed that the line's command opens, with its newline.
+///
+/// 0: it is open. Else all is as it was. 17: the handle is open, which is looked at first. 1 to 9: the line's fault by its code.
+/// 22: the command opens no feed, or opens it above the greatest timestamp. 12: there is no memory.
+#[unsafe(no_mangle)]
+pub extern "C" fn ripsawbean_replica_open(
+    alloc: Global,
+    handle: &mut ReplicaHandle,
+    line: &[u8],
+) -> u8
+    ensures { Opened line.now handle.old.consumer result handle.new.consumer }
+{
+    if handle.is_open() {
+        return OPEN;
+    }
+    let consumer = match Consumer::open(alloc, line) {
+        Ok(consumer) => consumer,
+        Err(error) => return open_number(error),
+    };
+    match Box::new(alloc, consumer) {
+        Ok(consumer) => {
+            handle.put(consumer);
+            0
+        }
+        Err(_) => NO_MEMORY,
+    }
+}
+
+/// Takes the line of a message, with its newline.
+///
+/// 0: it was taken. Else nothing changed. 18: the line is no message's. 19: its row comes at or before what was taken. 20: its row
+/// lies outside the span. 21: its resolved timestamp comes at or before what was taken. 12: there is no memory. 16: the handle is
+/// closed.
+#[unsafe(no_mangle)]
+pub extern "C" fn ripsawbean_replica_take(
+    alloc: Global,
+    handle: &mut ReplicaHandle,
+    line: &[u8],
+) -> u8
+    ensures { Taken line.now handle.old.consumer result handle.new.consumer }
+{
+    match handle.take(alloc) {
+        None => CLOSED,
+        Some(consumer) => {
+            let mut consumer = consumer;
+            let number = take(&mut consumer, line);
+            handle.put(consumer);
+            number
+        }
+    }
+}
+
+/// Tells at which timestamp the rows are the map as they stand, where the line's message shows it, which is to be taken next.
+///
+/// 0: `at` is that timestamp, or 18446744073709551615 where there is none, as at every other number. 18: the line is no message's.
+/// 12: there is no memory. 16: the handle is closed.
+#[unsafe(no_mangle)]
+pub extern "C" fn ripsawbean_replica_ready(
+    alloc: Global,
+    handle: &mut ReplicaHandle,
+    line: &[u8],
+    at: &mut u64,
+) -> u8
+    ensures ready { Told (ReadyBy line.now at.new) handle.old.consumer result handle.new.consumer }
+    ensures none { NoTime result at.new }
+{
+    match handle.take(alloc) {
+        None => {
+            *at = NONE;
+            CLOSED
+        }
+        Some(consumer) => {
+            let number = ready(&consumer, line, at);
+            handle.put(consumer);
+            number
+        }
+    }
+}
+
+/// Tells through which timestamp it was told all, and at which its rows are the map, after a resolved message and before all
+/// messages.
+///
+/// 0: each is that timestamp, or 18446744073709551615 where there is none, as at every other number. 16: the handle is closed.
+#[unsafe(no_mangle)]
+pub extern "C" fn ripsawbean_replica_complete(
+    alloc: Global,
+    handle: &mut ReplicaHandle,
+    through: &mut u64,
+    at: &mut u64,
+) -> u8
+    ensures complete { Told (CompleteBy through.new at.new) handle.old.consumer result handle.new.consumer }
+    ensures through { NoTime result through.new }
+    ensures at { NoTime result at.new }
+{
+    match handle.take(alloc) {
+        None => {
+            *through = NONE;
+            *at = NONE;
+            CLOSED
+        }
+        Some(consumer) => {
+            *through = number_or_none(consumer.complete_through());
+            *at = number_or_none(consumer.at_resolved());
+            handle.put(consumer);
+            0
+        }
+    }
+}
+
+/// Shows the value of a key.
+///
+/// 0: `out` begins with as much of the value as there is room for, and `length` is the whole value's. At every other number `out` is
+/// as it was and `length` is 0. 23: the key has no value. 4: there is no byte, or more than 256. 12: there is no memory for the key.
+/// 16: the handle is closed.
+#[unsafe(no_mangle)]
+pub extern "C" fn ripsawbean_replica_get(
+    alloc: Global,
+    handle: &mut ReplicaHandle,
+    key: &[u8],
+    out: &mut [u8],
+    length: &mut usize,
+) -> u8
+    ensures got { Told (GotBy key.now out.old out.new length.new) handle.old.consumer result handle.new.consumer }
+    ensures hidden { Hidden result out.old out.new length.new }
+{
+    match handle.take(alloc) {
+        None => {
+            *length = 0;
+            CLOSED
+        }
+        Some(consumer) => {
+            let number = get(&consumer, key, out, length);
+            handle.put(consumer);
+            number
+        }
+    }
+}
+
+/// Shows the lines of all rows, keys rising: `row KEY VALUE`, spelled as in a scan's text.
+///
+/// 0: `out` begins with as much of the lines as there is room for, and `length` is the whole length. At every other number `out` is
+/// as it was and `length` is 0. 12: there is no memory for the lines. 16: the handle is closed.
+#[unsafe(no_mangle)]
+pub extern "C" fn ripsawbean_replica_rows(
+    alloc: Global,
+    handle: &mut ReplicaHandle,
+    out: &mut [u8],
+    length: &mut usize,
+) -> u8
+    ensures rows { Told (RowsBy out.old out.new length.new) handle.old.consumer result handle.new.consumer }
+    ensures hidden { Hidden result out.old out.new length.new }
+{
+    match handle.take(alloc) {
+        None => {
+            *length = 0;
+            CLOSED
+        }
+        Some(consumer) => {
+            let number = rows(&consumer, out, length);
+            handle.put(consumer);
+            number
+        }
+    }
+}
+
+/// Frees the replica of a handle, which is closed afterwards; a closed one stays closed.
+#[unsafe(no_mangle)]
+pub extern "C" fn ripsawbean_replica_close(alloc: Global, handle: &mut ReplicaHandle)
+    ensures { handle.new.consumer ≡ None }
+{
+    if let Some(consumer) = handle.take(alloc) {
+        consumer.drop();
+    }
+}
+
+/// A line that is taken, with the number that tells of it.
+fn take(consumer: &mut Consumer, line: &[u8]) -> u8
+    ensures { TakenBy line.now consumer.old result consumer.new }
+{
+    match consumer.take(line) {
+        Ok(()) => 0,
+        Err(error) => take_number(error),
+    }
+}
+
+/// Where a line shows that the rows are the map, with the number that tells of it.
+fn ready(consumer: &Consumer, line: &[u8], at: &mut u64) -> u8
+    ensures ready { ReadyBy line.now at.new consumer.now result }
+    ensures none { NoTime result at.new }
+{
+    match consumer.ready(line) {
+        Ok(time) => {
+            *at = number_or_none(time);
+            0
+        }
+        Err(fault) => {
+            *at = NONE;
+            line_number(fault)
+        }
+    }
+}
+
+/// The value of a key, with the number that tells of it.
+fn get(consumer: &Consumer, key: &[u8], out: &mut [u8], length: &mut usize) -> u8
+    ensures got { GotBy key.now out.old out.new length.new consumer.now result }
+    ensures hidden { Hidden result out.old out.new length.new }
+{
+    match consumer.get(key, out) {
+        Ok(Some(whole)) => {
+            *length = whole;
+            0
+        }
+        Ok(None) => {
+            *length = 0;
+            NO_VALUE
+        }
+        Err(error) => {
+            *length = 0;
+            key_number(error)
+        }
+    }
+}
+
+/// The lines of all rows, with the number that tells of them.
+fn rows(consumer: &Consumer, out: &mut [u8], length: &mut usize) -> u8
+    ensures rows { RowsBy out.old out.new length.new consumer.now result }
+    ensures hidden { Hidden result out.old out.new length.new }
+{
+    match consumer.rows(out) {
+        Ok(whole) => {
+            *length = whole;
+            0
+        }
+        Err(_) => {
+            *length = 0;
+            NO_MEMORY
+        }
+    }
+}
+
+/// A timestamp as a number.
+fn number_or_none(time: Option<u64>) -> u64
+    ensures { result ≡ number_or_none time }
+{
+    time.unwrap_or(NONE)
+}
+
+fn open_number(error: OpenError) -> u8
+    ensures { result ≡ open_number error }
+{
+    match error {
+        OpenError::Fault(fault) => fault.code(),
+        OpenError::NoFeed => NO_FEED,
+        OpenError::NoMemory => NO_MEMORY,
+    }
+}
+
+fn take_number(error: TakeError) -> u8
+    ensures { result ≡ take_number error }
+{
+    match error {
+        TakeError::Line(fault) => line_number(fault),
+        TakeError::Message(fault) => message_number(fault),
+    }
+}
+
+fn line_number(fault: MessageFault) -> u8
+    ensures { result ≡ line_number fault }
+{
+    match fault {
+        MessageFault::NoMemory => NO_MEMORY,
+        MessageFault::NotJson
+        | MessageFault::Shape
+        | MessageFault::Number
+        | MessageFault::Base64
+        | MessageFault::Length => NO_MESSAGE,
+    }
+}
+
+fn message_number(fault: Fault) -> u8
+    ensures { result ≡ message_number fault }
+{
+    match fault {
+        Fault::NotAfter => NOT_AFTER,
+        Fault::OutsideSpan => OUTSIDE_SPAN,
+        Fault::ResolvedBack => RESOLVED_BACK,
+        Fault::NoMemory => NO_MEMORY,
+    }
+}
+
+fn key_number(error: KeyError) -> u8
+    ensures { result ≡ key_number error }
+{
+    match error {
+        KeyError::KeyLength => KEY_LENGTH,
+        KeyError::NoMemory => NO_MEMORY,
+    }
+}
