@@ -15,3 +15,4 @@ mod SpanReading
 mod Replacing
 pub mod Dying
 pub mod Collecting
+pub mod Limits

@@ -4,7 +4,7 @@
 //! `answer` computes the reply to a command, and changes nothing. `record` takes in a command with its right reply. So
 //! a checker can ask and compare before it goes on. Transactions and chains of versions are in `plain_versions`,
 //! protections and feeds in `plain_feeds`. Reads of keys and of spans are here, each with the timestamps that it read
-//! from.
+//! from. [`limit_law::law_of_limits`] states that the limit of a report is how far a collection goes.
 //!
 //! 1. A [`Database`](database::Database) has a map for each thing that a history is asked about.
 //! 2. A closing forgets no transaction and no read, and a collection drops no version. Only an abort drops versions.
@@ -44,6 +44,7 @@ mod closings;
 mod collections;
 pub mod database;
 mod feeds;
+pub mod limit_law;
 mod protections;
 mod readers;
 mod reads;

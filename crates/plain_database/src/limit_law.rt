@@ -1,0 +1,16 @@
+//! The law of limits: the limit that a report names is how far a collection goes, as the contract of one function.
+ghost use Rattle.std.specs.Prelude.{List, ◌≡◌};
+ghost use Rattle.spans.specs.declared.calls.events.Event.{Event};
+ghost use Rattle.spans.specs.Collection.{collection_horizon};
+ghost use Rattle.spans.specs.Effects.{effects_of};
+ghost use Rattle.spans.specs.Legal.{IsLegal};
+ghost use Rattle.spans.specs.Report.{limit_of};
+ghost use Rattle.spans.specs.Transactions.{closed_of};
+
+/// After a legal history a collection up to closed, or to anything above, goes to the limit: what a report names holds it, and
+/// nothing else.
+///
+/// It does nothing. Its contract is the theorem.
+pub fn law_of_limits()
+    ensures { (h : List Event) → IsLegal h → (limit_of (effects_of h)).at ≡ collection_horizon (effects_of h) (closed_of (effects_of h)) }
+{}
