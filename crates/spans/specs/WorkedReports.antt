@@ -3,7 +3,7 @@
 use Rattle.std.specs.Prelude.{◌≡◌, ℕ, List, [], ◌∷◌, Option, Some, None, refl}
 use Rattle.spans.specs.declared.calls.commands.Cmd.{Cmd}
 use Rattle.spans.specs.declared.calls.commands.Cmd.TheVariants.{Begin, Put, Del, Commit, Close, CloseHard, Protect, Release, Collect, Open, OpenInitial, OpenEvery, Poll, Cancel}
-use Rattle.spans.specs.declared.report.Holder.TheVariants.{Protection, Feed}
+use Rattle.spans.specs.declared.report.Holder.TheVariants.{Closed, Protection, Feed}
 use Rattle.spans.specs.declared.span.Span.{Span}
 use Rattle.spans.specs.Effects.{Effect, effect}
 use Rattle.spans.specs.Answer.{answer_of}
@@ -39,6 +39,13 @@ lagging = after [] ((0, Begin 5) ∷ (0, Put 5 a one) ∷ (0, Commit 5) ∷ (0, 
 pub lagging_feed : (limit_of lagging ≡ limit 9 (Feed 1)) × (complete_after 5 5 (told_to lagging 1) ≡ Some 9)
 lagging_feed = (refl, refl)
 
+-- a feed that has caught up and closed hold at one timestamp: closed is named. A protection above closed holds nothing
+abbrev caught_up : List Effect
+caught_up = after lagging ((0, Poll 1 9) ∷ (2, Protect 40) ∷ [])
+
+pub held_by_closed : limit_of caught_up ≡ limit 30 Closed
+held_by_closed = refl
+
 -- a protection holds where it protects
 abbrev protected : List Effect
 protected = after [] ((1, Begin 50) ∷ (1, Put 50 b one) ∷ (2, CloseHard 20) ∷ (1, Commit 50) ∷ (2, Close 50) ∷ (2, Protect 20) ∷ (2, Collect 50) ∷ [])
@@ -54,6 +61,13 @@ tied = after [] ((0, Begin 3) ∷ (0, Put 3 a one) ∷ (0, Put 3 b one) ∷ (0, 
 
 pub ties : (limit_of tied ≡ limit 6 (Protection 2)) × (removable_of tied ≡ 3)
 ties = (refl, refl)
+
+-- without the protections the feed of the least number is named
+abbrev feeds_tied : List Effect
+feeds_tied = after tied ((2, Release 2) ∷ (2, Release 3) ∷ [])
+
+pub least_feed_named : limit_of feeds_tied ≡ limit 6 (Feed 2)
+least_feed_named = refl
 
 -- in the middle of its snapshot an initial feed has told no map, and holds at its cursor
 abbrev in_snapshot : List Effect
