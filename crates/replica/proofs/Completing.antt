@@ -64,6 +64,7 @@ starts_initial p feed is = record {
   span = refl;
   cursor = refl;
   start = rw is refl;
+  first = rw is refl;
   rows = λ x. rw is refl;
 }
 
@@ -72,5 +73,6 @@ starts_seeded p feed rows isnt are = record {
   span = refl;
   cursor = refl;
   start = rw isnt refl;
+  first = rw isnt refl;
   rows = λ x. rw isnt (among_part feed.span (map_at p feed.cursor) rows are x);
 }

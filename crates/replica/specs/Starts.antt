@@ -1,5 +1,5 @@
 -- Where a replica begins, and which rows it may begin with.
-use Rattle.std.specs.Prelude.{ℕ, List, [], ◌∷◌, true, false, ◌≡◌, Option, Some, None}
+use Rattle.std.specs.Prelude.{ℕ, List, [], ◌∷◌, true, false, ◌≡◌, Option, Some, None, if◌then◌else◌}
 use Rattle.spans.specs.declared.span.Span.{Span}
 use Rattle.spans.specs.declared.calls.messages.Message.{Message}
 use Rattle.spans.specs.declared.calls.messages.Message.TheVariants as messages
@@ -55,11 +55,13 @@ IsSeedFault s pairs faults.OutsideSpan = KeysRise pairs × (AreInside s pairs �
 IsSeedFault s pairs faults.ResolvedBack = ⊥
 IsSeedFault s pairs faults.NoMemory = MayBegin s pairs
 
--- a replica of the feed may begin so: with the feed's span, cursor and start, and with the rows that its consumer is to begin with
+-- a replica of the feed may begin so: with the feed's span, cursor and start, with the rows that its consumer is to begin with, and
+-- complete at the cursor unless the feed is to tell what is there
 pub record IsStartOf (p : List Effect) (feed : Feed) (s : Start) : Type 0 where
   pub span : s.span ≡ feed.span
   pub cursor : s.cursor ≡ feed.cursor
   pub start : s.start ≡ start_of feed
+  pub first : s.first ≡ (if feed.kind.initial then None else Some feed.cursor)
   pub rows : (x : List ℕ) → s.rows x ≡ seed_of feed.kind p feed.span feed.cursor x
 
 -- the feed is no initial one, and the rows are what its span holds at its cursor
