@@ -14,7 +14,7 @@
 // of its caller is what the proofs take for granted.
 //
 // THE HANDLE belongs to the program, which may keep it anywhere: on its stack, in a struct, on its heap. All zero bytes are a
-// closed handle. Only these four functions write its members. An open handle may be moved, and is then used in its new place
+// closed handle. Only the functions of this page write its members. An open handle may be moved, and is then used in its new place
 // alone: it is never copied, and never overwritten before ripsawbean_close. Each handle has a database of its own.
 //
 // POINTERS are valid, aligned and not null, also where no byte stands behind them (a line_length or a room of 0). The line has

@@ -492,7 +492,7 @@ class Replica:
         self._turn = threading.Lock()
         self._handle = _Handle()
         self._at = ctypes.byref(self._handle)
-        first = sorted(rows)
+        first = sorted(rows) if cursor else []  # nothing is there at 0: a feed from 0 tells all of it
         # Rows to begin with are told as an initial feed tells them: at the cursor, before all others.
         command = "openinitial" if initial or first else "open"
         line = ("0 %s %s %s %d\n" % (command, _word_of(lo), _word_of(hi), cursor)).encode("ascii")
