@@ -1,8 +1,8 @@
 //! The functions of a replica, which C calls: the consumer's half of a feed.
 //!
-//! A program owns a [`ReplicaHandle`], all zero bytes at first. `ripsawbean_replica_open` puts the replica behind it of the feed
-//! that a line opens, and `ripsawbean_replica_close` frees it again. Between them the lines of the feed's messages are taken.
-//! The rules of handles, pointers, threads and memory are those of the database's functions.
+//! A program owns a [`ReplicaHandle`], all zero bytes at first. `ripsawbean_replica_open` puts the replica behind it of
+//! the feed that a line opens, and `ripsawbean_replica_close` frees it again. Between them the lines of the feed's
+//! messages are taken. The rules of handles, pointers, threads and memory are those of the database's functions.
 //!
 //! ```text
 //!                             line                                           number   told
@@ -135,8 +135,8 @@ pub extern "C" fn ripsawbean_replica_ready(
     }
 }
 
-/// Tells through which timestamp it was told all, and at which its rows are the map, after a resolved message and before all
-/// messages.
+/// Tells through which timestamp it was told all; and at which its rows are the map, after a resolved message, and of a
+/// feed that isn't initial also at first.
 ///
 /// 0: each is that timestamp, or 18446744073709551615 where there is none, as at every other number. 16: the handle is
 /// closed.
@@ -169,8 +169,8 @@ pub extern "C" fn ripsawbean_replica_complete(
 /// Shows the value of a key.
 ///
 /// 0: `out` begins with as much of the value as there is room for, and `length` is the whole value's. At every other
-/// number `out` is as it was and `length` is 0. 23: the key has no value. 4: there is no byte, or more than 256. 12: there
-/// is no memory for the key. 16: the handle is closed.
+/// number `out` is as it was and `length` is 0. 23: the key has no value. 4: there is no byte, or more than 256. 12:
+/// there is no memory for the key. 16: the handle is closed.
 #[unsafe(no_mangle)]
 pub extern "C" fn ripsawbean_replica_get(
     alloc: Global,
