@@ -14,7 +14,7 @@
 // of its caller is what the proofs take for granted.
 //
 // THE HANDLE belongs to the program, which may keep it anywhere: on its stack, in a struct, on its heap. All zero bytes are a
-// closed handle. Only these four functions write its members. An open handle may be moved, and is then used in its new place
+// closed handle. Only the functions of this page write its members. An open handle may be moved, and is then used in its new place
 // alone: it is never copied, and never overwritten before ripsawbean_close. Each handle has a database of its own.
 //
 // POINTERS are valid, aligned and not null, also where no byte stands behind them (a line_length or a room of 0). The line has
@@ -86,7 +86,15 @@ enum {
     RIPSAWBEAN_UNWRITTEN = 14, // the call was made, or had been; its text found no memory. Ask ripsawbean_text for it again
     RIPSAWBEAN_RING = 15,      // the ring is not 1 to 65536
     RIPSAWBEAN_CLOSED = 16,    // the handle is closed
-    RIPSAWBEAN_OPEN = 17       // the handle is open already
+    RIPSAWBEAN_OPEN = 17,      // the handle is open already
+
+    // By the functions of a replica alone. After each of them the replica is as it was.
+    RIPSAWBEAN_NOMESSAGE = 18,    // the line is no message's: no JSON, or not as a feed tells it
+    RIPSAWBEAN_NOTAFTER = 19,     // a row at or before what was taken: below a resolved timestamp, or not after the last row
+    RIPSAWBEAN_OUTSIDESPAN = 20,  // a row whose key lies outside the span
+    RIPSAWBEAN_RESOLVEDBACK = 21, // a resolved timestamp at or below the last one, or below the last row
+    RIPSAWBEAN_NOFEED = 22,       // the line's command opens no feed, or opens it above RIPSAWBEAN_MAX_TIMESTAMP
+    RIPSAWBEAN_NOVALUE = 23       // the key has no value
 };
 
 // Opens a closed handle on a new and empty database, of which each feed keeps up to `ring` rows at hand. No answer depends on
@@ -121,11 +129,60 @@ uint8_t ripsawbean_text(ripsawbean *db, uint8_t *out, size_t room, size_t *lengt
 // Frees the database, and leaves the handle closed. It may be opened again. A closed handle stays closed.
 void ripsawbean_close(ripsawbean *db);
 
+// ---- A REPLICA: the rows of one feed's span, kept by its messages. It stands beside a database, which may be another
+// process's: nothing but lines goes in. What is said above of the handle, of pointers, threads and memory holds of it too.
+
+typedef struct {
+    void *at;     // private
+    bool is_open; // private
+} ripsawbean_replica;
+
+// A closed handle.
+#define RIPSAWBEAN_REPLICA_INITIALIZER {NULL, false}
+
+#define RIPSAWBEAN_NONE UINT64_MAX // where there is no timestamp to tell
+
+// Opens a closed handle on an empty replica of the feed that a line opens, as "0 openinitial - - 10\n": the line of the call that
+// opened the feed will do. A replica of an initial feed is told its rows. One of another feed has none of the rows that its span
+// held at the cursor: open it as an initial one, and take those rows first, as messages at the cursor, keys rising.
+//
+//     RIPSAWBEAN_OK        it is open
+//     RIPSAWBEAN_OPEN      whatever the line is; tested first
+//     RIPSAWBEAN_WORDCOUNT to _BADBYTE, RIPSAWBEAN_NOFEED, RIPSAWBEAN_NOMEMORY
+//                          it is still closed
+uint8_t ripsawbean_replica_open(ripsawbean_replica *replica, const uint8_t *line, size_t line_length);
+
+// Takes the line of a message, with its newline, as a poll's text has it. RIPSAWBEAN_OK, or nothing changed: RIPSAWBEAN_NOMESSAGE,
+// _NOTAFTER, _OUTSIDESPAN, _RESOLVEDBACK, _NOMEMORY, _CLOSED.
+uint8_t ripsawbean_replica_take(ripsawbean_replica *replica, const uint8_t *line, size_t line_length);
+
+// Asked before a message is taken: *at is the timestamp at which the rows are the map as they stand, where the message shows it. The
+// first row of a timestamp t above the cursor shows it of t - 1. Else *at is RIPSAWBEAN_NONE. Nothing is taken.
+// RIPSAWBEAN_OK, or *at is RIPSAWBEAN_NONE: RIPSAWBEAN_NOMESSAGE, _NOMEMORY, _CLOSED.
+uint8_t ripsawbean_replica_ready(ripsawbean_replica *replica, const uint8_t *line, size_t line_length, uint64_t *at);
+
+// *through is the timestamp through which all was told: every later message is above it, and a feed that is opened there goes on
+// without a gap. RIPSAWBEAN_NONE among the first rows of an initial feed. *at is the timestamp at which the rows are the map after a
+// resolved message, and RIPSAWBEAN_NONE after a row. RIPSAWBEAN_OK, or both are RIPSAWBEAN_NONE: RIPSAWBEAN_CLOSED.
+uint8_t ripsawbean_replica_complete(ripsawbean_replica *replica, uint64_t *through, uint64_t *at);
+
+// Shows the value of a key, both as bytes. *length is the whole length of the value, and out begins with as much of it as there is room
+// for. RIPSAWBEAN_OK, or *length is 0 and out is as it was: RIPSAWBEAN_NOVALUE, _KEYLENGTH, _NOMEMORY, _CLOSED.
+uint8_t ripsawbean_replica_get(ripsawbean_replica *replica, const uint8_t *key, size_t key_length, uint8_t *out, size_t room, size_t *length);
+
+// Shows all rows as lines "row KEY VALUE\n", keys rising, spelled as in the text of a scan; out and *length as above. It writes them
+// anew each time. RIPSAWBEAN_OK, or *length is 0 and out is as it was: RIPSAWBEAN_NOMEMORY, _CLOSED.
+uint8_t ripsawbean_replica_rows(ripsawbean_replica *replica, uint8_t *out, size_t room, size_t *length);
+
+// Frees the replica, and leaves the handle closed. It may be opened again. A closed handle stays closed.
+void ripsawbean_replica_close(ripsawbean_replica *replica);
+
 // The name of a status, in lower case; "unknown" for a number that is none.
 static inline const char *ripsawbean_status_name(uint8_t status) {
     static const char *const names[] = {
         "ok",          "wordcount", "unknowncommand", "number", "keylength", "valuelength", "session", "nonewline", "linetoolong",
         "badbyte",     "reply",     "follow",         "nomemory", "spent",   "unwritten",   "ring",    "closed",    "open",
+        "nomessage",   "notafter",  "outsidespan",    "resolvedback", "nofeed", "novalue",
     };
     return status < sizeof names / sizeof *names ? names[status] : "unknown";
 }

@@ -24,12 +24,13 @@ import ctypes
 import os
 import threading
 import warnings
-from typing import Iterator, List, NamedTuple, NoReturn, Optional, Tuple, Union
+from typing import Callable, Iterable, Iterator, List, NamedTuple, NoReturn, Optional, Tuple, Union
 
 __all__ = [
-    "Database", "Event", "Row", "Resolved", "spell", "unspell",
+    "Database", "Event", "Replica", "Row", "Resolved", "spell", "unspell",
     "Error", "LineFault", "WordCount", "UnknownCommand", "Number", "KeyLength", "ValueLength", "Session", "NoNewline",
     "LineTooLong", "BadByte", "NoMemory", "Spent", "Unwritten", "RingRange", "Closed", "AlreadyOpen", "Refused",
+    "NotTaken", "NoMessage", "NotAfter", "OutsideSpan", "ResolvedBack", "NoFeed",
 ]
 
 
@@ -125,7 +126,7 @@ class RingRange(Error, ValueError):
 
 
 class Closed(Error):
-    """The database is closed."""
+    """The database, or the replica, is closed."""
 
     status = 16
 
@@ -134,6 +135,40 @@ class AlreadyOpen(Error):
     """The database is open already."""
 
     status = 17
+
+
+class NotTaken(Error, ValueError):
+    """A replica doesn't take the message, and is as it was."""
+
+
+class NoMessage(NotTaken):
+    """The line is no message's."""
+
+    status = 18
+
+
+class NotAfter(NotTaken):
+    """A row at or before what was taken: below a resolved timestamp, or not after the last row."""
+
+    status = 19
+
+
+class OutsideSpan(NotTaken):
+    """A row whose key lies outside the span."""
+
+    status = 20
+
+
+class ResolvedBack(NotTaken):
+    """A resolved timestamp at or below the last one, or below the last row."""
+
+    status = 21
+
+
+class NoFeed(Error, ValueError):
+    """A replica's cursor is above the greatest timestamp."""
+
+    status = 22
 
 
 class Refused(Error):
@@ -149,7 +184,7 @@ _ERRORS = {
     kind.status: kind
     for kind in (
         WordCount, UnknownCommand, Number, KeyLength, ValueLength, Session, NoNewline, LineTooLong, BadByte,
-        NoMemory, Spent, Unwritten, RingRange, Closed, AlreadyOpen,
+        NoMemory, Spent, Unwritten, RingRange, Closed, AlreadyOpen, NoMessage, NotAfter, OutsideSpan, ResolvedBack, NoFeed,
     )
 }
 
@@ -286,6 +321,17 @@ def _message_of(line: str) -> Message:
     return Row(base64.b64decode(words[7], validate=True), base64.b64decode(words[3], validate=True), int(words[11]))
 
 
+def _line_of(message: Union[Message, str, bytes]) -> bytes:
+    if isinstance(message, str):
+        return message.encode("utf-8", "surrogatepass")
+    if isinstance(message, Resolved):
+        return b'{"resolved":"%d"}\n' % message.timestamp
+    if isinstance(message, Row):
+        after = b"null" if message.after is None else b'"' + base64.b64encode(message.after) + b'"'
+        return b'{"after":%b,"key":"%b","updated":"%d"}\n' % (after, base64.b64encode(message.key), message.updated)
+    return bytes(message)
+
+
 # ---- the library
 
 
@@ -313,6 +359,19 @@ _call.argtypes = [_handle_at, _bytes_at, _size, ctypes.c_void_p, _size, ctypes.P
 _call.restype = ctypes.c_uint8
 _text.argtypes, _text.restype = [_handle_at, ctypes.c_void_p, _size, ctypes.POINTER(_size)], ctypes.c_uint8
 _close.argtypes, _close.restype = [_handle_at], None
+_number_at = ctypes.POINTER(ctypes.c_uint64)
+_replica = {name: getattr(_library, "ripsawbean_replica_" + name) for name in ("open", "take", "ready", "complete", "get", "rows", "close")}
+_replica["open"].argtypes = _replica["take"].argtypes = [_handle_at, _bytes_at, _size]
+_replica["ready"].argtypes = [_handle_at, _bytes_at, _size, _number_at]
+_replica["complete"].argtypes = [_handle_at, _number_at, _number_at]
+_replica["get"].argtypes = [_handle_at, _bytes_at, _size, ctypes.c_void_p, _size, ctypes.POINTER(_size)]
+_replica["rows"].argtypes = [_handle_at, ctypes.c_void_p, _size, ctypes.POINTER(_size)]
+_replica["close"].argtypes = [_handle_at]
+for _function in _replica.values():
+    _function.restype = ctypes.c_uint8
+_replica["close"].restype = None
+_NO_VALUE = 23
+_NONE = (1 << 64) - 1
 
 
 class Database:
@@ -419,3 +478,113 @@ class Database:
         self._out = ctypes.create_string_buffer(room)
         self._out_at = ctypes.addressof(self._out)
         self._room = room
+
+
+class Replica:
+    """The rows of one feed's span, kept by the feed's messages, which may come from another process.
+
+    It is for a feed that was opened on the bytes `lo` to `hi`, or None for no bound, at `cursor`. An initial feed tells it the rows
+    there. For another feed `rows` has them, pairs of a key and its value: what a scan at the cursor found, or what a replica had
+    at its `complete_through`. A context manager closes it at the end of its block.
+    """
+
+    def __init__(self, lo: Optional[bytes], hi: Optional[bytes], cursor: int, initial: bool = False, rows: Iterable[Tuple[bytes, bytes]] = ()):
+        self._turn = threading.Lock()
+        self._handle = _Handle()
+        self._at = ctypes.byref(self._handle)
+        first = sorted(rows) if cursor else []  # nothing is there at 0: a feed from 0 tells all of it
+        # Rows to begin with are told as an initial feed tells them: at the cursor, before all others.
+        command = "openinitial" if initial or first else "open"
+        line = ("0 %s %s %s %d\n" % (command, _word_of(lo), _word_of(hi), cursor)).encode("ascii")
+        self._out = ctypes.create_string_buffer(4096)
+        status = _replica["open"](self._at, line, len(line))
+        if status:
+            _raise(status)
+        for key, value in first:
+            self.take(Row(key, value, cursor))
+
+    @property
+    def is_open(self) -> bool:
+        return self._handle.is_open
+
+    def close(self) -> None:
+        """Frees it. A closed one stays closed."""
+        with self._turn:
+            _replica["close"](self._at)
+
+    def __enter__(self) -> "Replica":
+        return self
+
+    def __exit__(self, *_: object) -> None:
+        self.close()
+
+    def __del__(self) -> None:
+        if getattr(self, "_handle", None) is not None and self._handle.is_open:
+            warnings.warn("a ripsawbean.Replica was not closed", ResourceWarning, source=self)
+            _replica["close"](self._at)
+
+    def take(self, message: Union[Message, str, bytes]) -> None:
+        """Takes the next message, or the line of one. Where it raises NotTaken or NoMemory nothing changed."""
+        line = _line_of(message)
+        with self._turn:
+            status = _replica["take"](self._at, line, len(line))
+        if status:
+            _raise(status)
+
+    def ready(self, message: Union[Message, str, bytes]) -> Optional[int]:
+        """Asked before `take`: the timestamp at which the rows are the map as they stand, where the message shows it, or None."""
+        line = _line_of(message)
+        at = ctypes.c_uint64()
+        with self._turn:
+            status = _replica["ready"](self._at, line, len(line), ctypes.byref(at))
+        if status:
+            _raise(status)
+        return _time_of(at)
+
+    @property
+    def complete_through(self) -> Optional[int]:
+        """The timestamp through which all was told, or None among the first rows of an initial feed."""
+        return self._complete()[0]
+
+    @property
+    def complete_at(self) -> Optional[int]:
+        """The timestamp at which the rows are the map, after a resolved message, or None after a row."""
+        return self._complete()[1]
+
+    def get(self, key: bytes) -> Optional[bytes]:
+        """The value of a key, or None."""
+        data = bytes(key)
+        with self._turn:
+            return self._shown(lambda *room: _replica["get"](self._at, data, len(data), *room))
+
+    def rows(self) -> List[Tuple[bytes, bytes]]:
+        """All rows, keys rising."""
+        with self._turn:
+            text = self._shown(lambda *room: _replica["rows"](self._at, *room))
+        words = [line.split(" ") for line in (text or b"").decode("ascii").split("\n")[:-1]]
+        return [(unspell(key), unspell(value)) for _, key, value in words]
+
+    def _complete(self) -> Tuple[Optional[int], Optional[int]]:
+        through, at = ctypes.c_uint64(), ctypes.c_uint64()
+        with self._turn:
+            status = _replica["complete"](self._at, ctypes.byref(through), ctypes.byref(at))
+        if status:
+            _raise(status)
+        return _time_of(through), _time_of(at)
+
+    def _shown(self, show: Callable[..., int]) -> Optional[bytes]:
+        # It is asked again where it found too little room.
+        length = _size()
+        while True:
+            status = show(ctypes.addressof(self._out), len(self._out), ctypes.byref(length))
+            if status == _NO_VALUE:
+                return None
+            if status:
+                _raise(status)
+            if length.value <= len(self._out):
+                return ctypes.string_at(self._out, length.value)
+            self._out = ctypes.create_string_buffer(2 * length.value)
+
+
+def _time_of(number: ctypes.c_uint64) -> Optional[int]:
+    return None if number.value == _NONE else number.value

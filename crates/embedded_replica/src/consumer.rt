@@ -80,8 +80,7 @@ impl Consumer {
         }
     }
 
-    /// The timestamp at which the rows are the map as they stand, where the line's message shows it, which is to be taken
-    /// next.
+    /// The timestamp at which the rows are the map as they stand, where the line's message shows it, which comes next.
     pub fn ready(&self, line: &[u8]) -> Result<Option<u64>, MessageFault>
         ensures ok { IfOk result (λ at. IsReady line.now (replica_of self.now) at) }
         ensures err { IfErr result (IsNoMessage line.now) }
@@ -97,8 +96,7 @@ impl Consumer {
         self.replica.complete_through()
     }
 
-    /// The timestamp at which its rows are the map, after a resolved message and before all messages of a feed that is not
-    /// initial.
+    /// The timestamp at which its rows are the map, after a resolved message; of a feed that isn't initial also at first.
     pub fn at_resolved(&self) -> Option<u64>
         ensures { result ≡ complete_in (replica_of self.now) }
     {

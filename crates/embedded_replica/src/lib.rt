@@ -1,8 +1,8 @@
 //! A replica of a feed's span that is called by text, as programs in other languages call it: the line of the command
 //! that opened the feed begins it, and the lines of the feed's messages go in.
 //!
-//! It knows no C. The static library `ripsawbean` is the caller: it keeps one behind each handle. The rules are those of
-//! `replica`: which messages are taken, which rows there are, and when they are the map.
+//! It knows no C. The static library `ripsawbean` is the caller: it keeps one behind each handle. The rules are those
+//! of `replica`: which messages are taken, which rows there are, and when they are the map.
 //!
 //! 1. A line that isn't taken changes nothing.
 //! 2. The rows are those of the messages that were taken.
@@ -25,8 +25,8 @@
 //! - `rows`: the text of all rows
 //! - `complete_through`, `at_resolved`: O(1)
 //!
-//! `open`, `take` and `ready` take memory for what their line has, `take` for a row with a value once more, `get` for its key,
-//! and `rows` for its text, which is given back at once.
+//! `open`, `take` and `ready` take memory for what their line has, `take` for a row with a value once more, `get` for
+//! its key, and `rows` for its text, which is given back at once.
 #![tactic(auto)]
 
 mod consumer;

@@ -3,6 +3,7 @@
 //! A program owns a [`Handle`], all zero bytes at first. `ripsawbean_open` puts a database behind it, and
 //! `ripsawbean_close` frees that again. A call takes the line of a command, and shows the text of its event: all of it
 //! or its beginning, and its whole length. The wrappers in `embed` call it, and any program that can call C.
+//! A handle of another kind owns the replica of a feed's span: its functions stand in `replicas`.
 //!
 //! 1. A handle that is open owns one database and the right to free it; a closed one owns nothing.
 //! 2. A function that answers gives a number. The program's memory then follows from that number alone.

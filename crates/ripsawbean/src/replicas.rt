@@ -1,4 +1,31 @@
 //! The functions of a replica, which C calls: the consumer's half of a feed.
+//!
+//! A program owns a [`ReplicaHandle`], all zero bytes at first. `ripsawbean_replica_open` puts the replica behind it of
+//! the feed that a line opens, and `ripsawbean_replica_close` frees it again. Between them the lines of the feed's
+//! messages are taken. The rules of handles, pointers, threads and memory are those of the database's functions.
+//!
+//! ```text
+//!                             line                                           number   told
+//! ripsawbean_replica_open     0 open - - 5                                   0
+//! ripsawbean_replica_take     {"after":"MQ==","key":"YQ==","updated":"10"}   0
+//! ripsawbean_replica_take     {"after":"MQ==","key":"YQ==","updated":"10"}   19
+//! ripsawbean_replica_ready    {"after":"Mg==","key":"Yg==","updated":"20"}   0        at 19
+//! ripsawbean_replica_complete                                                0        through 9, at none
+//! ripsawbean_replica_rows                                                    0        row a 1
+//! ```
+//!
+//! | Number | What it says | By |
+//! |---|---|---|
+//! | 0 | done | all |
+//! | 1 to 9 | the line's fault by its code; nothing was done | open |
+//! | 4 | the bytes are too few or too many for a key | get |
+//! | 12 | no memory; nothing was done | all but complete |
+//! | 16 | the handle is closed; nothing was done | all but open |
+//! | 17 | the handle is open; nothing was done | open |
+//! | 18 | the line is no message's; nothing was done | take, ready |
+//! | 19, 20, 21 | its row comes too early, lies outside the span, its timestamp too early; nothing was done | take |
+//! | 22 | the line's command opens no feed, or opens it above the greatest timestamp | open |
+//! | 23 | the key has no value | get |
 
 ghost use Rattle.std.specs.Prelude.{◌≡◌, None};
 ghost use Rattle.ripsawbean.specs.ReplicaExports.{Opened, Taken, TakenBy, Told, NoTime, Hidden, ReadyBy, CompleteBy, GotBy, RowsBy, number_or_none, open_number, line_number, message_number, take_number, key_number};
@@ -30,8 +57,8 @@ const NONE: u64 = 18446744073709551615;
 
 /// Opens a closed handle on the empty replica of the feed that the line's command opens, with its newline.
 ///
-/// 0: it is open. Else all is as it was. 17: the handle is open, which is looked at first. 1 to 9: the line's fault by its code.
-/// 22: the command opens no feed, or opens it above the greatest timestamp. 12: there is no memory.
+/// 0: it is open. Else all is as it was. 17: the handle is open, which is looked at first. 1 to 9: the line's fault by
+/// its code. 22: the command opens no feed, or opens it above the greatest timestamp. 12: there is no memory.
 #[unsafe(no_mangle)]
 pub extern "C" fn ripsawbean_replica_open(
     alloc: Global,
@@ -58,9 +85,9 @@ pub extern "C" fn ripsawbean_replica_open(
 
 /// Takes the line of a message, with its newline.
 ///
-/// 0: it was taken. Else nothing changed. 18: the line is no message's. 19: its row comes at or before what was taken. 20: its row
-/// lies outside the span. 21: its resolved timestamp comes at or before what was taken. 12: there is no memory. 16: the handle is
-/// closed.
+/// 0: it was taken. Else nothing changed. 18: the line is no message's. 19: its row comes at or before what was taken.
+/// 20: its row lies outside the span. 21: its resolved timestamp comes at or before what was taken. 12: there is no
+/// memory. 16: the handle is closed.
 #[unsafe(no_mangle)]
 pub extern "C" fn ripsawbean_replica_take(
     alloc: Global,
@@ -80,10 +107,11 @@ pub extern "C" fn ripsawbean_replica_take(
     }
 }
 
-/// Tells at which timestamp the rows are the map as they stand, where the line's message shows it, which is to be taken next.
+/// Tells at which timestamp the rows are the map as they stand, where the line's message shows it, which is to be taken
+/// next.
 ///
-/// 0: `at` is that timestamp, or 18446744073709551615 where there is none, as at every other number. 18: the line is no message's.
-/// 12: there is no memory. 16: the handle is closed.
+/// 0: `at` is that timestamp, or 18446744073709551615 where there is none, as at every other number. 18: the line is no
+/// message's. 12: there is no memory. 16: the handle is closed.
 #[unsafe(no_mangle)]
 pub extern "C" fn ripsawbean_replica_ready(
     alloc: Global,
@@ -107,10 +135,11 @@ pub extern "C" fn ripsawbean_replica_ready(
     }
 }
 
-/// Tells through which timestamp it was told all, and at which its rows are the map, after a resolved message and before all
-/// messages.
+/// Tells through which timestamp it was told all; and at which its rows are the map, after a resolved message, and of a
+/// feed that isn't initial also at first.
 ///
-/// 0: each is that timestamp, or 18446744073709551615 where there is none, as at every other number. 16: the handle is closed.
+/// 0: each is that timestamp, or 18446744073709551615 where there is none, as at every other number. 16: the handle is
+/// closed.
 #[unsafe(no_mangle)]
 pub extern "C" fn ripsawbean_replica_complete(
     alloc: Global,
@@ -139,9 +168,9 @@ pub extern "C" fn ripsawbean_replica_complete(
 
 /// Shows the value of a key.
 ///
-/// 0: `out` begins with as much of the value as there is room for, and `length` is the whole value's. At every other number `out` is
-/// as it was and `length` is 0. 23: the key has no value. 4: there is no byte, or more than 256. 12: there is no memory for the key.
-/// 16: the handle is closed.
+/// 0: `out` begins with as much of the value as there is room for, and `length` is the whole value's. At every other
+/// number `out` is as it was and `length` is 0. 23: the key has no value. 4: there is no byte, or more than 256. 12:
+/// there is no memory for the key. 16: the handle is closed.
 #[unsafe(no_mangle)]
 pub extern "C" fn ripsawbean_replica_get(
     alloc: Global,
@@ -168,8 +197,8 @@ pub extern "C" fn ripsawbean_replica_get(
 
 /// Shows the lines of all rows, keys rising: `row KEY VALUE`, spelled as in a scan's text.
 ///
-/// 0: `out` begins with as much of the lines as there is room for, and `length` is the whole length. At every other number `out` is
-/// as it was and `length` is 0. 12: there is no memory for the lines. 16: the handle is closed.
+/// 0: `out` begins with as much of the lines as there is room for, and `length` is the whole length. At every other
+/// number `out` is as it was and `length` is 0. 12: there is no memory for the lines. 16: the handle is closed.
 #[unsafe(no_mangle)]
 pub extern "C" fn ripsawbean_replica_rows(
     alloc: Global,

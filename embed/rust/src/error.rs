@@ -62,6 +62,81 @@ pub enum PollError {
     Refused(String),
 }
 
+/// Why a replica was not opened, or shows nothing.
+#[derive(Clone, Copy, Debug, PartialEq, Eq, Hash)]
+pub enum ReplicaError {
+    /// The command's line is faulty, or a key that is asked for has no byte or above 256.
+    Line(LineFault),
+    /// The command opens no feed, or opens it above the greatest timestamp.
+    NoFeed,
+    /// There was no memory for it.
+    NoMemory,
+}
+
+/// Why a message was not taken. Nothing changed.
+#[derive(Clone, Copy, Debug, PartialEq, Eq, Hash)]
+pub enum TakeError {
+    /// No feed tells such a message: a number, a key or a value is out of range.
+    NoMessage,
+    /// A row at or before what was taken: below a resolved timestamp, or not after the last row.
+    NotAfter,
+    /// A row whose key lies outside the span.
+    OutsideSpan,
+    /// A resolved timestamp at or below the last one, or below the last row.
+    ResolvedBack,
+    /// There was no memory for it.
+    NoMemory,
+}
+
+impl ReplicaError {
+    pub(crate) fn of(status: u8) -> ReplicaError {
+        match (status, LineFault::of(status)) {
+            (_, Some(fault)) => ReplicaError::Line(fault),
+            (12, _) => ReplicaError::NoMemory,
+            (22, _) => ReplicaError::NoFeed,
+            _ => unreachable!("a replica returned {status}"),
+        }
+    }
+}
+
+impl TakeError {
+    pub(crate) fn of(status: u8) -> TakeError {
+        match status {
+            12 => TakeError::NoMemory,
+            18 => TakeError::NoMessage,
+            19 => TakeError::NotAfter,
+            20 => TakeError::OutsideSpan,
+            21 => TakeError::ResolvedBack,
+            _ => unreachable!("an open replica returned {status}"),
+        }
+    }
+}
+
+impl fmt::Display for ReplicaError {
+    fn fmt(&self, f: &mut fmt::Formatter<'_>) -> fmt::Result {
+        match self {
+            ReplicaError::Line(fault) => fault.fmt(f),
+            ReplicaError::NoFeed => f.write_str("the command opens no feed"),
+            ReplicaError::NoMemory => f.write_str("no memory for the replica"),
+        }
+    }
+}
+
+impl fmt::Display for TakeError {
+    fn fmt(&self, f: &mut fmt::Formatter<'_>) -> fmt::Result {
+        f.write_str(match self {
+            TakeError::NoMessage => "no feed tells such a message",
+            TakeError::NotAfter => "a row comes too early",
+            TakeError::OutsideSpan => "a row lies outside the span",
+            TakeError::ResolvedBack => "a resolved timestamp comes too early",
+            TakeError::NoMemory => "no memory for the message",
+        })
+    }
+}
+
+impl Error for ReplicaError {}
+impl Error for TakeError {}
+
 impl OpenError {
     pub(crate) fn of(status: u8) -> OpenError {
         match status {

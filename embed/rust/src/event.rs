@@ -133,6 +133,35 @@ impl Message {
     }
 }
 
+/// The line of JSON, without its newline, as feeds write it.
+impl fmt::Display for Message {
+    fn fmt(&self, f: &mut fmt::Formatter<'_>) -> fmt::Result {
+        match self {
+            Message::Resolved(timestamp) => write!(f, "{{\"resolved\":\"{timestamp}\"}}"),
+            Message::Row(Row { key, after, updated }) => {
+                match after {
+                    None => f.write_str("{\"after\":null")?,
+                    Some(value) => write!(f, "{{\"after\":\"{}\"", base64_of(value))?,
+                }
+                write!(f, ",\"key\":\"{}\",\"updated\":\"{updated}\"}}", base64_of(key))
+            }
+        }
+    }
+}
+
+/// Bytes as base64, with padding.
+fn base64_of(bytes: &[u8]) -> String {
+    const SYMBOLS: &[u8; 64] = b"ABCDEFGHIJKLMNOPQRSTUVWXYZabcdefghijklmnopqrstuvwxyz0123456789+/";
+    let mut text = String::with_capacity(bytes.len().div_ceil(3) * 4);
+    for group in bytes.chunks(3) {
+        let bits = (0..3).fold(0usize, |bits, i| bits << 8 | usize::from(*group.get(i).unwrap_or(&0)));
+        for i in 0..4 {
+            text.push(if i > group.len() { '=' } else { char::from(SYMBOLS[bits >> (18 - 6 * i) & 63]) });
+        }
+    }
+    text
+}
+
 /// The bytes of a base64 text, with its padding.
 fn bytes_of(text: &str) -> Option<Vec<u8>> {
     let symbols = text.trim_end_matches('=');
@@ -181,6 +210,7 @@ mod tests {
             ("AP/+/w==", b"\x00\xff\xfe\xff"),
         ] {
             assert_eq!(bytes_of(text).as_deref(), Some(bytes), "{text}");
+            assert_eq!(base64_of(bytes), text);
         }
         for text in ["Zg=", "Zg", "Z===", "Zm9v=", "Zm9*"] {
             assert_eq!(bytes_of(text), None, "{text}");

@@ -1,5 +1,5 @@
 //! Ripsawbean inside a Rust program: an in-memory multiversion timestamp database whose committed changes leave it as ordered
-//! feeds. This is a safe wrapper over the four functions of `ripsawbean.h`, with no dependency.
+//! feeds. This is a safe wrapper over the functions of `ripsawbean.h`, with no dependency.
 //!
 //! ```
 //! use ripsawbean::{Command, Database, Message, Row, Span};
@@ -44,10 +44,12 @@ mod error;
 mod event;
 #[allow(unsafe_code)]
 mod raw;
+mod replica;
 mod word;
 
 pub use command::{Command, Span};
 pub use database::{Database, Messages};
-pub use error::{CallError, LineFault, OpenError, PollError, Unwritten};
+pub use error::{CallError, LineFault, OpenError, PollError, ReplicaError, TakeError, Unwritten};
 pub use event::{Event, Message, Row};
+pub use replica::Replica;
 pub use word::{unspell, Spelled};

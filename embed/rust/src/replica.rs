@@ -1,0 +1,85 @@
+//! Replicas: the consumer's half of a feed.
+
+use crate::command::Command;
+use crate::error::{ReplicaError, TakeError};
+use crate::event::Message;
+use crate::raw::{OpenReplica, Status};
+use crate::word::unspell;
+use std::fmt;
+
+/// The rows of one feed's span, kept by the feed's messages, which may come from another process.
+pub struct Replica {
+    open: OpenReplica,
+    /// Room for what is shown. It grows to what the longest one needed.
+    out: Vec<u8>,
+}
+
+impl Replica {
+    /// The empty replica of the feed that a command opens. An initial feed tells it the rows at its cursor. For any other open it
+    /// as an initial one, and take those rows first, as messages at the cursor, keys rising.
+    pub fn open(command: Command<'_>) -> Result<Replica, ReplicaError> {
+        let open = OpenReplica::new(format!("0 {command}\n").as_bytes()).map_err(ReplicaError::of)?;
+        Ok(Replica { open, out: vec![0; 4096] })
+    }
+
+    /// Takes the next message. After an error nothing changed.
+    pub fn take(&mut self, message: &Message) -> Result<(), TakeError> {
+        self.open.take(format!("{message}\n").as_bytes()).map_err(TakeError::of)
+    }
+
+    /// Asked before the message is taken: the timestamp at which the rows are the map as they stand, where the message shows it.
+    pub fn ready(&mut self, message: &Message) -> Result<Option<u64>, TakeError> {
+        self.open.ready(format!("{message}\n").as_bytes()).map_err(TakeError::of)
+    }
+
+    /// The timestamp through which all was told: every later message is above it. None among the first rows of an initial feed.
+    pub fn complete_through(&mut self) -> Option<u64> {
+        self.open.complete().0
+    }
+
+    /// The timestamp at which the rows are the map, after a resolved message. None after a row.
+    pub fn complete_at(&mut self) -> Option<u64> {
+        self.open.complete().1
+    }
+
+    /// The value of a key.
+    pub fn get(&mut self, key: &[u8]) -> Result<Option<&[u8]>, ReplicaError> {
+        match self.shown(|open, out| open.get(key, out)) {
+            Ok(length) => Ok(Some(&self.out[..length])),
+            Err(23) => Ok(None),
+            Err(status) => Err(ReplicaError::of(status)),
+        }
+    }
+
+    /// All rows, keys rising.
+    pub fn rows(&mut self) -> Result<Vec<(Vec<u8>, Vec<u8>)>, ReplicaError> {
+        let length = self.shown(OpenReplica::rows).map_err(ReplicaError::of)?;
+        let text = std::str::from_utf8(&self.out[..length]).expect("the library writes printable ASCII");
+        Ok(text.lines().filter_map(row_of).collect())
+    }
+
+    /// Shows something, again where it found too little room: its length.
+    fn shown(&mut self, mut show: impl FnMut(&mut OpenReplica, &mut [u8]) -> Result<usize, Status>) -> Result<usize, Status> {
+        loop {
+            let length = show(&mut self.open, &mut self.out)?;
+            if length <= self.out.len() {
+                return Ok(length);
+            }
+            let room = length.saturating_mul(2);
+            self.out.try_reserve_exact(room - self.out.len()).map_err(|_| 12)?;
+            self.out.resize(room, 0);
+        }
+    }
+}
+
+/// The key and the value of a row's line.
+fn row_of(line: &str) -> Option<(Vec<u8>, Vec<u8>)> {
+    let (key, value) = line.strip_prefix("row ")?.split_once(' ')?;
+    Some((unspell(key)?, unspell(value)?))
+}
+
+impl fmt::Debug for Replica {
+    fn fmt(&self, f: &mut fmt::Formatter<'_>) -> fmt::Result {
+        f.debug_struct("Replica").finish_non_exhaustive()
+    }
+}
