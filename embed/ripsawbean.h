@@ -144,7 +144,8 @@ typedef struct {
 
 // Opens a closed handle on an empty replica of the feed that a line opens, as "0 openinitial - - 10\n": the line of the call that
 // opened the feed will do. A replica of an initial feed is told its rows. One of another feed has none of the rows that its span
-// held at the cursor: open it as an initial one, and take those rows first, as messages at the cursor, keys rising.
+// held at the cursor: open it as an initial one, and take those rows first, as messages at the cursor, keys rising. At cursor 0 there
+// are none.
 //
 //     RIPSAWBEAN_OK        it is open
 //     RIPSAWBEAN_OPEN      whatever the line is; tested first
@@ -157,7 +158,8 @@ uint8_t ripsawbean_replica_open(ripsawbean_replica *replica, const uint8_t *line
 uint8_t ripsawbean_replica_take(ripsawbean_replica *replica, const uint8_t *line, size_t line_length);
 
 // Asked before a message is taken: *at is the timestamp at which the rows are the map as they stand, where the message shows it. The
-// first row of a timestamp t above the cursor shows it of t - 1. Else *at is RIPSAWBEAN_NONE. Nothing is taken.
+// first row of a timestamp t above the cursor shows it of t - 1. Else *at is RIPSAWBEAN_NONE. Nothing is taken. A replica that goes on
+// with the rows of another passes over the timestamp at which it begins: some of its rows may be of the next timestamp.
 // RIPSAWBEAN_OK, or *at is RIPSAWBEAN_NONE: RIPSAWBEAN_NOMESSAGE, _NOMEMORY, _CLOSED.
 uint8_t ripsawbean_replica_ready(ripsawbean_replica *replica, const uint8_t *line, size_t line_length, uint64_t *at);
 

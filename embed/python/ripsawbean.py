@@ -485,7 +485,8 @@ class Replica:
 
     It is for a feed that was opened on the bytes `lo` to `hi`, or None for no bound, at `cursor`. An initial feed tells it the rows
     there. For another feed `rows` has them, pairs of a key and its value: what a scan at the cursor found, or what a replica had
-    at its `complete_through`. A context manager closes it at the end of its block.
+    at its `complete_through`. After such a replica's rows pass over a `ready` of the cursor itself, since some of them may be of
+    the next timestamp. A context manager closes it at the end of its block.
     """
 
     def __init__(self, lo: Optional[bytes], hi: Optional[bytes], cursor: int, initial: bool = False, rows: Iterable[Tuple[bytes, bytes]] = ()):

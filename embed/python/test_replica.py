@@ -119,6 +119,7 @@ class History:
         command = {(True, 0): "openinitial", (False, 0): "open", (False, 1): "openevery", (True, 1): "openinitialevery"}[initial, len(gap)]
         self.feed = self.db.make(command, *self.span, cursor, *gap).number
         self.replica = Replica(*self.span, cursor, initial, rows=() if initial else self.scan(cursor))
+        self.went_on = None
 
     def go_on(self):
         """A new feed and a new replica, from where the old one was told all, also between resolved messages."""
@@ -132,11 +133,12 @@ class History:
         self.replica.close()
         self.feed = feed.number
         self.replica = Replica(*self.span, through, rows=rows)
+        self.went_on = through  # some rows may be of the next timestamp, so there they are no map
 
     def poll(self):
         for message in self.db.make("poll", self.feed, self.dice.choice([0, 1, 2, 100])).messages:
             ready = self.replica.ready(message)
-            if ready is not None:
+            if ready not in (None, self.went_on):
                 self.compare(ready)
             self.replica.take(message)
             at = self.replica.complete_at

@@ -27,7 +27,8 @@ impl Replica {
         self.open.take(format!("{message}\n").as_bytes()).map_err(TakeError::of)
     }
 
-    /// Asked before the message is taken: the timestamp at which the rows are the map as they stand, where the message shows it.
+    /// Asked before the message is taken: the timestamp at which the rows are the map as they stand, where the message shows it. A
+    /// replica that goes on with another's rows passes over the timestamp at which it begins.
     pub fn ready(&mut self, message: &Message) -> Result<Option<u64>, TakeError> {
         self.open.ready(format!("{message}\n").as_bytes()).map_err(TakeError::of)
     }
