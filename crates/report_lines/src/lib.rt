@@ -1,6 +1,6 @@
 //! A report as lines of JSON: what an operator may ask of a database, as text.
 //!
-//! `jobs` writes the report of a transcript by it, and `embedded` that of a database in use.
+//! `embedded` writes the report of a database in use by it.
 //!
 //! A line is one object and a newline. Its members stand in one order, all of them, without spaces; a number is a
 //! string of digits, bytes are base64 (RFC 4648, with padding), and what isn't there is `null`. First comes the line of
@@ -16,6 +16,8 @@
 //! Costs: `write_report`: O(protections + feeds), and the bytes that it writes.
 //!
 //! It takes memory where the buffer has to grow, and leaves that as it was where it finds none.
+//!
+//! Tests: `text_tests`.
 #![tactic(auto)]
 
 mod lines;
