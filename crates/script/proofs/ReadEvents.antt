@@ -69,7 +69,7 @@ table_right = (
                       record { name = refl; arguments = refl },
                       (
                         record { name = refl; arguments = refl },
-                        (record { name = refl; arguments = refl }, (record { name = refl; arguments = refl }, (record { name = refl; arguments = refl }, (record { name = refl; arguments = refl }, (record { name = refl; arguments = refl }, (record { name = refl; arguments = refl }, (record { name = refl; arguments = refl }, (record { name = refl; arguments = refl }, tt)))))))),
+                        (record { name = refl; arguments = refl }, (record { name = refl; arguments = refl }, (record { name = refl; arguments = refl }, (record { name = refl; arguments = refl }, (record { name = refl; arguments = refl }, (record { name = refl; arguments = refl }, (record { name = refl; arguments = refl }, (record { name = refl; arguments = refl }, (record { name = refl; arguments = refl }, tt))))))))),
                       ),
                     ),
                   ),
