@@ -1,5 +1,5 @@
 """pictures.py: takes the four pictures of web/README.md anew, in docs/web, from web/playground.html. It needs what
-web/install installs, and pngquant, which makes the files small. It takes some seconds. Look at them before you commit them.
+web/install installs, and pngquant, which makes the files small. It takes some seconds. Look at them before committing.
 """
 
 import subprocess
