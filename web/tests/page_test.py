@@ -139,8 +139,12 @@ class Working(Page):
         self.until(lambda: self.transcript() == "")
 
     def test_the_tour_says_what_its_words_mean(self):
-        for step, words in [(4, "so it comes too late"), (7, "nothing at or below a timestamp will ever change"),
-                            (8, "no row at or below 29 is still to come"), (9, "Below the horizon nothing is read")]:
+        for step, words in [
+            (4, "so it comes too late"),
+            (7, "nothing at or below a timestamp will ever change"),
+            (8, "no row at or below 29 is still to come"),
+            (9, "Below the horizon nothing is read"),
+        ]:
             self.open(f"tour-{step}")
             self.assertIn(words, self.one("#tour p").text)
 
