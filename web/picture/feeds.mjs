@@ -56,7 +56,7 @@ function drawPlace(sheet, feed, facts, closed, base) {
 // The rows of one timestamp, one above the other. `next` is the next timestamp that has any.
 function drawStack(sheet, moment, feed, rows, base, next) {
   const x = sheet.axis.x(rows[0].ts);
-  const room = (next === undefined ? sheet.right + 8 : sheet.axis.x(next)) - x - 14;
+  const room = (next === undefined ? sheet.right + 8 : sheet.axis.x(next)) - x - 12;
   const shown = rows.length > MOST_ROWS ? rows.slice(0, MOST_ROWS - 1) : rows;
   const yOf = (i) => base - 12 - STEP * i;
   const top = yOf(Math.min(rows.length, MOST_ROWS) - 1);

@@ -11,7 +11,7 @@ const feed = (shape) => ofSeat(0, "feed", shape);
 const SHAPES = [
   [version("committed"), "a committed version, from its timestamp to the next"],
   [version("undecided"), "an undecided version"],
-  [version("dead"), "a version that no allowed read can see"],
+  [version("dead"), "a version that no read can see any more"],
   [ofSeat(0, "version committed", edge, cross(14, 8, 4)), "a delete"],
   [read, "a read: no write may come in along it"],
   [markup`<g class="refusal">${cross(14, 8, 6)}</g>`, "a command that was refused"],

@@ -21,8 +21,8 @@ export function versionMeaning(moment, version) {
 function deadMeaning(moment, version, next) {
   const isReplaced = next && next.ts <= moment.horizon;
   const why = isReplaced ? `the version of ${next.ts} is read there in its place` : "a delete leaves nothing to see";
-  return `${change(version)} at ${version.ts}, but no read at or above the horizon, ${moment.horizon}, sees it: ` +
-    `${why}.`;
+  const unseen = `no read at or above the horizon, ${moment.horizon}, sees it`;
+  return `${change(version)} at ${version.ts}, but ${unseen}: ${why}.`;
 }
 
 export function readMeaning(read, key) {
@@ -60,18 +60,16 @@ export function cursorMeaning(feed) {
 }
 
 export function protectionMeaning({ number, ts }) {
-  return `Protection ${number} stands at ${ts}. Until it is released the horizon can't pass it: reads there find ` +
-    `their rows.`;
+  return `Protection ${number} stands at ${ts}. Until it is released the horizon can't pass it.`;
 }
 
 export function closedMeaning({ database }) {
   const { closed, oldest, oldest_seat: seat } = database;
   const promise = `Closed is ${closed}: nothing at or below it will ever change, so feeds may tell it.`;
-  return oldest === null ? promise : `${promise} It can't reach ${oldest} while session ${seat} has that ` +
-    `transaction undecided.`;
+  if (oldest === null) return promise;
+  return `${promise} It can't reach ${oldest} while that transaction, of session ${seat}, is undecided.`;
 }
 
 export function horizonMeaning({ database }) {
-  return `The horizon is ${database.horizon}: reads below it are refused, and versions that only they could see are ` +
-    `dropped.`;
+  return `The horizon is ${database.horizon}: reads below it are refused, and what only they could see is dropped.`;
 }

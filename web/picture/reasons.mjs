@@ -39,14 +39,13 @@ const REASONS = {
     `Closed is ${event.details[0]}, so what stands at ${askedAt(event)} may still change. ` +
     "Close further, or read lower.",
   belowhorizon: (_, event) =>
-    `The horizon is ${event.details[0]}, and what only reads below it can see may be dropped: ${askedAt(event)} is ` +
-    `too low.`,
+    `The horizon is ${event.details[0]}, and what only reads below it can see may be dropped. ` +
+    `So ${askedAt(event)} is too low.`,
 
   closed: hasClosed,
   collected: hasCollected,
   protected: (_, event, ts) =>
-    `Reads at ${ts} and above find their versions until protection ${event.details[0]} is released: the horizon ` +
-    `can't pass ${ts}.`,
+    `Until protection ${event.details[0]} is released the horizon can't pass ${ts}: reads there find their versions.`,
   released: (_, event, number) => `Protection ${number} is gone, and the horizon may pass it.`,
   noprotection: (_, event, number) => `No protection ${number} stands.`,
 
@@ -56,8 +55,7 @@ const REASONS = {
   cancelled: (_, event, number) => `Feed ${number} tells nothing from here on, and holds nothing any more.`,
   nofeed: (_, event, number) => `No feed ${number} was opened.`,
   feedcancelled: (moment, event, number) =>
-    `Session ${moment.feeds.get(number)?.cancelled?.seat} cancelled feed ${number}, so it tells nothing any more. ` +
-    `Open another.`,
+    `Session ${moment.feeds.get(number)?.cancelled?.seat} cancelled feed ${number}: it tells nothing more. Open another.`,
 
   stats: hasCounted,
   nomemory: () => "There was no memory for it. Nothing has changed: try again.",
@@ -73,18 +71,18 @@ const keyOf = (event) => bytesOf(event.words[1]);
 // ---- transactions
 
 function isAnothers(moment, event, number) {
-  if (event.command === "poll") return `Session ${moment.feeds.get(number)?.seat} opened feed ${number}, and it ` +
-    `alone polls it.`;
+  if (event.command === "poll")
+    return `Session ${moment.feeds.get(number)?.seat} opened feed ${number}: it alone polls it.`;
   const owner = moment.transactions.get(BigInt(number))?.seat;
-  return `Session ${owner} began transaction ${number}, and it alone goes on with it.`;
+  return `Session ${owner} began transaction ${number}: it alone goes on with it.`;
 }
 
 function hasEnded(moment, event, ts) {
   const by = moment.transactions.get(BigInt(ts))?.ended;
   if (!by) return `Closed is ${moment.closed}, and what is at or below it is decided for good.`;
   if (by.answer === "committed") return `Transaction ${ts} is committed, and does no more.`;
-  if (by.answer === "toolate") return `Transaction ${ts} was aborted when its write of ${by.words[1]} came too ` +
-    `late: ${AGAIN}.`;
+  if (by.answer === "toolate")
+    return `Transaction ${ts} was aborted when its write of ${by.words[1]} came too late: ${AGAIN}.`;
   if (by.answer === "closed") return `The hard closing to ${by.words[0]} aborted transaction ${ts}: ${AGAIN}.`;
   return `Transaction ${ts} was aborted, and does no more.`;
 }
@@ -93,12 +91,11 @@ function isTooLate(moment, event, ts) {
   const key = event.words[1];
   const read = readAcross(moment, keyOf(event), BigInt(ts));
   const refused = `so it is refused and transaction ${ts} is aborted: ${AGAIN}`;
-  if (!read) return `A later transaction has read ${key} across ${ts}, and the write would change its answer, ` +
-    `${refused}.`;
+  if (!read) return `A later transaction has read ${key} across ${ts}, ${refused}.`;
   const found = read.found.get(keyOf(event));
   const answer = found ? `the version of ${found}` : "nothing";
-  return `Transaction ${read.ts} has read ${key} and found ${answer}. A write at ${ts} would make that answer ` +
-    `wrong, ${refused}.`;
+  const wrong = `A write at ${ts} would make that answer wrong`;
+  return `Transaction ${read.ts} has read ${key} and found ${answer}. ${wrong}, ${refused}.`;
 }
 
 // The read that keeps a write out: it is above, and found a version below or none.
@@ -120,17 +117,15 @@ function hasFound(moment, event, ts) {
   const read = moment.reads.find((it) => it.ts === BigInt(ts) && it.key === keyOf(event));
   const found = read?.found.get(read.key);
   if (found === BigInt(ts)) return `Transaction ${ts} reads its own write.`;
-  const newest = found ? `The newest version of ${key} at or below ${ts} is of ${found}` : `${key} has no version ` +
-    `at or below ${ts}`;
-  return `${newest}. So that this stays true, no write of it ${found ? "between them" : `below ${ts}`} is let in ` +
-    `any more.`;
+  const promise = "So that this stays true, no write of it";
+  if (!found) return `${key} has no version at or below ${ts}. ${promise} below ${ts} is let in any more.`;
+  return `The newest version of ${key} at or below ${ts} is of ${found}. ${promise} between them is let in any more.`;
 }
 
 function hasFoundRows(_, event, ts) {
   const rows = counted(event.details[0], "row");
   if (event.command === "scanat") return `${ts} is closed, so the span has ${rows} there for ever.`;
-  return `The span has ${rows} at ${ts}. So that this stays true, no write is let in any more that would change or ` +
-    `add one there.`;
+  return `The span has ${rows} at ${ts}. So that this stays true, no write that would change them is let in any more.`;
 }
 
 // ---- closing and collecting
@@ -138,19 +133,16 @@ function hasFoundRows(_, event, ts) {
 function hasClosed(_, event, to) {
   const [at, aborted] = event.details;
   const promise = `nothing at or below ${at} will ever change`;
-  if (aborted !== "0")
-    return `Closed is ${at}: ${promise}. ${counted(aborted, "transaction")} at or below it had not ended, and was ` +
-      `aborted.`;
-  if (BigInt(at) < BigInt(to)) return `Closed is ${at}: ${promise}. Transaction ${BigInt(at) + 1n} is undecided, so ` +
-    `it goes no further.`;
+  const closed = `Closed is ${at}: ${promise}.`;
+  if (aborted !== "0") return `${closed} What was undecided there, ${counted(aborted, "transaction")}, is aborted.`;
+  if (BigInt(at) < BigInt(to)) return `${closed} Transaction ${BigInt(at) + 1n} is undecided, so it goes no further.`;
   if (BigInt(at) > BigInt(to)) return `Closed was ${at} already, and never falls: ${promise}.`;
-  return `Closed is ${at}: ${promise}. So feeds may tell it, and a snapshot there is right for ever.`;
+  return `${closed} So feeds may tell it, and a snapshot there is right for ever.`;
 }
 
 function hasCollected(_, event, to) {
   const [horizon, dead] = event.details;
-  const dropped = `${counted(dead, "version")} that no read there or above can see ${dead === "1" ? "is" : "are"} ` +
-    `dropped`;
+  const dropped = `what no other read can see, ${counted(dead, "version")}, is dropped`;
   const moved = `The horizon is ${horizon}: reads below it are refused, and ${dropped}.`;
   if (BigInt(horizon) >= BigInt(to)) return moved;
   return `${moved} It passes neither closed, nor a protection, nor what a live feed has still to tell.`;
@@ -162,8 +154,7 @@ function hasOpened(_, event) {
   const [number] = event.details;
   const above = `the versions above ${askedAt(event)}`;
   const first = event.command === "openinitial" ? `the rows at ${askedAt(event)} and then ${above}` : above;
-  return `Feed ${number} tells session ${event.seat} ${first}, each once, by timestamp and key, as soon as they are ` +
-    `closed.`;
+  return `Feed ${number} tells session ${event.seat} ${first}, each once, as soon as they are closed.`;
 }
 
 function hasTold(moment, event, number) {
@@ -183,9 +174,8 @@ function hasToldNothing(moment, event, number) {
 
 /** Why a feed said resolved. */
 export function resolvedReason({ number }, { resolved }) {
-  return `Feed ${number} says resolved ${resolved}, because all at or below it is closed and was told, so no ` +
-    `earlier row is to ` +
-    `come. Its consumer now has the whole map of ${resolved}.`;
+  const why = `all at or below ${resolved} is closed and was told, so no row of it is still to come`;
+  return `Feed ${number} says resolved ${resolved}: ${why}. Its consumer now has the whole map of ${resolved}.`;
 }
 
 function hasCounted(_, event) {

@@ -55,8 +55,8 @@ class Page {
   }
 
   #listen() {
-    part("examples").onchange = (event) => event.target.value && (location.hash = event.target.value);
-    part("anew").onclick = () => (location.hash = "new");
+    part("examples").onchange = (event) => event.target.value && this.#goTo(event.target.value);
+    part("anew").onclick = () => this.#goTo("new");
     part("run").onclick = () => this.#runScript();
     part("copy").onclick = () => this.#copy();
     part("seats").addEventListener("keydown", (event) => event.target.matches("input") && this.#typedIn(event));
@@ -64,6 +64,11 @@ class Page {
     part("tour").addEventListener("click", (event) => this.#tourClicked(event));
     part("moment").addEventListener("click", (event) => event.target.matches("button") && this.#show(null));
     window.addEventListener("hashchange", () => this.#go());
+  }
+
+  #goTo(name) {
+    if (location.hash === `#${name}`) this.#go();
+    else location.hash = name;
   }
 
   // The address says what the page begins with: #tour-4, the name of an example, or #new.
@@ -127,7 +132,7 @@ class Page {
 
   #tourClicked(event) {
     const { step } = event.target.dataset;
-    if (step !== undefined) location.hash = step === "0" ? "new" : `tour-${step}`;
+    if (step !== undefined) this.#goTo(step === "0" ? "new" : `tour-${step}`);
   }
 
   #typedIn(event) {

@@ -139,8 +139,12 @@ class Working(Page):
         self.until(lambda: self.transcript() == "")
 
     def test_the_tour_says_what_its_words_mean(self):
-        for step, words in [(4, "so it comes too late"), (7, "nothing at or below a timestamp will ever change"),
-                            (8, "no row at or below 29 is still to come"), (9, "Below the horizon nothing is read")]:
+        for step, words in [
+            (4, "so it comes too late"),
+            (7, "nothing at or below a timestamp will ever change"),
+            (8, "no row at or below 29 is still to come"),
+            (9, "Below the horizon nothing is read"),
+        ]:
             self.open(f"tour-{step}")
             self.assertIn(words, self.one("#tour p").text)
 
@@ -158,7 +162,15 @@ class Working(Page):
         self.assertTrue(self.ask("document.activeElement.matches('#seat-3')"))
         self.press("commit 10", Keys.ENTER)
         self.assertEqual(self.answers()[-1], "notowner")
-        self.assertEqual(self.sentence(), "Session 0 began transaction 10, and it alone goes on with it.")
+        self.assertEqual(self.sentence(), "Session 0 began transaction 10: it alone goes on with it.")
+
+    def test_a_new_database_begins_again_and_again(self):
+        self.open("first")
+        for _ in range(2):
+            self.one("#anew").click()
+            self.until(lambda: self.transcript() == "")
+            self.one("#seat-0").send_keys("begin 10", Keys.ENTER)
+            self.assertEqual(self.transcript(), "0 0 begin 10 => started\n")
 
     def test_an_earlier_event_is_shown(self):
         self.open("first")
@@ -180,7 +192,7 @@ class Working(Page):
         self.mark("read apple 22 38").click()
         self.assertIn("no write of apple between 22 and 38", self.sentence())
         self.mark("resolved 1 28").click()
-        self.assertIn("says resolved 28, because all at or below it is closed and was told", self.sentence())
+        self.assertIn("says resolved 28: all at or below 28 is closed and was told", self.sentence())
         self.mark("closed").click()
         self.assertIn("nothing at or below it will ever change", self.sentence())
 
