@@ -4,7 +4,7 @@
 
 // Whether there is a block, and where.
 typedef struct {
-    _Bool ok;
+    size_t ok;
     void *at;
 } tried;
 

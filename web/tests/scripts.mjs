@@ -5,7 +5,7 @@ function dice(seed) {
   let state = (seed * 2654435761) >>> 0;
   return (n) => {
     state = (Math.imul(state ^ (state >>> 15), 2246822519) + 3266489917) >>> 0;
-    return (state ^ (state >>> 13)) % n;
+    return ((state ^ (state >>> 13)) >>> 0) % n;
   };
 }
 
