@@ -12,6 +12,7 @@ SERVER = pathlib.Path(__file__).resolve().parent.parent
 FOLDER = pathlib.Path(sys.argv[1]) if len(sys.argv) > 1 else SERVER.parent / "docs" / "server"
 LOOKS = ((1280, 900, "light", 0.6), (1280, 900, "dark", 0.6), (400, 850, "light", 0.75), (400, 850, "dark", 0.75))
 LOG = "document.getElementById('log').textContent"
+EMPTIED = """(area => { area.value = ''; area.dispatchEvent(new Event('input')); })(document.getElementById('lines'))"""
 MOMENT = "document.getElementById('moment').textContent"
 SENTENCE = "document.querySelector('#picture .sentence').textContent"
 FOCUS = "document.activeElement.closest('.mark') ? 'mark' : document.activeElement.id"
@@ -47,7 +48,7 @@ async def by_keys(tab):
     await tab.until(LOG + ".includes('fig 2 => written')")
     await tab.press("ArrowUp")
     expect("an earlier line comes back", "put . fig 2" in await tab.value("document.getElementById('lines').value"))
-    await tab.value("document.getElementById('lines').value = ''")
+    await tab.value(EMPTIED)
     await tab_to(tab, "events")
     last = await tab.value(MOMENT)
     await tab.press("ArrowUp", 2)

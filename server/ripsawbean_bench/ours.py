@@ -126,8 +126,8 @@ async def _send_row(socket, value, from_closing):
 
 
 async def _follow(client, ready, told):
-    reply = await client.get("/feed", read_bufsize=1 << 20)
-    ready.append(reply.status)
-    async for line in reply.content:
-        if line.startswith(b'{"after"'):
-            told.append((line.split(b'"', 4)[3].decode(), time.perf_counter()))
+    async with client.get("/feed", read_bufsize=1 << 20) as reply:
+        ready.append(reply.status)
+        async for line in reply.content:
+            if line.startswith(b'{"after"'):
+                told.append((line.split(b'"', 4)[3].decode(), time.perf_counter()))

@@ -9,8 +9,8 @@ sent no whole head in time, that sends many requests ahead of their answers, or 
 for it; streams are exempt, because a feed's reader may be slow up to its lag. When too many are open, the one that has
 been silent for longest makes room.
 
-1. About `most` connections are served, and no more than the kernel hands over at once beyond them.
-2. A connection in `silent` has no request that passed the gate and isn't answered.
+1. `open` has the connections that are served, at most `most`, each from its beginning to its end.
+2. Those in `silent` are open, and have no request that passed the gate and isn't answered.
 """
 
 import asyncio
@@ -27,6 +27,7 @@ HTTP_PORT = 80  # where it is this one, browsers leave it out
 HEAD_SECONDS = 10  # how long a new connection may take for its first request
 REST_SECONDS = 60  # how long it may rest between two
 MOST_AHEAD = 64  # requests of one connection that wait for their turn
+FULL = b"HTTP/1.1 503 Service Unavailable\r\nContent-Length: 0\r\nConnection: close\r\n\r\n"
 LOOPBACK_NAMES = ("127.0.0.1", "localhost", "[::1]")
 
 
@@ -81,62 +82,71 @@ def _shown(authorization):
 
 
 class Protocol(web.RequestHandler):
-    """aiohttp's, which puts no limit to the requests that wait for their turn."""
+    """aiohttp's, which puts no limit to connections, nor to the requests that wait for their turn."""
 
-    __slots__ = ()
+    __slots__ = ("connections",)
+
+    def __init__(self, connections, server):
+        super().__init__(server, loop=asyncio.get_running_loop(), access_log=None, auto_decompress=False)
+        self.connections = connections
+
+    def connection_made(self, transport):
+        if self.connections.has_room():
+            super().connection_made(transport)
+            self.connections.comes(self)
+        else:
+            transport.write(FULL)
+            transport.close()
+
+    def connection_lost(self, error):
+        self.connections.goes(self)
+        super().connection_lost(error)
 
     def data_received(self, data):
         super().data_received(data)
         if len(self._messages) > MOST_AHEAD:
-            self.transport.abort()
-
-
-class Full(asyncio.Protocol):
-    """Served where there is no room at all."""
-
-    def connection_made(self, transport):
-        transport.write(b"HTTP/1.1 503 Service Unavailable\r\nContent-Length: 0\r\nConnection: close\r\n\r\n")
-        transport.close()
+            _cut(self)
 
 
 class Connections:
     def __init__(self, most, patience):
         self.most, self.patience = most, patience
+        self.open = set()
         self.silent = {}  # protocol: until when it may be silent; the one that is silent for longest first
         self.exempt = set()
         self._stuck = {}  # protocol: (bytes that wait, since when)
 
-    def protocol_of(self, server):
-        """The protocol of a new connection to aiohttp's server."""
-        if len(server.connections) >= self.most and not self._make_room():
-            return Full()
-        protocol = Protocol(server, loop=asyncio.get_running_loop(), access_log=None, auto_decompress=False)
+    def has_room(self):
+        """Whether one more may be served. Where all are taken, the one that has been silent for longest is cut."""
+        if len(self.open) >= self.most and self.silent:
+            oldest = next(iter(self.silent))
+            self.goes(oldest)
+            _cut(oldest)
+        return len(self.open) < self.most
+
+    def comes(self, protocol):
+        self.open.add(protocol)
         self.silent[protocol] = time.monotonic() + HEAD_SECONDS
-        return protocol
+
+    def goes(self, protocol):
+        self.open.discard(protocol)
+        self.silent.pop(protocol, None)
+        self._stuck.pop(protocol, None)
 
     def asks(self, protocol):
         self.silent.pop(protocol, None)
 
     def rests(self, protocol):
-        self.silent[protocol] = time.monotonic() + REST_SECONDS
+        if protocol in self.open:
+            self.silent[protocol] = time.monotonic() + REST_SECONDS
 
-    def _make_room(self):
-        """Cuts the connection that has been silent for longest, if there is one."""
-        for protocol in list(self.silent):
-            del self.silent[protocol]
-            if _cut(protocol):
-                return True
-        return False
-
-    def tidy(self, connections):
+    def tidy(self):
         """Cuts those that say nothing, and those that take nothing."""
         now = time.monotonic()
-        for protocol in [one for one, until in self.silent.items() if until < now or one.transport is None]:
-            del self.silent[protocol]
-            _cut(protocol)
-        full = [one for one in connections if one not in self.exempt and _waiting(one)]
+        full = [one for one in self.open if one not in self.exempt and _waiting(one)]
         self._stuck = {one: self._stuck_since(one, now) for one in full}
-        for protocol in [one for one, (_, since) in self._stuck.items() if now - since > self.patience]:
+        stuck = [one for one, (_, since) in self._stuck.items() if now - since > self.patience]
+        for protocol in stuck + [one for one, until in self.silent.items() if until < now]:
             _cut(protocol)
 
     def _stuck_since(self, protocol, now):
@@ -145,12 +155,10 @@ class Connections:
 
 
 def _waiting(protocol):
+    """Bytes that wait for the reader. A connection that aiohttp is closing has no transport any more."""
     return protocol.transport.get_write_buffer_size() if protocol.transport else 0
 
 
 def _cut(protocol):
-    """Whether there was a connection to cut."""
-    if protocol.transport is None:
-        return False
-    protocol.transport.abort()
-    return True
+    if protocol.transport:
+        protocol.transport.abort()

@@ -13,7 +13,7 @@ from aiohttp import web
 
 from .closing import Closing
 from .consumers import Consumers
-from .guard import Connections, Gate, hosts_of
+from .guard import Connections, Gate, Protocol, hosts_of
 from .lines import Lines
 from .metrics import Metrics
 from .page import Page
@@ -48,13 +48,13 @@ class Server:
             Page(), Gate(options.token, self.hosts, connections), options,
         ), access_log=None)
         await self.runner.setup()
-        closing = Closing(shared, consumers, options, lambda: connections.tidy(self.runner.server.connections))
+        closing = Closing(shared, consumers, options, connections.tidy)
         await self._serve(connections, closing)
 
     async def _serve(self, connections, closing):
         loop = asyncio.get_running_loop()
         server = await loop.create_server(
-            lambda: connections.protocol_of(self.runner.server), sock=self.listener, backlog=BACKLOG)
+            lambda: Protocol(connections, self.runner.server), sock=self.listener, backlog=BACKLOG)
         print("ripsawbean %s on http://%s" % (self.shared.identity, self._place()), flush=True)
         try:
             await _first_of(closing.run(), _signal())
