@@ -489,13 +489,13 @@ class Replica:
     the next timestamp. A context manager closes it at the end of its block.
     """
 
-    def __init__(self, lo: Optional[bytes], hi: Optional[bytes], cursor: int, initial: bool = False, rows: Iterable[Tuple[bytes, bytes]] = ()):
+    def __init__(self, lo: Optional[bytes], hi: Optional[bytes], cursor: int, initial: bool = False, rows: Optional[Iterable[Tuple[bytes, bytes]]] = None):
         self._turn = threading.Lock()
         self._handle = _Handle()
         self._at = ctypes.byref(self._handle)
-        first = sorted(rows) if cursor else []  # nothing is there at 0: a feed from 0 tells all of it
+        first = sorted(rows) if rows is not None and cursor else []  # nothing is there at 0: a feed from 0 tells all of it
         # Rows to begin with are told as an initial feed tells them: at the cursor, before all others.
-        command = "openinitial" if initial or first else "open"
+        command = "openinitial" if initial or (rows is not None and cursor) else "open"
         line = ("0 %s %s %s %d\n" % (command, _word_of(lo), _word_of(hi), cursor)).encode("ascii")
         self._out = ctypes.create_string_buffer(4096)
         status = _replica["open"](self._at, line, len(line))
