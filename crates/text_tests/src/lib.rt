@@ -1,13 +1,14 @@
 //! Tests of the texts, by the tables of the format. They show which lines of commands, replies, events and messages,
-//! scripts and transcripts are read and written, and which fault a text has, in which line. Nothing depends on this
+//! scripts, transcripts and reports are read and written, and which fault a text has, in which line. Nothing depends on this
 //! crate.
 //!
-//! They stand apart from `json_lines`, `word_lines` and `script`, since the gate proves a crate that has tests two
-//! times.
+//! They stand apart from `json_lines`, `report_lines`, `word_lines` and `script`, since the gate proves a crate that has
+//! tests two times.
 //!
 //! ```text
 //! rows         the tables: texts that are read, with their faults, and texts that are written
 //! told         the reading of a text, and the comparison with its row
+//! reports      reports, and the texts that are written of them
 //! faults       the names and numbers of faults, and the other lines that end an output
 //! unfolding    texts as the tables write them
 //! ```

@@ -1,11 +1,13 @@
 //! What no clause says: that texts are taken and written, by the tables of the format.
 
 mod faults;
+mod reports;
 mod rows;
 mod told;
 mod unfolding;
 
 use faults::{faults, other_lines};
+use reports::{REPORTS, reports};
 use std::test::Fail;
 use text_format::Format;
 use told::{is_right, is_row_right, of_message, spelled, vectors};
@@ -39,5 +41,12 @@ fn texts_that_are_written(rt: HostRuntime) -> Result<(), Fail> {
     assert!(rt; named.as_slice() == rows::FAULTS.as_bytes());
     let others = other_lines(rt.alloc())?;
     assert!(rt; others.as_slice() == rows::OTHER_LINES.as_bytes());
+    Ok(())
+}
+
+#[test]
+fn reports_that_are_written(rt: HostRuntime) -> Result<(), Fail> {
+    let lines = reports(rt.alloc())?;
+    assert!(rt; lines.as_slice() == unfolded(rt.alloc(), REPORTS)?.as_slice());
     Ok(())
 }

@@ -1,0 +1,115 @@
+//! Reports, as an operator reads them.
+use report_lines::write_report;
+use spans::bound::Bound;
+use spans::kind::Kind;
+use spans::report::{FeedReport, ProtectionReport, Report, ToldRow, TransactionReport};
+use spans::span::Span;
+use std::alloc::{AllocError, Global};
+use std::test::Fail;
+use timestamps::key::Key;
+
+/// Two undecided transactions; protections and feeds that hold at one timestamp; an initial feed in its snapshot.
+pub(super) const REPORTS: &str =
+    "{'kind':'database','closed':'11','horizon':'0','limit':'11','holder':'closed','holder_number':null,'oldest':'12','oldest_seat':'5','versions':'3'}|\
+{'kind':'transaction','timestamp':'12','seat':'5','keys':'0'}|\
+{'kind':'transaction','timestamp':'20','seat':'3','keys':'2'}|\
+{'kind':'database','closed':'10','horizon':'0','limit':'6','holder':'protection','holder_number':'2','oldest':null,'oldest_seat':null,'versions':'5','removable':'3'}|\
+{'kind':'protection','number':'2','timestamp':'6'}|\
+{'kind':'protection','number':'3','timestamp':'6'}|\
+{'kind':'feed','number':'3','seat':'1','initial':false,'gap':'4','lo':null,'hi':'Yw==','cursor':'6','updated':null,'key':null,'resolved':null,'complete':'6','floor':'6','behind':'4','untold':'1'}|\
+{'kind':'database','closed':'9','horizon':'7','limit':'7','holder':'feed','holder_number':'1','oldest':null,'oldest_seat':null,'versions':'5','removable':'0'}|\
+{'kind':'feed','number':'1','seat':'1','initial':true,'gap':null,'lo':null,'hi':null,'cursor':'7','updated':'7','key':'Yg==','resolved':null,'complete':null,'floor':'7','behind':'2','untold':'3'}|";
+
+/// What is written of them.
+pub(super) fn reports(alloc: Global) -> Result<Vec<u8>, Fail> {
+    let mut out = Vec::new(alloc);
+    write_report(&undecided(alloc)?, &mut out)?;
+    write_report(&tied(alloc)?, &mut out)?;
+    write_report(&in_snapshot(alloc)?, &mut out)?;
+    Ok(out)
+}
+
+/// A live report of two transactions.
+fn undecided(alloc: Global) -> Result<Report, AllocError> {
+    let mut report = empty(alloc, 11, 0, 3, None);
+    for (timestamp, seat, keys) in [(12, 5, 0), (20, 3, 2)] {
+        report.transactions.push(TransactionReport {
+            timestamp,
+            seat,
+            keys,
+        })?;
+    }
+    Ok(report)
+}
+
+/// A whole report of two protections and a feed.
+fn tied(alloc: Global) -> Result<Report, Fail> {
+    let mut report = empty(alloc, 10, 0, 5, Some(3));
+    for number in [2, 3] {
+        report.protections.push(ProtectionReport {
+            number,
+            timestamp: 6,
+        })?;
+    }
+    report.feeds.push(FeedReport {
+        number: 3,
+        seat: 1,
+        kind: Kind {
+            initial: false,
+            gap: Some(4),
+        },
+        span: Span {
+            lo: None,
+            hi: Some(Bound::new(alloc, b"c")?),
+        },
+        cursor: 6,
+        row: None,
+        resolved: None,
+        complete: Some(6),
+        floor: 6,
+        untold: Some(1),
+    })?;
+    Ok(report)
+}
+
+/// A whole report of an initial feed that was told two rows of three.
+fn in_snapshot(alloc: Global) -> Result<Report, Fail> {
+    let mut report = empty(alloc, 9, 7, 5, Some(0));
+    report.feeds.push(FeedReport {
+        number: 1,
+        seat: 1,
+        kind: Kind {
+            initial: true,
+            gap: None,
+        },
+        span: Span { lo: None, hi: None },
+        cursor: 7,
+        row: Some(ToldRow {
+            ts: 7,
+            key: Key::new(alloc, b"b")?,
+        }),
+        resolved: None,
+        complete: None,
+        floor: 7,
+        untold: Some(3),
+    })?;
+    Ok(report)
+}
+
+fn empty(
+    alloc: Global,
+    closed: u64,
+    horizon: u64,
+    versions: u64,
+    removable: Option<u64>,
+) -> Report {
+    Report {
+        closed,
+        horizon,
+        versions,
+        removable,
+        transactions: Vec::new(alloc),
+        protections: Vec::new(alloc),
+        feeds: Vec::new(alloc),
+    }
+}
