@@ -27,6 +27,8 @@
 //!
 //! `open`, `take` and `ready` take memory for what their line has, `take` for a row with a value once more, `get` for
 //! its key, and `rows` for its text, which is given back at once.
+//!
+//! Tests: those of the wrappers in `embed`, by the built library.
 #![tactic(auto)]
 
 mod consumer;
