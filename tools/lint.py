@@ -206,7 +206,7 @@ def links(house):
                 to = os.path.normpath(os.path.join(at, file)) if file else path
                 if to not in house.paths and to not in folders:
                     yield path, number, "the link %s leads nowhere" % target
-                elif anchor and to in house.paths and anchor not in anchors(house.text(to)):
+                elif anchor and to.endswith(".md") and to in house.paths and anchor not in anchors(house.text(to)):
                     yield path, number, "%s has no heading #%s" % (to, anchor)
             for named in re.findall(r"`((?:crates|docs|embed|examples|bench|server|web|tools)/[\w./-]+)`", line):
                 to = named.rstrip("/")
