@@ -218,7 +218,8 @@ def links(house):
 
 @rule
 def claims(house):
-    """A function or clause that PROOF claims something of is public in a crate that its section's heading names."""
+    """A function or clause that PROOF claims something of is public in a crate that its section's heading names. A name
+    that begins with `_` is the end of one."""
     crates = []
     for number, line in house.lines("docs/PROOF.md") if "docs/PROOF.md" in house.paths else ():
         if line.startswith("## "):
@@ -227,7 +228,8 @@ def claims(house):
             sources = [it for crate in crates for it in house.ending(".rt", under="crates/%s/src/" % crate)]
             text = "".join(house.text(it) for it in sources)
             for name in re.findall(r"`(?:\w+::)?(\w+)`", line.split("|")[1]):
-                if not re.search(r"pub (?:[\w\"]+ )*fn %s\b|ensures %s " % (name, name), text):
+                whole = r"\w+" + name if name.startswith("_") else name
+                if not re.search(r"pub (?:[\w\"]+ )*fn %s\b|ensures %s " % (whole, whole), text):
                     yield "docs/PROOF.md", number, "no crate of its heading has a public %s" % name
 
 

@@ -80,6 +80,7 @@ PLANTED = {
             "",
             "# Proof\n\nFor auditors.\n\n## Low (crate `low`)\n\n| `Low::one` | one |\n| `two` | two |\n",
         ),
+        ("docs/PROOF.md", "", "# Proof\n\nFor auditors.\n\n## Low (crate `low`)\n\n| `one`, `_ne`, `_two` | one |\n"),
     ],
     "kit_version": [("README.md", "kit-1a", "kit-1b"), ("README.md", KIT, "")],
     "heads": [
