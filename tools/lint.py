@@ -26,8 +26,8 @@ seventeen eighteen nineteen""".split()
 TENS = {"twenty": 20, "thirty": 30, "forty": 40, "fifty": 50, "sixty": 60}
 # Benchmarks keep one program a file, so that one compiler call builds it.
 MAY_BE_LONG = ("bench/",)
-# Files that nobody reads line by line.
-NOT_READ = (".svg", ".lock", ".tsv", ".transcript", ".json", ".png", ".wasm")
+# Files that nobody reads line by line. The page is built, as one file.
+NOT_READ = (".svg", ".lock", ".tsv", ".transcript", ".json", ".png", ".wasm", "web/playground.html")
 
 RULES = {}
 
