@@ -17,6 +17,8 @@
 // stateOf(text)                    the lines of a state's text, as objects
 // REFUSALS                         the answers that refuse a command
 //
+// A page may use markup.mjs, words.mjs and seatColour of sheet.mjs, too, for what it shows beside the picture.
+//
 // Keys, once a mark has the focus: arrows go from mark to mark, Enter tells what a mark means, Escape takes that back,
 // + and - zoom, [ and ] go to earlier and later timestamps. Whatever comes from a database is escaped.
 import { drawingOf } from "./drawing.mjs";

@@ -2,7 +2,7 @@
 import { markup } from "./markup.mjs";
 import { short } from "./words.mjs";
 
-export const LETTER = 7.3; // pixels of a letter, which has one width for all
+export const LETTER = 7.25; // pixels of a letter, which has one width for all
 
 const BESIDE = 12; // pixels between a lane's name and the lane
 

@@ -29,7 +29,7 @@ def main():
         browser.find_element("css selector", ".picture svg")
         file = folder / f"{picture}.png"
         browser.save_screenshot(str(file))
-        subprocess.run(["pngquant", "--force", "--output", file, "48", file], check=True)
+        subprocess.run(["pngquant", "--force", "--nofs", "--output", file, "200", file], check=True)
     browser.quit()
 
 
