@@ -6,6 +6,7 @@ import tempfile
 import unittest
 
 import aiohttp
+from ripsawbean import Database
 
 from .parts import served
 
@@ -250,6 +251,15 @@ class Guard(unittest.IsolatedAsyncioTestCase):
 
 
 class Reports(unittest.IsolatedAsyncioTestCase):
+    async def test_the_state_is_the_librarys_own_where_it_has_one(self):
+        async with served() as client:
+            reply = await client.get("/state")
+            if hasattr(Database, "state"):
+                with Database() as empty:
+                    self.assertEqual((reply.status, await reply.text()), (200, empty.state()))
+            else:
+                self.assertEqual(await refusal(reply), (501, "state"))
+
     async def test_the_transcript_and_what_is_dropped_of_it(self):
         async with served("--keep", "4") as client:
             await client.post("/call", data="begin\nput . a 1\ncommit .\n")
