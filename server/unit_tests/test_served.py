@@ -241,6 +241,16 @@ class Guard(unittest.IsolatedAsyncioTestCase):
                 data = b""
             self.assertLess(data.count(b"HTTP/1.1 200"), 200)
 
+    async def test_a_query_may_have_any_bytes(self):
+        async with served() as client:
+            for query, expected in (
+                (b"from=\xff", b" 400 "), (b"lo=\xff&hi=%FF%00", b" 200 "), (b"consumer=\xe4", b" 400 "),
+            ):
+                reader, writer = await asyncio.open_connection("127.0.0.1", client.port)
+                writer.write(b"GET /feed?%b HTTP/1.1\r\nHost: 127.0.0.1:%d\r\n\r\n" % (query, client.port))
+                self.assertIn(expected, await reader.readline(), query)
+                writer.close()
+
     async def test_silent_connections_make_room(self):
         async with served("--max-connections", "8") as client:
             silent = [await asyncio.open_connection("127.0.0.1", client.port) for _ in range(30)]
