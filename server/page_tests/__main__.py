@@ -10,7 +10,7 @@ from .scene import scene
 
 SERVER = pathlib.Path(__file__).resolve().parent.parent
 FOLDER = pathlib.Path(sys.argv[1]) if len(sys.argv) > 1 else SERVER.parent / "docs" / "server"
-LOOKS = ((1280, 900, "light", 0.6), (1280, 900, "dark", 0.6), (400, 850, "light", 0.75), (400, 850, "dark", 0.75))
+LOOKS = ((1280, 900, "light", 0.75), (1280, 900, "dark", 0.75), (400, 850, "light", 0.75), (400, 850, "dark", 0.75))
 LOG = "document.getElementById('log').textContent"
 EMPTIED = """(area => { area.value = ''; area.dispatchEvent(new Event('input')); })(document.getElementById('lines'))"""
 MOMENT = "document.getElementById('moment').textContent"

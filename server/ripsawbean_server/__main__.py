@@ -12,9 +12,13 @@ from aiohttp.http_exceptions import HttpProcessingError
 from .options import options_from
 
 
+# What comes of the client alone. aiohttp asserts that a connection is there still.
+CLIENTS_FAULTS = (HttpProcessingError, ConnectionError, AssertionError)
+
+
 def is_own_fault(record):
-    """Not a request that is no HTTP, which is answered 400, nor aiohttp's assertion where a connection is gone."""
-    return not (record.exc_info and isinstance(record.exc_info[1], (HttpProcessingError, AssertionError)))
+    """Whether a line of aiohttp's log is worth writing: not a request that is no HTTP, nor a client that is gone."""
+    return not (record.exc_info and isinstance(record.exc_info[1], CLIENTS_FAULTS))
 
 
 def main():

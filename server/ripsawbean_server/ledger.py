@@ -1,8 +1,7 @@
 """What the database's events have told so far.
 
 `Shared.call` notes each event here, by the first word of its answer: `started` comes from `begin` alone, `toolate`
-says that a transaction is aborted, and so on. Words that tell nothing new are in QUIET. Every other word is a
-refusal, and is counted by its name.
+says that a transaction is aborted, and so on. A word that has no rule here is a refusal, and is counted by its name.
 
 1. `undecided`, `feeds` and `protections` are exactly those of the database.
 2. `greatest` is at or above each timestamp that began, so the next above it and above `closed` is free.
@@ -23,9 +22,6 @@ from typing import NamedTuple
 
 from .lag import ClosedRows
 from .sessions import Session
-
-QUIET = frozenset("written value none rows stats".split())
-
 
 class Transaction(NamedTuple):
     session: Session
@@ -64,9 +60,9 @@ class Ledger:
         self.calls += 1
         end = text.index("\n")
         answer = text[text.rindex(" => ", 0, end) + 4 : end]
-        word = answer.partition(" ")[0]
-        if word not in QUIET:
-            RULES.get(word, Ledger._refused)(self, session, line, answer, text)
+        rule = RULES.get(answer.partition(" ")[0], Ledger._refused)
+        if rule:
+            rule(self, session, line, answer, text)
 
     def next_timestamp(self):
         return max(self.closed, self.greatest) + 1
@@ -169,6 +165,7 @@ def _number(line, at):
 
 
 RULES = {
+    **dict.fromkeys(("written", "value", "none", "rows", "stats")),  # these tell nothing new
     "started": Ledger._started, "committed": Ledger._committed, "aborted": Ledger._aborted, "toolate": Ledger._too_late,
     "closed": Ledger._closed, "opened": Ledger._opened, "messages": Ledger._messages, "cancelled": Ledger._cancelled,
     "protected": Ledger._protected, "released": Ledger._released, "collected": Ledger._collected,

@@ -56,7 +56,8 @@ def arguments(request, *names):
             refuse(400, "argument", "the query of %s may have %s" % (request.path, ", ".join(names)))
         if name in found:
             refuse(400, "argument", "%s is given twice" % name)
-        found[name] = _number(name, unquote_to_bytes(value)) if name in NUMBERS else unquote_to_bytes(value)
+        data = unquote_to_bytes(value.encode("utf-8", "surrogateescape"))
+        found[name] = _number(name, data) if name in NUMBERS else data
     return found
 
 

@@ -165,7 +165,8 @@ class Stream:
             moved = self.shared.moved.next()
             if self.is_full or self.seen != self.shared.ledger.closed:
                 await self._write(self._poll())
-                await asyncio.sleep(0)
+                if self.is_full:
+                    await asyncio.sleep(0)  # others get a turn while it catches up
             elif self.request.transport is None:  # this version of aiohttp tells a handler nothing of it
                 raise ConnectionResetError
             elif time.monotonic() - self.written > IDLE_SECONDS:

@@ -6,6 +6,7 @@ import tempfile
 import unittest
 
 import aiohttp
+from ripsawbean import Database
 
 from .parts import served
 
@@ -240,6 +241,16 @@ class Guard(unittest.IsolatedAsyncioTestCase):
                 data = b""
             self.assertLess(data.count(b"HTTP/1.1 200"), 200)
 
+    async def test_a_query_may_have_any_bytes(self):
+        async with served() as client:
+            for query, expected in (
+                (b"from=\xff", b" 400 "), (b"lo=\xff&hi=%FF%00", b" 200 "), (b"consumer=\xe4", b" 400 "),
+            ):
+                reader, writer = await asyncio.open_connection("127.0.0.1", client.port)
+                writer.write(b"GET /feed?%b HTTP/1.1\r\nHost: 127.0.0.1:%d\r\n\r\n" % (query, client.port))
+                self.assertIn(expected, await reader.readline(), query)
+                writer.close()
+
     async def test_silent_connections_make_room(self):
         async with served("--max-connections", "8") as client:
             silent = [await asyncio.open_connection("127.0.0.1", client.port) for _ in range(30)]
@@ -250,6 +261,15 @@ class Guard(unittest.IsolatedAsyncioTestCase):
 
 
 class Reports(unittest.IsolatedAsyncioTestCase):
+    async def test_the_state_is_the_librarys_own_where_it_has_one(self):
+        async with served() as client:
+            reply = await client.get("/state")
+            if hasattr(Database, "state"):
+                with Database() as empty:
+                    self.assertEqual((reply.status, await reply.text()), (200, empty.state()))
+            else:
+                self.assertEqual(await refusal(reply), (501, "state"))
+
     async def test_the_transcript_and_what_is_dropped_of_it(self):
         async with served("--keep", "4") as client:
             await client.post("/call", data="begin\nput . a 1\ncommit .\n")
