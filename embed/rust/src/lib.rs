@@ -1,5 +1,5 @@
 //! Ripsawbean inside a Rust program: an in-memory multiversion timestamp database whose committed changes leave it as ordered
-//! feeds. This is a safe wrapper over the four functions of `ripsawbean.h`, with no dependency.
+//! feeds. This is a safe wrapper over the functions of `ripsawbean.h`, with no dependency.
 //!
 //! ```
 //! use ripsawbean::{Command, Database, Message, Row, Span};
