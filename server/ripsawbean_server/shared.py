@@ -56,7 +56,7 @@ class Shared:
         return text
 
     def ask(self, line, session=None):
-        """The words of the answer to a line of the server's own: `nomemory` also where no call was made for want of it."""
+        """The answer's words to a line of the server's own: `nomemory` also where there was none to make the call."""
         try:
             text = self.call(session or self.own, line.encode() + b"\n")
         except NoMemory:
