@@ -56,17 +56,17 @@ class Shared:
         return text
 
     def ask(self, line, session=None):
-        """The words of the answer to a line of the server's own."""
-        text = self.call(session or self.own, line.encode() + b"\n")
+        """The answer's words to a line of the server's own: `nomemory` also where there was none to make the call."""
+        try:
+            text = self.call(session or self.own, line.encode() + b"\n")
+        except NoMemory:
+            return ["nomemory"]
         end = text.index("\n")
         return text[text.rindex(" => ", 0, end) + 4 : end].split(" ")
 
     def demand(self, line, expected, session=None):
-        """Asks what has one right answer, and shouts where another comes, or none for want of memory."""
-        try:
-            answer = " ".join(self.ask(line, session))
-        except NoMemory:
-            answer = "no memory"
+        """Asks what has one right answer, and shouts where another comes."""
+        answer = " ".join(self.ask(line, session))
         if answer != expected:
             self.shout("%s => %s, and not %s" % (line, answer, expected))
 

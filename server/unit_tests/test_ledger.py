@@ -5,6 +5,9 @@ What the ledger has is compared with what `stats`, `close` and `collect` answer:
 
 import random
 import unittest
+import unittest.mock
+
+from ripsawbean import NoMemory
 
 from .parts import Parts
 
@@ -60,6 +63,21 @@ class LedgerBesideTheDatabase(unittest.IsolatedAsyncioTestCase):
             parts.closing.close()
         self.assertEqual(parts.shared.shouts, 1)
         self.assertIn("close 1 => closed 0 0, and not closed 1 0", logs.output[0])
+
+    async def test_without_memory_the_work_is_shouted_about_and_done_later(self):
+        parts = Parts("--history", "0")
+        session = parts.shared.seats.take()
+        await parts.answers(session, "begin\nput . a 1\ncommit .\n")
+        with self.assertLogs("ripsawbean", "ERROR") as logs, unittest.mock.patch.object(
+            parts.shared.database, "call", side_effect=NoMemory()
+        ):
+            self.assertEqual(await parts.answers(session, "stats\n"), ["fault 4 12 nomemory"])
+            parts.closing.tidy()
+        self.assertIn("close 1 => nomemory, and not closed 1 0", logs.output[0])
+        self.assertEqual(parts.ledger.closed, 0)
+        parts.closing.tidy()
+        parts.closing.tidy()
+        self.assertEqual((parts.ledger.closed, parts.ledger.horizon, parts.shared.shouts), (1, 1, 1))
 
     async def test_what_lags_too_far_is_let_go(self):
         parts = Parts("--max-lag", "3", "--history", "0")
