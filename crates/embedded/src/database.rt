@@ -4,6 +4,7 @@ ghost use Rattle.std.specs.Prelude.{◌≡◌, ◌<◌, ◌≤◌, List, ◌∷�
 ghost use Rattle.spans.specs.declared.calls.events.Event.{Event};
 ghost use Rattle.embedded.specs.Embedded.{StandsFor, HasLast, HasStepped, IsWritten, IsUnwritten, Called, Copied, last_of, kept_text, steps_in};
 
+use crate::copy::copy_front;
 use engine::Engine;
 use spans::calls::{Cmd, Event};
 use std::alloc::{AllocError, Global};
@@ -15,8 +16,8 @@ use word_lines::fault::{LineFault, ReadError};
 /// A database with the last event that it made.
 #[derive(Drop)]
 pub struct Database {
-    alloc: Global,
-    engine: Engine,
+    pub(crate) alloc: Global,
+    pub(crate) engine: Engine,
     last: Option<Event>,
     /// The last event's text, empty until it is written.
     text: Vec<u8>,
@@ -118,13 +119,6 @@ impl Database {
     pub fn copy_text(&self, out: &mut [u8]) -> usize
         ensures { Copied (kept_text self.now) out.old out.new result }
     {
-        let text = self.text.as_slice();
-        let count = if text.len() < out.len() {
-            text.len()
-        } else {
-            out.len()
-        };
-        out[..count].copy_from_slice(&text[..count]);
-        text.len()
+        copy_front(self.text.as_slice(), out)
     }
 }

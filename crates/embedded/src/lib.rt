@@ -1,7 +1,7 @@
 //! A database that is called by text, as programs in other languages call it: the line of a command goes in, the text
 //! of its event comes out.
 //!
-//! It knows no C. The static library `ripsawbean` is the caller: it keeps one behind each handle, and has the four
+//! It knows no C. The static library `ripsawbean` is the caller: it keeps one behind each handle, and has C's
 //! functions. A call reads its line, makes the command's step and keeps the event. The event's text is written after
 //! that, and copied out as often as it is asked for. A text may find no memory, or no room where it is copied to. That
 //! loses nothing: its event stays until the next call is made.
@@ -25,13 +25,17 @@
 //! - `call`: its line, the engine's step, and the text of its event
 //! - `write`: the text, where it isn't written; else O(1)
 //! - `copy_text`: the bytes copied
+//! - `state`: the transactions that are undecided, the protections and the feeds, with a search for each, and its text
 //!
 //! `call` takes memory for the keys and values of its line, by the engine's step, and for the text, which keeps its
-//! room. `write` takes it for the text. `new` and `copy_text` take none.
+//! room. `write` takes it for the text, and `state` for its own. `new` and `copy_text` take none.
 //!
 //! Tests: `embed/test`, `embed/random`, outside the gate.
 #![tactic(auto)]
 
+mod copy;
 mod database;
+mod state;
 
+pub use copy::copy_front;
 pub use database::{CallError, Database};
