@@ -59,7 +59,7 @@ typedef struct {
 #define RIPSAWBEAN_MAX_VALUE 65536                       // bytes of a value; it may have none
 #define RIPSAWBEAN_MAX_LINE 200000                       // bytes of a line before its newline
 
-// What ripsawbean_open, ripsawbean_call and ripsawbean_text return. After RIPSAWBEAN_OK and RIPSAWBEAN_UNWRITTEN of a call the
+// What ripsawbean_open, ripsawbean_call, ripsawbean_text and ripsawbean_state return. After RIPSAWBEAN_OK and RIPSAWBEAN_UNWRITTEN of a call the
 // database has one event more. After every other status it is as it was, its last event and that event's text too.
 enum {
     RIPSAWBEAN_OK = 0,
@@ -125,6 +125,15 @@ uint8_t ripsawbean_call(ripsawbean *db, const uint8_t *line, size_t line_length,
 //     RIPSAWBEAN_UNWRITTEN  there is no memory for the text; *length is 0 and out is as it was. It may be asked for again
 //     RIPSAWBEAN_CLOSED     *length is 0 and out is as it was
 uint8_t ripsawbean_text(ripsawbean *db, uint8_t *out, size_t room, size_t *length);
+
+// Shows what an operator may ask of the database now, as lines of JSON: how far it is closed and collected, and what holds both
+// back; the undecided transactions; the protections; the feeds, and how far each has come. docs/EMBEDDING.md shows one. It makes
+// no call, and the text of the last event stays. It costs what it shows, whatever the database holds.
+//
+//     RIPSAWBEAN_OK         *length is the whole length of the text; out as for ripsawbean_call
+//     RIPSAWBEAN_UNWRITTEN  there is no memory for the text; *length is 0 and out is as it was. It may be asked for again
+//     RIPSAWBEAN_CLOSED     *length is 0 and out is as it was
+uint8_t ripsawbean_state(ripsawbean *db, uint8_t *out, size_t room, size_t *length);
 
 // Frees the database, and leaves the handle closed. It may be opened again. A closed handle stays closed.
 void ripsawbean_close(ripsawbean *db);

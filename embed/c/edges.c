@@ -145,6 +145,9 @@ static void see_closed(ripsawbean *handle) {
         length = 12345;
         CHECK(ripsawbean_text(handle, out, room, &length) == RIPSAWBEAN_CLOSED);
         CHECK(length == 0 && is_sand(out, 0, room));
+        length = 12345;
+        CHECK(ripsawbean_state(handle, out, room, &length) == RIPSAWBEAN_CLOSED);
+        CHECK(length == 0 && is_sand(out, 0, room));
     }
     CHECK(handle->at == before.at && handle->is_open == before.is_open && !handle->is_open);
 }
@@ -465,6 +468,35 @@ static bool plays_with_refusals(unsigned long before) {
     return any;
 }
 
+// A feed that lags: what its database tells an operator, with every room. Neither the last text nor the next position changes.
+static void states(void) {
+    doing = "states";
+    static const char *const calls[] = {
+        "0 begin 5\n",  "0 put 5 a 1\n",  "0 commit 5\n",  "0 begin 10\n", "0 put 10 a 2\n", "0 commit 10\n",  "0 begin 20\n",
+        "0 put 20 a 3\n", "0 commit 20\n", "0 open - - 5\n", "0 close 30\n", "0 poll 1 1\n",   "0 collect 30\n",
+    };
+    static const char told[] =
+        "{\"kind\":\"database\",\"closed\":\"30\",\"horizon\":\"9\",\"limit\":\"9\",\"holder\":\"feed\",\"holder_number\":\"1\","
+        "\"oldest\":null,\"oldest_seat\":null,\"versions\":\"3\"}\n"
+        "{\"kind\":\"feed\",\"number\":\"1\",\"seat\":\"0\",\"initial\":false,\"gap\":null,\"lo\":null,\"hi\":null,\"cursor\":\"5\","
+        "\"updated\":\"10\",\"key\":\"YQ==\",\"resolved\":null,\"complete\":\"9\",\"floor\":\"9\",\"behind\":\"21\"}\n";
+    database db;
+    begin(&db, 1024);
+    for (size_t i = 0; i < sizeof calls / sizeof *calls; i++) CHECK(call(&db, calls[i]) == 0);
+    for (size_t room = 0; room < sizeof told + 2; room++) {
+        uint8_t *out = out_of(room);
+        size_t length = 12345;
+        CHECK(ripsawbean_state(&db.handle, out, room, &length) == RIPSAWBEAN_OK);
+        CHECK(length == sizeof told - 1);
+        size_t shown = length < room ? length : room;
+        CHECK(shown == 0 || memcmp(out, told, shown) == 0);
+        CHECK(is_sand(out, shown, room));
+        see_last(&db, room);
+    }
+    CHECK(call(&db, "0 stats\n") == 0 && db.made == sizeof calls / sizeof *calls + 1);
+    end(&db);
+}
+
 static void want_of_memory(void) {
     unsigned long before = 0;
     for (;; before++) {
@@ -607,6 +639,7 @@ int main(int count, char **words) {
     rooms_of_each_size();
     faults_of_lines();
     limits();
+    states();
     want_of_memory();
     replicas();
     printf("edges: %lu checks, %u transcripts, %lu growths refused\n", checks, transcripts, growths_refused);

@@ -352,12 +352,13 @@ def _find() -> str:
 
 
 _library = ctypes.CDLL(_find())
-_open, _call, _text, _close = (getattr(_library, "ripsawbean_" + name) for name in ("open", "call", "text", "close"))
+_open, _call, _text, _state, _close = (getattr(_library, "ripsawbean_" + name) for name in ("open", "call", "text", "state", "close"))
 _handle_at, _bytes_at, _size = ctypes.POINTER(_Handle), ctypes.c_char_p, ctypes.c_size_t
 _open.argtypes, _open.restype = [_handle_at, ctypes.c_uint32], ctypes.c_uint8
 _call.argtypes = [_handle_at, _bytes_at, _size, ctypes.c_void_p, _size, ctypes.POINTER(_size)]
 _call.restype = ctypes.c_uint8
 _text.argtypes, _text.restype = [_handle_at, ctypes.c_void_p, _size, ctypes.POINTER(_size)], ctypes.c_uint8
+_state.argtypes, _state.restype = _text.argtypes, ctypes.c_uint8
 _close.argtypes, _close.restype = [_handle_at], None
 _number_at = ctypes.POINTER(ctypes.c_uint64)
 _replica = {name: getattr(_library, "ripsawbean_replica_" + name) for name in ("open", "take", "ready", "complete", "get", "rows", "close")}
@@ -442,6 +443,14 @@ class Database:
                 return self._event() if self._length.value else None
         _raise(status)
 
+    def state(self) -> str:
+        """What an operator may ask of the database now, as lines of JSON. It makes no call."""
+        with self._turn:
+            status = _state(self._at, self._out_at, self._room, self._length_at)
+            if not status:
+                return self._shown(_state)
+        _raise(status)
+
     def messages(self, feed: int, max: int, seat: int = 0) -> Iterator[Message]:
         """The messages of a feed, up to where none is due, by polls of at most `max` each.
 
@@ -463,16 +472,19 @@ class Database:
             yield from messages
 
     def _event(self) -> Event:
-        # The call is made: its text is asked for again where it found too little room.
+        return Event(self._shown(_text))
+
+    def _shown(self, show) -> str:
+        # What was shown is asked for again where it found too little room; the call of an event is not made again.
         while self._length.value > self._room:
             try:
                 self._make_room(2 * self._length.value)
             except MemoryError:
                 raise Unwritten("Python has no memory for the text") from None
-            status = _text(self._at, self._out_at, self._room, self._length_at)
+            status = show(self._at, self._out_at, self._room, self._length_at)
             if status:
                 _raise(status)
-        return Event(ctypes.string_at(self._out, self._length.value).decode("ascii"))
+        return ctypes.string_at(self._out, self._length.value).decode("ascii")
 
     def _make_room(self, room: int) -> None:
         self._out = ctypes.create_string_buffer(room)

@@ -1,6 +1,7 @@
 """Tests of the wrapper and of the example's cache: `embed/test` runs them, or python3 -m unittest in this folder."""
 
 import gc
+import json
 import random
 import threading
 import unittest
@@ -184,6 +185,27 @@ class Calls(unittest.TestCase):
 
     def test_no_text_before_the_first_call(self):
         self.assertIsNone(self.db.text())
+
+    def test_the_state_makes_no_call(self):
+        for ts in (5, 10, 20):
+            self.db.make("begin", ts)
+            self.db.make("put", ts, b"a", b"%d" % ts)
+            self.db.make("commit", ts)
+        feed = self.db.make("open", None, None, 5).number
+        self.db.make("close", 30)
+        self.db.make("poll", feed, 1)
+        last = str(self.db.make("collect", 30))
+        database, told = (json.loads(line) for line in self.db.state().splitlines())
+        self.assertEqual((database["closed"], database["limit"], database["holder"]), ("30", "9", "feed"))
+        self.assertEqual((told["number"], told["complete"], told["behind"]), ("1", "9", "21"))
+        self.assertEqual(str(self.db.text()), last)
+        self.assertTrue(str(self.db.make("stats")).startswith("13 0 stats => "))
+
+    def test_a_state_that_outgrows_the_buffer(self):
+        for ts in range(1, 200):
+            self.db.make("begin", ts)
+        lines = self.db.state().splitlines()
+        self.assertEqual([json.loads(line)["timestamp"] for line in lines[1:]], [str(ts) for ts in range(1, 200)])
 
 
 class Feeds(unittest.TestCase):

@@ -1,4 +1,4 @@
-//! The database as a static library: four functions that C calls, and by C every language that can.
+//! The database as a static library: functions that C calls, and by C every language that can.
 //!
 //! A program owns a [`Handle`], all zero bytes at first. `ripsawbean_open` puts a database behind it, and
 //! `ripsawbean_close` frees that again. A call takes the line of a command, and shows the text of its event: all of it
@@ -14,19 +14,20 @@
 //! ripsawbean_call   "0 begin 10\n"   room 4   0        24       0 0              0 0 begin 10 => started
 //! ripsawbean_text                    room 64  0        24       its 24 bytes     (as before)
 //! ripsawbean_call   "0 begin\n"      room 64  1        0        (as before)      (as before)
+//! ripsawbean_state                   room 4   0        206      {"ki             (as before)
 //! ripsawbean_close                                                               none: it is closed
 //! ripsawbean_call   "0 begin 20\n"   room 64  16       0        (as before)      none
 //! ```
 //!
 //! | Number | What it says | By |
 //! |---|---|---|
-//! | 0 | done | open, call, text |
+//! | 0 | done | open, call, text, state |
 //! | 1 to 9 | the line's fault by its code; no call was made | call |
 //! | 12 | no memory for the line, or for the database; nothing was done | call, open |
 //! | 13 | no position is left; no call was made | call |
-//! | 14 | no memory for the text; the event stands, and `ripsawbean_text` tries again | call, text |
+//! | 14 | no memory for the text; the event stands, and `ripsawbean_text` tries again | call, text, state |
 //! | 15 | the ring is out of range; nothing was done | open |
-//! | 16 | the handle is closed; nothing was done | call, text |
+//! | 16 | the handle is closed; nothing was done | call, text, state |
 //! | 17 | the handle is open already; nothing was done | open |
 //!
 //! A program owes pointers that aren't null, also to no bytes, and slices that don't overlap. Its handle is all zero
@@ -37,6 +38,7 @@
 //! - `ripsawbean_open`: O(1); `ripsawbean_close`: all that the database holds is freed
 //! - `ripsawbean_call`: its line, the engine's step, and the text of its event
 //! - `ripsawbean_text`: the bytes copied, and the text where it wasn't written
+//! - `ripsawbean_state`: the undecided transactions, the protections and the feeds, with a search for each, and its text
 //!
 //! Memory is the program's own `malloc`, `realloc` and `free`. All but `ripsawbean_close` may take it.
 //!
@@ -50,6 +52,7 @@ mod handle;
 mod loose;
 mod replica_handle;
 mod replicas;
+mod state;
 
 use crate::handle::Handle;
 use embedded::{CallError, Database};

@@ -48,6 +48,18 @@ impl Database {
         self.event(length).map(Some)
     }
 
+    /// What an operator may ask of the database now, as lines of JSON: how far it is closed and collected and what holds it,
+    /// the undecided transactions, the protections, and how far each feed has come. It makes no call.
+    pub fn state(&mut self) -> Result<String, Unwritten> {
+        let mut length = self.open.state(&mut self.out).map_err(unwritten)?;
+        while length > self.out.len() {
+            self.make_room(length)?;
+            length = self.open.state(&mut self.out).map_err(unwritten)?;
+        }
+        let text = std::str::from_utf8(&self.out[..length]).expect("the library writes printable ASCII");
+        Ok(text.to_string())
+    }
+
     /// The messages of a feed, up to where none is due, by polls of at most `max` each, 0 being taken as 1.
     ///
     /// A poll is made once the messages of the one before are taken. A message is told once: whoever stops midway in the messages
@@ -60,13 +72,19 @@ impl Database {
     fn event(&mut self, mut length: usize) -> Result<Event<'_>, Unwritten> {
         while length > self.out.len() {
             // The call is made: with more room its text is asked for again.
-            let room = length.saturating_mul(2);
-            self.out.try_reserve_exact(room - self.out.len()).map_err(|_| Unwritten)?;
-            self.out.resize(room, 0);
+            self.make_room(length)?;
             length = self.open.text(&mut self.out).map_err(unwritten)?;
         }
         let text = std::str::from_utf8(&self.out[..length]).expect("the library writes printable ASCII");
         Ok(Event::new(text))
+    }
+
+    /// Takes room for twice the length of a text.
+    fn make_room(&mut self, length: usize) -> Result<(), Unwritten> {
+        let room = length.saturating_mul(2);
+        self.out.try_reserve_exact(room - self.out.len()).map_err(|_| Unwritten)?;
+        self.out.resize(room, 0);
+        Ok(())
     }
 }
 

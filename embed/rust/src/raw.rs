@@ -20,6 +20,7 @@ extern "C" {
         length: *mut usize,
     ) -> u8;
     fn ripsawbean_text(db: *mut Handle, out: *mut u8, room: usize, length: *mut usize) -> u8;
+    fn ripsawbean_state(db: *mut Handle, out: *mut u8, room: usize, length: *mut usize) -> u8;
     fn ripsawbean_close(db: *mut Handle);
     fn ripsawbean_replica_open(replica: *mut Handle, line: *const u8, line_length: usize) -> u8;
     fn ripsawbean_replica_take(replica: *mut Handle, line: *const u8, line_length: usize) -> u8;
@@ -78,6 +79,18 @@ impl Open {
         let mut length = 0;
         // SAFETY: as for `call`.
         let status = unsafe { ripsawbean_text(&mut self.handle, out.as_mut_ptr(), out.len(), &mut length) };
+        if status == 0 {
+            Ok(length)
+        } else {
+            Err(status)
+        }
+    }
+
+    /// Shows the text of the database's state in `out`: its whole length.
+    pub(crate) fn state(&mut self, out: &mut [u8]) -> Result<usize, Status> {
+        let mut length = 0;
+        // SAFETY: as for `call`.
+        let status = unsafe { ripsawbean_state(&mut self.handle, out.as_mut_ptr(), out.len(), &mut length) };
         if status == 0 {
             Ok(length)
         } else {

@@ -127,6 +127,32 @@ fn a_text_that_outgrows_the_buffer() {
 }
 
 #[test]
+fn the_state_makes_no_call() {
+    let mut db = open();
+    for line in ["0 begin 5\n", "0 put 5 a 1\n", "0 commit 5\n", "0 close 9\n", "0 protect 7\n", "3 begin 12\n"] {
+        db.call(line).expect("a call");
+    }
+    let last = db.text().expect("a text").expect("an event").text().to_string();
+    let told = [
+        r#"{"kind":"database","closed":"9","horizon":"0","limit":"7","holder":"protection","holder_number":"1","oldest":"12","oldest_seat":"3","versions":"1"}"#,
+        r#"{"kind":"transaction","timestamp":"12","seat":"3","keys":"0"}"#,
+        r#"{"kind":"protection","number":"1","timestamp":"7"}"#,
+    ];
+    assert_eq!(db.state().expect("a state").lines().collect::<Vec<_>>(), told);
+    assert_eq!(db.text().expect("a text").expect("an event").text(), last);
+    assert_eq!(db.make(0, Command::Stats).expect("a call").position(), 6);
+}
+
+#[test]
+fn a_state_that_outgrows_the_buffer() {
+    let mut db = open();
+    for ts in 1..200 {
+        db.make(0, Command::Begin { ts }).expect("a call");
+    }
+    assert_eq!(db.state().expect("a state").lines().count(), 200);
+}
+
+#[test]
 fn messages_whatever_the_most_of_a_poll() {
     let mut db = open();
     db.make(0, Command::Begin { ts: 10 }).expect("a call");

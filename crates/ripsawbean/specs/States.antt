@@ -1,0 +1,17 @@
+-- What asking for a handle's state tells the program (this project's own).
+use Rattle.std.specs.Prelude.{ℕ, zero, suc, List, Option, Some, None, ◌≡◌, ◌⊎◌}
+use Rattle.spans.specs.declared.calls.events.Event.{Event}
+use Rattle.embedded.specs.Embedded.{StandsFor, Copied}
+use Rattle.embedded.specs.States.{IsStateText}
+use Rattle.embedded.specs.declared.database.Database.{Database}
+
+-- done, or no memory for the text; of a closed handle that it is closed
+abbrev pub IsStateNumber : Option Database → ℕ → Type 0
+IsStateNumber (Some d) number = (number ≡ 0) ⊎ (number ≡ 14)
+IsStateNumber None number = number ≡ 16
+
+-- at 0 the text of a live report of the database's history is shown, and its whole length told; at any other number nothing is
+abbrev pub ToldState : ℕ → Option Database → (before after : List ℕ) → ℕ → Type 0
+ToldState zero (Some d) before after length = (h : List Event) → StandsFor d h → (text : List ℕ) × IsStateText h text × Copied text before after length
+ToldState zero None before after length = ⊥
+ToldState (suc n) d before after length = (length ≡ 0) × (after ≡ before)
