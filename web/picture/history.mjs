@@ -2,7 +2,7 @@
 //
 // Nothing here looks into a database. A moment is made of the answers alone, so it can be made for each event of a
 // transcript that somebody kept. A transcript may begin in the middle: what it never names isn't there.
-import { ascending, bytesOf, holds } from "./words.mjs";
+import { ascending, bytesOf, holds, wordOf } from "./words.mjs";
 
 const EVENT = /^(\d+) (\d+) ([a-z]+)((?: \S+)*) => (\S+)((?: \S+)*)$/;
 
@@ -81,6 +81,7 @@ class Moment {
   refusals = []; // the events that were refused
   feeds = new Map(); // number: {number, seat, initial, gap, lo, hi, cursor, told, cancelled}
   protections = new Map(); // number: {number, ts, event}
+  #readBefore = new Set();
 
   take(event) {
     this.event = event;
@@ -111,9 +112,11 @@ class Moment {
     this.versions.set(key, versions);
   }
 
-  /** A read keeps each write out that would come between the version that it found and itself. */
+  /** A read keeps each write out that would come between the version that it found and itself. The first one counts. */
   read(ts, lo, hi, key, event) {
-    if (this.reads.some((it) => it.ts === ts && it.lo === lo && it.hi === hi)) return;
+    const name = `${ts} ${wordOf(lo)} ${wordOf(hi)}`;
+    if (this.#readBefore.has(name)) return;
+    this.#readBefore.add(name);
     const read = { ts, seat: event.seat, lo, hi, key, found: new Map(), event };
     for (const each of key === null ? this.versions.keys() : [key]) {
       const seen = holds(read, each) && this.versions.get(each)?.findLast((it) => it.ts <= ts);

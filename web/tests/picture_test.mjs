@@ -92,6 +92,47 @@ test("a read keeps writes out from the version that it found", () => {
   assert.match(meaning("read b 0 9"), /found nothing, so no write of b below 9/);
 });
 
+// Session 0 writes a at 12 and then at 5. Session 1 reads it at 15 and at 9, and its own write of b.
+const STORY = `0 0 begin 12 => started
+1 0 put 12 a 2 => written
+2 0 commit 12 => committed 1
+3 0 begin 5 => started
+4 0 put 5 a 1 => written
+5 0 commit 5 => committed 1
+6 1 begin 15 => started
+7 1 get 15 a => value 2
+8 1 begin 9 => started
+9 1 get 9 a => value 1
+10 0 begin 7 => started
+11 0 put 7 a 3 => toolate
+12 1 put 15 b 4 => written
+13 1 get 15 b => value 4
+14 1 commit 9 => committed 0
+15 1 commit 15 => committed 1
+16 0 close 20 => closed 20 0
+17 0 readat 18 a => value 2
+18 0 collect 12 => collected 12 1
+`;
+
+test("versions stand by their timestamps, and reads by what they found", () => {
+  const ids = drawn(STORY).marks.map((it) => it.id);
+  const wanted = ["version a 5", "version a 12", "read a 5 9", "read a 12 15", "refusal 11", "version b 15"];
+  assert.deepEqual(ids.filter((it) => /^(version|read|refusal)/.test(it)), wanted);
+});
+
+test("the reader that kept a write out is named, and the refusal stays in the picture", () => {
+  assert.match(reasonOf(historyOf(STORY), 11), /^Transaction 9 has read a and found the version of 5\. A write at 7 /);
+});
+
+test("a version is dead from the horizon on at which another replaces it", () => {
+  const { marks, svg } = drawn(STORY);
+  const meaning = (id) => marks.find((it) => it.id === id).meaning();
+  assert.match(meaning("version a 5"), /the version of 12 is read there in its place\.$/);
+  assert.match(meaning("version a 12"), /^a is 2 from 12 on, and no later version is committed so far\./);
+  assert.equal(`${svg}`.match(/version dead/g).length, 1);
+  assert.equal(stateOf(stateText(last(historyOf(STORY)))).database.versions, 2n);
+});
+
 test("keys and values are escaped, and spelled as in the transcript", () => {
   const { svg } = drawn("0 0 begin 5 => started\n1 0 put 5 <b>&\"' <i> => written\n2 0 put 5 %FF => => written\n");
   assert.doesNotMatch(`${svg}`, /<b>|<i>/);
