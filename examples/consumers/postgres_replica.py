@@ -1,0 +1,65 @@
+#!/usr/bin/python3
+"""A replica in PostgreSQL: postgres_replica.py SERVER NAME DSN [LO HI]
+
+    postgres_replica.py http://127.0.0.1:7077 shop "host=127.0.0.1 dbname=shop"
+
+The table `ripsawbean` has the rows of the keys from LO up to HI, and `ripsawbean_place` says of which timestamp they
+are. Both change in one transaction, so a reader at REPEATABLE READ sees the database as it was at that timestamp. It
+needs Debian's python3-psycopg2.
+"""
+
+import psycopg2
+from psycopg2.extras import execute_values
+
+from following import ENOUGH, Outrun, Place, command_line, follow
+
+TABLES = """
+    CREATE TABLE IF NOT EXISTS ripsawbean (key bytea PRIMARY KEY, value bytea NOT NULL);
+    CREATE TABLE IF NOT EXISTS ripsawbean_place
+        (one int PRIMARY KEY CHECK (one = 1), identity text, generation bigint, complete bigint);
+"""
+PUT = "INSERT INTO ripsawbean VALUES %s ON CONFLICT (key) DO UPDATE SET value = EXCLUDED.value"
+GONE = "DELETE FROM ripsawbean WHERE key = ANY (%s)"
+PLACE = ("INSERT INTO ripsawbean_place VALUES (1, %s, %s, %s) ON CONFLICT (one) DO UPDATE "
+         "SET identity = EXCLUDED.identity, generation = EXCLUDED.generation, complete = EXCLUDED.complete")
+
+
+class Table:
+    def __init__(self, dsn):
+        self.db = psycopg2.connect(dsn)
+        with self.db, self.db.cursor() as cursor:
+            cursor.execute(TABLES)
+
+    def load(self):
+        with self.db, self.db.cursor() as cursor:
+            return self.stored(cursor)
+
+    def stored(self, cursor):
+        cursor.execute("SELECT identity, generation, complete FROM ripsawbean_place")
+        stored = cursor.fetchone()
+        return Place(*stored) if stored else None
+
+    def store(self, rows, was, place, anew):
+        after = {row.key: row.after for row in rows}
+        with self.db, self.db.cursor() as cursor:  # commits at its end, and rolls back where something is raised
+            cursor.execute("LOCK TABLE ripsawbean_place IN EXCLUSIVE MODE")  # readers aren't kept waiting
+            if self.stored(cursor) != was:
+                raise Outrun("another place is stored")
+            if anew:
+                cursor.execute("DELETE FROM ripsawbean")
+            execute_values(cursor, PUT, [pair for pair in after.items() if pair[1] is not None], page_size=ENOUGH)
+            cursor.execute(GONE, ([key for key, value in after.items() if value is None],))
+            cursor.execute(PLACE, place)
+
+    def all(self):
+        with self.db, self.db.cursor() as cursor:
+            cursor.execute("SELECT key, value FROM ripsawbean")
+            return {bytes(key): bytes(value) for key, value in cursor}
+
+    def close(self):
+        self.db.close()
+
+
+if __name__ == "__main__":
+    given = command_line(__doc__, "dsn")
+    follow(given.server, given.name, lambda: Table(given.dsn), given.lo, given.hi, (psycopg2.Error,))

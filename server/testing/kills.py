@@ -1,0 +1,237 @@
+"""Kills consumers, writers, the server, Redis and PostgreSQL at random moments, and compares what is left.
+
+A consumer that was just killed has to have the rows of the database at the timestamp that it has stored: as `scanat` tells them, and as
+the transcript says. The ledger has to have each row of the transcript once, in its order. The transcript of each server has to be one
+that `mvfeed check` takes. What a writer was told is committed has to be there, and each count has to count.
+"""
+
+import random
+import subprocess
+import time
+
+from history import History
+from ledger import Ledger
+from machine import Postgres, Redis, Room, Server, wait_for
+from postgres_replica import Table
+from redis_cache import Cache
+from ripsawbean import Event
+from search_index import Index
+
+WORDS, PACKAGES, ALL = ("word/", "word0"), ("package/", "package0"), ("-", "-")
+WRITERS = 3
+KEEP = 10_000_000  # events: all of a server's life
+
+
+class Consumer:
+    """One that follows: its program, its span, and how its target is opened from here."""
+
+    def __init__(self, room, server, name, script, target, span, make):
+        self.name, self.span, self.make = name, span, make
+        self.program = room.start(room.script(name, script, server.url, name, target, *span))
+        self.compared, self.anew = 0, 0
+
+    def stored(self):
+        """Place, rows, and the list of what was told where the target is a ledger."""
+        target = self.make()
+        try:
+            return target.load(), target.all(), target.told() if isinstance(target, Ledger) else None
+        finally:
+            target.close()
+
+    def bounds(self):
+        return [None if bound == "-" else bound.encode() for bound in self.span]
+
+
+class Life:
+    """One server's life: its history, as far as it was read."""
+
+    def __init__(self, server):
+        self.server, self.identity, self.history = server, server.identity, History()
+
+    def read(self):
+        status, text = self.server.ask("GET", "/transcript?since=%d" % self.history.next)
+        if status != 200 or not text.startswith("mvfeed 2\n"):
+            raise RuntimeError("the transcript: %d %s" % (status, text[:200]))
+        self.history.take(text[len("mvfeed 2\n") :])
+
+
+class Kills:
+    def __init__(self, room, program, wanted, seed, until, say):
+        self.room, self.program, self.wanted, self.dice, self.until, self.say = room, program, wanted, random.Random(seed), until, say
+        self.faults, self.kills, self.checked, self.events, self.transactions = [], {}, 0, 0, 0
+        self.compared_with_history = self.told_rows = self.acknowledged = 0
+        self.server = room.start(Server(room.path, "--keep", str(KEEP), "--keep-bytes", "4000000000", "--history", "1", "--max-age", "3"))
+        self.redis, self.postgres = room.start(Redis(room.path)), room.start(Postgres(room.path))
+        self.consumers = [self.consumer(*one) for one in (
+            ("cache", "redis_cache.py", self.redis.url, WORDS, lambda: Cache(self.redis.url, "cache")),
+            ("index", "search_index.py", room.file("index.db"), PACKAGES, lambda: Index(room.file("index.db"))),
+            ("replica", "postgres_replica.py", self.postgres.dsn, ALL, lambda: Table(self.postgres.dsn)),
+            ("ledger", "ledger.py", room.file("ledger.db"), ALL, lambda: Ledger(room.file("ledger.db"))),
+        )]
+        self.writers = [self.writer(number) for number in range(WRITERS)]
+        self.life = Life(self.server)
+
+    def consumer(self, *words):
+        return Consumer(self.room, self.server, *words)
+
+    def writer(self, number):
+        return self.room.start(self.room.script("writer%d" % number, "writer.py", self.server.url, str(self.dice.random()),
+                                                self.room.file("committed"), "0.01"))
+
+    def fault(self, text):
+        self.faults.append(text)
+        self.say("WRONG: " + text)
+
+    # ---- the run
+
+    def run(self):
+        while self.count() < self.wanted and time.monotonic() < self.until:
+            time.sleep(self.dice.uniform(0.02, 0.4))
+            self.life.read()
+            self.look_for_ended()
+            kind = self.dice.choices((self.kill_consumer, self.kill_writer, self.kill_server, self.kill_target), (70, 18, 8, 4))[0]
+            kind()
+            self.kills[kind.__name__[5:]] = self.kills.get(kind.__name__[5:], 0) + 1
+            if self.count() % 25 == 0:
+                self.say("%d kills, %d compared, %d wrong" % (self.count(), self.compared(), len(self.faults)))
+        self.settle()
+
+    def look_for_ended(self):
+        for program in [one.program for one in self.consumers] + self.writers:
+            if program.has_ended():
+                self.fault("has ended by itself: %s: %s" % (program.command, program.words()[-500:]))
+                program.start()
+
+    def count(self):
+        return sum(self.kills.values())
+
+    def compared(self):
+        return sum(consumer.compared for consumer in self.consumers)
+
+    def kill_consumer(self):
+        consumer = self.dice.choice(self.consumers)
+        consumer.program.kill()
+        self.compare(consumer)
+        consumer.program.start()
+
+    def kill_writer(self):
+        writer = self.dice.choice(self.writers)
+        writer.kill()
+        writer.command[-3:-2] = [str(self.dice.random())]
+        writer.start()
+
+    def kill_server(self):
+        self.server.kill()
+        for consumer in self.consumers:
+            consumer.program.kill()
+            self.compare(consumer)
+        self.end_life()
+        self.server.start()
+        self.life = Life(self.server)
+        for consumer in self.consumers:
+            consumer.program.start()
+
+    def kill_target(self):
+        target = self.dice.choice((self.redis, self.postgres))
+        target.kill()
+        time.sleep(self.dice.uniform(0, 0.3))
+        target.start()
+
+    # ---- what has to be so
+
+    def compare(self, consumer):
+        """A dead consumer's rows, with the scan and with the history at its place."""
+        place, rows, told = consumer.stored()
+        if place is None or place.identity != self.life.identity:
+            return
+        where = "%s at %d, generation %d" % (consumer.name, place.complete, place.generation)
+        if self.server.child:
+            scan = Event(self.server.call("scanat %d %s %s\n" % (place.complete, *consumer.span)))
+            if scan.is_refusal:
+                self.fault("%s: scanat is answered %s" % (where, scan.answer))
+            elif dict(scan.rows) != rows:
+                self.fault("%s: other rows than the scan: %s" % (where, different(dict(scan.rows), rows)))
+            consumer.compared += 1
+            self.life.read()
+        history = self.life.history
+        if place.complete > history.closed:  # its server died before the history was read so far
+            return
+        self.compared_with_history += 1
+        if history.map_at(place.complete, *consumer.bounds()) != rows:
+            self.fault("%s: other rows than the history: %s" % (where, different(history.map_at(place.complete, *consumer.bounds()), rows)))
+        if told is not None:
+            self.compare_told(where, place, told)
+
+    def compare_told(self, where, place, told):
+        """The rows of a snapshot, and then each version above it, once and in its order."""
+        history, began = self.life.history, told[0][0] if told else place.complete
+        seed = [(began, key, value) for key, value in sorted(history.map_at(began).items())]
+        whole = seed + history.between(began, place.complete)
+        plain = history.between(0, place.complete)  # of a stream that began before there was anything
+        self.told_rows += len(told)
+        if told not in (whole, plain):
+            self.fault("%s: was told %d rows, and not the %d or %d of the history" % (where, len(told), len(whole), len(plain)))
+
+    def end_life(self):
+        """What a server leaves: a transcript that is right, what writers were told, and counts that count."""
+        history = self.life.history
+        self.events += history.next
+        verdict = subprocess.run([self.program, "check"], input=history.text(), capture_output=True, text=True)
+        self.checked += 1
+        if (verdict.returncode, verdict.stdout) != (0, "yes\n"):
+            self.fault("the transcript of %s: %s" % (self.life.identity, verdict.stdout.strip() or verdict.stderr.strip()))
+        self.transactions += len({row[0] for row in history.rows})
+        with open(self.room.file("committed")) as file:
+            told = [int(words[1]) for words in map(str.split, file) if len(words) == 2 and words[0] == self.life.identity]
+        lost = [timestamp for timestamp in told if timestamp <= history.closed and not history.has_committed(timestamp)]
+        self.acknowledged += len(told)
+        if lost:
+            self.fault("committed, and lost: %s" % lost[:10])
+        counts = {}
+        for timestamp, key, value in history.between(0, history.closed, b"count/", b"count0"):
+            counts[key] = counts.get(key, 0) + 1
+            if value != b"%d" % counts[key]:
+                self.fault("%s is %s at %d, and not %d" % (key, value, timestamp, counts[key]))
+
+    def settle(self):
+        """Writers end. Then each consumer gets to have all that there is."""
+        for writer in self.writers:
+            writer.kill()
+        time.sleep(0.5)
+        closed = self.server.closed()
+        for consumer in self.consumers:
+            scan = dict(Event(self.server.call("scanat %d %s %s\n" % (closed, *consumer.span))).rows)
+            try:
+                wait_for(lambda: self.has(consumer, scan), 60, consumer.name)
+            except TimeoutError as late:
+                self.fault("at the end: %s" % late)
+            consumer.program.kill()
+            self.compare(consumer)
+        self.end_life()
+
+    def has(self, consumer, scan):
+        place, rows, _ = consumer.stored()
+        return place is not None and place.identity == self.life.identity and rows == scan
+
+
+def different(wanted, found):
+    keys = [key for key in {**wanted, **found} if wanted.get(key) != found.get(key)]
+    return "%d of %d keys, as %s" % (len(keys), len(wanted), [(key, wanted.get(key), found.get(key)) for key in keys[:2]])
+
+
+def kill_and_compare(program, wanted, seed, seconds, say):
+    """The faults found, and one line of what was done."""
+    began = time.monotonic()
+    with Room() as room:
+        run = Kills(room, program, wanted, seed, began + seconds, say)
+        run.run()
+        anew = {one.name: one.program.words().count("begins anew") for one in run.consumers}
+    passed = time.monotonic() - began
+    say("%d kills in %.0f seconds (%.0f an hour): %s" % (run.count(), passed, 3600 * run.count() / passed, run.kills))
+    say("%d transactions committed, %d of them known to their writers; %d events in %d transcripts" % (
+        run.transactions, run.acknowledged, run.events, run.checked))
+    say("%d compared with scanat, %d with the history, %d rows of ledgers; begun anew: %s" % (
+        run.compared(), run.compared_with_history, run.told_rows, anew))
+    if run.count() < wanted:
+        run.faults.append("only %d of %d kills within %d seconds" % (run.count(), wanted, seconds))
+    return run.faults

@@ -1,0 +1,55 @@
+#!/usr/bin/python3
+"""A consumer that can show a row told twice: ledger.py SERVER NAME FILE [LO HI] keeps each row that it is told, in order.
+
+The other consumers' targets put a row that comes twice where it already stands, and look the same. This one has it twice.
+"""
+
+import os
+import sqlite3
+import sys
+
+sys.path.append(os.path.join(os.path.dirname(os.path.abspath(__file__)), "..", "..", "examples", "consumers"))
+from following import Outrun, Place, command_line, follow  # noqa: E402
+
+TABLES = """
+    PRAGMA journal_mode = WAL;
+    CREATE TABLE IF NOT EXISTS place (one INTEGER PRIMARY KEY, identity TEXT, generation INTEGER, complete INTEGER);
+    CREATE TABLE IF NOT EXISTS told (id INTEGER PRIMARY KEY, updated INTEGER, key BLOB, after BLOB);
+"""
+
+
+class Ledger:
+    def __init__(self, file):
+        self.db = sqlite3.connect(file, isolation_level=None)
+        self.db.executescript(TABLES)
+
+    def load(self):
+        stored = self.db.execute("SELECT identity, generation, complete FROM place").fetchone()
+        return Place(*stored) if stored else None
+
+    def store(self, rows, was, place, anew):
+        with self.db:
+            self.db.execute("BEGIN IMMEDIATE")
+            if self.load() != was:
+                raise Outrun("another place is stored")
+            if anew:
+                self.db.execute("DELETE FROM told")
+            told = ((row.updated, row.key, row.after) for row in rows)
+            self.db.executemany("INSERT INTO told (updated, key, after) VALUES (?, ?, ?)", told)
+            self.db.execute("INSERT OR REPLACE INTO place VALUES (1, ?, ?, ?)", place)
+
+    def all(self):
+        """The rows of the map, which the rows told make one after the other."""
+        found = {key: after for _, key, after in self.told()}
+        return {key: after for key, after in found.items() if after is not None}
+
+    def told(self):
+        return self.db.execute("SELECT updated, key, after FROM told ORDER BY id").fetchall()
+
+    def close(self):
+        self.db.close()
+
+
+if __name__ == "__main__":
+    given = command_line(__doc__, "file")
+    follow(given.server, given.name, lambda: Ledger(given.file), given.lo, given.hi, (sqlite3.Error,))

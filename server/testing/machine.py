@@ -1,0 +1,186 @@
+"""The real programs of the test, on loopback and with temporary data: the server, Redis, PostgreSQL, and what follows.
+
+Each is killed by its own process id, and nothing that the test didn't start is touched.
+"""
+
+import glob
+import http.client
+import json
+import os
+import pwd
+import shutil
+import signal
+import socket
+import subprocess
+import sys
+import tempfile
+import time
+
+TOP = os.path.abspath(os.path.join(os.path.dirname(os.path.abspath(__file__)), "..", ".."))
+CONSUMERS = os.path.join(TOP, "examples", "consumers")
+sys.path[:0] = [CONSUMERS, os.path.join(TOP, "embed", "python")]
+SERVER = os.environ.get("SERVER") or os.path.join(TOP, "server", "run")  # SERVER names another one to test
+
+
+def free_port():
+    with socket.create_server(("127.0.0.1", 0)) as one:
+        return one.getsockname()[1]
+
+
+def wait_for(what, seconds, why):
+    """Waits until what() is true, and returns it."""
+    end = time.monotonic() + seconds
+    while True:
+        found = what()
+        if found:
+            return found
+        if time.monotonic() > end:
+            raise TimeoutError("%s: not within %d seconds" % (why, seconds))
+        time.sleep(0.02)
+
+
+class Program:
+    """A process that is started again and again. Its words go to a file."""
+
+    def __init__(self, room, name, command, **more):
+        self.log, self.command, self.more = os.path.join(room, name + ".log"), command, more
+        self.child = None
+
+    def start(self):
+        with open(self.log, "ab") as log:
+            self.child = subprocess.Popen(self.command, stdout=log, stderr=log, stdin=subprocess.DEVNULL, **self.more)
+
+    def kill(self, number=signal.SIGKILL):
+        if self.child:
+            self.child.send_signal(number)
+            self.child.wait()
+            self.child = None
+
+    def has_ended(self):
+        return self.child is not None and self.child.poll() is not None
+
+    def words(self):
+        with open(self.log, errors="replace") as log:
+            return log.read()
+
+
+class Server(Program):
+    def __init__(self, room, *options):
+        self.port = free_port()
+        self.url = "http://127.0.0.1:%d" % self.port
+        super().__init__(room, "server", [SERVER, "--port", str(self.port), *options])
+
+    def start(self):
+        super().start()
+        self.identity = wait_for(self.told_identity, 20, "the server")
+
+    def told_identity(self):
+        if self.child.poll() is not None:
+            raise RuntimeError("the server has ended: " + self.words()[-2000:])
+        try:
+            return json.loads(self.ask("GET", "/consumer/nobody")[1])["identity"]
+        except OSError:
+            return None
+
+    def ask(self, method, path, body=None, headers={}, timeout=30):
+        """Status and text of one request."""
+        connection = http.client.HTTPConnection("127.0.0.1", self.port, timeout=timeout)
+        try:
+            connection.request(method, path, body, headers)
+            response = connection.getresponse()
+            return response.status, response.read().decode()
+        finally:
+            connection.close()
+
+    def call(self, lines):
+        status, text = self.ask("POST", "/call", lines.encode())
+        if status != 200:
+            raise RuntimeError("%d %s" % (status, text))
+        return text
+
+    def holders(self, kind):
+        return [one for one in map(json.loads, self.ask("GET", "/holders")[1].splitlines()) if one["kind"] == kind]
+
+    def closed(self):
+        return int(self.holders("server")[0]["closed"])
+
+
+class Redis(Program):
+    def __init__(self, room):
+        self.port, data = free_port(), os.path.join(room, "redis")
+        os.mkdir(data)
+        self.url = "redis://127.0.0.1:%d" % self.port
+        super().__init__(room, "redis", ["redis-server", "--port", str(self.port), "--bind", "127.0.0.1", "--dir", data,
+                                         "--appendonly", "yes", "--save", ""])
+
+    def start(self):
+        super().start()
+        wait_for(self.is_there, 20, "Redis")
+
+    def is_there(self):
+        try:
+            with socket.create_connection(("127.0.0.1", self.port)) as one:
+                one.sendall(b"PING\r\n")
+                return one.recv(100) == b"+PONG\r\n"
+        except OSError:
+            return False
+
+
+class Postgres(Program):
+    """A cluster of its own. It doesn't run as root, so under root it runs as Debian's user for it."""
+
+    def __init__(self, room):
+        self.port, self.data = free_port(), os.path.join(room, "postgres")
+        self.programs = sorted(glob.glob("/usr/lib/postgresql/*/bin"))[-1]
+        self.as_user = []
+        os.mkdir(self.data, 0o700)
+        if os.getuid() == 0:
+            user = pwd.getpwnam("postgres")
+            os.chown(self.data, user.pw_uid, user.pw_gid)
+            self.as_user = {"user": user.pw_uid, "group": user.pw_gid, "extra_groups": []}
+        else:
+            self.as_user = {}
+        self.dsn = "host=127.0.0.1 port=%d user=test dbname=postgres" % self.port
+        subprocess.run([self.programs + "/initdb", "-D", self.data, "-U", "test", "-A", "trust", "-E", "UTF8"], check=True,
+                       stdout=subprocess.DEVNULL, cwd="/", **self.as_user)
+        super().__init__(room, "postgres", [self.programs + "/postgres", "-D", self.data, "-p", str(self.port), "-h", "127.0.0.1",
+                                            "-k", "", "-F"], cwd="/", **self.as_user)
+
+    def start(self):
+        super().start()
+        wait_for(self.is_there, 30, "PostgreSQL")
+
+    def is_there(self):
+        return subprocess.run([self.programs + "/pg_isready", "-q", "-h", "127.0.0.1", "-p", str(self.port)]).returncode == 0
+
+    def kill(self, number=signal.SIGQUIT):
+        """Ends it at once, as a crash does: it recovers from its log at the next start."""
+        super().kill(number)
+
+
+class Room:
+    """A folder for all data, and the programs that were started in it."""
+
+    def __enter__(self):
+        self.path = tempfile.mkdtemp(prefix="ripsawbean-")
+        os.chmod(self.path, 0o755)
+        self.programs = []
+        return self
+
+    def __exit__(self, *_):
+        for program in reversed(self.programs):
+            program.kill()
+        shutil.rmtree(self.path, ignore_errors=True)
+
+    def start(self, program):
+        self.programs.append(program)
+        program.start()
+        return program
+
+    def file(self, name):
+        return os.path.join(self.path, name)
+
+    def script(self, name, *words):
+        """A Python program of the examples or of the test, by the Python that runs this one."""
+        folder = CONSUMERS if os.path.exists(os.path.join(CONSUMERS, words[0])) else os.path.dirname(os.path.abspath(__file__))
+        return Program(self.path, name, [sys.executable, "-B", os.path.join(folder, words[0]), *words[1:]])
