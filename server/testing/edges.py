@@ -1,0 +1,338 @@
+"""Readers that are slow, connections that are cut, lines that are half or huge, more sessions than seats, a full disk.
+
+Each function is a test. It gets a server that has just started, and the room where it may start more.
+"""
+
+import asyncio
+import contextlib
+import json
+import random
+import resource
+import signal
+import socket
+import struct
+import threading
+import time
+
+import aiohttp
+
+from ledger import Ledger
+from machine import Server, wait_for
+from ripsawbean import Event
+from search_index import Index
+
+OPTIONS = ("--max-age", "2", "--history", "0.2", "--max-lag", "20000")
+SEATS = 64
+
+
+def put(server, count, size=100, keys=50):
+    """Transactions of ten rows each, over few keys."""
+    for at in range(0, count, 50):
+        lines = []
+        for number in range(at, min(at + 50, count)):
+            lines.append("begin\n")
+            lines += ["put . key/%d %d.%s\n" % ((number * 10 + row) % keys, number, "x" * size) for row in range(10)]
+            lines.append("commit .\n")
+        answers = server.call("".join(lines))
+        assert answers.count("=> committed 10\n") == min(50, count - at), answers[-300:]
+
+
+def rows_at(server, timestamp, lo="-", hi="-"):
+    return dict(Event(server.call("scanat %d %s %s\n" % (timestamp, lo, hi))).rows)
+
+
+def settled(server, make):
+    """Waits until a target has all that is closed, and compares it with the scan at its own place."""
+    wanted = rows_at(server, server.closed())
+
+    def has_all():
+        with contextlib.closing(make()) as target:
+            return target.all() == wanted and target.load()
+
+    place = wait_for(has_all, 30, "the consumer to have all")
+    assert rows_at(server, place.complete) == wanted
+
+
+def talk(work):
+    """Runs work(client) with an HTTP client that opens as many connections as it is asked for."""
+    async def run():
+        timeout = aiohttp.ClientTimeout(total=30)
+        async with aiohttp.ClientSession(connector=aiohttp.TCPConnector(limit=0), timeout=timeout) as client:
+            return await work(client)
+    return asyncio.run(run())
+
+
+async def asked(socket, lines):
+    await socket.send_str(lines)
+    return await socket.receive()
+
+
+def test_sixty_four_sessions_and_one_more(room, server):
+    async def work(client):
+        sockets = [await client.ws_connect(server.url + "/session") for _ in range(SEATS)]
+        answers = [await asked(one, "begin\nput . seat/%d x\ncommit .\n" % at) for at, one in enumerate(sockets)]
+        assert all("=> committed 1\n" in one.data for one in answers)
+        try:
+            await client.ws_connect(server.url + "/session")
+            raise AssertionError("a sixty-fifth session was let in")
+        except aiohttp.WSServerHandshakeError as refused:
+            assert refused.status == 503
+        async with client.post(server.url + "/call", data="stats\n") as response:
+            assert response.status == 503 and json.loads(await response.text())["error"] == "seats"
+        await sockets[7].close()
+        async with client.ws_connect(server.url + "/session") as one:
+            assert "=> stats" in (await asked(one, "stats\n")).data
+        for one in sockets:
+            await one.close()
+    talk(work)
+    assert len(rows_at(server, server.closed(), "seat/", "seat0")) == SEATS
+
+
+def test_connections_that_are_cut(room, server):
+    """Nothing of a session outlives its connection, however that ends: closed, or reset in the middle of a line."""
+    async def work(client):
+        for is_reset in (False, True):
+            sockets = [await client.ws_connect(server.url + "/session") for _ in range(20)]
+            for at, one in enumerate(sockets):
+                told = (await asked(one, "begin\nput . cut/%d x\nopen - - 0\nprotect 0\n" % at)).data
+                assert "=> started" in told and "=> opened" in told and "=> protected" in told, told
+            for one in sockets:
+                if is_reset:
+                    reset(one._response.connection.transport)
+                else:
+                    await one.close()
+            await asyncio.to_thread(wait_for, lambda: not left(server), 5, "sessions that are cut to leave nothing")
+    talk(work)
+    assert rows_at(server, server.closed(), "cut/", "cut0") == {}
+    put(server, 10)
+
+
+def reset(transport):
+    """Half a frame, and then no good-bye."""
+    transport.write(b"\x81\xfe")
+    transport.get_extra_info("socket").setsockopt(socket.SOL_SOCKET, socket.SO_LINGER, struct.pack("ii", 1, 0))
+    transport.abort()
+
+
+def left(server):
+    return [one for kind in ("transaction", "feed", "protection") for one in server.holders(kind)]
+
+
+def test_half_lines(room, server):
+    """A line without its end makes no call, and isn't glued to what comes next."""
+    async def work(client):
+        async with client.ws_connect(server.url + "/session") as one:
+            told = (await asked(one, "begin\nput . half 12")).data.split("\n")
+            assert told[0].endswith("=> started") and told[1] == "fault 2 7 nonewline", told
+            assert (await asked(one, "34\n")).data == "fault 3 1 wordcount\n"
+            assert (await asked(one, "get . half\ncommit .\n")).data.count("=> none\n") == 1
+            assert (await asked(one, "stats\r\n")).data == "fault 6 9 badbyte\n"
+    talk(work)
+
+
+def test_huge_lines(room, server):
+    """A line that is too long is a fault, and a message that is too long ends its connection alone."""
+    async def work(client):
+        async with client.ws_connect(server.url + "/session") as other, client.ws_connect(server.url + "/session") as one:
+            told = (await asked(one, "begin\nput . huge %s\nput . huge %s\ncommit .\n" % ("x" * 250000, "y" * 65536))).data
+            lines = told.split("\n")
+            assert lines[1] == "fault 2 8 linetoolong" and lines[2].endswith("=> written"), told[:200]
+            assert lines[3].endswith("=> committed 1")
+            assert (await asked(one, "x" * 3_000_000)).type is not aiohttp.WSMsgType.TEXT and one.closed
+            assert "=> stats" in (await asked(other, "stats\n")).data
+            async with client.post(server.url + "/call", data="x" * 3_000_000) as response:
+                assert response.status == 413
+    talk(work)
+
+
+def test_slow_readers(room, server):
+    """A reader that stops is polled for no more, is told `lag` in the end, and keeps neither the horizon nor others back."""
+    slow = socket.create_connection(("127.0.0.1", server.port))
+    slow.setsockopt(socket.SOL_SOCKET, socket.SO_RCVBUF, 4096)
+    slow.sendall(b"GET /feed HTTP/1.1\r\nHost: 127.0.0.1:%d\r\n\r\n" % server.port)
+    fast = room.script("fast", "ledger.py", server.url, "fast", room.file("fast.db"))
+    room.start(fast)
+    before = memory_of(server)
+    put(server, 4000)
+    settled(server, lambda: Ledger(room.file("fast.db")))
+    wait_for(lambda: len(server.holders("feed")) == 1, 10, "the slow reader's feed to be cancelled")
+    wait_for(lambda: int(server.holders("server")[0]["horizon"]) > 3000, 10, "the horizon to move")
+    assert memory_of(server) - before < 100 << 20, "the server took %d MB for a slow reader" % (memory_of(server) - before >> 20)
+    told = all_of(slow)
+    assert b'{"end":"lag"' in told[-200:], told[-200:]
+    fast.kill()
+
+
+def memory_of(server):
+    with open("/proc/%d/statm" % server.child.pid) as file:
+        return int(file.read().split()[1]) * resource.getpagesize()
+
+
+def all_of(one):
+    one.settimeout(10)
+    parts = []
+    with contextlib.suppress(TimeoutError, ConnectionError):
+        while data := one.recv(1 << 16):
+            parts.append(data)
+            if b'{"end"' in data:
+                break
+    one.close()
+    return b"".join(parts)
+
+
+class Cutter(threading.Thread):
+    """A proxy that ends each connection after a drawn number of bytes, in the middle of whatever passes then."""
+
+    def __init__(self, port, seed):
+        super().__init__(daemon=True)
+        self.port, self.dice, self.cuts, self.is_over = port, random.Random(seed), 0, False
+        self.listener = socket.create_server(("127.0.0.1", 0))
+        self.url = "http://127.0.0.1:%d" % self.listener.getsockname()[1]
+
+    def run(self):
+        with contextlib.suppress(OSError):
+            while True:
+                threading.Thread(target=self.carry, args=(self.listener.accept()[0], self.dice.randrange(1, 60000)), daemon=True).start()
+
+    def carry(self, reader, room):
+        with reader, socket.create_connection(("127.0.0.1", self.port)) as server, contextlib.suppress(OSError):
+            server.sendall(reader.recv(1 << 16))
+            while data := server.recv(min(room, 1 << 14) if not self.is_over else 1 << 14):
+                reader.sendall(data)
+                room -= len(data)
+                if room <= 0 and not self.is_over:
+                    self.cuts += 1
+                    break
+
+
+def test_streams_that_are_cut(room, server):
+    """A consumer whose connections end in the middle of a line, again and again, has each row once."""
+    cutter = Cutter(server.port, 1)
+    cutter.start()
+    consumer = room.start(room.script("cut", "ledger.py", cutter.url, "cut", room.file("cut.db")))
+    for _ in range(10):
+        put(server, 100)
+        time.sleep(0.3)
+    cutter.is_over = True
+    settled(server, lambda: Ledger(room.file("cut.db")))
+    consumer.kill()
+    cutter.listener.close()
+    assert cutter.cuts >= 5, "only %d cuts" % cutter.cuts
+    with contextlib.closing(Ledger(room.file("cut.db"))) as ledger:
+        told = [(updated, key) for updated, key, _ in ledger.told()]
+    assert told == sorted(set(told)), "a row came twice, or not in its order"
+
+
+def test_full_disk(room, server):
+    """A consumer whose disk is full stands still at a place that is right, and goes on once there is room."""
+    for script, make in (("ledger.py", Ledger), ("search_index.py", Index)):
+        name = script[:-3]
+        file = room.file("full-%s.db" % name)
+        consumer = room.start(room.script("full-" + name, script, server.url, name, file))
+        put(server, 10)
+        settled(server, lambda: make(file))
+        with open(consumer.log) as log:
+            said = len(log.read())
+        resource.prlimit(consumer.child.pid, resource.RLIMIT_FSIZE, (300_000, resource.RLIM_INFINITY))
+        put(server, 1000, size=300)
+        wait_for(lambda: "Error" in consumer.words()[said:], 20, "the disk of %s to be full" % name)
+        with contextlib.closing(make(file)) as target:
+            place, rows = target.load(), target.all()
+        assert rows_at(server, place.complete) == rows and place.complete < server.closed()
+        assert not consumer.has_ended()
+        resource.prlimit(consumer.child.pid, resource.RLIMIT_FSIZE, (resource.RLIM_INFINITY, resource.RLIM_INFINITY))
+        settled(server, lambda: make(file))
+        consumer.kill()
+
+
+def test_consumer_that_was_replaced(room, server):
+    """Of two consumers of one name the older ends, also where it slept meanwhile, and it changes nothing."""
+    file = room.file("two.db")
+    older = room.start(room.script("older", "ledger.py", server.url, "two", file))
+    put(server, 50)
+    settled(server, lambda: Ledger(file))
+    older.child.send_signal(signal.SIGSTOP)
+    put(server, 50)
+    newer = room.start(room.script("newer", "ledger.py", server.url, "two", file))
+    settled(server, lambda: Ledger(file))
+    older.child.send_signal(signal.SIGCONT)
+    wait_for(older.has_ended, 10, "the older consumer to end")
+    assert older.child.returncode != 0 and "Outrun" in older.words(), older.words()
+    put(server, 50)
+    settled(server, lambda: Ledger(file))
+    assert not newer.has_ended()
+    newer.kill()
+
+
+def test_horizon_waits_for_a_consumer_that_is_down(room, server):
+    """It comes back where it was. Beyond --max-lag rows it is let go, and begins anew."""
+    file = room.file("down.db")
+    consumer = room.start(room.script("down", "ledger.py", server.url, "down", file))
+    put(server, 10)
+    settled(server, lambda: Ledger(file))
+    consumer.kill()
+    stored = int(server.holders("consumer")[-1]["stored"])
+    put(server, 1000)
+    time.sleep(2)
+    assert int(server.holders("server")[0]["horizon"]) <= stored
+    consumer.start()
+    settled(server, lambda: Ledger(file))
+    assert "begins anew" not in consumer.words()
+    consumer.kill()
+    put(server, 2100)
+    wait_for(lambda: int(server.holders("server")[0]["horizon"]) > 3000, 10, "the consumer to be let go")
+    consumer.start()
+    settled(server, lambda: Ledger(file))
+    assert "begins anew" in consumer.words() and "belowhorizon" in consumer.words()
+    consumer.kill()
+
+
+def test_old_transactions_are_aborted(room, server):
+    """An undecided transaction holds closing back until it is --max-age old."""
+    async def work(client):
+        async with client.ws_connect(server.url + "/session") as one:
+            began = (await asked(one, "begin\nput . old x\n")).data
+            timestamp = int(began.split(" ")[3])
+            await asyncio.to_thread(put, server, 10)
+            assert server.closed() == timestamp - 1
+            await asyncio.to_thread(wait_for, lambda: server.closed() > timestamp, 10, "closing to go on")
+            assert "=> ended\n" in (await asked(one, "commit .\n")).data
+    talk(work)
+    assert b"old" not in rows_at(server, server.closed())
+
+
+def test_places_that_lead_nowhere(room, server):
+    """A place of another database, above closed, or without its identity is refused by name, and never served in silence."""
+    put(server, 10)
+    other = "0" * len(server.identity)
+    for query, status, error in (
+        ("identity=%s&from=1" % other, 409, "identity"),
+        ("from=1", 400, "identity"),
+        ("identity=%s&from=99999" % server.identity, 409, "notclosed"),
+        ("identity=%s&from=x" % server.identity, 400, "number"),
+    ):
+        answer = server.ask("GET", "/feed?" + query)
+        assert (answer[0], json.loads(answer[1])["error"]) == (status, error), (query, answer)
+    for query, status, error in (
+        ("identity=%s&generation=0&stored=1" % other, 409, "identity"),
+        ("identity=%s&generation=0&stored=99999" % server.identity, 409, "notclosed"),
+        ("identity=%s&generation=7&stored=1" % server.identity, 409, "fenced"),
+    ):
+        answer = server.ask("POST", "/consumer/somebody?" + query)
+        assert (answer[0], json.loads(answer[1])["error"]) == (status, error), (query, answer)
+
+
+def test_strangers_are_kept_out(room, server):
+    """A page of another site reaches nothing, and another address needs a token."""
+    for headers in ({"Host": "evil.example"}, {"Origin": "http://evil.example"}, {"Origin": "null"}):
+        assert server.ask("POST", "/call", b"stats\n", headers)[0] == 403, headers
+    assert server.ask("POST", "/call", b"stats\n", {"Origin": server.url})[0] == 200
+    open_to_all = Server(room.path, "--address", "0.0.0.0")
+    try:
+        open_to_all.start()
+        raise AssertionError("it serves others without a token")
+    except RuntimeError:
+        assert open_to_all.child.returncode == 2
+
+
+TESTS = [one for name, one in list(globals().items()) if name.startswith("test_")]

@@ -1,0 +1,62 @@
+"""The whole test: server/test hands over its options. The last line says how many passed."""
+
+import argparse
+import signal
+import sys
+import time
+import traceback
+
+import edges
+from kills import kill_and_compare
+from machine import Room, Server
+
+
+class Tally:
+    def __init__(self):
+        self.passed = self.failed = 0
+
+    def say(self, text):
+        print(text, flush=True)
+
+    def told(self, name, faults):
+        self.passed, self.failed = self.passed + (not faults), self.failed + bool(faults)
+        self.say("%s: %s" % (name, "FAILED" if faults else "passed"))
+        for fault in faults[:20]:
+            self.say("    " + fault)
+
+
+def try_edges(tally, only):
+    for test in edges.TESTS:
+        name = test.__name__[len("test_") :].replace("_", " ")
+        if only not in name:
+            continue
+        faults = []
+        with Room() as room:
+            try:
+                test(room, room.start(Server(room.path, *edges.OPTIONS)))
+            except Exception:
+                faults = traceback.format_exc().strip().split("\n")[-12:]
+        tally.told(name, faults)
+
+
+def main():
+    words = argparse.ArgumentParser(prog="server/test", description="Tests the server and its consumers on loopback, with temporary data.")
+    words.add_argument("--kills", type=int, default=150, metavar="N", help="how many processes are killed (150)")
+    words.add_argument("--seed", type=int, default=int(time.time()), metavar="N", help="draws what is killed when, and what is written")
+    words.add_argument("--seconds", type=float, default=0, metavar="S", help="the longest that the kills may take (4 each, and 120)")
+    words.add_argument("--only", default="", metavar="WORDS", help="of the other tests, those with these words in their name")
+    words.add_argument("program", metavar="MVFEED", help="the built program, which checks transcripts")
+    given = words.parse_args()
+    signal.signal(signal.SIGTERM, lambda *_: sys.exit(143))
+    tally = Tally()
+    try_edges(tally, given.only)
+    if given.kills:
+        tally.say("kills: seed %d" % given.seed)
+        faults = kill_and_compare(given.program, given.kills, given.seed, given.seconds or 120 + 4 * given.kills, tally.say)
+        tally.told("kills", faults)
+    print("server: %d passed, %d failed" % (tally.passed, tally.failed))
+    sys.exit(1 if tally.failed else 0)
+
+
+if __name__ == "__main__":
+    main()
