@@ -1,8 +1,9 @@
 #!/usr/bin/python3
 """Puts the descriptions of this machine's Debian packages into the database: packages.py SERVER
 
-A package's text stands at the key package/NAME. Each transaction puts twenty, and raises the number at `packages`, which
-it reads first. So two of these programs at once get in each other's way, and `transact` sees to it that none is lost.
+A package's text stands at the key package/NAME. Each transaction puts twenty, and raises the number at `packages`,
+which it reads first. So two of these programs at once get in each other's way, and `transact` sees to it that none is
+lost.
 """
 
 import asyncio

@@ -14,6 +14,7 @@ It needs Debian's python3-aiohttp.
 import asyncio
 import contextlib
 import os
+import random
 import sys
 
 import aiohttp
@@ -22,7 +23,7 @@ sys.path.append(os.path.join(os.path.dirname(os.path.abspath(__file__)), "..", "
 from ripsawbean import Event, spell  # noqa: E402
 
 AGAIN = frozenset(("toolate", "ended"))  # the transaction is aborted, by this answer or before it
-SHORT, LONG = 0.001, 0.05                # seconds between two tries of a read that is blocked
+SHORT, LONG = 0.001, 0.1                 # seconds between two tries
 
 
 class Again(Exception):
@@ -67,9 +68,13 @@ async def connect(server):
 
 async def transact(session, work):
     """Runs `work(session)` in a transaction, anew until it commits. Returns its timestamp."""
+    wait = SHORT
     while True:
         with contextlib.suppress(Again):
             began = await session.ask("begin")
             await work(session)
             await session.ask("commit", ".")
             return int(began.text.split(" ")[3])
+        # Two that begin anew at once read past each other again, so each waits for a while of its own.
+        await asyncio.sleep(random.uniform(0, wait))
+        wait = min(2 * wait, LONG)

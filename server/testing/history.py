@@ -1,4 +1,4 @@
-"""What a transcript says was committed and closed, read from its text alone: by the guide, and by no code of the database."""
+"""What a transcript says was committed and closed: read from its text by the guide, and by no code of the database."""
 
 import bisect
 import os

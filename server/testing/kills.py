@@ -1,8 +1,9 @@
 """Kills consumers, writers, the server, Redis and PostgreSQL at random moments, and compares what is left.
 
-A consumer that was just killed has to have the rows of the database at the timestamp that it has stored: as `scanat` tells them, and as
-the transcript says. The ledger has to have each row of the transcript once, in its order. The transcript of each server has to be one
-that `mvfeed check` takes. What a writer was told is committed has to be there, and each count has to count.
+A consumer that was just killed has to have the rows of the database at the timestamp that it has stored: as `scanat`
+tells them, and as the transcript says. The ledger has to have each row of the transcript once, in its order. The
+transcript of each server has to be one that `mvfeed check` takes. What a writer was told is committed has to be there,
+and each count has to count.
 """
 
 import random
@@ -19,7 +20,8 @@ from search_index import Index
 
 WORDS, PACKAGES, ALL = ("word/", "word0"), ("package/", "package0"), ("-", "-")
 WRITERS = 3
-KEEP = 10_000_000  # events: all of a server's life
+# All of a server's life is kept as a transcript. What is old goes soon, so that closing and collecting are seen too.
+OPTIONS = ("--keep", "10000000", "--keep-bytes", "4000000000", "--history", "1", "--max-age", "3")
 
 
 class Consumer:
@@ -46,10 +48,11 @@ class Life:
     """One server's life: its history, as far as it was read."""
 
     def __init__(self, server):
-        self.server, self.identity, self.history = server, server.identity, History()
+        self.server, self.identity, self.history, self.shouts = server, server.identity, History(), 0
 
     def read(self):
         status, text = self.server.ask("GET", "/transcript?since=%d" % self.history.next)
+        self.shouts = self.server.holders("server")[0]["shouts"]
         if status != 200 or not text.startswith("mvfeed 2\n"):
             raise RuntimeError("the transcript: %d %s" % (status, text[:200]))
         self.history.take(text[len("mvfeed 2\n") :])
@@ -57,10 +60,11 @@ class Life:
 
 class Kills:
     def __init__(self, room, program, wanted, seed, until, say):
-        self.room, self.program, self.wanted, self.dice, self.until, self.say = room, program, wanted, random.Random(seed), until, say
+        self.room, self.program, self.wanted, self.until, self.say = room, program, wanted, until, say
+        self.dice = random.Random(seed)
         self.faults, self.kills, self.checked, self.events, self.transactions = [], {}, 0, 0, 0
         self.compared_with_history = self.told_rows = self.acknowledged = 0
-        self.server = room.start(Server(room.path, "--keep", str(KEEP), "--keep-bytes", "4000000000", "--history", "1", "--max-age", "3"))
+        self.server = room.start(Server(room.path, *OPTIONS))
         self.redis, self.postgres = room.start(Redis(room.path)), room.start(Postgres(room.path))
         self.consumers = [self.consumer(*one) for one in (
             ("cache", "redis_cache.py", self.redis.url, WORDS, lambda: Cache(self.redis.url, "cache")),
@@ -75,8 +79,8 @@ class Kills:
         return Consumer(self.room, self.server, *words)
 
     def writer(self, number):
-        return self.room.start(self.room.script("writer%d" % number, "writer.py", self.server.url, str(self.dice.random()),
-                                                self.room.file("committed"), "0.01"))
+        words = (self.server.url, str(self.dice.random()), self.room.file("committed"), "0.01")
+        return self.room.start(self.room.script("writer%d" % number, "writer.py", *words))
 
     def fault(self, text):
         self.faults.append(text)
@@ -89,9 +93,9 @@ class Kills:
             time.sleep(self.dice.uniform(0.02, 0.4))
             self.life.read()
             self.look_for_ended()
-            kind = self.dice.choices((self.kill_consumer, self.kill_writer, self.kill_server, self.kill_target), (70, 18, 8, 4))[0]
-            kind()
-            self.kills[kind.__name__[5:]] = self.kills.get(kind.__name__[5:], 0) + 1
+            kind = self.dice.choices(("consumer", "writer", "server", "target"), (70, 18, 8, 4))[0]
+            getattr(self, "kill_" + kind)()
+            self.kills[kind] = self.kills.get(kind, 0) + 1
             if self.count() % 25 == 0:
                 self.say("%d kills, %d compared, %d wrong" % (self.count(), self.compared(), len(self.faults)))
         self.settle()
@@ -121,14 +125,16 @@ class Kills:
         writer.start()
 
     def kill_server(self):
+        """Some consumers die with it. The others have to find the way to the next one by themselves."""
         self.server.kill()
-        for consumer in self.consumers:
+        dead = [consumer for consumer in self.consumers if self.dice.random() < 0.5]
+        for consumer in dead:
             consumer.program.kill()
             self.compare(consumer)
         self.end_life()
         self.server.start()
         self.life = Life(self.server)
-        for consumer in self.consumers:
+        for consumer in dead:
             consumer.program.start()
 
     def kill_target(self):
@@ -157,8 +163,9 @@ class Kills:
         if place.complete > history.closed:  # its server died before the history was read so far
             return
         self.compared_with_history += 1
-        if history.map_at(place.complete, *consumer.bounds()) != rows:
-            self.fault("%s: other rows than the history: %s" % (where, different(history.map_at(place.complete, *consumer.bounds()), rows)))
+        wanted = history.map_at(place.complete, *consumer.bounds())
+        if wanted != rows:
+            self.fault("%s: other rows than the history: %s" % (where, different(wanted, rows)))
         if told is not None:
             self.compare_told(where, place, told)
 
@@ -170,20 +177,23 @@ class Kills:
         plain = history.between(0, place.complete)  # of a stream that began before there was anything
         self.told_rows += len(told)
         if told not in (whole, plain):
-            self.fault("%s: was told %d rows, and not the %d or %d of the history" % (where, len(told), len(whole), len(plain)))
+            sizes = (len(told), len(whole), len(plain))
+            self.fault("%s: was told %d rows, and not the %d or %d of the history" % (where, *sizes))
 
     def end_life(self):
         """What a server leaves: a transcript that is right, what writers were told, and counts that count."""
         history = self.life.history
         self.events += history.next
+        if self.life.shouts or "Traceback" in self.server.words():
+            self.fault("the server wondered: " + self.server.tail())
         verdict = subprocess.run([self.program, "check"], input=history.text(), capture_output=True, text=True)
         self.checked += 1
         if (verdict.returncode, verdict.stdout) != (0, "yes\n"):
             self.fault("the transcript of %s: %s" % (self.life.identity, verdict.stdout.strip() or verdict.stderr.strip()))
         self.transactions += len({row[0] for row in history.rows})
         with open(self.room.file("committed")) as file:
-            told = [int(words[1]) for words in map(str.split, file) if len(words) == 2 and words[0] == self.life.identity]
-        lost = [timestamp for timestamp in told if timestamp <= history.closed and not history.has_committed(timestamp)]
+            told = [int(line.split()[1]) for line in file if line.startswith(self.life.identity)]
+        lost = [one for one in told if one <= history.closed and not history.has_committed(one)]
         self.acknowledged += len(told)
         if lost:
             self.fault("committed, and lost: %s" % lost[:10])
@@ -216,7 +226,8 @@ class Kills:
 
 def different(wanted, found):
     keys = [key for key in {**wanted, **found} if wanted.get(key) != found.get(key)]
-    return "%d of %d keys, as %s" % (len(keys), len(wanted), [(key, wanted.get(key), found.get(key)) for key in keys[:2]])
+    some = [(key, wanted.get(key), found.get(key)) for key in keys[:2]]
+    return "%d of %d keys, as %s" % (len(keys), len(wanted), some)
 
 
 def kill_and_compare(program, wanted, seed, seconds, say):

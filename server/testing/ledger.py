@@ -1,7 +1,7 @@
 #!/usr/bin/python3
-"""A consumer that can show a row told twice: ledger.py SERVER NAME FILE [LO HI] keeps each row that it is told, in order.
+"""A consumer that shows a row told twice: ledger.py SERVER NAME FILE [LO HI] keeps each row that it is told, in order.
 
-The other consumers' targets put a row that comes twice where it already stands, and look the same. This one has it twice.
+The other consumers put a row that comes twice where it already stands, and look the same. This one has it twice.
 """
 
 import os

@@ -16,7 +16,8 @@ import sys
 import tempfile
 import time
 
-TOP = os.path.abspath(os.path.join(os.path.dirname(os.path.abspath(__file__)), "..", ".."))
+HERE = os.path.dirname(os.path.abspath(__file__))
+TOP = os.path.dirname(os.path.dirname(HERE))
 CONSUMERS = os.path.join(TOP, "examples", "consumers")
 sys.path[:0] = [CONSUMERS, os.path.join(TOP, "embed", "python")]
 SERVER = os.environ.get("SERVER") or os.path.join(TOP, "server", "run")  # SERVER names another one to test
@@ -58,6 +59,9 @@ class Program:
 
     def has_ended(self):
         return self.child is not None and self.child.poll() is not None
+
+    def tail(self):
+        return "%s: %s" % (os.path.basename(self.log), self.words()[-400:].strip().replace("\n", "\n        "))
 
     def words(self):
         with open(self.log, errors="replace") as log:
@@ -110,8 +114,8 @@ class Redis(Program):
         self.port, data = free_port(), os.path.join(room, "redis")
         os.mkdir(data)
         self.url = "redis://127.0.0.1:%d" % self.port
-        super().__init__(room, "redis", ["redis-server", "--port", str(self.port), "--bind", "127.0.0.1", "--dir", data,
-                                         "--appendonly", "yes", "--save", ""])
+        words = ["--port", str(self.port), "--bind", "127.0.0.1", "--dir", data, "--appendonly", "yes", "--save", ""]
+        super().__init__(room, "redis", ["redis-server", *words])
 
     def start(self):
         super().start()
@@ -132,26 +136,25 @@ class Postgres(Program):
     def __init__(self, room):
         self.port, self.data = free_port(), os.path.join(room, "postgres")
         self.programs = sorted(glob.glob("/usr/lib/postgresql/*/bin"))[-1]
-        self.as_user = []
         os.mkdir(self.data, 0o700)
+        how = {"cwd": "/"}
         if os.getuid() == 0:
             user = pwd.getpwnam("postgres")
             os.chown(self.data, user.pw_uid, user.pw_gid)
-            self.as_user = {"user": user.pw_uid, "group": user.pw_gid, "extra_groups": []}
-        else:
-            self.as_user = {}
+            how.update(user=user.pw_uid, group=user.pw_gid, extra_groups=[])
         self.dsn = "host=127.0.0.1 port=%d user=test dbname=postgres" % self.port
-        subprocess.run([self.programs + "/initdb", "-D", self.data, "-U", "test", "-A", "trust", "-E", "UTF8"], check=True,
-                       stdout=subprocess.DEVNULL, cwd="/", **self.as_user)
-        super().__init__(room, "postgres", [self.programs + "/postgres", "-D", self.data, "-p", str(self.port), "-h", "127.0.0.1",
-                                            "-k", "", "-F"], cwd="/", **self.as_user)
+        words = ["-D", self.data, "-U", "test", "-A", "trust", "-E", "UTF8"]
+        subprocess.run([self.programs + "/initdb", *words], check=True, stdout=subprocess.DEVNULL, **how)
+        words = ["-D", self.data, "-p", str(self.port), "-h", "127.0.0.1", "-k", "", "-F"]
+        super().__init__(room, "postgres", [self.programs + "/postgres", *words], **how)
 
     def start(self):
         super().start()
         wait_for(self.is_there, 30, "PostgreSQL")
 
     def is_there(self):
-        return subprocess.run([self.programs + "/pg_isready", "-q", "-h", "127.0.0.1", "-p", str(self.port)]).returncode == 0
+        words = ["-q", "-h", "127.0.0.1", "-p", str(self.port)]
+        return subprocess.run([self.programs + "/pg_isready", *words]).returncode == 0
 
     def kill(self, number=signal.SIGQUIT):
         """Ends it at once, as a crash does: it recovers from its log at the next start."""
@@ -182,5 +185,5 @@ class Room:
 
     def script(self, name, *words):
         """A Python program of the examples or of the test, by the Python that runs this one."""
-        folder = CONSUMERS if os.path.exists(os.path.join(CONSUMERS, words[0])) else os.path.dirname(os.path.abspath(__file__))
+        folder = CONSUMERS if os.path.exists(os.path.join(CONSUMERS, words[0])) else HERE
         return Program(self.path, name, [sys.executable, "-B", os.path.join(folder, words[0]), *words[1:]])

@@ -9,6 +9,7 @@ import traceback
 import edges
 from kills import kill_and_compare
 from machine import Room, Server
+from page import run_page
 
 
 class Tally:
@@ -35,24 +36,32 @@ def try_edges(tally, only):
             try:
                 test(room, room.start(Server(room.path, *edges.OPTIONS)))
             except Exception:
-                faults = traceback.format_exc().strip().split("\n")[-12:]
+                faults = traceback.format_exc().strip().split("\n")[-12:] + [one.tail() for one in room.programs]
         tally.told(name, faults)
 
 
 def main():
-    words = argparse.ArgumentParser(prog="server/test", description="Tests the server and its consumers on loopback, with temporary data.")
-    words.add_argument("--kills", type=int, default=150, metavar="N", help="how many processes are killed (150)")
-    words.add_argument("--seed", type=int, default=int(time.time()), metavar="N", help="draws what is killed when, and what is written")
-    words.add_argument("--seconds", type=float, default=0, metavar="S", help="the longest that the kills may take (4 each, and 120)")
-    words.add_argument("--only", default="", metavar="WORDS", help="of the other tests, those with these words in their name")
+    words = argparse.ArgumentParser(prog="server/test", description="Tests the server and its consumers on loopback.")
+    for name, kind, default, letter, meaning in (
+        ("--kills", int, 150, "N", "how many processes are killed (150)"),
+        ("--seed", int, int(time.time()), "N", "draws what is killed when, and what is written"),
+        ("--seconds", float, 0, "S", "the longest that the kills may take (4 each, and 120)"),
+        ("--only", str, "", "WORDS", "of the other tests, those with these words in their name"),
+    ):
+        words.add_argument(name, type=kind, default=default, metavar=letter, help=meaning)
     words.add_argument("program", metavar="MVFEED", help="the built program, which checks transcripts")
     given = words.parse_args()
     signal.signal(signal.SIGTERM, lambda *_: sys.exit(143))
     tally = Tally()
     try_edges(tally, given.only)
+    if given.only in "page":
+        with Room() as room:
+            pieces, faults = run_page(room.path, given.program)
+        tally.told("the %d pieces of the page" % pieces, faults)
     if given.kills:
         tally.say("kills: seed %d" % given.seed)
-        faults = kill_and_compare(given.program, given.kills, given.seed, given.seconds or 120 + 4 * given.kills, tally.say)
+        seconds = given.seconds or 120 + 4 * given.kills
+        faults = kill_and_compare(given.program, given.kills, given.seed, seconds, tally.say)
         tally.told("kills", faults)
     print("server: %d passed, %d failed" % (tally.passed, tally.failed))
     sys.exit(1 if tally.failed else 0)

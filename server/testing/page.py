@@ -1,0 +1,93 @@
+"""Runs the pieces of docs/OPERATING.md as they stand there.
+
+    ```python ..            is run as a program, and has to end with status 0
+    From `FILE`: ```python  stands in that file, line by line
+    ``` $ COMMAND ..        is given to one shell, in the page's order; the lines below a command are its output
+
+Ports and the program's name are those of the test. A command that installs or builds is left out: it was done before.
+"""
+
+import os
+import re
+import signal
+import subprocess
+import sys
+
+from machine import CONSUMERS, TOP, free_port
+
+PAGE = os.path.join(TOP, "docs", "OPERATING.md")
+BLOCK = re.compile(r"^```(\w*)\n(.*?)^```$", re.M | re.S)
+EXCERPT = re.compile(r"From `([^`]*)`[^`]*\n\n\Z")
+DONE_BEFORE = re.compile(r"apt-get |server/install|embed/build")
+MARK = "--- this command has ended with"
+
+
+class Page:
+    def __init__(self, folder, program):
+        self.folder, self.faults, self.pieces = folder, [], 0
+        self.text = open(PAGE).read()
+        self.replaced = {"7077": str(free_port()), "6400": str(free_port()), "./mvfeed": program}
+        for name in ("server", "examples", "embed"):
+            os.symlink(os.path.join(TOP, name), os.path.join(folder, name))
+        self.environment = {**os.environ, "PYTHONPATH": ":".join((CONSUMERS, os.environ.get("PYTHONPATH", "")))}
+        self.shell = subprocess.Popen(["sh"], cwd=folder, text=True, stdin=subprocess.PIPE, stdout=subprocess.PIPE,
+                                      stderr=subprocess.STDOUT, start_new_session=True)
+
+    def close(self):
+        """Ends the shell, and all that the page has started in it."""
+        os.killpg(self.shell.pid, signal.SIGKILL)
+        self.shell.wait()
+
+    def run(self):
+        for block in BLOCK.finditer(self.text):
+            language, body = block.groups()
+            excerpt = EXCERPT.search(self.text[: block.start()])
+            if excerpt:
+                self.find(excerpt[1], body)
+            elif language == "python":
+                self.run_program(body)
+            elif body.startswith("$ "):
+                self.run_commands(body)
+            else:
+                self.faults.append("nothing runs this piece: " + body[:80])
+            self.pieces += 1
+
+    def fitted(self, text):
+        for written, there in self.replaced.items():
+            text = text.replace(written, there)
+        return text
+
+    def find(self, name, body):
+        if body not in open(os.path.join(TOP, name)).read():
+            self.faults.append("%s has no such lines: %s" % (name, body[:80]))
+
+    def run_program(self, body):
+        words = ["timeout", "60", sys.executable, "-c", self.fitted(body)]
+        done = subprocess.run(words, cwd=self.folder, env=self.environment, text=True, capture_output=True)
+        if done.returncode:
+            self.faults.append("%s: status %d: %s" % (body.split("\n")[0], done.returncode, done.stderr[-500:]))
+
+    def run_commands(self, body):
+        for piece in re.split(r"^\$ ", body, flags=re.M)[1:]:
+            command, _, wanted = piece.partition("\n")
+            if DONE_BEFORE.match(command):
+                continue
+            self.shell.stdin.write("%s\necho '%s' $?\n" % (self.fitted(command), MARK))
+            self.shell.stdin.flush()
+            told = []
+            while not told or not told[-1].startswith(MARK):
+                told.append(self.shell.stdout.readline())
+                if not told[-1]:
+                    raise RuntimeError("the shell has ended at: " + command)
+            if "".join(told[:-1]) != self.fitted(wanted):
+                self.faults.append("%s\n    told %r\n    and not %r" % (command, "".join(told[:-1]), wanted))
+
+
+def run_page(folder, program):
+    """The number of pieces that were run, and what was wrong."""
+    page = Page(folder, program)
+    try:
+        page.run()
+    finally:
+        page.close()
+    return page.pieces, page.faults
