@@ -147,7 +147,7 @@ def test_huge_lines(room, server):
 
 
 def test_slow_readers(room, server):
-    """A reader that stops is polled for no more, and told `lag` in the end. It keeps back neither others nor the horizon."""
+    """A reader that stops is polled for no more, and told `lag` at last. It keeps back no others, and no horizon."""
     slow = socket.create_connection(("127.0.0.1", server.port))
     slow.setsockopt(socket.SOL_SOCKET, socket.SO_RCVBUF, 4096)
     slow.sendall(b"GET /feed HTTP/1.1\r\nHost: 127.0.0.1:%d\r\n\r\n" % server.port)

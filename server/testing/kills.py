@@ -6,6 +6,9 @@ transcript of each server has to be one that `mvfeed check` takes. What a writer
 and each count has to count.
 """
 
+import contextlib
+import glob
+import os
 import random
 import subprocess
 import time
@@ -25,12 +28,22 @@ OPTIONS = ("--keep", "10000000", "--keep-bytes", "4000000000", "--history", "1",
 
 
 class Consumer:
-    """One that follows: its program, its span, and how its target is opened from here."""
+    """One that follows: its program, its span, how its target is opened from here, and what its target writes to."""
 
-    def __init__(self, room, server, name, script, target, span, make):
-        self.name, self.span, self.make = name, span, make
+    def __init__(self, room, server, name, script, target, span, make, log):
+        self.name, self.span, self.make, self.log = name, span, make, log
         self.program = room.start(room.script(name, script, server.url, name, target, *span))
-        self.compared, self.anew = 0, 0
+        self.compared = 0
+
+    def wait_for_write(self):
+        """Returns right after its target has written something, or soon in any case."""
+        end, before = time.monotonic() + 0.3, self.written()
+        while self.written() == before and time.monotonic() < end:
+            pass
+
+    def written(self):
+        with contextlib.suppress(FileNotFoundError):  # a log may go while it is looked at
+            return [(file, os.stat(file).st_size, os.stat(file).st_mtime_ns) for file in glob.glob(self.log)]
 
     def stored(self):
         """Place, rows, and the list of what was told where the target is a ledger."""
@@ -66,12 +79,15 @@ class Kills:
         self.compared_with_history = self.told_rows = self.acknowledged = 0
         self.server = room.start(Server(room.path, *OPTIONS))
         self.redis, self.postgres = room.start(Redis(room.path)), room.start(Postgres(room.path))
+        cache, dsn = self.redis.url, self.postgres.dsn
+        index, ledger = room.file("index.db"), room.file("ledger.db")
         self.consumers = [self.consumer(*one) for one in (
-            ("cache", "redis_cache.py", self.redis.url, WORDS, lambda: Cache(self.redis.url, "cache")),
-            ("index", "search_index.py", room.file("index.db"), PACKAGES, lambda: Index(room.file("index.db"))),
-            ("replica", "postgres_replica.py", self.postgres.dsn, ALL, lambda: Table(self.postgres.dsn)),
-            ("ledger", "ledger.py", room.file("ledger.db"), ALL, lambda: Ledger(room.file("ledger.db"))),
+            ("cache", "redis_cache.py", cache, WORDS, lambda: Cache(cache, "cache"), self.redis.log_files),
+            ("index", "search_index.py", index, PACKAGES, lambda: Index(index), index + "-wal"),
+            ("replica", "postgres_replica.py", dsn, ALL, lambda: Table(dsn), self.postgres.log_files),
+            ("ledger", "ledger.py", ledger, ALL, lambda: Ledger(ledger), ledger + "-wal"),
         )]
+        open(room.file("committed"), "w").close()
         self.writers = [self.writer(number) for number in range(WRITERS)]
         self.life = Life(self.server)
 
@@ -113,7 +129,11 @@ class Kills:
         return sum(consumer.compared for consumer in self.consumers)
 
     def kill_consumer(self):
+        """At any moment, or in the middle of its target's transaction, or right after it."""
         consumer = self.dice.choice(self.consumers)
+        if self.dice.random() < 0.7:
+            consumer.wait_for_write()
+            time.sleep(self.dice.choice((0, self.dice.uniform(0, 0.003))))
         consumer.program.kill()
         self.compare(consumer)
         consumer.program.start()
@@ -189,7 +209,7 @@ class Kills:
         verdict = subprocess.run([self.program, "check"], input=history.text(), capture_output=True, text=True)
         self.checked += 1
         if (verdict.returncode, verdict.stdout) != (0, "yes\n"):
-            self.fault("the transcript of %s: %s" % (self.life.identity, verdict.stdout.strip() or verdict.stderr.strip()))
+            self.fault("the transcript of %s: %s%s" % (self.life.identity, verdict.stdout, verdict.stderr))
         self.transactions += len({row[0] for row in history.rows})
         with open(self.room.file("committed")) as file:
             told = [int(line.split()[1]) for line in file if line.startswith(self.life.identity)]
@@ -226,8 +246,7 @@ class Kills:
 
 def different(wanted, found):
     keys = [key for key in {**wanted, **found} if wanted.get(key) != found.get(key)]
-    some = [(key, wanted.get(key), found.get(key)) for key in keys[:2]]
-    return "%d of %d keys, as %s" % (len(keys), len(wanted), some)
+    return "%d of %d keys, as %.200s" % (len(keys), len(wanted), [(key, wanted.get(key), found.get(key)) for key in keys])
 
 
 def kill_and_compare(program, wanted, seed, seconds, say):

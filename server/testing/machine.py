@@ -113,7 +113,7 @@ class Redis(Program):
     def __init__(self, room):
         self.port, data = free_port(), os.path.join(room, "redis")
         os.mkdir(data)
-        self.url = "redis://127.0.0.1:%d" % self.port
+        self.url, self.log_files = "redis://127.0.0.1:%d" % self.port, os.path.join(data, "appendonlydir", "*.aof")
         words = ["--port", str(self.port), "--bind", "127.0.0.1", "--dir", data, "--appendonly", "yes", "--save", ""]
         super().__init__(room, "redis", ["redis-server", *words])
 
@@ -142,6 +142,7 @@ class Postgres(Program):
             user = pwd.getpwnam("postgres")
             os.chown(self.data, user.pw_uid, user.pw_gid)
             how.update(user=user.pw_uid, group=user.pw_gid, extra_groups=[])
+        self.log_files = os.path.join(self.data, "pg_wal", "0*")
         self.dsn = "host=127.0.0.1 port=%d user=test dbname=postgres" % self.port
         words = ["-D", self.data, "-U", "test", "-A", "trust", "-E", "UTF8"]
         subprocess.run([self.programs + "/initdb", *words], check=True, stdout=subprocess.DEVNULL, **how)
