@@ -44,7 +44,7 @@ class Place(NamedTuple):
 
 
 class Outrun(Exception):
-    """Another consumer of this name has taken over. This one has to end."""
+    """Another consumer of this name has stored. Where it is the later one, this one has to end."""
 
 
 class Ended(Exception):
@@ -111,8 +111,7 @@ class Follower:
         self.place = Place(heads["Ripsawbean-Identity"], int(heads["Ripsawbean-Generation"]), cursor)
         self.replica, self.complete = Replica(self.lo, self.hi, cursor, initial=self.anew), None
         if not self.anew:  # from here on the consumer before this one can't store
-            self.target.store([], self.was, self.place, False)
-            self.was = self.place
+            self.put([], self.place)
         return response
 
     def take(self, line):
@@ -142,9 +141,19 @@ class Follower:
         if self.complete is None:  # not even the rows at the cursor were told
             return
         place = self.place._replace(complete=self.complete)
-        self.target.store(self.rows, self.was, place, self.anew)
-        self.was, self.anew, self.rows, self.stored_at = place, False, [], time.monotonic()
+        self.put(self.rows, place)
+        self.rows, self.stored_at = [], time.monotonic()
         self.acknowledge(place)
+
+    def put(self, rows, place):
+        try:
+            self.target.store(rows, self.was, place, self.anew)
+        except Outrun:
+            stored = self.target.load()
+            if stored and stored.identity == place.identity and stored.generation > place.generation:
+                raise
+            raise Ended("another consumer has stored, and its end is near") from None
+        self.was, self.anew = place, False
 
     def acknowledge(self, place):
         """The server keeps what follows the place, also while this consumer is down."""

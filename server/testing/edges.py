@@ -268,6 +268,21 @@ def test_consumer_that_was_replaced(room, server):
     newer.kill()
 
 
+def test_many_consumers_of_one_name(room, server):
+    """Of several that begin at once, with nothing stored and again with a place, exactly one is left and right."""
+    file = room.file("many.db")
+    put(server, 50)
+    for turn in range(3):
+        many = [room.script("many%d-%d" % (turn, at), "ledger.py", server.url, "many", file) for at in range(4)]
+        for one in many:
+            room.start(one)
+        wait_for(lambda: sum(one.has_ended() for one in many) == 3, 20, "three of four to end")
+        put(server, 50)
+        settled(server, lambda: Ledger(file))
+        (left,) = [one for one in many if not one.has_ended()]
+        left.kill()
+
+
 def test_horizon_waits_for_a_consumer_that_is_down(room, server):
     """It comes back where it was. Beyond --max-lag rows it is let go, and begins anew."""
     file = room.file("down.db")

@@ -237,6 +237,9 @@ class Kills:
                 self.fault("at the end: %s" % late)
             consumer.program.kill()
             self.compare(consumer)
+            said = consumer.program.words()
+            if "belowhorizon" in said or "notclosed" in said:
+                self.fault("%s: nothing was held for it: %s" % (consumer.name, consumer.program.tail()))
         self.end_life()
 
     def has(self, consumer, scan):
@@ -246,7 +249,8 @@ class Kills:
 
 def different(wanted, found):
     keys = [key for key in {**wanted, **found} if wanted.get(key) != found.get(key)]
-    return "%d of %d keys, as %.200s" % (len(keys), len(wanted), [(key, wanted.get(key), found.get(key)) for key in keys])
+    shown = [(key, wanted.get(key), found.get(key)) for key in keys]
+    return "%d of %d keys, as %.200s" % (len(keys), len(wanted), shown)
 
 
 def kill_and_compare(program, wanted, seed, seconds, say):

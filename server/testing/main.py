@@ -1,14 +1,16 @@
 """The whole test: server/test hands over its options. The last line says how many passed."""
 
 import argparse
+import os
 import signal
+import subprocess
 import sys
 import time
 import traceback
 
 import edges
 from kills import kill_and_compare
-from machine import Room, Server
+from machine import TOP, Room, Server
 from page import run_page
 
 
@@ -40,6 +42,12 @@ def try_edges(tally, only):
         tally.told(name, faults)
 
 
+def try_units(tally):
+    """The server's modules, each by itself."""
+    done = subprocess.run([os.path.join(TOP, "server", "unit")], text=True, capture_output=True)
+    tally.told("the server's modules", done.returncode and done.stderr.strip().split("\n")[-20:])
+
+
 def main():
     words = argparse.ArgumentParser(prog="server/test", description="Tests the server and its consumers on loopback.")
     for name, kind, default, letter, meaning in (
@@ -53,6 +61,8 @@ def main():
     given = words.parse_args()
     signal.signal(signal.SIGTERM, lambda *_: sys.exit(143))
     tally = Tally()
+    if given.only in "modules":
+        try_units(tally)
     try_edges(tally, given.only)
     if given.only in "page":
         with Room() as room:
