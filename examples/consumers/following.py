@@ -29,6 +29,7 @@ sys.path.append(os.path.join(os.path.dirname(os.path.abspath(__file__)), "..", "
 from ripsawbean import Error, Row  # noqa: E402
 from replica import Replica  # noqa: E402
 
+HEADERS = ("Identity", "Generation", "From")
 ENOUGH = 1000  # rows in one transaction of the target, where more are waiting
 PAUSE = 0.1    # seconds before coming back
 IDLE = 1.0     # seconds after which a place is stored although no row came
@@ -106,12 +107,12 @@ class Follower:
         response = response or self.ask_feed()
         if response.status != 200:
             raise Ended("%d %s" % (response.status, response.read().decode().strip()))
-        heads = response.headers
-        cursor = int(heads["Ripsawbean-From"])
-        self.place = Place(heads["Ripsawbean-Identity"], int(heads["Ripsawbean-Generation"]), cursor)
-        self.replica, self.complete = Replica(self.lo, self.hi, cursor, initial=self.anew), None
-        if not self.anew:  # from here on the consumer before this one can't store
-            self.put([], self.place)
+        try:
+            identity, generation, cursor = (response.headers["Ripsawbean-" + name] for name in HEADERS)
+            self.place = Place(identity, int(generation), int(cursor))
+        except (TypeError, ValueError):
+            raise Ended("cut before its first line") from None
+        self.replica, self.complete = Replica(self.lo, self.hi, self.place.complete, initial=self.anew), None
         return response
 
     def take(self, line):
@@ -141,19 +142,15 @@ class Follower:
         if self.complete is None:  # not even the rows at the cursor were told
             return
         place = self.place._replace(complete=self.complete)
-        self.put(self.rows, place)
-        self.rows, self.stored_at = [], time.monotonic()
-        self.acknowledge(place)
-
-    def put(self, rows, place):
         try:
-            self.target.store(rows, self.was, place, self.anew)
+            self.target.store(self.rows, self.was, place, self.anew)
         except Outrun:
             stored = self.target.load()
             if stored and stored.identity == place.identity and stored.generation > place.generation:
                 raise
-            raise Ended("another consumer has stored, and its end is near") from None
-        self.was, self.anew = place, False
+            raise Ended("an older consumer has stored, just before its end") from None
+        self.was, self.anew, self.rows, self.stored_at = place, False, [], time.monotonic()
+        self.acknowledge(place)
 
     def acknowledge(self, place):
         """The server keeps what follows the place, also while this consumer is down."""

@@ -183,7 +183,7 @@ def all_of(one):
 
 
 class Cutter(threading.Thread):
-    """A proxy that ends each connection after a drawn number of bytes, in the middle of whatever passes then."""
+    """A proxy that ends each connection after a drawn number of bytes: in its headers, or in the middle of a line."""
 
     def __init__(self, port, seed):
         super().__init__(daemon=True)
@@ -195,7 +195,7 @@ class Cutter(threading.Thread):
     def run(self):
         with contextlib.suppress(OSError):
             while True:
-                reader, room = self.listener.accept()[0], self.dice.randrange(1, 60000)
+                reader, room = self.listener.accept()[0], int(10 ** self.dice.uniform(1, 4.8))
                 threading.Thread(target=self.carry, args=(reader, room), daemon=True).start()
 
     def carry(self, reader, room):
@@ -210,7 +210,7 @@ class Cutter(threading.Thread):
 
 
 def test_streams_that_are_cut(room, server):
-    """A consumer whose connections end in the middle of a line, again and again, has each row once."""
+    """A consumer whose connections end again and again, wherever they are, has each row once."""
     cutter = Cutter(server.port, 1)
     cutter.start()
     consumer = room.start(room.script("cut", "ledger.py", cutter.url, "cut", room.file("cut.db")))
@@ -221,7 +221,7 @@ def test_streams_that_are_cut(room, server):
     settled(server, lambda: Ledger(room.file("cut.db")))
     consumer.kill()
     cutter.listener.close()
-    assert cutter.cuts >= 5, "only %d cuts" % cutter.cuts
+    assert cutter.cuts >= 20, "only %d cuts" % cutter.cuts
     with contextlib.closing(Ledger(room.file("cut.db"))) as ledger:
         told = [(updated, key) for updated, key, _ in ledger.told()]
     assert told == sorted(set(told)), "a row came twice, or not in its order"
