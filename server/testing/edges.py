@@ -17,7 +17,7 @@ import time
 import aiohttp
 
 from ledger import Ledger
-from machine import Server, wait_for
+from machine import LONGEST, Server, wait_for
 from ripsawbean import Event
 from search_index import Index
 
@@ -49,14 +49,14 @@ def settled(server, make):
         with contextlib.closing(make()) as target:
             return target.all() == wanted and target.load()
 
-    place = wait_for(has_all, 30, "the consumer to have all")
+    place = wait_for(has_all, "the consumer to have all")
     assert rows_at(server, place.complete) == wanted
 
 
 def talk(work):
     """Runs work(client) with an HTTP client that opens as many connections as it is asked for."""
     async def run():
-        timeout = aiohttp.ClientTimeout(total=30)
+        timeout = aiohttp.ClientTimeout(total=LONGEST)
         async with aiohttp.ClientSession(connector=aiohttp.TCPConnector(limit=0), timeout=timeout) as client:
             return await work(client)
     return asyncio.run(run())
@@ -101,7 +101,7 @@ def test_connections_that_are_cut(room, server):
                     reset(one._response.connection.transport)
                 else:
                     await one.close()
-            await asyncio.to_thread(wait_for, lambda: not left(server), 5, "sessions that are cut to leave nothing")
+            await asyncio.to_thread(wait_for, lambda: not left(server), "sessions that are cut to leave nothing")
     talk(work)
     assert rows_at(server, server.closed(), "cut/", "cut0") == {}
     put(server, 10)
@@ -156,8 +156,8 @@ def test_slow_readers(room, server):
     before = memory_of(server)
     put(server, 4000)
     settled(server, lambda: Ledger(room.file("fast.db")))
-    wait_for(lambda: len(server.holders("feed")) == 1, 10, "the slow reader's feed to be cancelled")
-    wait_for(lambda: int(server.holders("server")[0]["horizon"]) > 3000, 10, "the horizon to move")
+    wait_for(lambda: len(server.holders("feed")) == 1, "the slow reader's feed to be cancelled")
+    wait_for(lambda: int(server.holders("server")[0]["horizon"]) > 3000, "the horizon to move")
     taken = memory_of(server) - before >> 20
     assert taken < 100, "the server took %d MB for a slow reader" % taken
     told = all_of(slow)
@@ -239,7 +239,7 @@ def test_full_disk(room, server):
             said = len(log.read())
         resource.prlimit(consumer.child.pid, resource.RLIMIT_FSIZE, (300_000, resource.RLIM_INFINITY))
         put(server, 1000, size=300)
-        wait_for(lambda: "Error" in consumer.words()[said:], 20, "the disk of %s to be full" % name)
+        wait_for(lambda: "Error" in consumer.words()[said:], "the disk of %s to be full" % name)
         with contextlib.closing(make(file)) as target:
             place, rows = target.load(), target.all()
         assert rows_at(server, place.complete) == rows and place.complete < server.closed()
@@ -260,7 +260,7 @@ def test_consumer_that_was_replaced(room, server):
     newer = room.start(room.script("newer", "ledger.py", server.url, "two", file))
     settled(server, lambda: Ledger(file))
     older.child.send_signal(signal.SIGCONT)
-    wait_for(older.has_ended, 10, "the older consumer to end")
+    wait_for(older.has_ended, "the older consumer to end")
     assert older.child.returncode != 0 and "Outrun" in older.words(), older.words()
     put(server, 50)
     settled(server, lambda: Ledger(file))
@@ -276,7 +276,7 @@ def test_many_consumers_of_one_name(room, server):
         many = [room.script("many%d-%d" % (turn, at), "ledger.py", server.url, "many", file) for at in range(4)]
         for one in many:
             room.start(one)
-        wait_for(lambda: sum(one.has_ended() for one in many) == 3, 20, "three of four to end")
+        wait_for(lambda: sum(one.has_ended() for one in many) == 3, "three of four to end")
         put(server, 50)
         settled(server, lambda: Ledger(file))
         (left,) = [one for one in many if not one.has_ended()]
@@ -299,7 +299,7 @@ def test_horizon_waits_for_a_consumer_that_is_down(room, server):
     assert "begins anew" not in consumer.words()
     consumer.kill()
     put(server, 2100)
-    wait_for(lambda: int(server.holders("server")[0]["horizon"]) > 3000, 10, "the consumer to be let go")
+    wait_for(lambda: int(server.holders("server")[0]["horizon"]) > 3000, "the consumer to be let go")
     consumer.start()
     settled(server, lambda: Ledger(file))
     assert "begins anew" in consumer.words() and "belowhorizon" in consumer.words()
@@ -314,7 +314,7 @@ def test_old_transactions_are_aborted(room, server):
             timestamp = int(began.split(" ")[3])
             await asyncio.to_thread(put, server, 10)
             assert server.closed() == timestamp - 1
-            await asyncio.to_thread(wait_for, lambda: server.closed() > timestamp, 10, "closing to go on")
+            await asyncio.to_thread(wait_for, lambda: server.closed() > timestamp, "closing to go on")
             assert "=> ended\n" in (await asked(one, "commit .\n")).data
     talk(work)
     assert b"old" not in rows_at(server, server.closed())

@@ -232,7 +232,7 @@ class Kills:
         for consumer in self.consumers:
             scan = dict(Event(self.server.call("scanat %d %s %s\n" % (closed, *consumer.span))).rows)
             try:
-                wait_for(lambda: self.has(consumer, scan), 60, consumer.name)
+                wait_for(lambda: self.has(consumer, scan), consumer.name)
             except TimeoutError as late:
                 self.fault("at the end: %s" % late)
             consumer.program.kill()

@@ -22,21 +22,23 @@ CONSUMERS = os.path.join(TOP, "examples", "consumers")
 sys.path[:0] = [CONSUMERS, os.path.join(TOP, "embed", "python")]
 SERVER = os.environ.get("SERVER") or os.path.join(TOP, "server", "run")  # SERVER names another one to test
 
+LONGEST = 120  # seconds
+
 
 def free_port():
     with socket.create_server(("127.0.0.1", 0)) as one:
         return one.getsockname()[1]
 
 
-def wait_for(what, seconds, why):
-    """Waits until what() is true, and returns it."""
-    end = time.monotonic() + seconds
+def wait_for(what, why):
+    """Waits until what() is true, and returns it. The limit is what a machine may need that is busy with other things."""
+    end = time.monotonic() + LONGEST
     while True:
         found = what()
         if found:
             return found
         if time.monotonic() > end:
-            raise TimeoutError("%s: not within %d seconds" % (why, seconds))
+            raise TimeoutError("%s: not within %d seconds" % (why, LONGEST))
         time.sleep(0.02)
 
 
@@ -76,7 +78,7 @@ class Server(Program):
 
     def start(self):
         super().start()
-        self.identity = wait_for(self.told_identity, 20, "the server")
+        self.identity = wait_for(self.told_identity, "the server")
 
     def told_identity(self):
         if self.child.poll() is not None:
@@ -86,9 +88,9 @@ class Server(Program):
         except OSError:
             return None
 
-    def ask(self, method, path, body=None, headers={}, timeout=30):
+    def ask(self, method, path, body=None, headers={}):
         """Status and text of one request."""
-        connection = http.client.HTTPConnection("127.0.0.1", self.port, timeout=timeout)
+        connection = http.client.HTTPConnection("127.0.0.1", self.port, timeout=LONGEST)
         try:
             connection.request(method, path, body, headers)
             response = connection.getresponse()
@@ -119,7 +121,7 @@ class Redis(Program):
 
     def start(self):
         super().start()
-        wait_for(self.is_there, 20, "Redis")
+        wait_for(self.is_there, "Redis")
 
     def is_there(self):
         try:
@@ -151,7 +153,7 @@ class Postgres(Program):
 
     def start(self):
         super().start()
-        wait_for(self.is_there, 30, "PostgreSQL")
+        wait_for(self.is_there, "PostgreSQL")
 
     def is_there(self):
         words = ["-q", "-h", "127.0.0.1", "-p", str(self.port)]

@@ -4,7 +4,8 @@
     From `FILE`: ```python  stands in that file, line by line
     ``` $ COMMAND ..        is given to one shell, in the page's order; the lines below a command are its output
 
-Ports and the program's name are those of the test. A command that installs or builds is left out: it was done before.
+Ports and the program's name are those of the test, and it sleeps longer, since the machine may be busy with other
+things. A command that installs or builds is left out: it was done before.
 """
 
 import os
@@ -26,7 +27,7 @@ class Page:
     def __init__(self, folder, program):
         self.folder, self.faults, self.pieces = folder, [], 0
         self.text = open(PAGE).read()
-        self.replaced = {"7077": str(free_port()), "6400": str(free_port()), "./mvfeed": program}
+        self.replaced = {"7077": str(free_port()), "6400": str(free_port()), "./mvfeed": program, "sleep 1": "sleep 3"}
         for name in ("server", "examples", "embed"):
             os.symlink(os.path.join(TOP, name), os.path.join(folder, name))
         self.environment = {**os.environ, "PYTHONPATH": ":".join((CONSUMERS, os.environ.get("PYTHONPATH", "")))}
@@ -62,7 +63,7 @@ class Page:
             self.faults.append("%s has no such lines: %s" % (name, body[:80]))
 
     def run_program(self, body):
-        words = ["timeout", "60", sys.executable, "-c", self.fitted(body)]
+        words = ["timeout", "120", sys.executable, "-c", self.fitted(body)]
         done = subprocess.run(words, cwd=self.folder, env=self.environment, text=True, capture_output=True)
         if done.returncode:
             self.faults.append("%s: status %d: %s" % (body.split("\n")[0], done.returncode, done.stderr[-500:]))
