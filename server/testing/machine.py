@@ -31,7 +31,7 @@ def free_port():
 
 
 def wait_for(what, why):
-    """Waits until what() is true, and returns it. The limit is what a machine may need that is busy with other things."""
+    """Waits until what() is true, and returns it. The machine may be busy with other things, so the limit is high."""
     end = time.monotonic() + LONGEST
     while True:
         found = what()
