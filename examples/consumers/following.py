@@ -82,11 +82,13 @@ class Follower:
 
     def __init__(self, server, name, target, lo, hi):
         self.host, self.name, self.target, self.lo, self.hi = urlsplit(server).netloc, name, target, lo, hi
-        self.connection = http.client.HTTPConnection(self.host, timeout=SILENCE)
-        self.rows, self.told, self.stored_at = [], [], 0.0
+        self.connection, self.replica = http.client.HTTPConnection(self.host, timeout=SILENCE), None
+        self.rows, self.told, self.complete, self.stored_at = [], [], None, 0.0
 
     def close(self):
         self.connection.close()
+        if self.replica:
+            self.replica.close()
 
     def run(self):
         for line in self.open():
@@ -112,7 +114,7 @@ class Follower:
             self.place = Place(identity, int(generation), int(cursor))
         except (TypeError, ValueError):
             raise Ended("cut before its first line") from None
-        self.replica, self.complete = Replica(self.lo, self.hi, self.place.complete, initial=self.anew), None
+        self.replica = Replica(self.lo, self.hi, self.place.complete, initial=self.anew)
         return response
 
     def take(self, line):
@@ -136,6 +138,7 @@ class Follower:
         """The rows told are those at the timestamp. A replica from there on refuses the same, and holds no rows."""
         self.rows += self.told
         self.told, self.complete = [], timestamp
+        self.replica.close()
         self.replica = Replica(self.lo, self.hi, timestamp)
 
     def store(self):

@@ -15,6 +15,9 @@ class Replica:
         self._resolved = max(cursor - 1, 0) if initial else cursor
         self._last, self._at, self._rows = None, None if initial and cursor else cursor, {}
 
+    def close(self):
+        pass
+
     def _read(self, line):
         message = json.loads(line)
         if "resolved" in message:

@@ -36,10 +36,10 @@ class Consumer:
         self.compared = 0
 
     def wait_for_write(self):
-        """Returns right after its target has written something, or soon in any case."""
-        end, before = time.monotonic() + 0.3, self.written()
+        """Returns right after its target has written something, or in three seconds."""
+        end, before = time.monotonic() + 3, self.written()
         while self.written() == before and time.monotonic() < end:
-            pass
+            time.sleep(0)
 
     def written(self):
         with contextlib.suppress(FileNotFoundError):  # a log may go while it is looked at

@@ -28,7 +28,7 @@ class Writer:
 
     def drawn(self):
         """The writes of one transaction."""
-        if self.dice.random() < 0.3:
+        if self.dice.random() < 0.5:
             name, about = self.dice.choice(self.documents)
             after = None if self.dice.random() < 0.3 else about + b" \xc2\xb7 edit %d" % self.dice.randrange(1000)
             return {b"package/" + name: after}
