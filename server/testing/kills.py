@@ -227,12 +227,9 @@ class Kills:
         """Writers end. Then each consumer gets to have all that there is."""
         for writer in self.writers:
             writer.kill()
-        time.sleep(0.5)
-        closed = self.server.closed()
         for consumer in self.consumers:
-            scan = dict(Event(self.server.call("scanat %d %s %s\n" % (closed, *consumer.span))).rows)
             try:
-                wait_for(lambda: self.has(consumer, scan), consumer.name)
+                wait_for(lambda: self.has_all(consumer), consumer.name)
             except TimeoutError as late:
                 self.fault("at the end: %s" % late)
             consumer.program.kill()
@@ -242,9 +239,14 @@ class Kills:
                 self.fault("%s: nothing was held for it: %s" % (consumer.name, consumer.program.tail()))
         self.end_life()
 
-    def has(self, consumer, scan):
+    def has_all(self, consumer):
+        """Whether nothing is left to tell. Closed may move once more after the writers have ended."""
+        self.look_for_ended()
         place, rows, _ = consumer.stored()
-        return place is not None and place.identity == self.life.identity and rows == scan
+        if place is None or place.identity != self.life.identity or self.server.holders("transaction"):
+            return False
+        scan = Event(self.server.call("scanat %d %s %s\n" % (self.server.closed(), *consumer.span)))
+        return rows == dict(scan.rows)
 
 
 def different(wanted, found):
