@@ -186,7 +186,7 @@ const CHANGES = {
   opened: (moment, event) => {
     const [lo, hi, cursor, gap] = event.words;
     Object.assign(moment.feed(event.details[0], event), {
-      initial: event.command === "openinitial", gap: gap === undefined ? null : BigInt(gap),
+      initial: event.command.startsWith("openinitial"), gap: gap === undefined ? null : BigInt(gap),
       lo: bytesOf(lo), hi: bytesOf(hi), cursor: BigInt(cursor),
     });
   },

@@ -13,9 +13,14 @@ export function versionMeaning(moment, version) {
   if (moment.isDead(version)) return deadMeaning(moment, version, next);
   const until = next ? `until ${next.ts}, where transaction ${next.ts} wrote it again`
     : "and no later version is committed so far";
-  const promise = ts <= moment.closed ? "It is closed, so this will never change."
-    : "It isn't closed yet, so a write may still come in above it.";
-  return `${change(version)} from ${ts} on, ${until}. ${promise}`;
+  return `${change(version)} from ${ts} on, ${until}. ${promiseOf(moment.closed, ts, next)}`;
+}
+
+// What is closed stays, and a write may come in above closed alone.
+function promiseOf(closed, ts, next) {
+  if (ts > closed) return "It isn't closed yet, so a write may still come in above it.";
+  if (next && next.ts <= closed) return "All of this is closed, so it will never change.";
+  return `Up to closed, ${closed}, this will never change. Above closed a write may still come in.`;
 }
 
 function deadMeaning(moment, version, next) {

@@ -26,7 +26,7 @@ function sentencesOf(state) {
 }
 
 function whatHoldsClosed({ oldest, oldest_seat }) {
-  if (oldest === null) return "No transaction is undecided, so nothing holds it.";
+  if (oldest === null) return "No transaction is undecided, so a close can move it up.";
   return markup`It can't reach <b>${oldest}</b> while transaction ${oldest} of session ${oldest_seat} is undecided.`;
 }
 

@@ -11,6 +11,7 @@
 // draw(element, history, options)  draws, and listens in the element for clicks and keys. Each option may be left out:
 //     place                        the event after which the database is shown; else the last one
 //     state                        the state's text there, as ripsawbean_state writes it; else what the answers tell
+//     chosen                       the mark that is chosen from here on, null for none; else the choice stays
 //     onChoose(id)                 is called with the mark that was chosen, and with null when none is any more
 // reasonOf(history, place)         why that event was answered so, in a sentence or two
 // stateText(history.after(place))  the text of the state there, from the answers alone
@@ -74,6 +75,7 @@ class Picture {
   show(history, options) {
     if (history !== this.#history)
       [this.#zoom, this.#mostKeys, this.#chosen, this.#at] = [{ count: null, later: 0 }, KEYS, null, null];
+    if (options.chosen !== undefined) this.#chosen = options.chosen;
     this.#history = history;
     this.#options = options;
     this.#render();

@@ -1,5 +1,5 @@
 // Why an event was answered as it was, in a sentence or two, from what the answers up to it tell.
-import { bytesOf, counted, holds } from "./words.mjs";
+import { bytesOf, counted, holds, spanOf } from "./words.mjs";
 
 /** Why the event at this place of a history was answered so. */
 export function reasonOf(history, place) {
@@ -55,7 +55,7 @@ const REASONS = {
   cancelled: (_, event, number) => `Feed ${number} tells nothing from here on, and holds nothing any more.`,
   nofeed: (_, event, number) => `No feed ${number} was opened.`,
   feedcancelled: (moment, event, number) =>
-    `Session ${moment.feeds.get(number)?.cancelled?.seat} cancelled feed ${number}: it tells nothing more. Open another.`,
+    `Session ${moment.feeds.get(number)?.cancelled?.seat} cancelled feed ${number}: it tells no more. Open another.`,
 
   stats: hasCounted,
   nomemory: () => "There was no memory for it. Nothing has changed: try again.",
@@ -90,12 +90,13 @@ function hasEnded(moment, event, ts) {
 function isTooLate(moment, event, ts) {
   const key = event.words[1];
   const read = readAcross(moment, keyOf(event), BigInt(ts));
-  const refused = `so it is refused and transaction ${ts} is aborted: ${AGAIN}`;
-  if (!read) return `A later transaction has read ${key} across ${ts}, ${refused}.`;
+  const refused = `so it is refused and transaction ${ts} is aborted`;
+  if (!read) return `A later transaction has read ${key} across ${ts}, ${refused}: ${AGAIN}.`;
   const found = read.found.get(keyOf(event));
   const answer = found ? `the version of ${found}` : "nothing";
   const wrong = `A write at ${ts} would make that answer wrong`;
-  return `Transaction ${read.ts} has read ${key} and found ${answer}. ${wrong}, ${refused}.`;
+  const above = `begin again above ${read.ts}`;
+  return `Transaction ${read.ts} has read ${key} and found ${answer}. ${wrong}, ${refused}: ${above}.`;
 }
 
 // The read that keeps a write out: it is above, and found a version below or none.
@@ -153,14 +154,14 @@ function hasCollected(_, event, to) {
 function hasOpened(_, event) {
   const [number] = event.details;
   const above = `the versions above ${askedAt(event)}`;
-  const first = event.command === "openinitial" ? `the rows at ${askedAt(event)} and then ${above}` : above;
+  const first = event.command.startsWith("openinitial") ? `the rows at ${askedAt(event)} and then ${above}` : above;
   return `Feed ${number} tells session ${event.seat} ${first}, each once, as soon as they are closed.`;
 }
 
 function hasTold(moment, event, number) {
   const last = event.messages.at(-1);
   if (!last) return hasToldNothing(moment, event, number);
-  if ("resolved" in last) return resolvedReason({ number }, last);
+  if ("resolved" in last) return resolvedReason(moment.feeds.get(number), last);
   const rows = counted(event.messages.length, "row");
   return `Feed ${number} tells ${rows}, all of them closed. It says resolved once no closed row is left.`;
 }
@@ -172,10 +173,13 @@ function hasToldNothing(moment, event, number) {
   return `Closed is ${moment.closed}, and nothing at or below it is left to tell. More is due once closed moves.`;
 }
 
-/** Why a feed said resolved. */
-export function resolvedReason({ number }, { resolved }) {
+/** Why a feed said resolved, and what its consumer has then. What a feed tells is laid over the map of its cursor. */
+export function resolvedReason(feed, { resolved }) {
   const why = `all at or below ${resolved} is closed and was told, so no row of it is still to come`;
-  return `Feed ${number} says resolved ${resolved}: ${why}. Its consumer now has the whole map of ${resolved}.`;
+  const isWhole = feed.initial || feed.cursor === 0n;
+  const consumer = isWhole ? "Its consumer" : `A consumer that had the map of ${feed.cursor}`;
+  const map = `the whole map of ${resolved} for ${spanOf(feed)}`;
+  return `Feed ${feed.number} says resolved ${resolved}: ${why}. ${consumer} now has ${map}.`;
 }
 
 function hasCounted(_, event) {

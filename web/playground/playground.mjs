@@ -27,7 +27,10 @@ collect TO             stats
 TS   a number from 1 on: the name of a
      transaction, and its place in time
 LO HI   keys from LO on and below HI;
-        - is no bound`;
+        - is no bound
+
+A feed's messages spell keys and
+values in base64: YXBwbGU= is apple.`;
 
 const INVITATION = markup`<p><b>New here?</b> A tour of ten steps shows what these words and shapes mean, from a
   transaction's begin to a cache that crashes and comes back.</p>
@@ -99,7 +102,7 @@ class Page {
   #draw() {
     const place = this.#place ?? this.#run.last;
     const { history, last } = this.#run;
-    draw(part("picture"), history, { place, state: this.#run.stateAfter(place) });
+    draw(part("picture"), history, { place, state: this.#run.stateAfter(place), chosen: null });
     this.#transcript.show(this.#run, place);
     this.#drawMoment(place, last);
     this.#drawSeats(history.after(last));

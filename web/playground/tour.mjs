@@ -4,25 +4,29 @@ export const TOUR = [
   {
     title: "Begin",
     says:
-      "A transaction is its timestamp: session 0 begins at 10 and writes two keys, which are dashed here, since it " +
-      "may still abort.",
+      "A transaction is named by its timestamp, its place in time. Session 0 begins 10 and writes two keys, which " +
+      "are dashed here, since it may still abort.",
     lines: ["0 begin 10", "0 put 10 apple 3", "0 put 10 pear 5"],
   },
   {
     title: "Commit",
-    says: "The commit makes both versions stand from 10 on, and a later write puts a new version beside the old one.",
+    says:
+      "The commit makes both versions stand from 10 on. A later write changes neither: it puts a new version beside " +
+      "the old one.",
     lines: ["0 commit 10"],
   },
   {
     title: "Read",
-    says: "Session 1 reads apple at 20 and finds the version of 10; the line below says: no write may come between.",
+    says:
+      "Session 1 reads apple at 20 and finds the version of 10. The line under apple says that no write may come in " +
+      "along it any more.",
     lines: ["1 begin 20", "1 get 20 apple"],
   },
   {
     title: "Too late",
     says:
-      "A write of apple at 15 would make the answer wrong that transaction 20 was given, so it comes too late: it is " +
-      "refused, and transaction 15 is aborted.",
+      "Transaction 20 was told that apple is 3. A write of apple at 15 would make that answer wrong, so it comes too " +
+      "late: it is refused, and transaction 15 is aborted.",
     lines: ["0 begin 15", "0 put 15 apple 4"],
   },
   {
@@ -47,22 +51,22 @@ export const TOUR = [
   {
     title: "Resolved",
     says:
-      "What is closed is told, each version once and by timestamp, and then resolved 29: no row at or below 29 is " +
-      "still to come, so the cache has the whole map of 29 and stores it.",
+      "What is closed is told, each version once and by timestamp. Then resolved 29 says: no row at or below 29 is " +
+      "still to come. So the cache may answer from its map of 29, and stores the map with that number.",
     lines: ["2 poll 1 10"],
   },
   {
     title: "The horizon",
     says:
-      "Below the horizon nothing is read any more, so a collection drops the old apple: it would move the horizon to " +
-      "closed, 40, but the cache protects 29, which is what it has stored.",
+      "Below the horizon nothing is read, so a collection drops the old apple. The horizon could go up to closed, " +
+      "40, but the cache protects 29, so that it can go on from its stored map even when its feed is lost.",
     lines: ["2 protect 29", "1 commit 30", "0 close 40", "0 collect 40"],
   },
   {
     title: "A crash, and back",
     says:
-      "The cache is told the rest but crashes before it stores it; back again, it opens a new feed at 29, the map " +
-      "that it has stored, and is told the same once more, so nothing is lost.",
+      "The cache crashes before it stores the rest. Its stored map and 29 are enough: a new feed from 29 on tells it " +
+      "pear again, so nothing is lost. Once it stores 40, it can protect 40 and release protection 1.",
     lines: ["2 poll 1 10", "2 cancel 1", "2 open - - 29", "2 poll 2 10"],
   },
 ];

@@ -196,6 +196,8 @@ class Working(Page):
         self.assertIn("says resolved 28: all at or below 28 is closed and was told", self.sentence())
         self.mark("closed").click()
         self.assertIn("nothing at or below it will ever change", self.sentence())
+        self.one("#seat-0").send_keys("begin 28", Keys.ENTER)
+        self.assertIn("so nothing begins at 28", self.sentence())
 
     def test_marks_by_the_keyboard(self):
         self.open("first")

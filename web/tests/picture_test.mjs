@@ -133,6 +133,23 @@ test("a version is dead from the horizon on at which another replaces it", () =>
   assert.equal(stateOf(stateText(last(historyOf(STORY)))).database.versions, 2n);
 });
 
+test("a version stays as far as it is closed, and above closed a write may come in", () => {
+  const meaning = (text, id) => drawn(text).marks.find((it) => it.id === id).meaning();
+  assert.match(meaning(STORY, "version a 12"), /Up to closed, 20, this will never change\. Above closed a write may/);
+  const earlier = STORY.slice(0, STORY.indexOf("16 0 close")) + "16 0 close 6 => closed 6 0\n";
+  assert.match(meaning(earlier, "version a 5"), /until 12, .* Up to closed, 6, this will never change\./);
+  assert.match(meaning(earlier, "version a 12"), /It isn't closed yet/);
+});
+
+test("what the consumer of a feed has where it says resolved", () => {
+  const told = (command) => reasonOf(historyOf("0 0 close 9 => closed 9 0\n" +
+    `1 0 ${command} => opened 1\n2 0 poll 1 10 => messages 1\n{"resolved":"9"}\n`), 2);
+  assert.match(told("open - - 0"), /Its consumer now has the whole map of 9 for every key\.$/);
+  assert.match(told("openinitial k q 5"), /Its consumer now has the whole map of 9 for keys from k to below q\.$/);
+  assert.match(told("openinitialevery - - 5 3"), /Its consumer now has the whole map of 9 for every key\.$/);
+  assert.match(told("open - - 5"), /A consumer that had the map of 5 now has the whole map of 9 for every key\.$/);
+});
+
 test("keys and values are escaped, and spelled as in the transcript", () => {
   const { svg } = drawn("0 0 begin 5 => started\n1 0 put 5 <b>&\"' <i> => written\n2 0 put 5 %FF => => written\n");
   assert.doesNotMatch(`${svg}`, /<b>|<i>/);
