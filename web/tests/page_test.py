@@ -117,7 +117,7 @@ class Working(Page):
     def test_transcripts_of_the_guide(self):
         self.open("new")
         transcripts = guide_transcripts()
-        self.assertGreaterEqual(len(transcripts), 17)
+        self.assertGreaterEqual(len(transcripts), 12)
         for it in transcripts:
             self.run_script(script_of(it))
             self.assertEqual(self.transcript(), it)
