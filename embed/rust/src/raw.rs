@@ -65,8 +65,9 @@ impl Open {
         let mut length = 0;
         // SAFETY: each pointer is that of a reference or of a slice with its length, so none is null, and the line is only read.
         // The handle, the buffer and the length are borrowed by `&mut`, so they share no byte with one another or with the line.
-        let status =
-            unsafe { ripsawbean_call(&mut self.handle, line.as_ptr(), line.len(), out.as_mut_ptr(), out.len(), &mut length) };
+        let status = unsafe {
+            ripsawbean_call(&mut self.handle, line.as_ptr(), line.len(), out.as_mut_ptr(), out.len(), &mut length)
+        };
         if status == 0 {
             Ok(length)
         } else {

@@ -60,7 +60,10 @@ impl Replica {
     }
 
     /// Shows something, again where it found too little room: its length.
-    fn shown(&mut self, mut show: impl FnMut(&mut OpenReplica, &mut [u8]) -> Result<usize, Status>) -> Result<usize, Status> {
+    fn shown(
+        &mut self,
+        mut show: impl FnMut(&mut OpenReplica, &mut [u8]) -> Result<usize, Status>,
+    ) -> Result<usize, Status> {
         loop {
             let length = show(&mut self.open, &mut self.out)?;
             if length <= self.out.len() {
