@@ -1,5 +1,5 @@
-// Tests at their edges what ripsawbean.h promises. `edges FOLDER` writes the transcripts of its databases into a folder, for
-// `mvfeed check`, and says how many checks passed. It ends at the first that doesn't.
+// Tests at their edges what ripsawbean.h promises. `edges FOLDER` writes the transcripts of its databases into a
+// folder, for `mvfeed check`, and says how many checks passed. It ends at the first that doesn't.
 //
 // Not tested: RIPSAWBEAN_SPENT, which takes 18446744073709551615 calls.
 #include "testing.h"
@@ -461,7 +461,8 @@ static bool plays_with_refusals(unsigned long before) {
     return any;
 }
 
-// A feed that lags: what its database tells an operator, with every room. Neither the last text nor the next position changes.
+// A feed that lags: what its database tells an operator, with every room. Neither the last text nor the next position
+// changes.
 static void states(void) {
     doing = "states";
     static const char *const calls[] = {

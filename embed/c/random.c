@@ -1,7 +1,8 @@
-// Random calls on a few databases at a time, with buffers of random room, faulty lines, refused growths, and handles that are closed and
-// opened anew. `random SEED FOLDER` makes one round, always the same for a seed, and writes the transcript of each database into the
-// folder, for `mvfeed check`. It compares what each call leaves with what ripsawbean.h promises, ends at the first difference, and
-// else writes its counts. `embed/random` makes rounds for as long as it is told to.
+// Random calls on a few databases at a time, with buffers of random room, faulty lines, refused growths, and handles
+// that are closed and opened anew. `random SEED FOLDER` makes one round, always the same for a seed, and writes the
+// transcript of each database into the folder, for `mvfeed check`. It compares what each call leaves with what
+// ripsawbean.h promises, ends at the first difference, and else writes its counts. `embed/random` makes rounds for as
+// long as it is told to.
 #include "testing.h"
 
 #include <inttypes.h>
@@ -269,7 +270,8 @@ static void may_refuse(void) {
     if (one_in(6)) refuse_after(below(one_in(2) ? 3 : 20));
 }
 
-// Asks for the text with some room, and refuses a growth now and then. Whether it was shown: then `length` is its length.
+// Asks for the text with some room, and refuses a growth now and then. Whether it was shown: then `length` is its
+// length.
 static bool ask(database *db, uint8_t *out, size_t room, size_t *length) {
     *length = 12345;
     may_refuse();
@@ -353,7 +355,8 @@ static void take_event(database *db, const uint8_t *seen, size_t shown) {
     learn(db, db->last + digits + line_length - 1 + 4);
 }
 
-// Makes the call of the line, and again where there was no memory for it. `expected` is its fault, 0 for none, 255 where it may have one.
+// Makes the call of the line, and again where there was no memory for it. `expected` is its fault, 0 for none, 255
+// where it may have one.
 static void call(database *db, uint8_t expected) {
     line[line_length] = '\0';
     uint8_t *at = line_of(line, line_length);

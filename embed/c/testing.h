@@ -23,8 +23,8 @@ static unsigned long checks;
         }                                                                                                                           \
     } while (0)
 
-// Bytes with a page behind them that ends the program where it is touched. The library isn't built with a sanitizer, so this is what
-// finds a byte that it reads or writes too far.
+// Bytes with a page behind them that ends the program where it is touched. The library isn't built with a sanitizer, so
+// this is what finds a byte that it reads or writes too far.
 typedef struct {
     uint8_t *first, *end;
 } guarded;
@@ -79,8 +79,8 @@ static inline uint8_t *out_of(size_t room) {
     return sanded_last(&outs, room);
 }
 
-// The program is linked with --wrap for malloc and realloc, the library's calls of them too. Where a refusal is due, the growth whose
-// turn it is fails, as with a machine that has no memory left.
+// The program is linked with --wrap for malloc and realloc, the library's calls of them too. Where a refusal is due,
+// the growth whose turn it is fails, as with a machine that has no memory left.
 void *__real_malloc(size_t size);
 void *__real_realloc(void *block, size_t size);
 

@@ -526,8 +526,8 @@ class Replica(_Opened):
         rows: Optional[Iterable[Tuple[bytes, bytes]]] = None,
     ):
         super().__init__()
-        # Rows to begin with are told as an initial feed tells them: at the cursor, before all others. Nothing is there at 0, since
-        # a feed from 0 tells all of it.
+        # Rows to begin with are told as an initial feed tells them: at the cursor, before all others. Nothing is there
+        # at 0, since a feed from 0 tells all of it.
         first = sorted(rows) if rows is not None and cursor else None
         command = "open" if first is None and not initial else "openinitial"
         line = ("0 %s %s %s %d\n" % (command, _word_of(lo), _word_of(hi), cursor)).encode("ascii")
