@@ -1,7 +1,7 @@
 // A cache that follows a feed, and says at which timestamp it is complete.
 //
-// A cache keeps the rows of a span of keys. It begins empty over an initial feed, takes the feed's messages one at a time, and
-// refuses what no feed tells, by the rules of crates/replica:
+// A cache keeps the rows of a span of keys. It begins empty over an initial feed, takes the feed's messages one at a
+// time, and refuses what no feed tells, by the rules of crates/replica:
 //
 //     message        it is refused where                                            else
 //     row            its timestamp is at or below what was resolved last, or        the row is kept, or taken out where it is a
@@ -10,9 +10,9 @@
 //     resolved T     T is at or below what was resolved last, or below the row      the cache is complete: its rows are those of
 //                    before it: resolvedback                                        the database at T, for good
 //
-// A refusal changes nothing, and neither does want of memory. The program writes each event's text as the database made it,
-// and between them what the cache has, in lines that begin with "cache:". Without these lines it is a transcript for
-// `mvfeed check`, behind a first line "mvfeed 2".
+// A refusal changes nothing, and neither does want of memory. The program writes each event's text as the database made
+// it, and between them what the cache has, in lines that begin with "cache:". Without these lines it is a transcript
+// for `mvfeed check`, behind a first line "mvfeed 2".
 #include "ripsawbean.h"
 
 #include <inttypes.h>
@@ -55,8 +55,8 @@ static bytes copy(bytes b) {
     return made;
 }
 
-// A word spells bytes: a printable byte other than % is itself, and any other is % with two digits. "-" is no bytes, and %2D
-// the single byte "-".
+// A word spells bytes: a printable byte other than % is itself, and any other is % with two digits. "-" is no bytes,
+// and %2D the single byte "-".
 static void print_word(bytes b) {
     if (b.length == 0) fputs("-", stdout);
     for (size_t i = 0; i < b.length; i++) {
@@ -159,8 +159,8 @@ typedef struct {
     size_t count, room;
 } cache;
 
-// An empty cache, for an initial feed of a span that was opened at t. Such a feed tells what stands at t as rows of t, so what
-// is told is above t - 1.
+// An empty cache, for an initial feed of a span that was opened at t. Such a feed tells what stands at t as rows of t,
+// so what is told is above t - 1.
 static cache new_cache(bytes lo, bytes hi, uint64_t t) {
     return (cache){.lo = lo, .hi = hi, .resolved = t == 0 ? 0 : t - 1};
 }
@@ -311,8 +311,8 @@ static const char *call(database *db, const char *format, ...) {
     return db->text;
 }
 
-// The answer of an event, and the lines behind it. It stands behind the last arrow of the first line that has a word after it:
-// a key or a value may be spelled "=>" too.
+// The answer of an event, and the lines behind it. It stands behind the last arrow of the first line that has a word
+// after it: a key or a value may be spelled "=>" too.
 static const char *answer_of(const char *text) {
     const char *end = strchr(text, '\n'), *answer = NULL;
     for (const char *arrow = strstr(text, " => "); arrow != NULL && arrow < end; arrow = strstr(arrow + 1, " => ")) answer = arrow + 4;

@@ -1,5 +1,5 @@
-// Tests at their edges what ripsawbean.h promises. `edges FOLDER` writes the transcripts of its databases into a folder, for
-// `mvfeed check`, and says how many checks passed. It ends at the first that doesn't.
+// Tests at their edges what ripsawbean.h promises. `edges FOLDER` writes the transcripts of its databases into a
+// folder, for `mvfeed check`, and says how many checks passed. It ends at the first that doesn't.
 //
 // Not tested: RIPSAWBEAN_SPENT, which takes 18446744073709551615 calls.
 #include "testing.h"
@@ -15,7 +15,6 @@ typedef struct {
     FILE *transcript;
 } database;
 
-static guarded lines, outs;
 static const char *folder;
 static unsigned transcripts;
 
@@ -34,10 +33,6 @@ static void end(database *db) {
     CHECK(!db->handle.is_open);
     free(db->last);
     CHECK(fclose(db->transcript) == 0);
-}
-
-static uint8_t *out_of(size_t room) {
-    return sanded_last(&outs, room);
 }
 
 // Asks for the last text with some room, and compares it with what is known.
@@ -89,8 +84,7 @@ static bool answers(const database *db, const char *expected) {
 
 // Makes one call with some room, and looks at all that it leaves.
 static uint8_t call_bytes(database *db, const void *text, size_t line_length, size_t room) {
-    uint8_t *line = guarded_last(&lines, line_length), *out = out_of(room);
-    if (line_length > 0) memcpy(line, text, line_length);
+    uint8_t *line = line_of(text, line_length), *out = out_of(room);
     size_t length = 12345;
     uint8_t status = ripsawbean_call(&db->handle, line, line_length, out, room, &length);
     CHECK(line_length == 0 || memcmp(line, text, line_length) == 0);
@@ -431,8 +425,7 @@ static bool plays_with_refusals(unsigned long before) {
     for (size_t i = 0; i < sizeof script / sizeof *script; i++) {
         doing = script[i];
         size_t line_length = strlen(script[i]);
-        uint8_t *line = guarded_last(&lines, line_length);
-        memcpy(line, script[i], line_length);
+        uint8_t *line = line_of(script[i], line_length);
         for (unsigned long left = before;; left = 1000000) {
             uint8_t *out = out_of(400);
             size_t length = 12345;
@@ -468,7 +461,8 @@ static bool plays_with_refusals(unsigned long before) {
     return any;
 }
 
-// A feed that lags: what its database tells an operator, with every room. Neither the last text nor the next position changes.
+// A feed that lags: what its database tells an operator, with every room. Neither the last text nor the next position
+// changes.
 static void states(void) {
     doing = "states";
     static const char *const calls[] = {
@@ -517,131 +511,19 @@ static void want_of_memory(void) {
     CHECK(before > 0);
 }
 
-// ---- replicas
-
-static uint8_t opened(ripsawbean_replica *replica, const char *line) {
-    uint8_t *at = guarded_last(&lines, strlen(line));
-    memcpy(at, line, strlen(line));
-    return ripsawbean_replica_open(replica, at, strlen(line));
-}
-
-static uint8_t taken(ripsawbean_replica *replica, const char *line) {
-    uint8_t *at = guarded_last(&lines, strlen(line));
-    memcpy(at, line, strlen(line));
-    return ripsawbean_replica_take(replica, at, strlen(line));
-}
-
-// Where a line shows that the rows are the map, or the status as a number above all timestamps.
-static uint64_t ready(ripsawbean_replica *replica, const char *line) {
-    uint8_t *at = guarded_last(&lines, strlen(line));
-    memcpy(at, line, strlen(line));
-    uint64_t time = 12345;
-    uint8_t status = ripsawbean_replica_ready(replica, at, strlen(line), &time);
-    if (status == RIPSAWBEAN_OK) return time;
-    CHECK(time == RIPSAWBEAN_NONE);
-    return RIPSAWBEAN_MAX_TIMESTAMP + status;
-}
-
-static bool is_complete(ripsawbean_replica *replica, uint64_t through, uint64_t at) {
-    uint64_t told[2] = {12345, 12345};
-    return ripsawbean_replica_complete(replica, &told[0], &told[1]) == RIPSAWBEAN_OK && told[0] == through && told[1] == at;
-}
-
-// The rows, in each room from none to two bytes above what is needed.
-static bool has_rows(ripsawbean_replica *replica, const char *rows) {
-    for (size_t room = 0; room <= strlen(rows) + 2; room++) {
-        uint8_t *out = out_of(room);
-        size_t length = 12345, shown = room < strlen(rows) ? room : strlen(rows);
-        if (ripsawbean_replica_rows(replica, out, room, &length) != RIPSAWBEAN_OK || length != strlen(rows)) return false;
-        if (memcmp(out, rows, shown) != 0 || !is_sand(out, shown, room)) return false;
-    }
-    return true;
-}
-
-static uint8_t found(ripsawbean_replica *replica, const char *key, const char *value) {
-    uint8_t *at = guarded_last(&lines, strlen(key)), *out = out_of(9);
-    memcpy(at, key, strlen(key));
-    size_t length = 12345;
-    uint8_t status = ripsawbean_replica_get(replica, at, strlen(key), out, 9, &length);
-    CHECK(length == strlen(value) && memcmp(out, value, length) == 0 && is_sand(out, length, 9));
-    return status;
-}
-
-static void replicas(void) {
-    ripsawbean_replica replica = RIPSAWBEAN_REPLICA_INITIALIZER;
-    // A closed one does nothing, and stays closed where it isn't opened.
-    CHECK(taken(&replica, "{\"resolved\":\"9\"}\n") == RIPSAWBEAN_CLOSED);
-    CHECK(ready(&replica, "{\"resolved\":\"9\"}\n") == RIPSAWBEAN_MAX_TIMESTAMP + RIPSAWBEAN_CLOSED);
-    CHECK(found(&replica, "a", "") == RIPSAWBEAN_CLOSED);
-    CHECK(opened(&replica, "0 open - - 5") == RIPSAWBEAN_NONEWLINE);
-    CHECK(opened(&replica, "0 open - -\n") == RIPSAWBEAN_WORDCOUNT);
-    CHECK(opened(&replica, "0 poll 1 1\n") == RIPSAWBEAN_NOFEED);
-    CHECK(opened(&replica, "0 open - - 9223372036854775808\n") == RIPSAWBEAN_NOFEED);
-    CHECK(!replica.is_open);
-    CHECK(opened(&replica, "63 openinitialevery a c 7 3\n") == RIPSAWBEAN_OK);
-    CHECK(opened(&replica, "0 open - - 5\n") == RIPSAWBEAN_OPEN);
-    CHECK(is_complete(&replica, RIPSAWBEAN_NONE, RIPSAWBEAN_NONE) && has_rows(&replica, ""));
-
-    CHECK(taken(&replica, "{\"after\":\"MQ==\",\"key\":\"YQ==\",\"updated\":\"7\"}\n") == RIPSAWBEAN_OK);
-    CHECK(is_complete(&replica, RIPSAWBEAN_NONE, RIPSAWBEAN_NONE));
-    CHECK(taken(&replica, "{\"after\":\"MQ==\",\"key\":\"YQ==\",\"updated\":\"7\"}\n") == RIPSAWBEAN_NOTAFTER);
-    CHECK(taken(&replica, "{\"after\":\"MQ==\",\"key\":\"Yw==\",\"updated\":\"8\"}\n") == RIPSAWBEAN_OUTSIDESPAN);
-    CHECK(taken(&replica, "{\"resolved\":\"6\"}\n") == RIPSAWBEAN_RESOLVEDBACK);
-    CHECK(taken(&replica, "{\"resolved\":\"8\"}") == RIPSAWBEAN_NOMESSAGE);
-    CHECK(taken(&replica, "") == RIPSAWBEAN_NOMESSAGE);
-    CHECK(ready(&replica, "{}\n") == RIPSAWBEAN_MAX_TIMESTAMP + RIPSAWBEAN_NOMESSAGE);
-    CHECK(ready(&replica, "{\"resolved\":\"8\"}\n") == RIPSAWBEAN_NONE);
-    CHECK(ready(&replica, "{\"after\":null,\"key\":\"YQ==\",\"updated\":\"9\"}\n") == 8);
-    CHECK(taken(&replica, "{\"after\":\"IA==\",\"key\":\"Yg==\",\"updated\":\"9\"}\n") == RIPSAWBEAN_OK);
-    CHECK(is_complete(&replica, 8, RIPSAWBEAN_NONE));
-    CHECK(taken(&replica, "{\"resolved\":\"9223372036854775807\"}\n") == RIPSAWBEAN_OK);
-    CHECK(is_complete(&replica, RIPSAWBEAN_MAX_TIMESTAMP, RIPSAWBEAN_MAX_TIMESTAMP));
-    CHECK(has_rows(&replica, "row a 1\nrow b %20\n"));
-    CHECK(found(&replica, "a", "1") == RIPSAWBEAN_OK && found(&replica, "b", " ") == RIPSAWBEAN_OK);
-    CHECK(found(&replica, "c", "") == RIPSAWBEAN_NOVALUE && found(&replica, "", "") == RIPSAWBEAN_KEYLENGTH);
-    ripsawbean_replica_close(&replica);
-    ripsawbean_replica_close(&replica);
-    CHECK(!replica.is_open);
-
-    // Each growth of memory is refused in turn: nothing changes then.
-    const char *row = "{\"after\":\"MQ==\",\"key\":\"YWFhYWFhYWFhYWFhYWFhYWFhYWFhYWFhYWFh\",\"updated\":\"9\"}\n";
-    for (unsigned long before = 0;; before++) {
-        refuse_after(before);
-        uint8_t status = opened(&replica, "0 open - - 5\n");
-        if (!refuse_none()) {
-            CHECK(status == RIPSAWBEAN_OK);
-            break;
-        }
-        CHECK(status == RIPSAWBEAN_NOMEMORY && !replica.is_open);
-    }
-    for (unsigned long before = 0;; before++) {
-        refuse_after(before);
-        uint8_t status = taken(&replica, row);
-        if (!refuse_none()) {
-            CHECK(status == RIPSAWBEAN_OK);
-            break;
-        }
-        CHECK(status == RIPSAWBEAN_NOMEMORY && is_complete(&replica, 5, 5) && has_rows(&replica, ""));
-    }
-    CHECK(has_rows(&replica, "row aaaaaaaaaaaaaaaaaaaaaaaaaaa 1\n"));
-    ripsawbean_replica_close(&replica);
-}
-
 int main(int count, char **words) {
     if (count != 2) {
         fputs("edges FOLDER\n", stderr);
         return 1;
     }
     folder = words[1];
-    lines = guarded_new(300000);
-    outs = guarded_new(ROOM);
+    make_guarded(300000, ROOM);
     handles_open_and_close();
     rooms_of_each_size();
     faults_of_lines();
     limits();
     states();
     want_of_memory();
-    replicas();
     printf("edges: %lu checks, %u transcripts, %lu growths refused\n", checks, transcripts, growths_refused);
     return 0;
 }

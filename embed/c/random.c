@@ -1,7 +1,8 @@
-// Random calls on a few databases at a time, with buffers of random room, faulty lines, refused growths, and handles that are closed and
-// opened anew. `random SEED FOLDER` makes one round, always the same for a seed, and writes the transcript of each database into the
-// folder, for `mvfeed check`. It compares what each call leaves with what ripsawbean.h promises, ends at the first difference, and
-// else writes its counts. `embed/random` makes rounds for as long as it is told to.
+// Random calls on a few databases at a time, with buffers of random room, faulty lines, refused growths, and handles
+// that are closed and opened anew. `random SEED FOLDER` makes one round, always the same for a seed, and writes the
+// transcript of each database into the folder, for `mvfeed check`. It compares what each call leaves with what
+// ripsawbean.h promises, ends at the first difference, and else writes its counts. `embed/random` makes rounds for as
+// long as it is told to.
 #include "testing.h"
 
 #include <inttypes.h>
@@ -30,22 +31,10 @@ static struct {
     unsigned long databases, events, faults, refusals, asked, unwritten, no_memory, closed, repeats;
 } counts;
 
-static guarded lines, outs;
 static const char *folder;
-static uint64_t seed, dice;
+static uint64_t seed;
 static char line[MOST_LINE];
 static size_t line_length;
-
-static uint64_t below(uint64_t limit) {
-    dice ^= dice << 13;
-    dice ^= dice >> 7;
-    dice ^= dice << 17;
-    return (dice >> 11) % limit;
-}
-
-static bool one_in(uint64_t n) {
-    return below(n) == 0;
-}
 
 // ---- lines
 
@@ -281,7 +270,8 @@ static void may_refuse(void) {
     if (one_in(6)) refuse_after(below(one_in(2) ? 3 : 20));
 }
 
-// Asks for the text with some room, and refuses a growth now and then. Whether it was shown: then `length` is its length.
+// Asks for the text with some room, and refuses a growth now and then. Whether it was shown: then `length` is its
+// length.
 static bool ask(database *db, uint8_t *out, size_t room, size_t *length) {
     *length = 12345;
     may_refuse();
@@ -300,7 +290,7 @@ static bool ask(database *db, uint8_t *out, size_t room, size_t *length) {
 // The last event's text is still there, whatever was refused since.
 static void ask_again(database *db) {
     size_t room = random_room(db), length;
-    uint8_t *out = sanded_last(&outs, room);
+    uint8_t *out = out_of(room);
     if (!ask(db, out, room, &length)) return;
     CHECK(length == db->length);
     size_t shown = length < room ? length : room;
@@ -338,7 +328,7 @@ static void take_event(database *db, const uint8_t *seen, size_t shown) {
     size_t room = shown, length;
     uint8_t *out;
     for (;;) {
-        out = sanded_last(&outs, room);
+        out = out_of(room);
         if (!ask(db, out, room, &length)) continue;
         if (length <= room) break;
         counts.asked++;
@@ -365,14 +355,14 @@ static void take_event(database *db, const uint8_t *seen, size_t shown) {
     learn(db, db->last + digits + line_length - 1 + 4);
 }
 
-// Makes the call of the line, and again where there was no memory for it. `expected` is its fault, 0 for none, 255 where it may have one.
+// Makes the call of the line, and again where there was no memory for it. `expected` is its fault, 0 for none, 255
+// where it may have one.
 static void call(database *db, uint8_t expected) {
     line[line_length] = '\0';
-    uint8_t *at = guarded_last(&lines, line_length);
-    memcpy(at, line, line_length);
+    uint8_t *at = line_of(line, line_length);
     for (;;) {
         size_t room = random_room(db), length = 12345;
-        uint8_t *out = sanded_last(&outs, room);
+        uint8_t *out = out_of(room);
         may_refuse();
         uint8_t status = ripsawbean_call(&db->handle, at, line_length, out, room, &length);
         bool was_refused = refuse_none();
@@ -429,7 +419,7 @@ static void close_slot(database *db) {
 
 static void use_closed(database *db) {
     size_t room = below(20), length = 12345;
-    uint8_t *out = sanded_last(&outs, room);
+    uint8_t *out = out_of(room);
     if (one_in(2)) CHECK(ripsawbean_text(&db->handle, out, room, &length) == RIPSAWBEAN_CLOSED);
     else CHECK(ripsawbean_call(&db->handle, (const uint8_t *)"0 stats\n", below(9), out, room, &length) == RIPSAWBEAN_CLOSED);
     CHECK(length == 0 && is_sand(out, 0, room));
@@ -461,10 +451,8 @@ int main(int count, char **words) {
     seed = strtoull(words[1], NULL, 10);
     folder = words[2];
     doing = words[1];
-    dice = (seed + 1) * UINT64_C(0x9E3779B97F4A7C15) | 1;
-    for (int i = 0; i < 10; i++) below(2);
-    lines = guarded_new(MOST_LINE);
-    outs = guarded_new(MOST_TEXT);
+    set_dice(seed);
+    make_guarded(MOST_LINE, MOST_TEXT);
     static database slots[SLOTS];
     unsigned open = 0;
     while (counts.databases < DATABASES || open > 0) {

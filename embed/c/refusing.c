@@ -1,4 +1,5 @@
-// The library with growths of memory that can be refused, for the tests of the Rust and Python wrappers: embed/build links this file with it.
+// The library with growths of memory that can be refused, for the tests of the Rust and Python wrappers: embed/build
+// links this file with it.
 #include "testing.h"
 
 // Has the library's growth behind `before` others be refused.

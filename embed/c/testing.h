@@ -1,4 +1,5 @@
-// What the two test programs share: checks, buffers that end at a page which nobody may touch, and growths of memory that are refused.
+// What the test programs share: checks, buffers that end at a page which nobody may touch, growths of memory that are
+// refused, and dice.
 #ifndef TESTING_H
 #define TESTING_H
 
@@ -22,8 +23,8 @@ static unsigned long checks;
         }                                                                                                                           \
     } while (0)
 
-// Bytes with a page behind them that ends the program where it is touched. The library isn't built with a sanitizer, so this is what
-// finds a byte that it reads or writes too far.
+// Bytes with a page behind them that ends the program where it is touched. The library isn't built with a sanitizer, so
+// this is what finds a byte that it reads or writes too far.
 typedef struct {
     uint8_t *first, *end;
 } guarded;
@@ -59,18 +60,38 @@ static inline bool is_sand(const uint8_t *at, size_t from, size_t to) {
     return true;
 }
 
-// The program is linked with --wrap for malloc and realloc, the library's calls of them too. Where a refusal is due, the growth whose
-// turn it is fails, as with a machine that has no memory left.
+// Where lines are read and buffers written, each up to its page.
+static guarded lines, outs;
+
+static inline void make_guarded(size_t longest_line, size_t most_room) {
+    lines = guarded_new(longest_line);
+    outs = guarded_new(most_room);
+}
+
+// Bytes for the library to read: a line, or a key.
+static inline uint8_t *line_of(const void *bytes, size_t length) {
+    uint8_t *at = guarded_last(&lines, length);
+    if (length > 0) memcpy(at, bytes, length);
+    return at;
+}
+
+static inline uint8_t *out_of(size_t room) {
+    return sanded_last(&outs, room);
+}
+
+// The program is linked with --wrap for malloc and realloc, the library's calls of them too. Where a refusal is due,
+// the growth whose turn it is fails, as with a machine that has no memory left.
 void *__real_malloc(size_t size);
 void *__real_realloc(void *block, size_t size);
 
-static bool refuses;
+static bool refuses, has_refused;
 static unsigned long growths_before; // that are let through before one is refused
 static unsigned long growths_refused;
 
 static inline bool is_refused(void) {
     if (!refuses || growths_before-- > 0) return false;
     refuses = false;
+    has_refused = true;
     growths_refused++;
     return true;
 }
@@ -91,11 +112,30 @@ static inline void refuse_after(unsigned long before) {
     growths_before = before;
 }
 
-// From here on no growth is refused. Whether one was since.
+// From here on no growth is refused. Whether one was since the last time.
 static inline bool refuse_none(void) {
-    bool was_refused = !refuses;
-    refuses = false;
+    bool was_refused = has_refused;
+    refuses = has_refused = false;
     return was_refused;
+}
+
+// Dice that fall alike for a seed.
+static uint64_t dice;
+
+static inline uint64_t below(uint64_t limit) {
+    dice ^= dice << 13;
+    dice ^= dice >> 7;
+    dice ^= dice << 17;
+    return (dice >> 11) % limit;
+}
+
+static inline bool one_in(uint64_t n) {
+    return below(n) == 0;
+}
+
+static inline void set_dice(uint64_t seed) {
+    dice = (seed + 1) * UINT64_C(0x9E3779B97F4A7C15) | 1;
+    for (int i = 0; i < 10; i++) below(2);
 }
 
 #endif

@@ -110,7 +110,8 @@ def main() -> None:
         story = Story(db)
         call = story.call
 
-        # Seat 0 writes fruit, and one tool. Keys and values are any bytes: %20 is a space, "-" the empty value, %2D a "-".
+        # Seat 0 writes fruit, and one tool. Keys and values are any bytes: %20 is a space, "-" the empty value, %2D a
+        # "-".
         call("0 begin 10")
         call("0 put 10 fruit/apple 3")
         call("0 put 10 %s %s" % (spell("fruit/açaí".encode()), spell(b"a cup")))

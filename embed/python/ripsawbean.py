@@ -23,8 +23,9 @@ import base64
 import ctypes
 import os
 import threading
+import types
 import warnings
-from typing import Callable, Iterable, Iterator, List, NamedTuple, NoReturn, Optional, Tuple, Union
+from typing import Any, Callable, Iterable, Iterator, List, NamedTuple, Optional, Tuple, Type, TypeVar, Union
 
 __all__ = [
     "Database", "Event", "Replica", "Row", "Resolved", "spell", "unspell",
@@ -171,6 +172,12 @@ class NoFeed(Error, ValueError):
     status = 22
 
 
+class _NoValue(Error):
+    """The key has no value."""
+
+    status = 23
+
+
 class Refused(Error):
     """The call was made, and its answer is a refusal. `answer` has its words, and `event` the whole event."""
 
@@ -183,14 +190,10 @@ class Refused(Error):
 _ERRORS = {
     kind.status: kind
     for kind in (
-        WordCount, UnknownCommand, Number, KeyLength, ValueLength, Session, NoNewline, LineTooLong, BadByte,
-        NoMemory, Spent, Unwritten, RingRange, Closed, AlreadyOpen, NoMessage, NotAfter, OutsideSpan, ResolvedBack, NoFeed,
+        WordCount, UnknownCommand, Number, KeyLength, ValueLength, Session, NoNewline, LineTooLong, BadByte, NoMemory, Spent,
+        Unwritten, RingRange, Closed, AlreadyOpen, NoMessage, NotAfter, OutsideSpan, ResolvedBack, NoFeed, _NoValue,
     )
 }
-
-
-def _raise(status: int) -> NoReturn:
-    raise _ERRORS.get(status, Error)("the library returned %d" % status)
 
 
 # ---- words: bytes as lines spell them
@@ -303,13 +306,17 @@ class Event:
     @property
     def rows(self) -> List[Tuple[bytes, bytes]]:
         """The rows of a scan, keys rising."""
-        words = [line.split(" ") for line in self.text.split("\n")[1:-1] if line.startswith("row ")]
-        return [(unspell(key), unspell(value)) for _, key, value in words]
+        return _rows_of(self.text.split("\n")[1:-1])
 
     @property
     def messages(self) -> List[Message]:
         """The messages that a poll told, in their order."""
         return [_message_of(line) for line in self.text.split("\n")[1:-1] if line.startswith("{")]
+
+
+def _rows_of(lines: List[str]) -> List[Tuple[bytes, bytes]]:
+    words = [line.split(" ") for line in lines if line.startswith("row ")]
+    return [(unspell(key), unspell(value)) for _, key, value in words]
 
 
 def _message_of(line: str) -> Message:
@@ -322,14 +329,16 @@ def _message_of(line: str) -> Message:
 
 
 def _line_of(message: Union[Message, str, bytes]) -> bytes:
-    if isinstance(message, str):
-        return message.encode("utf-8", "surrogatepass")
     if isinstance(message, Resolved):
         return b'{"resolved":"%d"}\n' % message.timestamp
     if isinstance(message, Row):
         after = b"null" if message.after is None else b'"' + base64.b64encode(message.after) + b'"'
         return b'{"after":%b,"key":"%b","updated":"%d"}\n' % (after, base64.b64encode(message.key), message.updated)
-    return bytes(message)
+    return _bytes_of(message)
+
+
+def _bytes_of(line: Union[str, bytes]) -> bytes:
+    return line.encode("utf-8", "surrogatepass") if isinstance(line, str) else bytes(line)
 
 
 # ---- the library
@@ -351,56 +360,50 @@ def _find() -> str:
     raise OSError("libripsawbean.so is not there: run embed/build, or name it in RIPSAWBEAN_LIBRARY")
 
 
+def _check(status: Optional[int], *_: object) -> None:
+    if status:
+        raise _ERRORS.get(status, Error)("the library returned %d" % status)
+
+
+def _functions(prefix: str, **arguments: List[Any]) -> types.SimpleNamespace:
+    """Functions of the library, by name, with what they take behind the handle. Each raises where its status isn't 0."""
+    for name, kinds in arguments.items():
+        function = getattr(_library, prefix + name)
+        function.argtypes = [ctypes.POINTER(_Handle), *kinds]
+        function.restype = None if name == "close" else ctypes.c_uint8
+        function.errcheck = _check
+    return types.SimpleNamespace(**{name: getattr(_library, prefix + name) for name in arguments})
+
+
 _library = ctypes.CDLL(_find())
-_open, _call, _text, _state, _close = (getattr(_library, "ripsawbean_" + name) for name in ("open", "call", "text", "state", "close"))
-_handle_at, _bytes_at, _size = ctypes.POINTER(_Handle), ctypes.c_char_p, ctypes.c_size_t
-_open.argtypes, _open.restype = [_handle_at, ctypes.c_uint32], ctypes.c_uint8
-_call.argtypes = [_handle_at, _bytes_at, _size, ctypes.c_void_p, _size, ctypes.POINTER(_size)]
-_call.restype = ctypes.c_uint8
-_text.argtypes, _text.restype = [_handle_at, ctypes.c_void_p, _size, ctypes.POINTER(_size)], ctypes.c_uint8
-_state.argtypes, _state.restype = _text.argtypes, ctypes.c_uint8
-_close.argtypes, _close.restype = [_handle_at], None
-_number_at = ctypes.POINTER(ctypes.c_uint64)
-_replica = {name: getattr(_library, "ripsawbean_replica_" + name) for name in ("open", "take", "ready", "complete", "get", "rows", "close")}
-_replica["open"].argtypes = _replica["take"].argtypes = [_handle_at, _bytes_at, _size]
-_replica["ready"].argtypes = [_handle_at, _bytes_at, _size, _number_at]
-_replica["complete"].argtypes = [_handle_at, _number_at, _number_at]
-_replica["get"].argtypes = [_handle_at, _bytes_at, _size, ctypes.c_void_p, _size, ctypes.POINTER(_size)]
-_replica["rows"].argtypes = [_handle_at, ctypes.c_void_p, _size, ctypes.POINTER(_size)]
-_replica["close"].argtypes = [_handle_at]
-for _function in _replica.values():
-    _function.restype = ctypes.c_uint8
-_replica["close"].restype = None
-_NO_VALUE = 23
+_size, _time = ctypes.c_size_t, ctypes.c_uint64
+_bytes, _room, _time_at = [ctypes.c_char_p, _size], [ctypes.c_void_p, _size, ctypes.POINTER(_size)], ctypes.POINTER(_time)
+_database = _functions("ripsawbean_", open=[ctypes.c_uint32], call=_bytes + _room, text=_room, state=_room, close=[])
+_replica = _functions(
+    "ripsawbean_replica_", open=_bytes, take=_bytes, ready=[*_bytes, _time_at], complete=[_time_at, _time_at],
+    get=_bytes + _room, rows=_room, close=[],
+)
 _NONE = (1 << 64) - 1
+_Self = TypeVar("_Self", bound="_Opened")
 
 
-class Database:
-    """One database, open from the start. Each feed keeps up to `ring` rows at hand, 1 to 65536; no answer depends on it.
+class _Opened:
+    """What has a handle of the library, and room for what the library shows. Calls of several threads take turns.
 
     A context manager closes it at the end of its block.
     """
 
-    def __init__(self, ring: int = 1024):
-        # It is held from a call until its text is read, so that calls of several threads take turns.
+    _free: Callable[..., None]
+    _wanting: Type[Error] = NoMemory
+
+    def __init__(self) -> None:
+        # It is held from a call until what it shows is read.
         self._turn = threading.Lock()
         self._handle = _Handle()
         self._at = ctypes.byref(self._handle)
         self._length = _size()
         self._length_at = ctypes.byref(self._length)
-        self._room = 0
-        self.open(ring)
-
-    def open(self, ring: int = 1024) -> None:
-        """Opens it anew after `close`, empty."""
-        if not 0 <= ring < 1 << 32:
-            raise RingRange("the ring is not 1 to 65536")
-        with self._turn:
-            if not self._room:
-                self._make_room(4096)
-            status = _open(self._at, ring)
-        if status:
-            _raise(status)
+        self._make_room(4096)
 
     @property
     def is_open(self) -> bool:
@@ -409,9 +412,9 @@ class Database:
     def close(self) -> None:
         """Frees it. A closed one stays closed."""
         with self._turn:
-            _close(self._at)
+            self._free(self._at)
 
-    def __enter__(self) -> "Database":
+    def __enter__(self: _Self) -> _Self:
         return self
 
     def __exit__(self, *_: object) -> None:
@@ -419,17 +422,57 @@ class Database:
 
     def __del__(self) -> None:
         if getattr(self, "_handle", None) is not None and self._handle.is_open:
-            warnings.warn("a ripsawbean.Database was not closed", ResourceWarning, source=self)
-            _close(self._at)
+            warnings.warn("a ripsawbean.%s was not closed" % type(self).__name__, ResourceWarning, source=self)
+            self._free(self._at)
+
+    def _show(self, show: Callable[..., None], *asked: object) -> bytes:
+        """What a function of the library shows."""
+        show(self._at, *asked, self._out_at, self._room, self._length_at)
+        return self._shown(show, *asked)
+
+    def _shown(self, again: Callable[..., None], *asked: object) -> bytes:
+        """What was shown, which is asked for again where it found too little room."""
+        while self._length.value > self._room:
+            try:
+                self._make_room(2 * self._length.value)
+            except MemoryError:
+                raise self._wanting("Python has no memory for it") from None
+            again(self._at, *asked, self._out_at, self._room, self._length_at)
+        return ctypes.string_at(self._out, self._length.value)
+
+    def _make_room(self, room: int) -> None:
+        self._out = ctypes.create_string_buffer(room)
+        self._out_at = ctypes.addressof(self._out)
+        self._room = room
+
+
+class Database(_Opened):
+    """One database, open from the start. Each feed keeps up to `ring` rows at hand, 1 to 65536; no answer depends on it.
+
+    A context manager closes it at the end of its block.
+    """
+
+    _free = _database.close
+    _wanting = Unwritten
+
+    def __init__(self, ring: int = 1024):
+        super().__init__()
+        self.open(ring)
+
+    def open(self, ring: int = 1024) -> None:
+        """Opens it anew after `close`, empty."""
+        if not 0 <= ring < 1 << 32:
+            raise RingRange("the ring is not 1 to 65536")
+        with self._turn:
+            _database.open(self._at, ring)
 
     def call(self, line: Union[str, bytes]) -> Event:
         """Makes the call of a line, with its newline, as "0 put 10 apple 3\\n". It raises where no call was made, and Unwritten."""
-        data = line.encode("utf-8", "surrogatepass") if isinstance(line, str) else bytes(line)
+        data = _bytes_of(line)
         with self._turn:
-            status = _call(self._at, data, len(data), self._out_at, self._room, self._length_at)
-            if not status:
-                return self._event()
-        _raise(status)
+            _database.call(self._at, data, len(data), self._out_at, self._room, self._length_at)
+            # The call is not made again where its text found too little room.
+            return Event(self._shown(_database.text).decode("ascii"))
 
     def make(self, command: str, *arguments: Union[int, bytes, None], seat: int = 0) -> Event:
         """Makes a call from values: numbers, bytes for keys and values, and None for no bound. The event may be a refusal."""
@@ -438,18 +481,13 @@ class Database:
     def text(self) -> Optional[Event]:
         """The last event once more, or None where no call was made yet. It makes no call."""
         with self._turn:
-            status = _text(self._at, self._out_at, self._room, self._length_at)
-            if not status:
-                return self._event() if self._length.value else None
-        _raise(status)
+            text = self._show(_database.text)
+        return Event(text.decode("ascii")) if text else None
 
     def state(self) -> str:
         """What an operator may ask of the database now, as lines of JSON. It makes no call."""
         with self._turn:
-            status = _state(self._at, self._out_at, self._room, self._length_at)
-            if not status:
-                return self._shown(_state)
-        _raise(status)
+            return self._show(_database.state).decode("ascii")
 
     def messages(self, feed: int, max: int, seat: int = 0) -> Iterator[Message]:
         """The messages of a feed, up to where none is due, by polls of at most `max` each.
@@ -471,28 +509,8 @@ class Database:
             told = len(messages)
             yield from messages
 
-    def _event(self) -> Event:
-        return Event(self._shown(_text))
 
-    def _shown(self, show) -> str:
-        # What was shown is asked for again where it found too little room; the call of an event is not made again.
-        while self._length.value > self._room:
-            try:
-                self._make_room(2 * self._length.value)
-            except MemoryError:
-                raise Unwritten("Python has no memory for the text") from None
-            status = show(self._at, self._out_at, self._room, self._length_at)
-            if status:
-                _raise(status)
-        return ctypes.string_at(self._out, self._length.value).decode("ascii")
-
-    def _make_room(self, room: int) -> None:
-        self._out = ctypes.create_string_buffer(room)
-        self._out_at = ctypes.addressof(self._out)
-        self._room = room
-
-
-class Replica:
+class Replica(_Opened):
     """The rows of one feed's span, kept by the feed's messages, which may come from another process.
 
     It is for a feed that was opened on the bytes `lo` to `hi`, or None for no bound, at `cursor`. An initial feed tells it the rows
@@ -501,57 +519,37 @@ class Replica:
     the next timestamp. A context manager closes it at the end of its block.
     """
 
-    def __init__(self, lo: Optional[bytes], hi: Optional[bytes], cursor: int, initial: bool = False, rows: Optional[Iterable[Tuple[bytes, bytes]]] = None):
-        self._turn = threading.Lock()
-        self._handle = _Handle()
-        self._at = ctypes.byref(self._handle)
-        first = sorted(rows) if rows is not None and cursor else []  # nothing is there at 0: a feed from 0 tells all of it
-        # Rows to begin with are told as an initial feed tells them: at the cursor, before all others.
-        command = "openinitial" if initial or (rows is not None and cursor) else "open"
+    _free = _replica.close
+
+    def __init__(
+        self, lo: Optional[bytes], hi: Optional[bytes], cursor: int, initial: bool = False,
+        rows: Optional[Iterable[Tuple[bytes, bytes]]] = None,
+    ):
+        super().__init__()
+        # Rows to begin with are told as an initial feed tells them: at the cursor, before all others. Nothing is there
+        # at 0, since a feed from 0 tells all of it.
+        first = sorted(rows) if rows is not None and cursor else None
+        command = "open" if first is None and not initial else "openinitial"
         line = ("0 %s %s %s %d\n" % (command, _word_of(lo), _word_of(hi), cursor)).encode("ascii")
-        self._out = ctypes.create_string_buffer(4096)
-        status = _replica["open"](self._at, line, len(line))
-        if status:
-            _raise(status)
-        for key, value in first:
-            self.take(Row(key, value, cursor))
-
-    @property
-    def is_open(self) -> bool:
-        return self._handle.is_open
-
-    def close(self) -> None:
-        """Frees it. A closed one stays closed."""
-        with self._turn:
-            _replica["close"](self._at)
-
-    def __enter__(self) -> "Replica":
-        return self
-
-    def __exit__(self, *_: object) -> None:
-        self.close()
-
-    def __del__(self) -> None:
-        if getattr(self, "_handle", None) is not None and self._handle.is_open:
-            warnings.warn("a ripsawbean.Replica was not closed", ResourceWarning, source=self)
-            _replica["close"](self._at)
+        _replica.open(self._at, line, len(line))
+        try:
+            for key, value in first or ():
+                self.take(Row(key, value, cursor))
+        except BaseException:
+            self.close()
+            raise
 
     def take(self, message: Union[Message, str, bytes]) -> None:
         """Takes the next message, or the line of one. Where it raises NotTaken or NoMemory nothing changed."""
         line = _line_of(message)
         with self._turn:
-            status = _replica["take"](self._at, line, len(line))
-        if status:
-            _raise(status)
+            _replica.take(self._at, line, len(line))
 
     def ready(self, message: Union[Message, str, bytes]) -> Optional[int]:
         """Asked before `take`: the timestamp at which the rows are the map as they stand, where the message shows it, or None."""
-        line = _line_of(message)
-        at = ctypes.c_uint64()
+        line, at = _line_of(message), _time()
         with self._turn:
-            status = _replica["ready"](self._at, line, len(line), ctypes.byref(at))
-        if status:
-            _raise(status)
+            _replica.ready(self._at, line, len(line), ctypes.byref(at))
         return _time_of(at)
 
     @property
@@ -564,39 +562,26 @@ class Replica:
         """The timestamp at which the rows are the map, after a resolved message, or None after a row."""
         return self._complete()[1]
 
+    def _complete(self) -> Tuple[Optional[int], Optional[int]]:
+        through, at = _time(), _time()
+        with self._turn:
+            _replica.complete(self._at, ctypes.byref(through), ctypes.byref(at))
+        return _time_of(through), _time_of(at)
+
     def get(self, key: bytes) -> Optional[bytes]:
         """The value of a key, or None."""
         data = bytes(key)
         with self._turn:
-            return self._shown(lambda *room: _replica["get"](self._at, data, len(data), *room))
+            try:
+                return self._show(_replica.get, data, len(data))
+            except _NoValue:
+                return None
 
     def rows(self) -> List[Tuple[bytes, bytes]]:
         """All rows, keys rising."""
         with self._turn:
-            text = self._shown(lambda *room: _replica["rows"](self._at, *room))
-        words = [line.split(" ") for line in (text or b"").decode("ascii").split("\n")[:-1]]
-        return [(unspell(key), unspell(value)) for _, key, value in words]
-
-    def _complete(self) -> Tuple[Optional[int], Optional[int]]:
-        through, at = ctypes.c_uint64(), ctypes.c_uint64()
-        with self._turn:
-            status = _replica["complete"](self._at, ctypes.byref(through), ctypes.byref(at))
-        if status:
-            _raise(status)
-        return _time_of(through), _time_of(at)
-
-    def _shown(self, show: Callable[..., int]) -> Optional[bytes]:
-        # It is asked again where it found too little room.
-        length = _size()
-        while True:
-            status = show(ctypes.addressof(self._out), len(self._out), ctypes.byref(length))
-            if status == _NO_VALUE:
-                return None
-            if status:
-                _raise(status)
-            if length.value <= len(self._out):
-                return ctypes.string_at(self._out, length.value)
-            self._out = ctypes.create_string_buffer(2 * length.value)
+            text = self._show(_replica.rows)
+        return _rows_of(text.decode("ascii").split("\n"))
 
 
 def _time_of(number: ctypes.c_uint64) -> Optional[int]:

@@ -1,7 +1,7 @@
 //! A cache that follows a feed, and says at which timestamp it is complete.
 //!
-//! A cache keeps the rows of a span of keys. It begins empty over an initial feed, takes the feed's messages one at a time, and
-//! refuses what no feed tells, by the rules of crates/replica:
+//! A cache keeps the rows of a span of keys. It begins empty over an initial feed, takes the feed's messages one at a
+//! time, and refuses what no feed tells, by the rules of crates/replica:
 //!
 //! ```text
 //! message        it is refused where                                            else
@@ -12,8 +12,9 @@
 //!                before it: resolvedback                                        the database at T, for good
 //! ```
 //!
-//! A refusal changes nothing. The program writes each event's text as the database made it, and between them what the cache has,
-//! in lines that begin with "cache:". Without these lines it is a transcript for `mvfeed check`, behind a first line "mvfeed 2".
+//! A refusal changes nothing. The program writes each event's text as the database made it, and between them what the
+//! cache has, in lines that begin with "cache:". Without these lines it is a transcript for `mvfeed check`, behind a
+//! first line "mvfeed 2".
 
 use ripsawbean::{CallError, Command, Database, Event, Message, Row, Span, Spelled};
 use std::collections::BTreeMap;
@@ -52,7 +53,8 @@ struct Cache<'a> {
 }
 
 impl<'a> Cache<'a> {
-    /// Empty, for an initial feed of the span that was opened at `at`: it tells what stands there as rows of that timestamp.
+    /// Empty, for an initial feed of the span that was opened at `at`: it tells what stands there as rows of that
+    /// timestamp.
     fn new(span: Span<'a>, at: u64) -> Cache<'a> {
         Cache { span, resolved: at.saturating_sub(1), last: None, complete: None, rows: BTreeMap::new() }
     }

@@ -1,4 +1,5 @@
-//! The Rust part of `embed/speed`: writes `WORKLOAD RATE` a line, in calls or operations a second, the best of so many runs.
+//! The Rust part of `embed/speed`: writes `WORKLOAD RATE` a line, in calls or operations a second, the best of so many
+//! runs.
 //!
 //! `speed TRANSACTIONS REFUSED RUNS`
 

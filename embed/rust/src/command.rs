@@ -21,7 +21,8 @@ impl fmt::Display for Span<'_> {
     fn fmt(&self, f: &mut fmt::Formatter<'_>) -> fmt::Result {
         match self.hi {
             None => write!(f, "{} -", Spelled(self.lo)),
-            // No key is below no bytes. As a bound `-` is none at all, so this span without a key is spelled as another one.
+            // No key is below no bytes. As a bound `-` is none at all, so this span without a key is spelled as another
+            // one.
             Some(b"") => f.write_str("%00 %00"),
             Some(hi) => write!(f, "{} {}", Spelled(self.lo), Spelled(hi)),
         }

@@ -18,14 +18,15 @@ pub struct Database {
 }
 
 impl Database {
-    /// Opens a new and empty database, of which each feed keeps up to `ring` rows at hand, 1 to 65536. No answer depends on it.
+    /// Opens a new and empty database, of which each feed keeps up to `ring` rows at hand, 1 to 65536. No answer
+    /// depends on it.
     pub fn open(ring: u32) -> Result<Database, OpenError> {
         let open = Open::new(ring).map_err(OpenError::of)?;
         Ok(Database { open, out: vec![0; 4096], line: String::new() })
     }
 
-    /// Makes the call of a line, with its newline, as `"0 put 10 apple 3\n"`. After each error but [`CallError::Unwritten`] the
-    /// database is as it was.
+    /// Makes the call of a line, with its newline, as `"0 put 10 apple 3\n"`. After each error but
+    /// [`CallError::Unwritten`] the database is as it was.
     pub fn call(&mut self, line: impl AsRef<[u8]>) -> Result<Event<'_>, CallError> {
         let length = self.open.call(line.as_ref(), &mut self.out).map_err(CallError::of)?;
         Ok(self.event(length)?)
@@ -48,8 +49,8 @@ impl Database {
         self.event(length).map(Some)
     }
 
-    /// What an operator may ask of the database now, as lines of JSON: how far it is closed and collected and what holds it,
-    /// the undecided transactions, the protections, and how far each feed has come. It makes no call.
+    /// What an operator may ask of the database now, as lines of JSON: how far it is closed and collected and what
+    /// holds it, the undecided transactions, the protections, and how far each feed has come. It makes no call.
     pub fn state(&mut self) -> Result<String, Unwritten> {
         let mut length = self.open.state(&mut self.out).map_err(unwritten)?;
         while length > self.out.len() {
@@ -62,8 +63,8 @@ impl Database {
 
     /// The messages of a feed, up to where none is due, by polls of at most `max` each, 0 being taken as 1.
     ///
-    /// A poll is made once the messages of the one before are taken. A message is told once: whoever stops midway in the messages
-    /// of a poll has lost the others, and its consumer begins anew.
+    /// A poll is made once the messages of the one before are taken. A message is told once: whoever stops midway in
+    /// the messages of a poll has lost the others, and its consumer begins anew.
     pub fn messages(&mut self, seat: u8, feed: u64, max: u64) -> Messages<'_> {
         Messages { database: self, seat, feed, max: max.max(1), told: Vec::new().into_iter(), is_over: false }
     }

@@ -12,8 +12,8 @@ pub enum OpenError {
     NoMemory,
 }
 
-/// The first fault of a line, in the order of tests: its length, its newline, its bytes, its words, the seat, the command's name,
-/// how many arguments it has, the arguments from the left.
+/// The first fault of a line, in the order of tests: its length, its newline, its bytes, its words, the seat, the
+/// command's name, how many arguments it has, the arguments from the left.
 #[derive(Clone, Copy, Debug, PartialEq, Eq, Hash)]
 pub enum LineFault {
     /// An empty line or word, or the wrong number of words.

@@ -68,7 +68,11 @@ impl<'a> Event<'a> {
 
     /// Its position. The events of a database are numbered from 0 without a gap.
     pub fn position(self) -> u64 {
-        self.first_line().split(' ').next().and_then(|word| word.parse().ok()).expect("an event begins with its position")
+        self.first_line()
+            .split(' ')
+            .next()
+            .and_then(|word| word.parse().ok())
+            .expect("an event begins with its position")
     }
 
     /// The words behind `=>`: behind the last one with a word after it, since a key or a value may be spelled so too.

@@ -1,5 +1,5 @@
-//! Ripsawbean inside a Rust program: an in-memory multiversion timestamp database whose committed changes leave it as ordered
-//! feeds. This is a safe wrapper over the functions of `ripsawbean.h`, with no dependency.
+//! Ripsawbean inside a Rust program: an in-memory multiversion timestamp database whose committed changes leave it as
+//! ordered feeds. This is a safe wrapper over the functions of `ripsawbean.h`, with no dependency.
 //!
 //! ```
 //! use ripsawbean::{Command, Database, Message, Row, Span};
@@ -21,9 +21,9 @@
 //! # }
 //! ```
 //!
-//! A [`Database`] is open for as long as it lives. Calls take it by `&mut`, so no two run at once. It is [`Send`]: the library
-//! proves that a handle may go to another thread. Several threads share one behind a [`Mutex`](std::sync::Mutex), or send their
-//! lines to the thread that has it.
+//! A [`Database`] is open for as long as it lives. Calls take it by `&mut`, so no two run at once. It is [`Send`]: the
+//! library proves that a handle may go to another thread. Several threads share one behind a
+//! [`Mutex`](std::sync::Mutex), or send their lines to the thread that has it.
 //!
 //! ```
 //! use std::sync::Mutex;

@@ -46,8 +46,8 @@ pub(crate) struct Open {
     handle: Handle,
 }
 
-// SAFETY: the library proves `Send` of its handle, and asks for one call at a time, which `&mut self` gives. Rust's own rules order what
-// two threads do with one value. (There is no `Sync`: nothing can be done with a shared handle.)
+// SAFETY: the library proves `Send` of its handle, and asks for one call at a time, which `&mut self` gives. Rust's own
+// rules order what two threads do with one value. (There is no `Sync`: nothing can be done with a shared handle.)
 unsafe impl Send for Open {}
 
 impl Open {
@@ -63,10 +63,12 @@ impl Open {
     /// Makes the call of a line, and shows the text in `out`: its whole length.
     pub(crate) fn call(&mut self, line: &[u8], out: &mut [u8]) -> Result<usize, Status> {
         let mut length = 0;
-        // SAFETY: each pointer is that of a reference or of a slice with its length, so none is null, and the line is only read.
-        // The handle, the buffer and the length are borrowed by `&mut`, so they share no byte with one another or with the line.
-        let status =
-            unsafe { ripsawbean_call(&mut self.handle, line.as_ptr(), line.len(), out.as_mut_ptr(), out.len(), &mut length) };
+        // SAFETY: each pointer is that of a reference or of a slice with its length, so none is null, and the line is
+        // only read. The handle, the buffer and the length are borrowed by `&mut`, so they share no byte with one
+        // another or with the line.
+        let status = unsafe {
+            ripsawbean_call(&mut self.handle, line.as_ptr(), line.len(), out.as_mut_ptr(), out.len(), &mut length)
+        };
         if status == 0 {
             Ok(length)
         } else {

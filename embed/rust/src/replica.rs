@@ -15,8 +15,8 @@ pub struct Replica {
 }
 
 impl Replica {
-    /// The empty replica of the feed that a command opens. An initial feed tells it the rows at its cursor. For any other open it
-    /// as an initial one, and take those rows first, as messages at the cursor, keys rising.
+    /// The empty replica of the feed that a command opens. An initial feed tells it the rows at its cursor. For any
+    /// other open it as an initial one, and take those rows first, as messages at the cursor, keys rising.
     pub fn open(command: Command<'_>) -> Result<Replica, ReplicaError> {
         let open = OpenReplica::new(format!("0 {command}\n").as_bytes()).map_err(ReplicaError::of)?;
         Ok(Replica { open, out: vec![0; 4096] })
@@ -27,13 +27,14 @@ impl Replica {
         self.open.take(format!("{message}\n").as_bytes()).map_err(TakeError::of)
     }
 
-    /// Asked before the message is taken: the timestamp at which the rows are the map as they stand, where the message shows it. A
-    /// replica that goes on with another's rows passes over the timestamp at which it begins.
+    /// Asked before the message is taken: the timestamp at which the rows are the map as they stand, where the message
+    /// shows it. A replica that goes on with another's rows passes over the timestamp at which it begins.
     pub fn ready(&mut self, message: &Message) -> Result<Option<u64>, TakeError> {
         self.open.ready(format!("{message}\n").as_bytes()).map_err(TakeError::of)
     }
 
-    /// The timestamp through which all was told: every later message is above it. None among the first rows of an initial feed.
+    /// The timestamp through which all was told: every later message is above it. None among the first rows of an
+    /// initial feed.
     pub fn complete_through(&mut self) -> Option<u64> {
         self.open.complete().0
     }
@@ -60,7 +61,10 @@ impl Replica {
     }
 
     /// Shows something, again where it found too little room: its length.
-    fn shown(&mut self, mut show: impl FnMut(&mut OpenReplica, &mut [u8]) -> Result<usize, Status>) -> Result<usize, Status> {
+    fn shown(
+        &mut self,
+        mut show: impl FnMut(&mut OpenReplica, &mut [u8]) -> Result<usize, Status>,
+    ) -> Result<usize, Status> {
         loop {
             let length = show(&mut self.open, &mut self.out)?;
             if length <= self.out.len() {

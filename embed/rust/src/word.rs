@@ -1,7 +1,7 @@
 //! Words: how lines spell bytes.
 //!
-//! A printable byte other than `%` is itself, and any other byte is `%` and two digits of `0123456789ABCDEF`. No bytes are `-`,
-//! and the single byte `-` is `%2D`. So each list of bytes has one spelling.
+//! A printable byte other than `%` is itself, and any other byte is `%` and two digits of `0123456789ABCDEF`. No bytes
+//! are `-`, and the single byte `-` is `%2D`. So each list of bytes has one spelling.
 
 use std::fmt;
 

@@ -7,7 +7,8 @@ extern "C" {
     fn refuse_no_growth() -> bool;
 }
 
-/// Has the library's growth behind `before` others be refused. The tests of this file are one, since all of them share this.
+/// Has the library's growth behind `before` others be refused. The tests of this file are one, since all of them share
+/// this.
 fn refuse_after(before: u64) {
     unsafe { refuse_after_growths(before) }
 }

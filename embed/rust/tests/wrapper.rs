@@ -168,9 +168,11 @@ fn messages_whatever_the_most_of_a_poll() {
         Message::Row(Row { key: key.to_vec(), after: after.map(<[u8]>::to_vec), updated })
     };
     let value = Some(b"\xff-".as_slice());
-    let all = [row(b"a", value, 10), row(b"b", value, 10), row(b"c", value, 10), row(b"b", None, 20), Message::Resolved(20)];
+    let all =
+        [row(b"a", value, 10), row(b"b", value, 10), row(b"c", value, 10), row(b"b", None, 20), Message::Resolved(20)];
     for max in 0..8 {
-        let feed = db.make(3, Command::Open { span: Span::ALL, cursor: 0 }).expect("a call").number().expect("its number");
+        let feed =
+            db.make(3, Command::Open { span: Span::ALL, cursor: 0 }).expect("a call").number().expect("its number");
         assert_eq!(db.messages(3, feed, max).collect::<Result<Vec<_>, _>>().expect("messages"), all);
         assert_eq!(db.messages(3, feed, max).count(), 0);
         let mut others = db.messages(0, feed, max);
