@@ -16,6 +16,7 @@ commit .               abort .
 readat T KEY           scanat T LO HI
 open LO HI CURSOR      openinitial LO HI CURSOR
 openevery LO HI CURSOR GAP
+openinitialevery LO HI CURSOR GAP
 poll FEED MAX          cancel FEED
 protect T              release ID
 close TO               closehard TO

@@ -20,6 +20,7 @@ readat T KEY           scanat T LO HI
 open LO HI CURSOR
 openinitial LO HI CURSOR
 openevery LO HI CURSOR GAP
+openinitialevery LO HI CURSOR GAP
 poll FEED MAX          cancel FEED
 protect T              release ID
 collect TO             stats
