@@ -26,8 +26,7 @@ from typing import NamedTuple
 from urllib.parse import quote, urlencode, urlsplit
 
 sys.path.append(os.path.join(os.path.dirname(os.path.abspath(__file__)), "..", "..", "embed", "python"))
-from ripsawbean import Error, Row  # noqa: E402
-from replica import Replica  # noqa: E402
+from ripsawbean import Error, Replica, Row  # noqa: E402
 
 HEADERS = ("Identity", "Generation", "From")
 ENOUGH = 1000  # rows in one transaction of the target, where more are waiting
