@@ -63,6 +63,7 @@ static const char *make(const char *format, ...) {
     CHECK(ripsawbean_call(&db, at, line_length, (uint8_t *)text, sizeof text - 1, &length) == RIPSAWBEAN_OK);
     CHECK(length < sizeof text);
     text[length] = '\0';
+    doing = text;
     return strstr(text, " => ") + 4;
 }
 
@@ -212,7 +213,7 @@ static void begin(follower *f, const char *command, const char *gap, const char 
 
 static follower steady, shaken;
 static uint64_t now, closed, feed, went_on;
-static message late[LATE];
+static message late[LATE]; // of time 0 where there is none
 
 static void commit(void) {
     now += 1 + below(3);
@@ -236,7 +237,7 @@ static void begin_both(const char *command, const char *gap, const char *rows) {
     begin(&steady, command, gap, rows);
     shaken = (follower){.handle = shaken.handle, .lo = steady.lo, .hi = steady.hi, .cursor = steady.cursor};
     begin(&shaken, command, gap, rows);
-    for (unsigned i = 0; i < LATE; i++) late[i] = row(0, NO_VALUE, 0);
+    for (unsigned i = 0; i < LATE; i++) late[i].time = 0;
     counts.feeds++;
 }
 
@@ -244,7 +245,7 @@ static void open_feed(void) {
     static const char *const commands[] = {"open", "openinitial", "openevery", "openinitialevery"};
     const char *command = commands[below(4)];
     char gap[20] = "", rows[200];
-    if (strstr(command, "every") != NULL) snprintf(gap, sizeof gap, " %" PRIu64, below(8));
+    if (strstr(command, "every") != NULL) snprintf(gap, sizeof gap, " %" PRIu64, 1 + below(7));
     if (feed > 0) make("1 cancel %" PRIu64 "\n", feed);
     steady.lo = one_in(2) ? 0 : (unsigned)below(KEYS);
     steady.hi = one_in(2) ? KEYS : steady.lo + (unsigned)below(KEYS + 1 - steady.lo);
@@ -284,7 +285,7 @@ static void give_shaken(const message *m) {
         give(&shaken, m);
         return;
     case 2:
-        give(&shaken, kept);
+        if (kept->time > 0) give(&shaken, kept);
         break;
     case 3:
         if (m->is_row) other = row((unsigned)below(KEYS), m->value, m->time);

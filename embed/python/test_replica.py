@@ -161,7 +161,7 @@ class RandomFeeds(unittest.TestCase):
         print("replicas of random feeds: %s" % ", ".join("%d %s" % (count, name) for name, count in counts.items()))
         for name in ("resumed", "NotAfter", "OutsideSpan", "ResolvedBack"):
             self.assertGreater(counts[name], 0, name)
-        self.assertGreater(counts["scans"], 5 * wanted)
+        self.assertGreater(counts["scans"], 3 * wanted)
 
 
 class History:

@@ -45,7 +45,7 @@ def try_edges(tally, only):
 def try_units(tally):
     """The server's modules, each by itself."""
     done = subprocess.run([os.path.join(TOP, "server", "unit")], text=True, capture_output=True)
-    tally.told("the server's modules", done.returncode and done.stderr.strip().split("\n")[-20:])
+    tally.told("the server's modules", done.stderr.strip().split("\n")[-20:] if done.returncode else [])
 
 
 def main():

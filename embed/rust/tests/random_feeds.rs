@@ -185,8 +185,8 @@ impl Followed {
         let opening = match dice.roll(4) {
             0 => Command::Open { span, cursor },
             1 => Command::OpenInitial { span, cursor },
-            2 => Command::OpenEvery { span, cursor, gap: dice.roll(8) },
-            _ => Command::OpenInitialEvery { span, cursor, gap: dice.roll(8) },
+            2 => Command::OpenEvery { span, cursor, gap: 1 + dice.roll(7) },
+            _ => Command::OpenInitialEvery { span, cursor, gap: 1 + dice.roll(7) },
         };
         let rows = scan(db, span, cursor);
         Followed::new(db, opening, span, &rows, None)
@@ -309,5 +309,5 @@ fn replicas_have_what_a_scan_finds() {
     }
     println!("{counts:?}");
     assert!(counts.resumed > 0 && counts.not_after > 0 && counts.outside_span > 0 && counts.resolved_back > 0);
-    assert!(counts.scans > 5 * wanted);
+    assert!(counts.scans > 3 * wanted);
 }
