@@ -103,4 +103,81 @@ row b 2
 7 1 begin 12 => started
 8 1 put 12 a 1 => written
 9 1 commit 12 => committed 1
+@ An initial feed tells what its span holds, and a collection waits for it
+0 0 begin 5 => started
+1 0 put 5 a 1 => written
+2 0 put 5 b 2 => written
+3 0 put 5 c 3 => written
+4 0 commit 5 => committed 3
+5 0 begin 8 => started
+6 0 del 8 b => written
+7 0 put 8 c 4 => written
+8 0 commit 8 => committed 2
+9 0 close 9 => closed 9 0
+10 1 openinitial - - 10 => notclosed 9
+11 1 openinitial - - 7 => opened 1
+12 1 poll 1 2 => messages 2
+{\"after\":\"MQ==\",\"key\":\"YQ==\",\"updated\":\"7\"}
+{\"after\":\"Mg==\",\"key\":\"Yg==\",\"updated\":\"7\"}
+13 0 collect 9 => collected 7 0
+14 1 poll 1 10 => messages 4
+{\"after\":\"Mw==\",\"key\":\"Yw==\",\"updated\":\"7\"}
+{\"after\":null,\"key\":\"Yg==\",\"updated\":\"8\"}
+{\"after\":\"NA==\",\"key\":\"Yw==\",\"updated\":\"8\"}
+{\"resolved\":\"9\"}
+15 0 collect 9 => collected 9 3
+16 1 openinitial - - 9 => opened 2
+17 1 poll 2 10 => messages 3
+{\"after\":\"MQ==\",\"key\":\"YQ==\",\"updated\":\"9\"}
+{\"after\":\"NA==\",\"key\":\"Yw==\",\"updated\":\"9\"}
+{\"resolved\":\"9\"}
+18 1 openinitial - - 8 => belowhorizon 9
+@ A least gap between resolved messages
+0 0 openevery - - 0 10 => opened 1
+1 0 close 9 => closed 9 0
+2 0 poll 1 5 => messages 0
+3 0 close 10 => closed 10 0
+4 0 poll 1 5 => messages 1
+{\"resolved\":\"10\"}
+5 1 begin 15 => started
+6 1 put 15 a 1 => written
+7 1 commit 15 => committed 1
+8 0 close 19 => closed 19 0
+9 0 poll 1 5 => messages 1
+{\"after\":\"MQ==\",\"key\":\"YQ==\",\"updated\":\"15\"}
+10 0 collect 19 => collected 14 0
+11 0 close 20 => closed 20 0
+12 0 poll 1 5 => messages 1
+{\"resolved\":\"20\"}
+13 0 openevery - - 20 0 => gaprange
+@ An initial feed with a least gap
+0 0 begin 5 => started
+1 0 put 5 a 1 => written
+2 0 commit 5 => committed 1
+3 0 close 9 => closed 9 0
+4 1 openinitialevery - - 7 10 => opened 1
+5 1 poll 1 1 => messages 1
+{\"after\":\"MQ==\",\"key\":\"YQ==\",\"updated\":\"7\"}
+6 1 poll 1 5 => messages 0
+7 0 close 15 => closed 15 0
+8 1 poll 1 5 => messages 0
+9 0 close 16 => closed 16 0
+10 1 poll 1 5 => messages 1
+{\"resolved\":\"16\"}
+@ An abort takes back what was written, and its reads keep their marks
+0 0 begin 10 => started
+1 0 put 10 a 1 => written
+2 0 put 10 b 2 => written
+3 1 begin 20 => started
+4 1 get 20 c => none
+5 1 abort 20 => aborted
+6 0 put 10 c 3 => toolate
+7 0 commit 10 => ended
+8 1 begin 30 => started
+9 1 scan 30 - - => rows 0
+10 1 put 30 a 4 => written
+11 1 abort 30 => aborted
+12 0 close 40 => closed 40 0
+13 0 scanat 40 - - => rows 0
+14 0 stats => stats 0 0 0 40 0
 ";
