@@ -9,7 +9,7 @@ use timestamps::value::Value;
 
 /// Scripts, each of rules whose transactions are of seat 0, where nothing is closed. `marks` counts the spans that have
 /// readers, and `readers` has those of a key.
-pub(super) const SCRIPTS: [&str; 6] = [
+pub(super) const SCRIPTS: [&str; 7] = [
     // an own read leaves no mark
     "begin 10=started
 begin 20=started
@@ -85,6 +85,38 @@ marks=1
 put 11 c 1=toolate
 put 12 d 1=written
 put 20 c 1=written
+",
+    // a scan joins readers at each key by that key's own versions: only of h are two scans told apart
+    "begin 10=started
+begin 15=started
+begin 20=started
+begin 30=started
+begin 40=started
+begin 50=started
+begin 60=started
+put 10 a 1=written
+put 10 h 2=written
+put 10 z 3=written
+commit 10=committed 3
+scan 20 - -=rows a1 h2 z3
+marks=1
+put 30 h 4=written
+commit 30=committed 1
+scan 40 - -=rows a1 h4 z3
+marks=3
+readers a= 40
+readers b= 40
+readers h= 20 40
+readers y= 40
+readers z= 40
+scan 15 - -=rows a1 h2 z3
+put 50 h 5=written
+commit 50=committed 1
+scan 60 - -=rows a1 h5 z3
+marks=3
+readers a= 60
+readers h= 20 40 60
+readers z= 60
 ",
     // a delete has no row
     "begin 10=started
