@@ -21,6 +21,7 @@ new_is_kept = record {
   versions = λ x t. refl;
   committed = λ x t a is. cc;
   marks = λ x i above fresh. (λ late. cc, λ c. absurd (let no' : false ≡ true = c.mark in cc));
+  forgotten = λ x j is. cc;
   transactions = λ t. none (nat_lt 0 t);
   protected = refl;
   made = refl;
@@ -81,6 +82,7 @@ after_begins k p all fits t seat allowed τ' ts = record {
   versions = fits.versions;
   committed = fits.committed;
   marks = fits.marks;
+  forgotten = fits.forgotten;
   transactions = λ i. ts i ∙ by_test (t == i)
       (λ same. let e : t ≡ i = eqb-true t i same in
       let h : IsFresh p i = unbegun p all i (subst (λ n. owner_of p n ≡ None) e allowed.1) in

@@ -1,6 +1,6 @@
 -- What is kept after a closing and after a hard closing.
 use Rattle.std.proofs.Common.{Bool, List, not, refl, None, Option, arith, false, ap, true, Some, sym, cond, map, ◌≡◌, ◌<◌, ◌≤◌, ◌-◌, ◌&&◌, ◌||◌, ◌∷◌, ◌∙◌, ℕ, []}
-use Rattle.std.proofs.lemmas.Bool.{false_from_ne_true, and_parts}
+use Rattle.std.proofs.lemmas.Bool.{false_from_ne_true, and_parts, lt-ltb, ltb-true}
 use Rattle.std.proofs.lemmas.Bool.Decides.{nat_tests}
 use Rattle.std.specs.Prelude.{nat_lt, nat_le, filter, option_map, is_some, min}
 use Rattle.spans.specs.Collection.{version_name, is_dead}
@@ -58,6 +58,14 @@ reach_is k p all fits to (Some o) h =
     let top : decided_through p to ≤ to = least_low to (map (λ t. t - 1) (undecided_timestamps p)) in
     omega arith
 
+-- what stands after forgetting is above it, and stood before
+forgotten_stood : (m m' : ℕ → Bool) (n : ℕ) → IsForgotten m m' n → (j : ℕ) → m' j ≡ true → (n < j) × (m j ≡ true)
+forgotten_stood m m' n fs j is = let both = and_parts _ _ (sym (fs j) ∙ is) in (ltb-true n j both.0, both.1)
+
+-- what is above it stands
+forgotten_above : (m m' : ℕ → Bool) (n : ℕ) → IsForgotten m m' n → (j : ℕ) → n < j → m' j ≡ m j
+forgotten_above m m' n fs j above = fs j ∙ ap (λ b. b && m j) (lt-ltb n j above)
+
 -- after closing
 pub after_closes : (k : Kept) (p : List Effect) → AllAllowed p → IsKeptOf k p → (n : ℕ) → Allowed p (Closes n)
     → (m' : List ℕ → ℕ → Bool) (τ' : ℕ → Option Transaction)
@@ -70,9 +78,10 @@ after_closes k p all fits n allowed m' τ' ms ts = record {
   versions = λ y i. fits.versions y i ∙ sym (kept_stays p (Closes n) all allowed refl y i);
   committed = fits.committed;
   marks = λ y i above fresh. let b = fits.marks y i (omega (arith, closed_grows p (Closes n) allowed)) fresh in (
-    λ late. let c = b.0 late in record { reader = c.reader; mark = (ms y).above c.reader (omega (arith, c.above)) ∙ c.mark; above = c.above; none = c.none },
-    λ c. b.1 (record { reader = c.reader; mark = (ms y).only c.reader c.mark; above = c.above; none = c.none }),
+    λ late. let c = b.0 late in record { reader = c.reader; mark = forgotten_above (k.marked y) (m' y) n (ms y) c.reader (omega (arith, c.above)) ∙ c.mark; above = c.above; none = c.none },
+    λ c. b.1 (record { reader = c.reader; mark = (forgotten_stood (k.marked y) (m' y) n (ms y) c.reader c.mark).1; above = c.above; none = c.none }),
   );
+  forgotten = λ y j is. (forgotten_stood (k.marked y) (m' y) n (ms y) j is).0;
   transactions = λ i. ts i ∙ by_test (nat_lt n i)
       (λ is. let e : nat_lt (closed_of p) i ≡ true = (let g : closed_of p ≤ n = closed_grows p (Closes n) allowed in grind (arith, nat_tests)) in rw is (fits.transactions i ∙ (rw e refl)))
       (λ isnt. rw isnt refl);
@@ -96,9 +105,10 @@ after_hard_closes k p all fits to n allowed v' m' τ' vs ms ts = record {
   committed = λ y i b is. fits.committed y i b (still y i b is);
   marks = λ y i above fresh. let b = to_kept (HardCloses to n ∷ p) (allowed, all) y (k.marked y) (v' y) (kept_now y) i above (too_late p y i ≡ true)
       (marks_aborted p all y (k.marked y) (version_of (HardCloses to n ∷ p) y) (λ w none. gone (cut w) (is_aborted p w) (write_of p w y) none) (λ w a is. stands y w a is) (marks_of k p all fits y) i (omega (arith, closed_grows p (HardCloses to n) allowed)) fresh) in (
-        λ late. let c = b.0 late in record { reader = c.reader; mark = (ms y).above c.reader (omega (arith, c.above)) ∙ c.mark; above = c.above; none = c.none },
-        λ c. b.1 (record { reader = c.reader; mark = (ms y).only c.reader c.mark; above = c.above; none = c.none }),
+        λ late. let c = b.0 late in record { reader = c.reader; mark = forgotten_above (k.marked y) (m' y) n (ms y) c.reader (omega (arith, c.above)) ∙ c.mark; above = c.above; none = c.none },
+        λ c. b.1 (record { reader = c.reader; mark = (forgotten_stood (k.marked y) (m' y) n (ms y) c.reader c.mark).1; above = c.above; none = c.none }),
       );
+  forgotten = λ y j is. (forgotten_stood (k.marked y) (m' y) n (ms y) j is).0;
   transactions = λ i. ts i ∙ by_test (nat_lt n i)
       (λ is. let e : nat_lt (closed_of p) i ≡ true = (let g : closed_of p ≤ n = closed_grows p (HardCloses to n) allowed in grind (arith, nat_tests)) in
       let far : nat_le i to ≡ false = grind (arith, nat_tests, allowed) in

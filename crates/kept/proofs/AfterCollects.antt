@@ -44,6 +44,7 @@ after_collects k p all fits n allowed v' vs grows = record {
   versions = kept_now;
   committed = λ y i b is. fits.committed y i b (still y i b is);
   marks = λ y i above fresh. to_kept (Collects n ∷ p) (allowed, all) y (k.marked y) (v' y) (kept_now y) i above (too_late p y i ≡ true) (marks_of k p all fits y i above fresh);
+  forgotten = fits.forgotten;
   transactions = fits.transactions;
   protected = fits.protected;
   made = fits.made;

@@ -34,6 +34,13 @@ marks_after_read k p all fits j x m' free marked i above fresh = elim marked [
   | inr other ↦ to_kept p all x m' (k.version x) (fits.versions x) i above _ (marks_read p all x j other.1 other.2 (k.marked x) m' free other.0 other.3 other.4 i above fresh (marks_of k p all fits x i above fresh))
 ]
 
+-- a read leaves no mark below its own, which is above closed
+marks_above : (k : Kept) (p : List Effect) → IsKeptOf k p → (j : ℕ) → closed_of p < j → (x : List ℕ) (m' : ℕ → Bool) → Marked p x j (k.marked x) m' → (n : ℕ) → m' n ≡ true → closed_of p < n
+marks_above k p fits j above x m' marked n is = elim marked [
+  | inl own ↦ fits.forgotten x n (sym (own.1 n) ∙ is)
+  | inr other ↦ elim (other.4.only n is) [ inl itself ↦ omega (arith, itself, above) | inr before ↦ fits.forgotten x n before ]
+]
+
 -- after a read
 pub after_reads : (k : Kept) (p : List Effect) → AllAllowed p → IsKeptOf k p → (j : ℕ) (x : List ℕ) (v : After) → Allowed p (Reads j x v) → (m' : List ℕ → ℕ → Bool)
     → ((y : List ℕ) → bytes_eq x y ≡ false → (n : ℕ) → m' y n ≡ k.marked y n) → Marked p x j (k.marked x) (m' x) → IsKeptOf (record k { marked = m' }) (Reads j x v ∷ p)
@@ -50,6 +57,9 @@ after_reads k p all fits j x v allowed m' others marked = record {
         λ late. let c = b.0 late in record { reader = c.reader; mark = others y other c.reader ∙ c.mark; above = c.above; none = c.none },
         λ c. b.1 (record { reader = c.reader; mark = sym (others y other c.reader) ∙ c.mark; above = c.above; none = c.none }),
       )));
+  forgotten = λ y n is. by_test (bytes_eq x y)
+      (λ same. marks_above k p fits j allowed.0.above x (m' x) marked n (subst (λ z. m' z n ≡ true) (sym (same_key x y same)) is))
+      (λ other. fits.forgotten y n (sym (others y other n) ∙ is));
   transactions = fits.transactions;
   protected = fits.protected;
   made = fits.made;
@@ -71,6 +81,9 @@ after_scans k p all fits j span rows allowed m' others marked = record {
         λ late. let c = b.0 late in record { reader = c.reader; mark = others y out c.reader ∙ c.mark; above = c.above; none = c.none },
         λ c. b.1 (record { reader = c.reader; mark = sym (others y out c.reader) ∙ c.mark; above = c.above; none = c.none }),
       )));
+  forgotten = λ y n is. by_test (in_span span y)
+      (λ in'. marks_above k p fits j allowed.0.above y (m' y) (marked y in') n is)
+      (λ out. fits.forgotten y n (sym (others y out n) ∙ is));
   transactions = fits.transactions;
   protected = fits.protected;
   made = fits.made;

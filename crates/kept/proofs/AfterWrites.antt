@@ -34,6 +34,7 @@ after_writes k p all fits t x a allowed v' d' τ' vs ds ts = record {
       (λ here. rw here (let e : t ≡ i = eqb-true t i (and_parts _ _ here).0 in sym (subst (λ n. is_committed p n ≡ false) e allowed.0.uncommitted)))
       (λ other. rw other (fits.committed y i b (let e : v' y i ≡ k.version y i = vs y i ∙ (rw other refl) in sym e ∙ is)));
   marks = λ y i above fresh. to_now y i above (marks_written' y i above (sym (still y i) ∙ fresh));
+  forgotten = fits.forgotten;
   transactions = λ i. ts i ∙ by_test (t == i)
       (λ same. rw (same, fits.transactions i) (let e : (t == i) ≡ true = same in by_owner i e (nat_lt (closed_of p) i) (owner_of p i)))
       (λ other. rw (other, fits.transactions i) (ap (λ ks. cond (nat_lt (closed_of p) i) (option_map (with_keys i ks) (owner_of p i)) None) (let e : write_set (Writes t x a ∷ p) i ≡ write_set p i = rw other refl in sym e)));
@@ -112,6 +113,7 @@ after_commits k p all fits t allowed d' τ' ds ts = record {
       let there : has y (write_set p t) ≡ true = subst (λ n. has y (write_set p n) ≡ true) (sym (eqb-true t i same)) (has_written p i y ∙ ap is_some wrote) in rw there refl))
       (λ other. rw other (fits.committed y i b is));
   marks = λ y i above fresh. fits.marks y i above (uncommitted_before (is_committed p i) (t == i) (write_of p i y) fresh);
+  forgotten = fits.forgotten;
   transactions = λ i. ts i ∙ by_test (t == i)
       (λ same. rw (same, fits.transactions i) (by_owner i same (nat_lt (closed_of p) i) (owner_of p i)))
       (λ other. rw (other, fits.transactions i) (ap (λ c. cond (nat_lt (closed_of p) i) (option_map (with_state i c) (owner_of p i)) None) (let e : state_of (Commits t ∷ p) i ≡ state_of p i = rw other refl in sym e)));
@@ -145,6 +147,7 @@ after_aborts k p all fits t allowed v' τ' vs ts = record {
   committed = λ y i b is. fits.committed y i b (still y i b is);
   marks = λ y i above fresh. to_kept (Aborts t ∷ p) (allowed, all) y (k.marked y) (v' y) (kept_now y) i above (too_late p y i ≡ true)
       (marks_aborted p all y (k.marked y) (version_of (Aborts t ∷ p) y) (λ n none. gone (t == n) (is_aborted p n) (write_of p n y) none) (λ n a is. stands y n a is) (marks_of k p all fits y) i above fresh);
+  forgotten = fits.forgotten;
   transactions = λ i. ts i ∙ by_test (t == i)
       (λ same. rw (same, fits.transactions i) (by_owner i same (nat_lt (closed_of p) i) (owner_of p i)))
       (λ other. rw (other, fits.transactions i) (ap (λ c. cond (nat_lt (closed_of p) i) (option_map (with_state i c) (owner_of p i)) None) (let e : state_of (Aborts t ∷ p) i ≡ state_of p i = rw other refl in sym e)));

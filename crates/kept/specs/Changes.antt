@@ -67,7 +67,7 @@ pub record IsAbortedBy (k k' : Kept) (t : ℕ) : Type 0 where
   pub transaction : (i : ℕ) → k'.transaction i ≡ (if t == i then option_map (λ (n : Transaction). record n { state = states.Aborted }) (k.transaction i) else k.transaction i)
   pub rest : k' ≡ record k { version = k'.version; committed = k'.committed; transaction = k'.transaction }
 
--- transactions at or below n are forgotten, and marks of readers there may be
+-- transactions at or below n are forgotten, and so are marks of readers there
 pub record IsClosedAt (k k' : Kept) (n : ℕ) : Type 0 where
   pub marked : (y : List ℕ) → IsForgotten (k.marked y) (k'.marked y) n
   pub transaction : (i : ℕ) → k'.transaction i ≡ (if nat_lt n i then k.transaction i else None)

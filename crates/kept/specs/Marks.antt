@@ -1,5 +1,5 @@
 -- What marking and forgetting readers of a key has to do, and what is asked of the marks.
-use Rattle.std.specs.Prelude.{Bool, List, None, Option, Some, false, true, ℕ, ◌<◌, ◌==◌, ◌↔◌, ◌≡◌, ◌≤◌, ◌⊎◌}
+use Rattle.std.specs.Prelude.{Bool, List, None, Option, Some, false, nat_lt, true, ℕ, ◌&&◌, ◌<◌, ◌==◌, ◌↔◌, ◌≡◌, ◌≤◌, ◌⊎◌}
 use Rattle.timestamps.specs.declared.ts.TheConstants.{MAX}
 use Rattle.spans.specs.Kept.{Kept}
 use Rattle.kept.specs.Finding.{IsNextAbove, seen}
@@ -66,10 +66,9 @@ IsAddedMark t m m' = (n : ℕ) → (m' n ≡ true) ↔ ((n ≡ t) ⊎ (m n ≡ t
 abbrev pub IsMergedMark : Kept → List ℕ → ℕ → Option ℕ → (ℕ → Bool) → Type 0
 IsMergedMark k x t next m' = (t ≤ MAX) × IsPiece (k.marked x) m' t (seen k x t).ts (until next)
 
--- the marks through n are forgotten, some or all; those above it stand
-pub record IsForgotten (m m' : ℕ → Bool) (n : ℕ) : Type 0 where
-  pub above : (j : ℕ) → n < j → m' j ≡ m j
-  pub only : (j : ℕ) → m' j ≡ true → m j ≡ true
+-- the marks through n are forgotten, and those above it stand
+abbrev pub IsForgotten : (m m' : ℕ → Bool) → ℕ → Type 0
+IsForgotten m m' n = (j : ℕ) → m' j ≡ (nat_lt n j && m j)
 
 -- the test of the marks before a write of x at t: whether a reader is marked above t, and not above the next version
 pub record IsLate (k : Kept) (x : List ℕ) (t : ℕ) (late : Bool) : Type 0 where

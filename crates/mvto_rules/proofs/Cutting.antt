@@ -25,7 +25,7 @@ use Rattle.version_chain.specs.Stores.{Stored, after_of, version_in}
 use Rattle.version_chain.specs.Versions.{version_of}
 use Rattle.version_chain.specs.declared.chain.Version.{Version}
 use Rattle.mvto_rules.specs.Cuts.{open_piece}
-use Rattle.mvto_rules.specs.Scans.{AreAhead, AreMade, IsGap, IsOpen, is_below, newest_in}
+use Rattle.mvto_rules.specs.Scans.{AreAhead, AreAllMade, AreMade, IsOpen, Marked, MarksAsOwn, is_below, newest_in}
 use Rattle.mvto_rules.specs.declared.cut.Cut.{Cut}
 
 -- ---- the order of keys
@@ -102,11 +102,11 @@ gaps_more t [] p gaps low high = ((low, high), tt)
 gaps_more t (q ∷ ps) p gaps low high = (gaps.0, gaps_more t ps p gaps.1 low high)
 
 -- a piece of keys that were not past the point before
-pub one_more : (s : Stored) (t : ℕ) (span : Span) (before after : List ℕ → Bool) (ps : List Piece) (p : Piece) → AreMade s t span before ps → p.above < t → t ≤ p.until → ((x : List ℕ) → before x ≡ true → after x ≡ true)
-    → ((x : List ℕ) → in_span p.span x ≡ true → (in_span span x ≡ true) × (before x ≡ false) × (after x ≡ true) × IsGap s t x p.above p.until)
+pub one_more : (s : Stored) (m : Marked) (t : ℕ) (span : Span) (before after : List ℕ → Bool) (ps : List Piece) (p : Piece) → AreMade s m t span before ps → p.above < t → t ≤ p.until → ((x : List ℕ) → before x ≡ true → after x ≡ true)
+    → ((x : List ℕ) → in_span p.span x ≡ true → (in_span span x ≡ true) × (before x ≡ false) × (after x ≡ true) × MarksAsOwn s m t x p.above p.until)
     → ((x : List ℕ) → in_span span x ≡ true → before x ≡ false → after x ≡ true → in_span p.span x ≡ true)
-    → AreMade s t span after (ps ++ p ∷ [])
-one_more s t span before after ps p made low high more inside all = record {
+    → AreMade s m t span after (ps ++ p ∷ [])
+one_more s m t span before after ps p made low high more inside all = record {
   apart = λ q r i j x q_has r_has. elim (split q i) [
     | inl q_old ↦ elim (split r j) [ inl r_old ↦ made.apart q r q_old r_old x q_has r_has | inr r_new ↦ absurd (not_new q r q_old r_new x q_has r_has) ]
     | inr q_new ↦ elim (split r j) [ inl r_old ↦ absurd (not_new r q r_old q_new x r_has q_has) | inr r_new ↦ sym q_new ∙ r_new ]
@@ -114,7 +114,7 @@ one_more s t span before after ps p made low high more inside all = record {
   gaps = gaps_more t ps p made.gaps low high;
   within = λ q i x has. elim (split q i) [
     | inl old ↦ (let w = made.within q old x has in (w.0, more x w.1, w.2))
-    | inr new ↦ (let w = inside x (subst (λ r. in_span r.span x ≡ true) (sym new) has) in (w.0, w.2, subst (λ r. IsGap s t x r.above r.until) new w.3))
+    | inr new ↦ (let w = inside x (subst (λ r. in_span r.span x ≡ true) (sym new) has) in (w.0, w.2, subst (λ r. MarksAsOwn s m t x r.above r.until) new w.3))
   ];
   each = λ x in' past. by_test (before x)
       (λ was. elim (made.each x in' was) [ inl own ↦ inl own | inr of ↦ inr (of.0, (has_append of.0 ps (p ∷ [])).1 (inl of.1), of.2) ])
@@ -129,9 +129,9 @@ one_more s t span before after ps p made low high more inside all = record {
         both_ways (before x) (inside x (subst (λ w. in_span w.span x ≡ true) (sym new) r_has)).1 (made.within q old x q_has).1
 
 -- the point moves over keys where t reads its own
-pub none_more : (s : Stored) (t : ℕ) (span : Span) (before after : List ℕ → Bool) (ps : List Piece) → AreMade s t span before ps → ((x : List ℕ) → before x ≡ true → after x ≡ true)
-    → ((x : List ℕ) → in_span span x ≡ true → before x ≡ false → after x ≡ true → (newest_in s t x).ts ≡ t) → AreMade s t span after ps
-none_more s t span before after ps made more own = record {
+pub none_more : (s : Stored) (m : Marked) (t : ℕ) (span : Span) (before after : List ℕ → Bool) (ps : List Piece) → AreMade s m t span before ps → ((x : List ℕ) → before x ≡ true → after x ≡ true)
+    → ((x : List ℕ) → in_span span x ≡ true → before x ≡ false → after x ≡ true → (newest_in s t x).ts ≡ t) → AreMade s m t span after ps
+none_more s m t span before after ps made more own = record {
   apart = made.apart;
   gaps = made.gaps;
   within = λ q i x has. (let w = made.within q i x has in (w.0, more x w.1, w.2));
@@ -140,47 +140,38 @@ none_more s t span before after ps made more own = record {
       (λ wasnt. inl (own x in' wasnt past));
 }
 
-pub none_made : (s : Stored) (t : ℕ) (span : Span) → AreMade s t span (is_below span.lo) []
-none_made s t span = record {
+pub none_made : (s : Stored) (m : Marked) (t : ℕ) (span : Span) → AreMade s m t span (is_below span.lo) []
+none_made s m t span = record {
   apart = λ p q i j x a b. absurd i;
   gaps = tt;
   within = λ p i x a. absurd i;
   each = λ x in' past. (let no : true ≡ false = sym (and_left _ _ in') ∙ not_true _ past in cc);
 }
 
--- ---- keys without a version
+-- ---- the gaps of keys
 
-pub nothing_there : (s : Stored) (t : ℕ) (x : List ℕ) → 0 < t → t ≤ MAX → chain_of s x ≡ [] → IsGap s t x 0 18446744073709551615
-nothing_there s t x low high none =
+-- a key without a version has the gap of all timestamps
+pub nothing_there : (s : Stored) (m : Marked) (t : ℕ) (x : List ℕ) → 0 < t → t ≤ MAX → chain_of s x ≡ [] → MarksAsOwn s m t x 0 18446744073709551615
+nothing_there s m t x low high none =
     let empty = λ (i : ℕ). ap (λ vs. after_of (version_of vs i)) none in
     let at : (newest_in s t x).ts ≡ 0 = ap (λ v. v.ts) (newest_only (version_in s x) t 0 None (record { at_most = omega arith; gap = λ i l h. empty i; has = inl (refl, refl) })) in
     record {
-      from = omega (arith, at);
-      low = low;
-      high = omega (arith, high);
+      other = omega (arith, at, low);
       next = None;
       is_next = λ n l. empty n;
-      to = omega arith;
+      late = omega (arith, high);
+      low = omega arith;
+      high = omega arith;
+      readers = λ n h above to. (omega (arith, at, above), to);
     }
-
--- a gap within a gap of the read is one too
-pub narrower : (s : Stored) (t : ℕ) (x : List ℕ) (above to above' to' : ℕ) → IsGap s t x above to → above ≤ above' → to' ≤ to → above' < t → t ≤ to' → IsGap s t x above' to'
-narrower s t x above to above' to' gap from less low high = record {
-  from = omega (arith, gap.from, from);
-  low = low;
-  high = high;
-  next = gap.next;
-  is_next = gap.is_next;
-  to = omega (arith, gap.to, less);
-}
 
 -- ---- the walk
 
 -- the open piece, up to the next entry
-pub passed : (s : Stored) (t : ℕ) (span : Span) (k : List ℕ) (vs : List Version) (rest : List Entry) (c : Cut) → in_span span k ≡ true → from_low c.lo k ≡ true → RisingKeys (k ∷ keys_of rest) → IsOpen s t span ((k, vs) ∷ rest) c → AreMade s t span (is_below c.lo) c.pieces.items
-    → AreMade s t span (λ x. key_lt x k) (c.pieces.items ++ open_piece c (Some k) ∷ [])
-passed s t span k vs rest c there from_k rising opened made =
-    one_more s t span (is_below c.lo) (λ x. key_lt x k) c.pieces.items (open_piece c (Some k)) made opened.low opened.high
+pub passed : (s : Stored) (m : Marked) (t : ℕ) (span : Span) (k : List ℕ) (vs : List Version) (rest : List Entry) (c : Cut) → 0 < t → t ≤ MAX → in_span span k ≡ true → from_low c.lo k ≡ true → RisingKeys (k ∷ keys_of rest) → IsOpen s m t span ((k, vs) ∷ rest) c → AreMade s m t span (is_below c.lo) c.pieces.items
+    → AreMade s m t span (λ x. key_lt x k) (c.pieces.items ++ open_piece c (Some k) ∷ [])
+passed s m t span k vs rest c low high there from_k rising opened made =
+    one_more s m t span (is_below c.lo) (λ x. key_lt x k) c.pieces.items (open_piece c (Some k)) made low (omega (arith, high))
     (λ x below. before x (not_true _ below))
     (λ x has.
     let from : from_low c.lo x ≡ true = and_left _ _ has in
@@ -214,9 +205,20 @@ past_here : (k x : List ℕ) → key_lt x k ≡ false → is_below (Some (succes
 past_here k x at past = same_place k x at (not_true _ (sym (past_key k x) ∙ past))
 
 -- the key that has the reader's own version is in no piece
-pub own_passed : (s : Stored) (t : ℕ) (span : Span) (k : List ℕ) (ps : List Piece) → AreMade s t span (λ x. key_lt x k) ps → (newest_in s t k).ts ≡ t → AreMade s t span (is_below (Some (successor k))) ps
-own_passed s t span k ps made own = none_more s t span (λ x. key_lt x k) (is_below (Some (successor k))) ps made (past_below k)
+pub own_passed : (s : Stored) (m : Marked) (t : ℕ) (span : Span) (k : List ℕ) (ps : List Piece) → AreMade s m t span (λ x. key_lt x k) ps → (newest_in s t k).ts ≡ t → AreMade s m t span (is_below (Some (successor k))) ps
+own_passed s m t span k ps made own = none_more s m t span (λ x. key_lt x k) (is_below (Some (successor k))) ps made (past_below k)
     (λ x inside at past. subst (λ y. (newest_in s t y).ts ≡ t) (same_key k x (past_here k x at past)) own)
+
+-- the key that is a piece by itself
+pub key_parted : (s : Stored) (m : Marked) (t : ℕ) (span alone : Span) (k : List ℕ) (above to : ℕ) (ps : List Piece) → AreMade s m t span (λ x. key_lt x k) ps → above < t → t ≤ to → in_span span k ≡ true → MarksAsOwn s m t k above to → ((x : List ℕ) → in_span alone x ≡ bytes_eq k x)
+    → AreMade s m t span (is_below (Some (successor k))) (ps ++ record { span = alone; above = above; until = to } ∷ [])
+key_parted s m t span alone k above to ps made low high there own only =
+    one_more s m t span (λ x. key_lt x k) (is_below (Some (successor k))) ps (record { span = alone; above = above; until = to }) made low high (past_below k)
+    (λ x has. here x (same_key k x (sym (only x) ∙ has)))
+    (λ x inside at past. only x ∙ past_here k x at past)
+  where
+    here : (x : List ℕ) → k ≡ x → (in_span span x ≡ true) × (key_lt x k ≡ false) × (is_below (Some (successor k)) x ≡ true) × MarksAsOwn s m t x above to
+    here x same = subst (λ y. (in_span span y ≡ true) × (key_lt y k ≡ false) × (is_below (Some (successor k)) y ≡ true) × MarksAsOwn s m t y above to) same (there, not_itself k, past_key k k ∙ ap not (not_itself k), own)
 
 -- behind a key that is from the bound on
 pub stays_behind : (lo : Option (List ℕ)) (k x : List ℕ) → from_low lo k ≡ true → from_low (Some (successor k)) x ≡ true → from_low lo x ≡ true
@@ -239,9 +241,9 @@ ahead_of s span lo k vs rest ahead = record {
 }
 
 -- behind the last entry the open piece has all keys that are left
-pub all_made : (s : Stored) (t : ℕ) (span : Span) (c : Cut) → IsOpen s t span [] c → AreMade s t span (is_below c.lo) c.pieces.items → AreMade s t span (λ x. true) (c.pieces.items ++ open_piece c span.hi ∷ [])
-all_made s t span c opened made =
-    one_more s t span (is_below c.lo) (λ x. true) c.pieces.items (open_piece c span.hi) made opened.low opened.high (λ x is. refl)
+pub all_made : (s : Stored) (m : Marked) (t : ℕ) (span : Span) (c : Cut) → 0 < t → t ≤ MAX → IsOpen s m t span [] c → AreMade s m t span (is_below c.lo) c.pieces.items → AreAllMade s m t span (c.pieces.items ++ open_piece c span.hi ∷ [])
+all_made s m t span c low high opened made =
+    one_more s m t span (is_below c.lo) (λ x. true) c.pieces.items (open_piece c span.hi) made low (omega (arith, high)) (λ x is. refl)
     (λ x has.
     let from : from_low c.lo x ≡ true = and_left _ _ has in
     let inside : in_span span x ≡ true = both_true _ _ (opened.inner x from) (and_right (from_low c.lo x) _ has) in

@@ -1,9 +1,9 @@
 -- A scan's reply, and what it marks.
 use Rattle.std.proofs.Common.{Bool, List, None, Option, Some, ap, arith, cond, false, inl, inr, refl, subst, suc, sym, true, zero, ℕ, ◌<◌, ◌≤◌, ◌==◌, ◌∷◌, ◌≡◌, ◌∙◌, []}
-use Rattle.std.specs.Prelude.{is_some, map}
+use Rattle.std.specs.Prelude.{is_some, map, nat_le, nat_lt, ◌⊎◌}
 use Rattle.std.specs.List.{AllByRecursion, Contains}
 use Rattle.std.specs.Map.{keys_of}
-use Rattle.std.proofs.lemmas.Bool.{both_ways}
+use Rattle.std.proofs.lemmas.Bool.{both_ways, false_from_ne_true, leb-false, leb-true, ltb-false, ltb-true}
 use Rattle.std.proofs.lemmas.Bool.Decides.{nat_tests}
 use Rattle.spans.specs.Answer.{first_refusal_or}
 use Rattle.spans.specs.Kept.{Kept}
@@ -19,8 +19,8 @@ use Rattle.spans.proofs.Members.{Has}
 use Rattle.spans.proofs.Steps.{by_test}
 use Rattle.spans.proofs.WriteSets.{has, has_in}
 use Rattle.kept.specs.Changes.{IsScannedBy}
-use Rattle.kept.specs.Finding.{AreKeysOf, IsNextAbove, seen}
-use Rattle.kept.specs.Marks.{IsMarkedBy, IsNoted, IsPiece, until}
+use Rattle.kept.specs.Finding.{AreKeysOf}
+use Rattle.kept.specs.Marks.{IsPiece, until}
 use Rattle.kept.specs.Replies.{scan_reply, unless_refused}
 use Rattle.kept.specs.Table.{refusal}
 use Rattle.kept.proofs.Marking.{merged}
@@ -32,8 +32,8 @@ use Rattle.version_chain.specs.Stores.{Stored, after_of, version_in}
 use Rattle.version_chain.specs.Versions.{version_of}
 use Rattle.version_chain.specs.declared.chain.Version.{Version}
 use Rattle.version_chain.proofs.InSpans.{chain_nowhere}
-use Rattle.mvto_rules.specs.Holding.{holding}
-use Rattle.mvto_rules.specs.Scans.{AreMade, entries_of, first_blocker, keys_in, newest_in, rows_in, stops_in}
+use Rattle.mvto_rules.specs.Holding.{holding, marked_of}
+use Rattle.mvto_rules.specs.Scans.{AreAllMade, Marked, MarksAsOwn, entries_of, first_blocker, keys_in, newest_in, rows_in, stops_in}
 use Rattle.mvto_rules.specs.declared.rules.Rules.{Rules}
 use Rattle.mvto_rules.proofs.Noting.{some_next}
 use Rattle.mvto_rules.proofs.Walking.{each_found, in_each}
@@ -118,35 +118,53 @@ has_contains (q ∷ ps) p i = elim i [
   | inr there ↦ (let more = has_contains ps p there in (suc more.0, omega (arith, more.1), more.2))
 ]
 
-pub are_apart : (s : Stored) (t : ℕ) (span : Span) (ps : List Piece) → AreMade s t span (λ x. true) ps → AreApart ps
-are_apart s t span ps made p q i j x a b = made.apart p q (contains_has ps p i) (contains_has ps q j) x a b
+pub are_apart : (s : Stored) (m : Marked) (t : ℕ) (span : Span) (ps : List Piece) → AreAllMade s m t span ps → AreApart ps
+are_apart s m t span ps made p q i j x a b = made.apart p q (contains_has ps p i) (contains_has ps q j) x a b
 
-wider : (m m' : ℕ → Bool) (j above to above' to' : ℕ) → above' ≤ above → to ≤ to' → IsMarkedBy m m' j above to → IsMarkedBy m m' j above' to'
-wider m m' j above to above' to' from less marked = record {
-  only = marked.only;
-  covers = λ n was. (let by = marked.covers n was in (by.0, by.1, by.2, elim by.3 [ inl same ↦ inl same | inr within ↦ inr (omega (arith, within.0), omega (arith, within.1)) ]));
-}
+-- a gap that marks as the own gap of the read made what that makes
+module _ (s : Stored) (marked : Marked) (m' : ℕ → Bool) (t above to : ℕ) (x : List ℕ) (own : MarksAsOwn s marked t x above to) (piece : IsPiece (marked x) m' t above to) where
+  top : piece.top ≤ until own.next
+  top = elim piece.is [ inl itself ↦ omega (arith, itself, own.late) | inr reader ↦ (own.readers piece.top reader (omega (arith, piece.least, own.low, own.other)) piece.most).1 ]
 
--- readers are joined within a gap that is narrower than that of the read
-narrower_noted : (k : Kept) (x : List ℕ) (t above to : ℕ) (next : Option ℕ) (m' : ℕ → Bool) → IsNextAbove (k.version x) t next → (seen k x t).ts ≤ above → above < t → t ≤ to → to ≤ until next → IsPiece (k.marked x) m' t above to → IsNoted k x t m'
-narrower_noted k x t above to next m' is_next from low high less piece = record {
-  next = next;
-  is_next = is_next;
-  own = λ own. absurd (omega (arith, from, low, own));
-  other = λ other. wider (k.marked x) m' t above to (seen k x t).ts (until next) from less (merged (k.marked x) m' t above to low high piece);
-}
+  -- no reader of the wider gap is outside of the own one
+  none_before : (n : ℕ) → above < n → n ≤ to → (n ≤ (newest_in s t x).ts) ⊎ (until own.next < n) → marked x n ≡ false
+  none_before n more less out = false_from_ne_true _ (λ is. let r = own.readers n is more less in elim out [ inl low ↦ absurd (omega (arith, r.0, low)) | inr high ↦ absurd (omega (arith, r.1, high)) ])
 
-pub scanned : (k : Kept) (r : Rules) (m' : List ℕ → ℕ → Bool) (t : ℕ) (span : Span) (ps : List Piece) → AreMade r.store t span (λ x. true) ps
+  none_now : (n : ℕ) → above < n → n ≤ to → (n ≤ (newest_in s t x).ts) ⊎ (until own.next < n) → m' n ≡ false
+  none_now n more less out = false_from_ne_true _ (λ is. let e : n ≡ piece.top = piece.inside n more less is in elim out [ inl low ↦ absurd (omega (arith, e, low, piece.least, own.other)) | inr high ↦ absurd (omega (arith, e, high, top)) ])
+
+  pub as_own : IsPiece (marked x) m' t (newest_in s t x).ts (until own.next)
+  as_own = record {
+    top = piece.top;
+    marked = piece.marked;
+    is = piece.is;
+    least = piece.least;
+    most = top;
+    greatest = λ n h more less. piece.greatest n h (omega (arith, own.low, more)) (omega (arith, own.high, less));
+    outside = λ n out. by_test (nat_le n above)
+        (λ on. piece.outside n (inl (leb-true n above on)))
+        (λ off. by_test (nat_lt to n)
+        (λ on. piece.outside n (inr (ltb-true to n on)))
+        (λ in'. none_now n (leb-false n above off) (ltb-false to n in') out ∙ sym (none_before n (leb-false n above off) (ltb-false to n in') out)));
+    inside = λ n more less h. piece.inside n (omega (arith, own.low, more)) (omega (arith, own.high, less)) h;
+  }
+
+pub scanned : (k : Kept) (r : Rules) (m' : List ℕ → ℕ → Bool) (t : ℕ) (span : Span) (ps : List Piece) → AreAllMade r.store (marked_of r) t span ps
     → ((p : Piece) → Contains ps p → (x : List ℕ) → in_span p.span x ≡ true → IsPiece ((holding k r).marked x) (m' x) t p.above p.until)
     → ((x : List ℕ) → ((p : Piece) → Contains ps p → in_span p.span x ≡ false) → (j : ℕ) → m' x j ≡ (holding k r).marked x j)
     → IsScannedBy (holding k r) (record (holding k r) { marked = m' }) t span
 scanned k r m' t span ps made inside outside = record {
   noted = λ x in'. elim (made.each x in' refl) [
     | inl own ↦ (let next = some_next (chain_of r.store x) t in own_noted (holding k r) x t next.0 (m' x) next.1 own (outside x (λ p i. by_test (in_span p.span x)
-        (λ on. absurd (let gap = (made.within p (contains_has ps p i) x on).2 in omega (arith, gap.from, gap.low, own)))
+        (λ on. absurd (let gap = (made.within p (contains_has ps p i) x on).2 in omega (arith, gap.other, own)))
         (λ off. off))))
-    | inr of ↦ (let gap = (made.within of.0 of.1 x of.2).2 in
-        narrower_noted (holding k r) x t of.0.above of.0.until gap.next (m' x) gap.is_next gap.from gap.low gap.high gap.to (inside of.0 (has_contains ps of.0 of.1) x of.2))
+    | inr of ↦ (let own = (made.within of.0 of.1 x of.2).2 in record {
+      next = own.next;
+      is_next = own.is_next;
+      own = λ itself. absurd (omega (arith, own.other, itself));
+      other = λ other. merged (marked_of r x) (m' x) t (newest_in r.store t x).ts (until own.next) own.other own.late
+          (as_own r.store (marked_of r) (m' x) t of.0.above of.0.until x own (inside of.0 (has_contains ps of.0 of.1) x of.2));
+    })
   ];
   others = λ x out. outside x (λ p i. by_test (in_span p.span x)
       (λ on. absurd (both_ways _ out (made.within p (contains_has ps p i) x on).0))

@@ -1,34 +1,37 @@
 -- A walk through the entries of a span.
-use Rattle.std.proofs.Common.{Bor, List, None, Option, Some, ap, append_assoc, arith, cond, false, inl, inr, refl, subst, sym, true, ℕ, ◌<◌, ◌≤◌, ◌-◌, ◌++◌, ◌∷◌, ◌≡◌, ◌∙◌, []}
-use Rattle.std.specs.Prelude.{IfSome, MatchOption, bytes_eq, is_some, max, min, option_map}
-use Rattle.std.proofs.Math.Nat.{le-max_left, le-max_right, le-min, max-le, min-le_left, min-le_right}
+use Rattle.std.proofs.Common.{Bor, List, None, Option, Some, ap, append_assoc, arith, cond, false, inl, inr, refl, subst, sym, true, ℕ, ◌<◌, ◌≤◌, ◌++◌, ◌∷◌, ◌≡◌, ◌∙◌, []}
+use Rattle.std.specs.Prelude.{IfSome, MatchOption, bytes_eq, is_some, option_map}
 use Rattle.std.proofs.lemmas.Bool.{both_ways}
 use Rattle.std.specs.List.{AllByRecursion}
 use Rattle.std.specs.Map.{keys_of}
 use Rattle.std.specs.Option.{option_copied}
 use Rattle.timestamps.specs.declared.ts.TheConstants.{MAX}
 use Rattle.spans.specs.Effects.{After}
-use Rattle.spans.specs.KeyOrder.{from_low}
+use Rattle.spans.specs.KeyOrder.{from_low, key_lt}
 use Rattle.spans.specs.Keys.{in_span, with_value}
 use Rattle.spans.specs.Successors.{successor}
 use Rattle.spans.specs.declared.span.Span.{Span}
 use Rattle.spans.proofs.Keyed.{IsIn, RisingKeys}
 use Rattle.spans.proofs.Steps.{by_test, key_itself, same_key}
 use Rattle.kept.specs.Finding.{IsNextAbove}
+use Rattle.kept.specs.Marks.{AtMost}
 use Rattle.kept.specs.Marks as marking
+use Rattle.read_marks.specs.Marks.{is_marked_in}
+use Rattle.read_marks.specs.Readers.{AreAllBetween}
+use Rattle.read_marks.specs.declared.marks.Marks.{Marks}
 use Rattle.read_marks.specs.declared.piece.Piece.{Piece}
 use Rattle.version_chain.specs.Chains.{Entry, chain_of}
 use Rattle.version_chain.specs.Stores.{Stored, after_of, is_committed_in, version_in}
 use Rattle.version_chain.specs.Versions.{IsLeastAbove, IsNewestOf, IsNoneAbove, IsNoneUpTo, version_of}
 use Rattle.version_chain.specs.declared.chain.Version.{Version}
 use Rattle.version_chain.proofs.InSpans.{chain_among, chain_nowhere, passes_among}
-use Rattle.mvto_rules.specs.Cuts.{IsPassed, IsWhole, narrowed, open_piece}
-use Rattle.mvto_rules.specs.Scans.{AreMade, IsGap, IsOpen, IsWalking, entries_of, first_blocker, is_below, keys_in, newest_in, rows_in}
+use Rattle.mvto_rules.specs.Cuts.{IsPassed, IsTaken, IsWhole, open_piece}
+use Rattle.mvto_rules.specs.Scans.{AreAhead, AreAllMade, AreMade, IsOpen, IsWalking, Marked, MarksAsOwn, entries_of, first_blocker, is_below, keys_in, newest_in, rows_in}
 use Rattle.mvto_rules.specs.Sights.{sight_of, value_in}
 use Rattle.mvto_rules.specs.declared.sight.Sight.TheVariants as sights
 use Rattle.mvto_rules.specs.declared.cut.Cut.{Cut}
 use Rattle.mvto_rules.specs.declared.walk.Walk.{Walk}
-use Rattle.mvto_rules.proofs.Cutting.{ahead_of, all_made, narrower, none_made, nothing_there, own_passed, passed, stays_behind}
+use Rattle.mvto_rules.proofs.Cutting.{ahead_of, all_made, key_parted, none_made, nothing_there, own_passed, passed, stays_behind}
 use Rattle.mvto_rules.proofs.Noting.{past_until}
 use Rattle.mvto_rules.proofs.Seeing.{IsThere, blocked_is, blocker_is, chain_newest, found_there, is_stopped, other_is, own_is}
 
@@ -38,10 +41,9 @@ pub there_at : (s : Stored) (t m : ℕ) (x : List ℕ) (vs : List Version) (o : 
 there_at s t m x vs o is same newest named = found_there s x t m o same (chain_newest s x vs m o is newest) named
 
 -- what is next above it
-pub next_at : (t m to : ℕ) (vs : List Version) (o : Option (Bor Version)) → m ≡ t → MatchOption o (IsNoneAbove vs m) (λ v. IsLeastAbove vs m v.now) → to ≡ marking.until (option_map (λ (v : Version). v.ts) (option_copied o))
-    → (next : Option ℕ) × IsNextAbove (λ i. after_of (version_of vs i)) t next × (to ≡ marking.until next)
-next_at t m to vs None same none is = (None, λ i l. ap after_of (none i (omega arith)), is)
-next_at t m to vs (Some b) same least is = (Some b.now.ts, (omega (arith, least.above), ap (λ o. is_some (after_of o)) least.one, λ i l h. ap after_of (least.gap i (omega arith) h)), is)
+pub next_at : (t m : ℕ) (vs : List Version) (o : Option (Bor Version)) (next : Option ℕ) → m ≡ t → MatchOption o (IsNoneAbove vs m) (λ v. IsLeastAbove vs m v.now) → next ≡ option_map (λ (v : Version). v.ts) (option_copied o) → IsNextAbove (λ i. after_of (version_of vs i)) t next
+next_at t m vs None next same none is = subst (IsNextAbove (λ i. after_of (version_of vs i)) t) (sym is) (λ i l. ap after_of (none i (omega arith)))
+next_at t m vs (Some b) next same least is = subst (IsNextAbove (λ i. after_of (version_of vs i)) t) (sym is) (omega (arith, least.above), ap (λ o. is_some (after_of o)) least.one, λ i l h. ap after_of (least.gap i (omega arith) h))
 
 -- it stops the reader
 pub stopped_at : (s : Stored) (t n : ℕ) (x : List ℕ) (xs : List (List ℕ)) (o : Option Version) → 0 < t → IsThere (version_in s x) (is_committed_in s x) t o → sights.Blocked n ≡ sight_of t o → first_blocker s t (x ∷ xs) ≡ Some n
@@ -63,75 +65,117 @@ rows_more : (s : Stored) (t : ℕ) (x : List ℕ) (rest : List Entry) (all rows 
 rows_more s t x rest all rows rows' o there more were =
     ap (λ l. l ++ rows_in s t (keys_of rest)) more ∙ row_more rows (rows_in s t (keys_of rest)) x (value_in o) ∙ ap (λ v. rows ++ with_value x v.after (rows_in s t (keys_of rest))) (sym there.is) ∙ were
 
--- at the reader's own version the open piece ends, and the next begins behind it
-pub stepped_own : (s : Stored) (t : ℕ) (span : Span) (x : List ℕ) (vs : List Version) (rest : List Entry) (w w' : Walk) (o : Option Version) → 0 < t → t ≤ MAX → IsWalking s t span ((x, vs) ∷ rest) w → IsThere (version_in s x) (is_committed_in s x) t o → sights.Own ≡ sight_of t o
-    → IsPassed w.cut w'.cut x → w'.rows.items ≡ w.rows.items ++ with_value x (value_in o) [] → IsWalking s t span rest w'
-stepped_own s t span x vs rest w w' o low high walk there is cut rows =
-    let from_x : from_low w.cut.lo x ≡ true = walk.behind x (walk.ahead.from x (inl refl)) in
-    let made = passed s t span x vs rest w.cut walk.ahead.each.0.0 from_x walk.ahead.rising walk.opened walk.made in
-    let own = own_passed s t span x (w.cut.pieces.items ++ open_piece w.cut (Some x) ∷ []) made (own_is (version_in s x) (is_committed_in s x) t o low there is) in
-    let ahead = ahead_of s span walk.point x vs rest walk.ahead in
-    let begins : w'.cut.lo ≡ Some (successor x) = cut.1 in
+-- behind a key the open piece has the keys without a version
+reopened : (s : Stored) (m : Marked) (t : ℕ) (span : Span) (lo : Option (List ℕ)) (x : List ℕ) (vs : List Version) (rest : List Entry) (c : Cut) → 0 < t → t ≤ MAX → AreAhead s span lo ((x, vs) ∷ rest) → c.lo ≡ Some (successor x) → IsOpen s m t span rest c
+reopened s m t span lo x vs rest c low high before begins =
+    let ahead = ahead_of s span lo x vs rest before in
     record {
-      point = Some (successor x);
-      ahead = ahead;
-      behind = λ y from. subst (λ l. from_low l y ≡ true) (sym begins) from;
-      opened = record {
-        inner = λ y from. ahead.inner y (subst (λ l. from_low l y ≡ true) begins from);
-        low = subst (λ n. n < t) (sym cut.2.0) low;
-        high = subst (λ n. t ≤ n) (sym cut.2.1) (omega (arith, high));
-        gap = λ y inside from none. subst (λ n. IsGap s t y n w'.cut.until) (sym cut.2.0) (subst (λ n. IsGap s t y 0 n) (sym cut.2.1) (nothing_there s t y low high (ahead.nowhere y inside (subst (λ l. from_low l y ≡ true) begins from) none)));
-      };
-      made = subst (λ l. AreMade s t span (is_below l) w'.cut.pieces.items) (sym begins) (subst (AreMade s t span (is_below (Some (successor x)))) (sym cut.0) own);
-      rows = rows_more s t x rest _ w.rows.items w'.rows.items o there rows walk.rows;
-      free = sym (passed_at s t x (keys_of rest) o there (ap is_stopped (sym is))) ∙ walk.free;
+      inner = λ y from. ahead.inner y (subst (λ l. from_low l y ≡ true) begins from);
+      gap = λ y inside from none. nothing_there s m t y low high (ahead.nowhere y inside (subst (λ l. from_low l y ≡ true) begins from) none);
     }
 
--- at another's, or at none, the gap of the open piece becomes narrower
-narrowed_open : (s : Stored) (t above to : ℕ) (span : Span) (x : List ℕ) (vs : List Version) (rest : List Entry) (c : Cut) → IsGap s t x above to → IsOpen s t span ((x, vs) ∷ rest) c → IsOpen s t span rest (narrowed above to c)
-narrowed_open s t above to span x vs rest c gap opened = record {
+-- a walk past a key behind which the next piece begins
+stepped_past : (s : Stored) (m : Marked) (t : ℕ) (span : Span) (x : List ℕ) (vs : List Version) (rest : List Entry) (w w' : Walk) (o : Option Version) → 0 < t → t ≤ MAX → IsWalking s m t span ((x, vs) ∷ rest) w → IsThere (version_in s x) (is_committed_in s x) t o → is_stopped (sight_of t o) ≡ false
+    → w'.cut.lo ≡ Some (successor x) → AreMade s m t span (is_below (Some (successor x))) w'.cut.pieces.items → w'.rows.items ≡ w.rows.items ++ with_value x (value_in o) [] → IsWalking s m t span rest w'
+stepped_past s m t span x vs rest w w' o low high walk there free begins made rows = record {
+  point = Some (successor x);
+  ahead = ahead_of s span walk.point x vs rest walk.ahead;
+  behind = λ y from. subst (λ l. from_low l y ≡ true) (sym begins) from;
+  opened = reopened s m t span walk.point x vs rest w'.cut low high walk.ahead begins;
+  made = subst (λ l. AreMade s m t span (is_below l) w'.cut.pieces.items) (sym begins) made;
+  rows = rows_more s t x rest _ w.rows.items w'.rows.items o there rows walk.rows;
+  free = sym (passed_at s t x (keys_of rest) o there free) ∙ walk.free;
+}
+
+-- the pieces up to the next key
+ended_below : (s : Stored) (m : Marked) (t : ℕ) (span : Span) (x : List ℕ) (vs : List Version) (rest : List Entry) (w : Walk) → 0 < t → t ≤ MAX → IsWalking s m t span ((x, vs) ∷ rest) w → AreMade s m t span (λ y. key_lt y x) (w.cut.pieces.items ++ open_piece w.cut (Some x) ∷ [])
+ended_below s m t span x vs rest w low high walk = passed s m t span x vs rest w.cut low high walk.ahead.each.0.0 (walk.behind x (walk.ahead.from x (inl refl))) walk.ahead.rising walk.opened walk.made
+
+-- at the reader's own version the open piece ends, and the next begins behind it
+pub stepped_own : (s : Stored) (m : Marked) (t : ℕ) (span : Span) (x : List ℕ) (vs : List Version) (rest : List Entry) (w w' : Walk) (o : Option Version) → 0 < t → t ≤ MAX → IsWalking s m t span ((x, vs) ∷ rest) w → IsThere (version_in s x) (is_committed_in s x) t o → sights.Own ≡ sight_of t o
+    → IsPassed w.cut w'.cut x → w'.rows.items ≡ w.rows.items ++ with_value x (value_in o) [] → IsWalking s m t span rest w'
+stepped_own s m t span x vs rest w w' o low high walk there is cut rows =
+    let own = own_passed s m t span x (w.cut.pieces.items ++ open_piece w.cut (Some x) ∷ []) (ended_below s m t span x vs rest w low high walk) (own_is (version_in s x) (is_committed_in s x) t o low there is) in
+    stepped_past s m t span x vs rest w w' o low high walk there (ap is_stopped (sym is)) cut.1 (subst (AreMade s m t span (is_below (Some (successor x)))) (sym cut.0) own) rows
+
+-- the own gap of a read of another's version, or of none
+own_gap : (s : Stored) (m : Marked) (t above : ℕ) (x : List ℕ) (vs : List Version) (next : Option ℕ) → t ≤ MAX → chain_of s x ≡ vs → ((newest_in s t x).ts ≡ above) × (above < t) → IsNextAbove (λ i. after_of (version_of vs i)) t next → MarksAsOwn s m t x above (marking.until next)
+own_gap s m t above x vs next high is other is_next = record {
+  other = omega (arith, other.0, other.1);
+  next = next;
+  is_next = subst (λ us. IsNextAbove (λ i. after_of (version_of us i)) t next) (sym is) is_next;
+  late = past_until (λ i. after_of (version_of vs i)) t next high is_next;
+  low = omega (arith, other.0);
+  high = omega arith;
+  readers = λ n h more less. (omega (arith, other.0, more), less);
+}
+
+until_low : (next : Option ℕ) → IfSome next (λ n. n ≤ MAX) → marking.until next ≤ 18446744073709551615
+until_low None low = omega arith
+until_low (Some n) low = omega (arith, low)
+
+at_most_until : (next : Option ℕ) (n : ℕ) → AtMost next n → n ≤ 18446744073709551615 → n ≤ marking.until next
+at_most_until None n low high = high
+at_most_until (Some s) n low high = low
+
+-- where all readers lie in it, the gap of all timestamps marks as it does
+widened : (s : Stored) (m : Marked) (t above : ℕ) (x : List ℕ) (vs : List Version) (next : Option ℕ) → t ≤ MAX → chain_of s x ≡ vs → ((newest_in s t x).ts ≡ above) × (above < t) → IsNextAbove (λ i. after_of (version_of vs i)) t next → IfSome next (λ n. n ≤ MAX)
+    → AreAllBetween (m x) above next → MarksAsOwn s m t x 0 18446744073709551615
+widened s m t above x vs next high is other is_next in_range all = record {
+  other = omega (arith, other.0, other.1);
+  next = next;
+  is_next = subst (λ us. IsNextAbove (λ i. after_of (version_of us i)) t next) (sym is) is_next;
+  late = past_until (λ i. after_of (version_of vs i)) t next high is_next;
+  low = omega arith;
+  high = until_low next in_range;
+  readers = λ n h more less. (let within = all n h in (omega (arith, other.0, within.0), at_most_until next n within.1 less));
+}
+
+-- such a key stays in the open piece
+taken_open : (s : Stored) (m : Marked) (t : ℕ) (span : Span) (x : List ℕ) (vs : List Version) (rest : List Entry) (c : Cut) → MarksAsOwn s m t x 0 18446744073709551615 → IsOpen s m t span ((x, vs) ∷ rest) c → IsOpen s m t span rest c
+taken_open s m t span x vs rest c own opened = record {
   inner = opened.inner;
-  low = low;
-  high = high;
   gap = λ y inside from none. by_test (bytes_eq x y)
-      (λ same. subst (λ z. IsGap s t z (max c.above above) (min c.until to)) (same_key x y same) (narrower s t x above to _ _ gap (le-max_right c.above above) (min-le_right c.until to) low high))
-      (λ other. narrower s t y c.above c.until _ _ (opened.gap y inside from (λ i. elim i [
+      (λ same. subst (λ z. MarksAsOwn s m t z 0 18446744073709551615) (same_key x y same) own)
+      (λ other. opened.gap y inside from (λ i. elim i [
         | inl here ↦ both_ways (bytes_eq x y) other (subst (λ z. bytes_eq x z ≡ true) here (key_itself x))
         | inr there ↦ none there
-      ])) (le-max_left c.above above) (min-le_left c.until to) low high);
+      ]));
 }
+
+-- at another's version, or at none, the key is taken into the open piece, or it is a piece by itself
+pub stepped_other : (s : Stored) (marks : Marks) (t above : ℕ) (span : Span) (x : List ℕ) (vs : List Version) (rest : List Entry) (w w' : Walk) (o : Option Version) (next : Option ℕ) → 0 < t → t ≤ MAX → IsWalking s (is_marked_in marks) t span ((x, vs) ∷ rest) w → IsThere (version_in s x) (is_committed_in s x) t o
+    → sights.Other above ≡ sight_of t o → IsNextAbove (λ i. after_of (version_of vs i)) t next → IfSome next (λ n. n ≤ MAX)
+    → IsTaken marks w.cut w'.cut x above next → w'.rows.items ≡ w.rows.items ++ with_value x (value_in o) [] → IsWalking s (is_marked_in marks) t span rest w'
+stepped_other s marks t above span x vs rest w w' o next low high walk there is is_next in_range taken rows = elim taken [
+  | inl stays ↦ record {
+    point = Some (successor x);
+    ahead = ahead_of s span walk.point x vs rest walk.ahead;
+    behind = λ y from. subst (λ c. from_low c.lo y ≡ true) (sym stays.0) (walk.behind y (stays_behind walk.point x y (walk.ahead.from x (inl refl)) from));
+    opened = subst (IsOpen s m t span rest) (sym stays.0) (taken_open s m t span x vs rest w.cut (widened s m t above x vs next high here other is_next in_range stays.1) walk.opened);
+    made = subst (λ c. AreMade s m t span (is_below c.lo) c.pieces.items) (sym stays.0) walk.made;
+    rows = rows_more s t x rest _ w.rows.items w'.rows.items o there rows walk.rows;
+    free = sym (passed_at s t x (keys_of rest) o there free) ∙ walk.free;
+  }
+  | inr parted ↦ stepped_past s m t span x vs rest w w' o low high walk there free parted.lo
+      (subst (AreMade s m t span (is_below (Some (successor x)))) (sym parted.pieces) (key_parted s m t span parted.span x above (marking.until next) (w.cut.pieces.items ++ open_piece w.cut (Some x) ∷ []) (ended_below s m t span x vs rest w low high walk) other.1 late walk.ahead.each.0.0 (own_gap s m t above x vs next high here other is_next) parted.alone))
+      rows
+]
   where
-    low : max c.above above < t
-    low =
-        let most : max c.above above ≤ t - 1 = max-le (omega (arith, opened.low)) (omega (arith, gap.low)) in
-        omega (arith, most, gap.low)
+    m : Marked
+    m = is_marked_in marks
 
-    high : t ≤ min c.until to
-    high = le-min opened.high gap.high
+    here : chain_of s x ≡ vs
+    here = walk.ahead.each.0.1
 
-pub stepped_other : (s : Stored) (t above to : ℕ) (span : Span) (x : List ℕ) (vs : List Version) (rest : List Entry) (w w' : Walk) (o : Option Version) → 0 < t → t ≤ MAX → IsWalking s t span ((x, vs) ∷ rest) w → IsThere (version_in s x) (is_committed_in s x) t o
-    → sights.Other above ≡ sight_of t o → (next : Option ℕ) × IsNextAbove (λ i. after_of (version_of vs i)) t next × (to ≡ marking.until next)
-    → w'.cut ≡ narrowed above to w.cut → w'.rows.items ≡ w.rows.items ++ with_value x (value_in o) [] → IsWalking s t span rest w'
-stepped_other s t above to span x vs rest w w' o low high walk there is next cut rows =
-    let other = other_is (version_in s x) (is_committed_in s x) t o above low there is in
-    let late : t ≤ to = subst (λ n. t ≤ n) (sym next.2) (past_until (λ i. after_of (version_of vs i)) t next.0 high next.1) in
-    let gap : IsGap s t x above to = record {
-      from = omega (arith, other.0);
-      low = other.1;
-      high = late;
-      next = next.0;
-      is_next = subst (λ us. IsNextAbove (λ i. after_of (version_of us i)) t next.0) (sym walk.ahead.each.0.1) next.1;
-      to = omega (arith, next.2);
-    } in
-    record {
-      point = Some (successor x);
-      ahead = ahead_of s span walk.point x vs rest walk.ahead;
-      behind = λ y from. subst (λ c. from_low c.lo y ≡ true) (sym cut) (walk.behind y (stays_behind walk.point x y (walk.ahead.from x (inl refl)) from));
-      opened = subst (IsOpen s t span rest) (sym cut) (narrowed_open s t above to span x vs rest w.cut gap walk.opened);
-      made = subst (λ c. AreMade s t span (is_below c.lo) c.pieces.items) (sym cut) walk.made;
-      rows = rows_more s t x rest _ w.rows.items w'.rows.items o there rows walk.rows;
-      free = sym (passed_at s t x (keys_of rest) o there (ap is_stopped (sym is))) ∙ walk.free;
-    }
+    other : ((newest_in s t x).ts ≡ above) × (above < t)
+    other = other_is (version_in s x) (is_committed_in s x) t o above low there is
+
+    free : is_stopped (sight_of t o) ≡ false
+    free = ap is_stopped (sym is)
+
+    late : t ≤ marking.until next
+    late = past_until (λ i. after_of (version_of vs i)) t next high is_next
 
 -- ---- the entries of a span
 
@@ -149,8 +193,8 @@ inside_from : (span : Span) (x : List ℕ) → in_span span x ≡ true → from_
 inside_from span x inside = by_test (from_low span.lo x) (λ on. on) (λ off. (let no : in_span span x ≡ false = rw off refl in let t : true ≡ false = sym inside ∙ no in cc))
 
 -- at first all of them are left
-pub started : (s : Stored) (t : ℕ) (span : Span) (found : List Entry) (w : Walk) → 0 < t → t ≤ MAX → found ≡ entries_of s span → RisingKeys (keys_of found) → (w.rows.items ≡ []) × IsWhole w.cut span → IsWalking s t span found w
-started s t span found w low high those rising empty =
+pub started : (s : Stored) (m : Marked) (t : ℕ) (span : Span) (found : List Entry) (w : Walk) → 0 < t → t ≤ MAX → found ≡ entries_of s span → RisingKeys (keys_of found) → (w.rows.items ≡ []) × IsWhole w.cut span → IsWalking s m t span found w
+started s m t span found w low high those rising empty =
     let each = each_found s span found [] found those rising refl in
     let begins : w.cut.lo ≡ span.lo = empty.1.1 in
     record {
@@ -165,11 +209,9 @@ started s t span found w low high those rising empty =
       behind = λ x from. subst (λ l. from_low l x ≡ true) (sym begins) from;
       opened = record {
         inner = λ x from. subst (λ l. from_low l x ≡ true) begins from;
-        low = subst (λ n. n < t) (sym empty.1.2.0) low;
-        high = subst (λ n. t ≤ n) (sym empty.1.2.1) (omega (arith, high));
-        gap = λ x inside from none. subst (λ n. IsGap s t x n w.cut.until) (sym empty.1.2.0) (subst (λ n. IsGap s t x 0 n) (sym empty.1.2.1) (nothing_there s t x low high (chain_nowhere span s found x those inside none)));
+        gap = λ x inside from none. nothing_there s m t x low high (chain_nowhere span s found x those inside none);
       };
-      made = subst (λ l. AreMade s t span (is_below l) w.cut.pieces.items) (sym begins) (subst (AreMade s t span (is_below span.lo)) (sym empty.1.0) (none_made s t span));
+      made = subst (λ l. AreMade s m t span (is_below l) w.cut.pieces.items) (sym begins) (subst (AreMade s m t span (is_below span.lo)) (sym empty.1.0) (none_made s m t span));
       rows = ap (λ l. l ++ rows_in s t (keys_of found)) empty.0 ∙ ap (λ es. rows_in s t (keys_of es)) those;
       free = ap (λ es. first_blocker s t (keys_of es)) those;
     }
@@ -190,10 +232,10 @@ nothing_more [] = refl
 nothing_more (x ∷ xs) = ap (λ l. x ∷ l) (nothing_more xs)
 
 -- at last none is
-pub ended : (s : Stored) (t : ℕ) (span : Span) (w : Walk) (ps : List Piece) → IsWalking s t span [] w → ps ≡ w.cut.pieces.items ++ open_piece w.cut span.hi ∷ []
-    → (first_blocker s t (keys_in s span) ≡ None) × (w.rows.items ≡ rows_in s t (keys_in s span)) × AreMade s t span (λ x. true) ps
-ended s t span w ps walk is = (
+pub ended : (s : Stored) (m : Marked) (t : ℕ) (span : Span) (w : Walk) (ps : List Piece) → 0 < t → t ≤ MAX → IsWalking s m t span [] w → ps ≡ w.cut.pieces.items ++ open_piece w.cut span.hi ∷ []
+    → (first_blocker s t (keys_in s span) ≡ None) × (w.rows.items ≡ rows_in s t (keys_in s span)) × AreAllMade s m t span ps
+ended s m t span w ps low high walk is = (
   sym walk.free,
   sym (nothing_more w.rows.items) ∙ walk.rows,
-  subst (AreMade s t span (λ x. true)) (sym is) (all_made s t span w.cut walk.opened walk.made),
+  subst (AreAllMade s m t span) (sym is) (all_made s m t span w.cut low high walk.opened walk.made),
 )

@@ -7,10 +7,11 @@ use Rattle.spans.proofs.WriteSets.{has}
 use Rattle.kept.specs.Changes.{IsCollectedTo}
 use Rattle.kept.specs.Finding.{is_dropped}
 use Rattle.kept.specs.Lists.{AreThose}
+use Rattle.kept.specs.Marks.{IsForgotten}
 use Rattle.kept.specs.Table.{is_open, keys_of}
 use Rattle.txn_table.specs.TransactionIn.{Table, transaction_in}
 use Rattle.version_chain.specs.Stores.{Stored, is_committed_in, version_in}
-use Rattle.mvto_rules.specs.Holding.{holding}
+use Rattle.mvto_rules.specs.Holding.{holding, marked_of}
 use Rattle.mvto_rules.specs.declared.rules.Rules.{Rules}
 
 -- a hard closing at to takes the transaction of t back: it is undecided, and at or below to
@@ -39,6 +40,10 @@ pub record IsCountTakenBack (table : Table) (to count : ℕ) : Type 0 where
 -- the same of what the rules hold
 abbrev pub TakesBack : Rules → ℕ → ℕ → Type 0
 TakesBack r to count = IsCountTakenBack r.txns to count
+
+-- of each key the marks through n are forgotten, and those above it stand
+abbrev pub AreMarksForgotten : Rules → Rules → ℕ → Type 0
+AreMarksForgotten r r' n = (x : List ℕ) → IsForgotten (marked_of r x) (marked_of r' x) n
 
 -- the versions that are dead by the horizon are gone, count of them
 pub record IsCollected (k : Kept) (r r' : Rules) (horizon count : ℕ) : Type 0 where

@@ -1,6 +1,7 @@
 -- What the rules hold, as a part of what an engine keeps.
 use Rattle.std.specs.Prelude.{Bool, List, None, Option, false, ℕ, ◌≡◌}
 use Rattle.spans.specs.Kept.{Kept, Transaction}
+use Rattle.spans.specs.declared.span.Span.{Span}
 use Rattle.spans.specs.declared.calls.replies.Refusal.{Refusal}
 use Rattle.spans.specs.declared.calls.replies.Reply.{Reply}
 use Rattle.spans.specs.declared.calls.replies.Reply.TheVariants.{Refused}
@@ -9,7 +10,9 @@ use Rattle.kept.specs.Changes.{IsAlike}
 use Rattle.kept.specs.Table.{keys_of}
 use Rattle.version_chain.specs.Stores.{Stored, is_committed_in, version_in}
 use Rattle.read_marks.specs.Marks.{is_marked_in}
+use Rattle.read_marks.specs.declared.piece.Piece.{Piece}
 use Rattle.txn_table.specs.TransactionIn.{transaction_in}
+use Rattle.mvto_rules.specs.Scans.{AreAllMade}
 use Rattle.mvto_rules.specs.declared.rules.Rules.{Rules}
 
 -- what the rules hold
@@ -21,6 +24,10 @@ marked_of r = is_marked_in r.marks
 
 abbrev pub transactions_of : Rules → ℕ → Option Transaction
 transactions_of r = transaction_in r.txns
+
+-- the pieces mark all keys of the span for a read by t
+abbrev pub AreMadeFor : Rules → ℕ → Span → List Piece → Type 0
+AreMadeFor r t span pieces = AreAllMade (versions_of r) (marked_of r) t span pieces
 
 -- k with what the rules hold in the place of its versions, its marks and its transactions
 abbrev pub holding : Kept → Rules → Kept

@@ -1,30 +1,31 @@
 //! A span cut into the pieces that a scan marks.
 //!
-//! Of the keys that it reads the scan marks all, so one piece mostly has the whole span. It is cut at keys of which
-//! the reader has its own version, since a read of that marks nothing. The gap of a piece is where readers of all its
-//! keys may be joined: from the greatest version that was read there to the least of the next ones.
+//! Of the keys that it reads the scan marks all, each in the gap of its own read: above the version that was read, and
+//! up to the next one. A key without a version has the gap of all timestamps. A key whose readers all lie in its own
+//! gap is marked alike in that of all timestamps. So one piece mostly has the whole span. It is cut at keys of which the
+//! reader has its own version, since a read of that marks nothing, and at keys with a reader outside of their gap.
 ghost use Rattle.std.specs.Prelude.{◌≡◌, ◌++◌, ◌∷◌, [], IfOk, OnOk};
+ghost use Rattle.kept.specs.Marks as marking;
 
-use read_marks::Piece;
+use crate::spot::span_of;
+use read_marks::{Marks, Piece};
 use spans::bound::Bound;
 use spans::span::Span;
 use std::alloc::{AllocError, Global};
 use std::mem;
 use timestamps::key::Key;
 
-/// The pieces that have ended, and the open one: where its keys begin, and its gap.
+/// The pieces that have ended, and where the keys of the open one begin. Its gap is that of all timestamps.
 #[derive(Drop)]
 pub(crate) struct Cut {
     pub(crate) pieces: Vec<Piece>,
     pub(crate) lo: Option<Bound>,
-    pub(crate) above: u64,
-    pub(crate) until: u64,
 }
 
 impl Cut {
-    ghost use Rattle.mvto_rules.specs.Cuts.{IsPassed, IsWhole, narrowed, open_piece};
+    ghost use Rattle.mvto_rules.specs.Cuts.{IsParted, IsPassed, IsTaken, IsWhole, open_piece};
 
-    /// The whole span is open, and nothing of it was read.
+    /// The whole span is open.
     pub(crate) fn new(alloc: Global, span: &Span) -> Result<Cut, AllocError>
         ensures { IfOk result (λ cut. IsWhole cut span.now) }
     {
@@ -32,17 +33,34 @@ impl Cut {
         Ok(Cut {
             pieces: Vec::new(alloc),
             lo: whole.lo,
-            above: 0,
-            until: u64::MAX,
         })
     }
 
-    /// At a key of the open piece the version of `above` was read, and the next one is that of `until`.
-    pub(crate) fn narrow(&mut self, above: u64, until: u64)
-        ensures { self.new ≡ narrowed above until self.old }
+    /// Takes in a key of which the version of `above` was read. The next one is that of `next`.
+    pub(crate) fn take(
+        &mut self,
+        alloc: Global,
+        marks: &Marks,
+        key: &Key,
+        above: u64,
+        next: Option<u64>,
+    ) -> Result<(), AllocError>
+        ensures { OnOk result (IsTaken marks.now self.old self.new key.now above next) }
     {
-        self.above = self.above.max(above);
-        self.until = self.until.min(until);
+        if marks.all_between(key, above, next) {
+            return Ok(());
+        }
+        self.part(alloc, key, above, until_of(next))
+    }
+
+    /// Makes a piece of this key alone. The next one begins above it.
+    fn part(&mut self, alloc: Global, key: &Key, above: u64, until: u64) -> Result<(), AllocError>
+        ensures { OnOk result (IsParted self.old self.new key.now above until) }
+    {
+        self.pass(alloc, key)?;
+        let span = span_of(alloc, key)?;
+        self.pieces.push(Piece { span, above, until })?;
+        Ok(())
     }
 
     /// Ends the open piece below this key. The next one begins above it.
@@ -53,9 +71,7 @@ impl Cut {
         let next = Bound::successor(alloc, key)?;
         let lo = mem::replace(&mut self.lo, Some(next));
         let span = Span { lo, hi: Some(hi) };
-        let above = mem::replace(&mut self.above, 0);
-        let until = mem::replace(&mut self.until, u64::MAX);
-        self.pieces.push(Piece { span, above, until })?;
+        self.pieces.push(whole_gap(span))?;
         Ok(())
     }
 
@@ -64,14 +80,29 @@ impl Cut {
         ensures { IfOk result (λ pieces. pieces.items ≡ self.pieces.items ++ open_piece self span.now.hi ∷ []) }
     {
         let Span { hi, .. } = span.copy()?;
-        let Cut {
-            mut pieces,
-            lo,
-            above,
-            until,
-        } = self;
-        let span = Span { lo, hi };
-        pieces.push(Piece { span, above, until })?;
+        let Cut { mut pieces, lo } = self;
+        pieces.push(whole_gap(Span { lo, hi }))?;
         Ok(pieces)
+    }
+}
+
+/// The timestamp of the next version, or one beyond all.
+fn until_of(next: Option<u64>) -> u64
+    ensures { result ≡ marking.until next }
+{
+    match next {
+        None => u64::MAX,
+        Some(ts) => ts,
+    }
+}
+
+/// The span in the gap of all timestamps.
+fn whole_gap(span: Span) -> Piece
+    ensures { result ≡ record { span = span; above = 0; until = 18446744073709551615 } }
+{
+    Piece {
+        span,
+        above: 0,
+        until: u64::MAX,
     }
 }

@@ -13,11 +13,12 @@ use version_chain::Store;
 
 impl Rules {
     ghost use Rattle.mvto_rules.specs.Holding.{Changes, with_closed};
-    ghost use Rattle.mvto_rules.specs.Closings.{AreAllNoted, IsCollected, TakesBack};
+    ghost use Rattle.mvto_rules.specs.Closings.{AreAllNoted, AreMarksForgotten, IsCollected, TakesBack};
 
     /// Forgets the transactions and the readers at or below what is now closed. It takes no memory.
     pub fn forget_through(&mut self, closed: u64)
-        ensures { Changes self.old self.new (λ k k'. IsClosedAt k (with_closed closed k') closed) }
+        ensures marks { AreMarksForgotten self.old self.new closed }
+        ensures closed { Changes self.old self.new (λ k k'. IsClosedAt k (with_closed closed k') closed) }
     {
         self.marks.forget_through(closed);
         self.txns.forget_through(closed);
@@ -29,6 +30,7 @@ impl Rules {
         requires noted { AreAllNoted self.old }
         requires reached { to ≤ closed }
         ensures count { TakesBack self.old to result }
+        ensures marks { AreMarksForgotten self.old self.new closed }
         ensures closed { Changes self.old self.new (λ k k'. IsHardClosedAt k (with_closed closed k') to closed) }
     {
         let count = take_back_through(&mut self.store, &self.txns, to);

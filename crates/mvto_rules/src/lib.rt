@@ -20,15 +20,17 @@
 //! Some marks stand for others:
 //!
 //! - Of the readers of one version only the greatest can refuse a write, so a get joins them into that one.
-//! - A scan marks its span in one piece, cut at keys where the reader has its own version: that read marks nothing.
-//! - A piece joins readers above every version that it read, and not above the next version of any key.
+//! - A scan does so at each key: it joins the readers above the version that it read there, up to the next one.
+//! - Keys whose readers it joins alike are one piece, and so are all keys without a version. A key where the reader has
+//!   its own version is in none: that read marks nothing.
 //!
 //! Costs, where n transactions wrote w keys each, k keys have v versions each, and s spans have m readers each:
 //!
 //! - `begin`: O(log n)
 //! - `get`: O(log n + log k + log v + log s + log m), and the readers above its own move
 //! - `write`: O(log n + log w + log k + log v + log s + log m), and the versions above its own move, or as `abort`
-//! - `scan`: O(log n + log k + log s), O(log v) for each key and O(m) for each span that it meets
+//! - `scan`: O(log n + log k), O(log v) for each key, O(log s + log m) more for one with a version above closed, and
+//!   O(m) for each span that it meets
 //! - `commit`, `abort`: O(log n), and O(log k + log v) for each key written
 //! - `forget_through`: O(log n) for each transaction that goes; `abort_through`: also an abort of each that it takes back
 //! - `collect`: as `version_chain` says of `drop_dead`

@@ -2,13 +2,14 @@
 ghost use Rattle.std.specs.Prelude.{◌≡◌, ◌≤◌, IfOk, OnErr, None};
 ghost use Rattle.timestamps.specs.declared.ts.TheConstants.{MAX};
 ghost use Rattle.spans.proofs.Keyed.{RisingKeys};
+ghost use Rattle.read_marks.specs.Marks.{is_marked_in};
 ghost use Rattle.version_chain.specs.Chains.{AreFilled};
 ghost use Rattle.mvto_rules.specs.Scans.{entries_of, first_blocker, keys_in};
 ghost use Rattle.mvto_rules.specs.Readings.{IsReading};
 
 use crate::sight::Sight;
 use crate::walk::Walk;
-use read_marks::Piece;
+use read_marks::{Marks, Piece};
 use spans::span::Span;
 use std::alloc::{AllocError, Global};
 use timestamps::key::Key;
@@ -29,16 +30,17 @@ pub(crate) enum Reading {
 pub(crate) fn read_span(
     alloc: Global,
     store: &Store,
+    marks: &Marks,
     span: &Span,
     ts: Ts,
 ) -> Result<Reading, AllocError>
     requires { (1 ≤ ts) × (ts ≤ MAX) }
-    ensures reading { IfOk result (λ reading. IsReading store.now ts span.now reading) }
+    ensures reading { IfOk result (λ reading. IsReading store.now (is_marked_in marks.now) ts span.now reading) }
     ensures free { OnErr result (first_blocker store.now ts (keys_in store.now span.now) ≡ None) }
     ensures rising { RisingKeys (keys_in store.now span.now) }
     ensures filled { AreFilled (entries_of store.now span.now) }
 {
-    match read_rows(alloc, store, span, ts) {
+    match read_rows(alloc, store, marks, span, ts) {
         Ok(reading) => Ok(reading),
         Err(refused) => match first_blocker(store, span, ts) {
             None => Err(refused),
@@ -48,16 +50,22 @@ pub(crate) fn read_span(
 }
 
 /// Reads the keys of a span up to what stops the reader.
-fn read_rows(alloc: Global, store: &Store, span: &Span, ts: Ts) -> Result<Reading, AllocError>
+fn read_rows(
+    alloc: Global,
+    store: &Store,
+    marks: &Marks,
+    span: &Span,
+    ts: Ts,
+) -> Result<Reading, AllocError>
     requires { (1 ≤ ts) × (ts ≤ MAX) }
-    ensures reading { IfOk result (λ reading. IsReading store.now ts span.now reading) }
+    ensures reading { IfOk result (λ reading. IsReading store.now (is_marked_in marks.now) ts span.now reading) }
     ensures rising { RisingKeys (keys_in store.now span.now) }
     ensures filled { AreFilled (entries_of store.now span.now) }
 {
     let found = store.in_span(span);
     let mut walk = Walk::new(alloc, span)?;
     for (key, chain) in found {
-        if let Some(by) = walk.visit(key, chain, ts)? {
+        if let Some(by) = walk.visit(key, chain, marks, ts)? {
             return Ok(Reading::Stopped(by));
         }
     }

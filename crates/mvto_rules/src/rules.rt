@@ -50,8 +50,7 @@ pub struct Rules {
 }
 
 impl Rules {
-    ghost use Rattle.mvto_rules.specs.Scans.{AreAllMade};
-    ghost use Rattle.mvto_rules.specs.Holding.{AtClosed, Changes, IsNotedIn, Stays, StaysIfRefused, holding, marked_of, transactions_of, versions_of};
+    ghost use Rattle.mvto_rules.specs.Holding.{AreMadeFor, AtClosed, Changes, IsNotedIn, Stays, StaysIfRefused, holding, marked_of, transactions_of, versions_of};
 
     /// No version, no mark and no transaction.
     pub fn new(alloc: Global) -> Rules
@@ -196,7 +195,7 @@ impl Rules {
             Err(refusal) => return Ok(Reply::Refused(refusal)),
             Ok(ts) => ts,
         };
-        match read_span(self.alloc, &self.store, span, ts)? {
+        match read_span(self.alloc, &self.store, &self.marks, span, ts)? {
             Reading::Stopped(by) => Ok(Reply::Refused(Refusal::Blocked { by })),
             Reading::Through(rows, pieces) => {
                 self.mark_all(&pieces, ts)?;
@@ -207,8 +206,8 @@ impl Rules {
 
     /// Marks the reader of a span by its pieces.
     fn mark_all(&mut self, pieces: &[Piece], ts: Ts) -> Result<(), AllocError>
-        requires pieces { (span : Span) × AreAllMade self.old.store ts span pieces.now }
-        ensures ok { OnOk result (Changes self.old self.new (λ k k'. (span : Span) → AreAllMade self.old.store ts span pieces.now → IsScannedBy k k' ts span)) }
+        requires pieces { (span : Span) × AreMadeFor self.old ts span pieces.now }
+        ensures ok { OnOk result (Changes self.old self.new (λ k k'. (span : Span) → AreMadeFor self.old ts span pieces.now → IsScannedBy k k' ts span)) }
         ensures err { OnErr result (Stays self.old self.new) }
     {
         self.marks.add_pieces(pieces, ts)

@@ -1,13 +1,14 @@
 //! A walk through the keys of a span that have a version.
-ghost use Rattle.std.specs.Prelude.{◌≡◌, ◌++◌, [], IfOk, OnOk, option_map};
+ghost use Rattle.std.specs.Prelude.{◌≡◌, ◌≤◌, ◌++◌, [], IfOk, IfSome, OnOk, option_map};
 ghost use Rattle.std.specs.Option.{option_copied};
+ghost use Rattle.timestamps.specs.declared.ts.TheConstants.{MAX};
 ghost use Rattle.spans.specs.Keys.{with_value};
-ghost use Rattle.kept.specs.Marks as marking;
 ghost use Rattle.version_chain.specs.declared.chain.Version.{Version};
 ghost use Rattle.mvto_rules.specs.Sights.{value_in};
 
 use crate::cut::Cut;
 use crate::sight::{Sight, value_of};
+use read_marks::Marks;
 use spans::span::Span;
 use std::alloc::{AllocError, Global};
 use timestamps::key::Key;
@@ -45,9 +46,10 @@ impl Walk {
         &mut self,
         key: &Key,
         chain: &Chain,
+        marks: &Marks,
         ts: Ts,
     ) -> Result<Option<u64>, AllocError>
-        ensures { IfOk result (Visits ts (key.now, chain.now) self.old self.new) }
+        ensures { IfOk result (Visits marks.now ts (key.now, chain.now) self.old self.new) }
     {
         let (newest, next) = chain.around(ts.get(), &mut Steps::new());
         match Sight::of(newest, ts) {
@@ -58,8 +60,7 @@ impl Walk {
                 Ok(None)
             }
             Sight::Other(above) => {
-                let until = until_of(next);
-                self.cut.narrow(above, until);
+                self.cut.take(self.alloc, marks, key, above, named(next))?;
                 add_row(&mut self.rows, key, newest)?;
                 Ok(None)
             }
@@ -82,12 +83,11 @@ pub(crate) fn add_row(
     Ok(())
 }
 
-/// The timestamp of the next version, or one beyond all.
-fn until_of(next: Option<&Version>) -> u64
-    ensures { result ≡ marking.until (option_map (λ (v : Version). v.ts) (option_copied next.entry)) }
+/// The timestamp of a version.
+fn named(version: Option<&Version>) -> Option<u64>
+    ensures ts { result ≡ option_map (λ (v : Version). v.ts) (option_copied version.entry) }
+    ensures in_range { IfSome result (λ ts. ts ≤ MAX) }
 {
-    match next {
-        None => u64::MAX,
-        Some(version) => version.ts.get(),
-    }
+    let version = version?;
+    Some(version.ts.get())
 }

@@ -1,10 +1,11 @@
 -- Readers between two bounds, by the place where those above the lower one begin.
-use Rattle.std.proofs.Common.{ℕ, List, Bool, true, false, ◌&&◌, ◌≡◌, ◌<◌, ◌≤◌, ◌-◌, length, get_or, leb-false, ltb-true, nat_lt, arith, Option, None, Some, refl, sym, ◌∙◌, slice_get}
+use Rattle.std.proofs.Common.{ℕ, List, [], Bool, true, false, not, ◌&&◌, ◌≡◌, ◌<◌, ◌≤◌, ◌-◌, ◌↔◌, length, get_or, leb-false, leb-true, lt-ltb, ltb-false, ltb-true, max, nat_le, nat_lt, arith, Option, None, Some, refl, subst, sym, ◌∙◌, slice_get}
 use Rattle.std.specs.List.Sorted.{IsNonDecreasing}
 use Rattle.std.proofs.lemmas.List.{get_or_default}
 use Rattle.std.proofs.lemmas.Option.{get_or_from_slice_get, slice_get_within}
+use Rattle.spans.proofs.Steps.{by_test}
 use Rattle.kept.specs.Marks.{AtMost, IsBetween}
-use Rattle.read_marks.specs.Readers.{is_kept, is_reader, SplitsAt}
+use Rattle.read_marks.specs.Readers.{AreAllBetween, IsBeyond, SplitsAt, is_kept, is_reader}
 use Rattle.read_marks.proofs.Splitting.{from_place, reader_is}
 
 pub none_above : (xs : List ℕ) (t at : ℕ) (to : Option ℕ) → SplitsAt xs t at → at ≡ length xs → IsBetween (is_reader xs) t to → ⊥
@@ -78,3 +79,52 @@ last_kept xs t j k x up end is h =
     let u : get_or xs c.0 j ≤ get_or xs k j = up c.0 k j (omega arith) (omega arith) in
     let s : get_or xs k j ≡ get_or xs k x = get_or_default xs k j x (omega arith) in
     omega arith
+
+is-kept : (xs : List ℕ) (t j : ℕ) → t < j → is_reader xs j ≡ true → is_kept t xs j ≡ true
+is-kept xs t j above h = rw (lt-ltb t j above) h
+
+-- one that is kept is beyond a number where one is above both that and what is forgotten
+pub beyond_is : (xs : List ℕ) (t to : ℕ) (b : Bool) → (b ≡ true) ↔ IsBetween (is_reader xs) (max t to) None → (b ≡ true) ↔ IsBeyond (is_kept t xs) (Some to)
+beyond_is xs t to b is = (
+  λ on. let r = is.0 on in let h : max t to < r.reader = r.higher in (r.reader, is-kept xs t r.reader (omega arith) r.mark, omega arith),
+  λ r. is.1 (let k = kept-turn t r.0 (nat_lt t r.0) (is_reader xs r.0) refl r.1 in record { reader = r.0; mark = k.1; higher = omega (arith, k.0, r.2); low = tt }),
+)
+
+beyond_or : (m : ℕ → Bool) (to : Option ℕ) (n : ℕ) → m n ≡ true → (IsBeyond m to → ⊥) → AtMost to n
+beyond_or m None n is none = tt
+beyond_or m (Some to) n is none = by_test (nat_lt to n) (λ on. absurd (none (n, is, ltb-true to n on))) (λ off. ltb-false to n off)
+
+isnt_beyond : (m : ℕ → Bool) (above : ℕ) (to : Option ℕ) → AreAllBetween m above to → IsBeyond m to → ⊥
+isnt_beyond m above None all b = b
+isnt_beyond m above (Some to) all b = let l : b.0 ≤ to = (all b.0 b.1).1 in omega (arith, b.2)
+
+-- all that are kept lie between two numbers where none is up to the lower one, and none is beyond the upper one
+pub all_within : (xs : List ℕ) (t above : ℕ) (to : Option ℕ) (below beyond : Bool) → (below ≡ true) ↔ IsBetween (is_reader xs) t (Some above) → (beyond ≡ true) ↔ IsBeyond (is_kept t xs) to
+    → ((not below && not beyond) ≡ true) ↔ AreAllBetween (is_kept t xs) above to
+all_within xs t above to true beyond low high = (
+  λ is. cc,
+  λ all. let b = low.0 refl in let a = all b.reader (is-kept xs t b.reader b.higher b.mark) in let l : b.reader ≤ above = b.low in absurd (omega (arith, a.0)),
+)
+all_within xs t above to false true low high = (λ is. cc, λ all. absurd (isnt_beyond (is_kept t xs) above to all (high.0 refl)))
+all_within xs t above to false false low high = (
+  λ is n h. let k = kept-turn t n (nat_lt t n) (is_reader xs n) refl h in (
+    by_test (nat_le n above)
+        (λ on. (let no : false ≡ true = low.1 (record { reader = n; mark = k.1; higher = k.0; low = leb-true n above on }) in cc))
+        (λ off. leb-false n above off),
+    beyond_or (is_kept t xs) to n h (λ b. (let no : false ≡ true = high.1 b in cc)),
+  ),
+  λ all. refl,
+)
+
+-- the same where it is known that none is up to the lower one
+pub all_beyond : (xs : List ℕ) (t above : ℕ) (to : Option ℕ) (below beyond : Bool) → below ≡ false → (below ≡ true) ↔ IsBetween (is_reader xs) t (Some above) → (beyond ≡ true) ↔ IsBeyond (is_kept t xs) to
+    → (not beyond ≡ true) ↔ AreAllBetween (is_kept t xs) above to
+all_beyond xs t above to below beyond none low high = subst (λ b. ((not b && not beyond) ≡ true) ↔ AreAllBetween (is_kept t xs) above to) none (all_within xs t above to below beyond low high)
+
+-- those that are kept are above what is forgotten
+pub above_forgotten : (xs : List ℕ) (t above : ℕ) (to : Option ℕ) → above ≤ t → to ≡ None → AreAllBetween (is_kept t xs) above to
+above_forgotten xs t above to low none n h = let k = kept-turn t n (nat_lt t n) (is_reader xs n) refl h in (omega (arith, k.0), subst (λ o. AtMost o n) (sym none) tt)
+
+-- where there are none, all of them are anywhere
+pub none_there : (xs : List ℕ) (t above : ℕ) (to : Option ℕ) → xs ≡ [] → AreAllBetween (is_kept t xs) above to
+none_there xs t above to none n h = let k = kept-turn t n (nat_lt t n) (is_reader xs n) refl h in (let no : is_reader xs n ≡ false = rw none refl in let e : true ≡ false = sym k.1 ∙ no in cc)

@@ -18,14 +18,15 @@
 //! forget through 10                  the same, and beside it the bound 10: c has the reader 20 alone
 //! ```
 //!
-//! A piece is what a read marks: a get marks its key, and a scan its span, cut at keys of which the reader has its own
-//! version. Of a key's readers above the version that was read and up to the next version, only the greatest can
-//! refuse a write, so that one stands for all. Neighbours with the same readers are joined. A key with a segment of
-//! its own is joined with the segment before it only by a sweep.
+//! A piece is what a read marks: a get marks its key, and a scan its span, cut into pieces. Of a key's readers above the
+//! version that was read and up to the next version, only the greatest can refuse a write, so that one stands for all.
+//! Neighbours with the same readers are joined. A key with a segment of its own is joined with the segment before it
+//! only by a sweep.
 //!
 //! Costs, with n starts and m readers of one segment:
 //!
-//! - `any_between`: O(log n + log m); it takes no memory, since it searches by the bytes that the key holds
+//! - `any_between`, `all_between`: O(log n + log m); they take no memory, since they search by the key's own bytes.
+//!   `all_between` is O(1) where it asks for no more than what is above the forgotten
 //! - `forget_through`: O(1)
 //! - `add` of keys that are one segment: O(log n + log m), in place; the readers above the gap move, and a
 //!   neighbour with the same latest reader is compared whole

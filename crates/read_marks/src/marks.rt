@@ -4,6 +4,7 @@ ghost use Rattle.std.specs.List.{Contains};
 ghost use Rattle.spans.specs.Keys.{in_span};
 ghost use Rattle.kept.specs.Marks.{IsBetween, IsPiece};
 ghost use Rattle.read_marks.specs.declared.piece.Piece.{Piece};
+ghost use Rattle.read_marks.specs.Readers.{AreAllBetween};
 ghost use Rattle.read_marks.specs.Marks.{AddsInside, AreApart, AreMarksEdited, HaveGaps, KeepsOutside, in_any, is_marked_in, marked_spans};
 ghost use Rattle.read_marks.specs.Patches as patching;
 ghost use Rattle.read_marks.specs.Patches.{patch_of};
@@ -52,6 +53,20 @@ impl Marks {
         match self.segments.readers(key.as_small_bytes()) {
             None => false,
             Some(readers) => readers.any_between(above, to),
+        }
+    }
+
+    /// Whether all readers of the key are above `above` and, where `to` is given, at most that. What is forgotten
+    /// mostly tells.
+    pub fn all_between(&self, key: &Key, above: u64, to: Option<u64>) -> bool
+        ensures { IsTrue result ↔ AreAllBetween (is_marked_in self.now key.now) above to }
+    {
+        if above <= self.forgotten && to.is_none() {
+            return true;
+        }
+        match self.segments.readers(key.as_small_bytes()) {
+            None => true,
+            Some(readers) => readers.all_between(self.forgotten, above, to),
         }
     }
 
@@ -135,15 +150,16 @@ impl Marks {
         self.segments.edit(patches, ts, self.forgotten)
     }
 
-    // What is forgotten really goes, in a walk over all segments. Most marks need none. So that they are short,
-    // this is a call of its own.
+    // What is forgotten really goes, in a walk over all segments, and `ts` counts as forgotten no more. Most marks
+    // need no sweep. So that they are short, this is a call of its own.
     #[inline(never)]
-    fn sweep(&mut self)
+    fn sweep(&mut self, ts: u64)
+        requires { 0 < ts }
         ensures marks { (x : List ℕ) (j : ℕ) → is_marked_in self.new x j ≡ is_marked_in self.old x j }
-        ensures forgotten { self.new.forgotten ≡ 0 }
+        ensures above { self.new.forgotten < ts }
     {
         self.segments.forget_through(self.forgotten);
-        self.forgotten = 0;
+        self.forgotten = self.forgotten.min(ts - 1);
         self.sweep_at = self.segments.len().saturating_mul(2).max(LEAST_SWEEP);
     }
 
@@ -156,7 +172,7 @@ impl Marks {
         ensures above { self.new.forgotten < ts }
     {
         if ts <= self.forgotten || self.segments.len() >= self.sweep_at {
-            self.sweep();
+            self.sweep(ts);
         }
     }
 }

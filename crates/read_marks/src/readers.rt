@@ -2,7 +2,7 @@
 ghost use Rattle.std.specs.Prelude.{◌≡◌, ℕ, List, [], ◌<◌, ◌≤◌, ◌↔◌, IfOk, OnOk, OnErr, IsTrue, length, nat_lt, filter, take, drop, ◌++◌, ◌-◌, slice_get};
 ghost use Rattle.std.specs.List.Sorted.{IsNonDecreasing};
 ghost use Rattle.kept.specs.Marks.{IsBetween, IsPiece};
-ghost use Rattle.read_marks.specs.Readers.{is_kept, is_reader, SplitsAt};
+ghost use Rattle.read_marks.specs.Readers.{AreAllBetween, IsBeyond, SplitsAt, is_kept, is_reader};
 
 use crate::patch::Patch;
 use std::alloc::{AllocError, Global};
@@ -122,6 +122,23 @@ impl Readers {
         };
         let at = self.count_through(above);
         self.list[at] <= top
+    }
+
+    // Whether a reader is above `forgotten` and, where `to` is given, above that too.
+    fn any_beyond(&self, forgotten: u64, to: Option<u64>) -> bool
+        ensures { IsTrue result ↔ IsBeyond (is_kept forgotten self.now) to }
+    {
+        match to {
+            None => false,
+            Some(to) => self.any_between(forgotten.max(to), None),
+        }
+    }
+
+    /// Whether all readers above `forgotten` are above `above` and, where `to` is given, at most `to`.
+    pub(crate) fn all_between(&self, forgotten: u64, above: u64, to: Option<u64>) -> bool
+        ensures { IsTrue result ↔ AreAllBetween (is_kept forgotten self.now) above to }
+    {
+        !self.any_between(forgotten, Some(above)) && !self.any_beyond(forgotten, to)
     }
 
     // The readers above `above` and up to `until`, and `ts`, become one: the greatest of them.

@@ -83,13 +83,14 @@ pub record IsCrossed (marked : ℕ → Bool) (versions : ℕ → Option After) (
   pub none : (n : ℕ) → i < n → n < reader → versions n ≡ None
 
 -- k is what is kept of p. Its marks need only answer for writes that can still come: above closed, and not where a
--- transaction has committed
+-- transaction has committed. Those of readers at or below closed are forgotten
 pub record IsKeptOf (k : Kept) (p : List Effect) : Type 0 where
   pub closed_at : k.closed ≡ closed_of p
   pub horizon_at : k.horizon ≡ horizon_of p
   pub versions : (x : List ℕ) (t : ℕ) → k.version x t ≡ kept_version p x t
   pub committed : (x : List ℕ) (t : ℕ) (a : After) → k.version x t ≡ Some a → k.committed x t ≡ is_committed p t
   pub marks : (x : List ℕ) (i : ℕ) → closed_of p < i → committed_version_of p x i ≡ None → (too_late p x i ≡ true) ↔ IsCrossed (k.marked x) (k.version x) i
+  pub forgotten : (x : List ℕ) (j : ℕ) → k.marked x j ≡ true → closed_of p < j
   pub transactions : (t : ℕ) → k.transaction t ≡ transaction_of p t
   pub protected : k.protections ≡ protections_of p
   pub made : k.protections_made ≡ protections_made p

@@ -8,8 +8,8 @@ use timestamps::key::Key;
 use timestamps::value::Value;
 
 /// Scripts, each of rules whose transactions are of seat 0, where nothing is closed. `marks` counts the spans that have
-/// readers, and `readers` has those of a key.
-pub(super) const SCRIPTS: [&str; 6] = [
+/// readers, and `readers` has those of a key. `transactions` are those that are not forgotten.
+pub(super) const SCRIPTS: [&str; 8] = [
     // an own read leaves no mark
     "begin 10=started
 begin 20=started
@@ -86,6 +86,70 @@ put 11 c 1=toolate
 put 12 d 1=written
 put 20 c 1=written
 ",
+    // a scan joins readers at each key by that key's own versions: only of h are two scans told apart
+    "begin 10=started
+begin 15=started
+begin 20=started
+begin 30=started
+begin 40=started
+begin 50=started
+begin 60=started
+put 10 a 1=written
+put 10 h 2=written
+put 10 z 3=written
+commit 10=committed 3
+scan 20 - -=rows a1 h2 z3
+marks=1
+put 30 h 4=written
+commit 30=committed 1
+scan 40 - -=rows a1 h4 z3
+marks=3
+readers a= 40
+readers b= 40
+readers h= 20 40
+readers y= 40
+readers z= 40
+scan 15 - -=rows a1 h2 z3
+put 50 h 5=written
+commit 50=committed 1
+scan 60 - -=rows a1 h5 z3
+marks=3
+readers a= 60
+readers h= 20 40 60
+readers z= 60
+",
+    // a closing forgets the readers and the transactions through its timestamp, and no version. All above it stand
+    "begin 10=started
+begin 15=started
+begin 20=started
+begin 30=started
+begin 40=started
+put 20 a 1=written
+commit 20=committed 1
+get 15 a=none
+get 30 a=found 1
+get 40 b=none
+abort 10=aborted
+commit 15=committed 0
+commit 30=committed 0
+readers a= 15 30
+readers b= 40
+transactions= 10 15 20 30 40
+forget 20=
+readers a= 30
+readers b= 40
+transactions= 30 40
+forget 15=
+readers a= 30
+transactions= 30 40
+forget 30=
+readers a=
+readers b= 40
+transactions= 40
+undecided=1
+versions=1
+put 15 a 2=notxn
+",
     // a delete has no row
     "begin 10=started
 begin 20=started
@@ -106,6 +170,13 @@ impl Asked for Rules {
         match words.word().first() {
             Some(b'm') => put_number(alloc, out, self.marks().spans()),
             Some(b'r') => put_readers(alloc, self.marks(), &mut words, out),
+            Some(b'u') => put_number(alloc, out, self.undecided_count()),
+            Some(b'v') => put_number(alloc, out, self.version_count()),
+            Some(b't') => put_transactions(alloc, self, out),
+            Some(b'f') => {
+                self.forget_through(words.number());
+                Some(())
+            }
             Some(letter) => {
                 let reply = reply_to(alloc, self, *letter, &mut words)?;
                 put_reply(alloc, out, &reply)
@@ -132,6 +203,17 @@ fn reply_to(alloc: Global, rules: &mut Rules, letter: u8, words: &mut Words<'_>)
     }
 }
 
+/// Writes the timestamps of the transactions, of those from 1 to 100.
+fn put_transactions(alloc: Global, rules: &Rules, out: &mut Vec<u8>) -> Option<()> {
+    for ts in 1..101 {
+        if rules.write_set(ts).is_some() {
+            out.push(b' ').ok()?;
+            put_number(alloc, out, ts)?;
+        }
+    }
+    Some(())
+}
+
 /// A write, unless a version stands there whose key isn't noted.
 fn write(rules: &mut Rules, ts: u64, key: &Key, after: Option<&Value>) -> Option<Reply> {
     if let Some(version) = rules.versions().newest_at(key, ts) {
@@ -149,6 +231,7 @@ fn put_reply(alloc: Global, out: &mut Vec<u8>, reply: &Reply) -> Option<()> {
         Reply::Aborted => out.extend_from_slice(b"aborted").ok(),
         Reply::Found(None) => out.extend_from_slice(b"none").ok(),
         Reply::Refused(Refusal::TooLate) => out.extend_from_slice(b"toolate").ok(),
+        Reply::Refused(Refusal::NoTxn) => out.extend_from_slice(b"notxn").ok(),
         Reply::Found(Some(value)) => {
             out.extend_from_slice(b"found ").ok()?;
             out.extend_from_slice(value.bytes()).ok()

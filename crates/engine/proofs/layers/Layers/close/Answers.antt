@@ -16,7 +16,7 @@ returns-clause-step c =
     let k = kept_of c.args.self.now in let now = c.close-at.new.self in let at = c.close-at.ensures in
     let low : c.args.to ≤ MAX = first_of (omega arith, grind (arith, nat_tests), search rules) in
     inl (close_done k (kept_of (record c.args.self.now { rules = c.forget_through.new.self; closing = now; feeds = c.release_through.new.feeds; held_back = c.release_through.new.held })) c.args.seat c.args.to c.close-at.result c.oldest_undecided-oldest.result low c.oldest_undecided-oldest.ensures (at.answer ∙ at.closed)
-    (subst (λ j. IsClosedAt k j c.close-at.result) (same_closing (holding k c.forget_through.new.self) c.close-at.result (closed_in now) k.protections (protections_in now) k.protections_made (made_in now) k.feed (place_in c.release_through.new.feeds) k.feeds_opened (opened_in c.release_through.new.feeds) at.answer (sym at.protections) (sym at.made) c.release_through.ensures.places c.release_through.ensures.opened) (c.forget_through.ensures k)))
+    (subst (λ j. IsClosedAt k j c.close-at.result) (same_closing (holding k c.forget_through.new.self) c.close-at.result (closed_in now) k.protections (protections_in now) k.protections_made (made_in now) k.feed (place_in c.release_through.new.feeds) k.feeds_opened (opened_in c.release_through.new.feeds) at.answer (sym at.protections) (sym at.made) c.release_through.ensures.places c.release_through.ensures.opened) (c.forget_through.ensures.closed k)))
 
 pub returns-clause-served : goal.returns-clause-served
 returns-clause-served c = let new = c.release_through.ensures in record {
