@@ -17,10 +17,11 @@ use Rattle.kept.specs.Table.{keys_of}
 use Rattle.version_chain.specs.Stores.{Stored, version_in}
 use Rattle.version_chain.specs.declared.chain.Version.{Version}
 use Rattle.hold_back.specs.Held as holding
-use Rattle.hold_back.specs.Held.{IsAdded, is_lost, row_at}
+use Rattle.hold_back.specs.Held.{IsAdded, row_at}
+use Rattle.hold_back.specs.Lost.{is_lost}
 use Rattle.hold_back.specs.HeldAll.{IsHeldAll}
 use Rattle.hold_back.proofs.Holding.{held_for, held_more, held_none, skipped}
-use Rattle.engine.specs.Holding.{IsKeyHeld, gap_after, row_list, rows_at}
+use Rattle.engine.specs.Holding.{AreSkipped, IsKeyHeld, row_list, rows_at}
 
 -- the row of a key is that of its version
 in_list : (t : ℕ) (x : List ℕ) (o : Option After) (q : Row) → IsRowIn q (row_list t x o) → (q.ts ≡ t) × (x ≡ q.key) × (o ≡ Some q.after)
@@ -93,18 +94,18 @@ pub all_held : (s : Stored) (t : ℕ) (keys : List (List ℕ)) (h h' : holding.H
 all_held s t keys h h' so = subst (λ l. IsHeldAll t (rows_at s t l) h h') (sym (append-nil so.done) ∙ so.all) so.held
 
 -- where the rows of t at these keys were skipped, if there are any, they may all be lost
-pub skipped_keys : (s : Stored) (t : ℕ) (xs : List (List ℕ)) (h h' : holding.Held) → h'.rows ≡ h.rows → h'.gap ≡ gap_after xs t h.gap → IsHeldAll t (rows_at s t xs) h h'
-skipped_keys s t [] h h' rows gap = record {
+pub skipped_keys : (s : Stored) (t : ℕ) (xs : List (List ℕ)) (h h' : holding.Held) → h'.rows ≡ h.rows → AreSkipped xs t h.lost h'.lost → IsHeldAll t (rows_at s t xs) h h'
+skipped_keys s t [] h h' rows lost = record {
   only = λ q i. inl (subst (IsRowIn q) rows i);
-  still = λ j e. ap (λ g. is_lost g j) (sym gap) ∙ e;
+  still = λ j e. ap (λ l. is_lost l j) (sym lost) ∙ e;
   others = λ q off. (subst (IsRowIn q) rows, subst (IsRowIn q) (sym rows));
   own = λ e none q on. (λ i. absurd (both_ways _ (none q (subst (IsRowIn q) rows i)) on), λ i. absurd i);
 }
-skipped_keys s t (x ∷ xs) h h' rows gap = skipped t (rows_at s t (x ∷ xs)) h h' rows gap
+skipped_keys s t (x ∷ xs) h h' rows lost = skipped t (rows_at s t (x ∷ xs)) h h' rows lost
 
 -- where every version of t is one of the keys, the commit is what the theorem on held rows asks for
 pub commit_held : (k : Kept) (s : Stored) (t : ℕ) (xs : List (List ℕ)) (h h' : holding.Held) → ((x : List ℕ) → version_in s x t ≡ k.version x t) → ((x : List ℕ) → has x xs ≡ false → k.version x t ≡ None)
-    → (RisingRows h.rows → RisingRows h'.rows) → IsHeldAll t (rows_at s t xs) h h' → RisingRows h.rows → (is_lost h.gap t ≡ false → (q : Row) → IsRowIn q h.rows → (q.ts == t) ≡ false) → IsHeldFor k t (is_lost h.gap) (is_lost h'.gap) h.rows h'.rows
+    → (RisingRows h.rows → RisingRows h'.rows) → IsHeldAll t (rows_at s t xs) h h' → RisingRows h.rows → (is_lost h.lost t ≡ false → (q : Row) → IsRowIn q h.rows → (q.ts == t) ≡ false) → IsHeldFor k t (is_lost h.lost) (is_lost h'.lost) h.rows h'.rows
 commit_held k s t xs h h' same noted rising all before none = held_for k t (rows_at s t xs) h h' (rising before) (λ q i. (in_rows s t xs q i).0)
     (λ q on. (
       λ i. sym (same q.key) ∙ (in_rows s t xs q i).1,

@@ -21,33 +21,34 @@ use Rattle.spans.proofs.StreamOrder.{IsRowIn}
 use Rattle.kept.specs.HeldBack.{AreHeldBack, holds_still}
 use Rattle.kept.specs.Rings.{AreRings, is_quiet, whole}
 use Rattle.kept.specs.StandsFor as keeping
-use Rattle.kept.proofs.RingSteps.{held_close, held_commit, held_hard_close, held_others, held_released, nothing_held, ring_serves, rings_close, rings_hard_close, rings_live, rings_open, rings_others, rings_poll}
+use Rattle.kept.proofs.RingSteps.{held_close, held_commit, held_hard_close, held_others, held_released, ring_serves, rings_close, rings_hard_close, rings_live, rings_open, rings_others, rings_poll}
 use Rattle.closing.specs.Standing.{closed_in}
 use Rattle.feed.specs.Live.{Live}
 use Rattle.feed.specs.Standing.{Standing, is_behind, live_in, place_in, ring_of}
 use Rattle.feed.proofs.Serving.{others_same}
 use Rattle.hold_back.specs.Held as holding
-use Rattle.hold_back.specs.Held.{gap_in, is_lost, rows_in}
+use Rattle.hold_back.specs.Held.{lost_in, rows_in}
+use Rattle.hold_back.specs.Lost.{is_lost}
 use Rattle.engine.specs.Layers.{AreNoted, kept_of}
 use Rattle.engine.specs.Served.{AreServing, AreThrough, IsServed, IsServedBy, IsUnserved}
 use Rattle.engine.specs.declared.layers.Layers.{Layers}
 
 abbrev pub AreHeldIn : holding.Held → List Effect → Type 0
-AreHeldIn b p = AreHeldBack p (is_lost (gap_in b)) (rows_in b)
+AreHeldIn b p = AreHeldBack p (is_lost (lost_in b)) (rows_in b)
 
 -- at first there is none
-pub held_first : (b : holding.Held) → rows_in b ≡ [] → gap_in b ≡ None → AreHeldIn b []
-held_first b rows gap = subst (λ l. AreHeldBack [] (is_lost (gap_in b)) l) (sym rows) (subst (λ g. AreHeldBack [] (is_lost g) []) (sym gap) nothing_held)
+pub held_first : (b : holding.Held) → rows_in b ≡ [] → AreHeldIn b []
+held_first b rows = subst (λ l. AreHeldBack [] (is_lost (lost_in b)) l) (sym rows) (record { rising = tt; above = λ r i. absurd i; each = λ r there. (λ i. absurd i, λ h. absurd (let no' : false ≡ true = h.done in cc)) })
 
 pub rings_first : (s : Standing) → AreRings (ring_of s) (is_behind s) []
 rings_first s f feed is = (let no' : None ≡ Some feed = is in cc)
 
 -- an undecided transaction has no row yet
-unheld : (b : holding.Held) (p : List Effect) (t : ℕ) → AreHeldIn b p → is_committed p t ≡ false → is_lost (gap_in b) t ≡ false → (q : Row) → IsRowIn q (rows_in b) → (q.ts == t) ≡ false
+unheld : (b : holding.Held) (p : List Effect) (t : ℕ) → AreHeldIn b p → is_committed p t ≡ false → is_lost (lost_in b) t ≡ false → (q : Row) → IsRowIn q (rows_in b) → (q.ts == t) ≡ false
 unheld b p t held isnt whole q i = by_test (q.ts == t)
     (λ on.
     let at : q.ts ≡ t = eqb-true q.ts t on in
-    let there = (held.each q (ap (is_lost (gap_in b)) at ∙ whole)).0 i in
+    let there = (held.each q (ap (is_lost (lost_in b)) at ∙ whole)).0 i in
     absurd (both_ways _ (ap (is_committed p) at ∙ isnt) there.done))
     (λ off. off)
 
@@ -59,29 +60,29 @@ abbrev pub IsServing : Layers → List Event → Type 0
 IsServing e h = AreRingsIn e.feeds (effects_of h) × AreHeldIn e.held_back (effects_of h)
 
 still_held : (e e' : Layers) (h : List Event) (v : Event) (d : Effect) → IsRightEvent (effects_of h) v → effect_of v ≡ d → holds_still d ≡ true → e'.held_back ≡ e.held_back → AreHeldIn e.held_back (effects_of h) → AreHeldIn e'.held_back (effects_of (v ∷ h))
-still_held e e' h v d right is still same held = subst (λ b. AreHeldIn b (effects_of (v ∷ h))) (sym same) (held_others h v (is_lost (gap_in e.held_back)) (rows_in e.held_back) right (ap holds_still is ∙ still) held)
+still_held e e' h v d right is still same held = subst (λ b. AreHeldIn b (effects_of (v ∷ h))) (sym same) (held_others h v (is_lost (lost_in e.held_back)) (rows_in e.held_back) right (ap holds_still is ∙ still) held)
 
 still_rings : (e e' : Layers) (h : List Event) (v : Event) (d : Effect) → IsLegal h → IsRightEvent (effects_of h) v → effect_of v ≡ d → is_quiet d ≡ true → e'.feeds ≡ e.feeds → AreRingsIn e.feeds (effects_of h) → AreRingsIn e'.feeds (effects_of (v ∷ h))
 still_rings e e' h v d legal right is quiet same rings = subst (λ s. AreRingsIn s (effects_of (v ∷ h))) (sym same) (rings_others h v (ring_of e.feeds) (is_behind e.feeds) legal right (ap is_quiet is ∙ quiet) rings)
 
 -- the rows that a closing takes are the stream between
 released : (e : Layers) (h : List Event) (n : ℕ) → keeping.StandsFor (kept_of e) h → AreHeldIn e.held_back (effects_of h) → AreThrough e n (stream_of (effects_of h) whole (closed_in e.closing) n)
-released e h n s held whole' = held_released (kept_of e) h (is_lost (gap_in e.held_back)) (rows_in e.held_back) n s held whole'
+released e h n s held whole' = held_released (kept_of e) h (is_lost (lost_in e.held_back)) (rows_in e.held_back) n s held whole'
 
 pub serving_stands : (e e' : Layers) (h : List Event) (v : Event) (d : Effect) → keeping.StandsFor (kept_of e) h → keeping.StandsFor (kept_of e') (v ∷ h) → AreNoted (kept_of e) → IsRightEvent (effects_of h) v → effect_of v ≡ d → IsServedBy e e' d → IsServing e h → IsServing e' (v ∷ h)
 serving_stands e e' h v (Commits t) s s' noted right is c o =
     let active = subst (Allowed (effects_of h)) is (right_allowed (effects_of h) v right) in (
       still_rings e e' h v (Commits t) s.legal right is refl c.0 o.0,
-      held_commit (kept_of e) h v t (is_lost (gap_in e.held_back)) (is_lost (gap_in e'.held_back)) (rows_in e.held_back) (rows_in e'.held_back) s right is o.1
+      held_commit (kept_of e) h v t (is_lost (lost_in e.held_back)) (is_lost (lost_in e'.held_back)) (rows_in e.held_back) (rows_in e'.held_back) s right is o.1
           (c.1 o.1.rising noted (subst (λ n. n < t) (sym s.fits.closed_at) active.above) (unheld e.held_back (effects_of h) t o.1 active.uncommitted)),
     )
 serving_stands e e' h v (Closes n) s s' noted right is c o = (
   rings_close (kept_of e) h v n (ring_of e.feeds) (ring_of e'.feeds) (is_behind e.feeds) (is_behind e'.feeds) s right is o.0 (c.offered (stream_of (effects_of h) whole (closed_in e.closing) n) (released e h n s o.1)),
-  held_close h v n (is_lost (gap_in e.held_back)) (is_lost (gap_in e'.held_back)) (rows_in e.held_back) (rows_in e'.held_back) right is o.1 c.let_go,
+  held_close h v n (is_lost (lost_in e.held_back)) (is_lost (lost_in e'.held_back)) (rows_in e.held_back) (rows_in e'.held_back) right is o.1 c.let_go,
 )
 serving_stands e e' h v (HardCloses to n) s s' noted right is c o = (
   rings_hard_close (kept_of e) h v to n (ring_of e.feeds) (ring_of e'.feeds) (is_behind e.feeds) (is_behind e'.feeds) s right is o.0 (c.offered (stream_of (effects_of h) whole (closed_in e.closing) n) (released e h n s o.1)),
-  held_hard_close h v to n (is_lost (gap_in e.held_back)) (is_lost (gap_in e'.held_back)) (rows_in e.held_back) (rows_in e'.held_back) right is o.1 c.let_go,
+  held_hard_close h v to n (is_lost (lost_in e.held_back)) (is_lost (lost_in e'.held_back)) (rows_in e.held_back) (rows_in e'.held_back) right is o.1 c.let_go,
 )
 serving_stands e e' h v (Opens f seat kind span cursor) s s' noted right is c o = (
   rings_open (kept_of e) h v f seat kind span cursor (ring_of e.feeds) (ring_of e'.feeds) (is_behind e.feeds) (is_behind e'.feeds) s right is o.0 c.opened c.others,
@@ -102,7 +103,7 @@ serving_stands e e' h v (Cancels f) s s' noted right is c o = (
         (λ there. others_same e.feeds e'.feeds f None c.0 g there isnt)
 serving_stands e e' h v (_) s s' noted right is c o = (
   subst (λ s. AreRingsIn s (effects_of (v ∷ h))) (sym c.0) (rings_others h v (ring_of e.feeds) (is_behind e.feeds) s.legal right (ap is_quiet is) o.0),
-  subst (λ b. AreHeldIn b (effects_of (v ∷ h))) (sym c.1) (held_others h v (is_lost (gap_in e.held_back)) (rows_in e.held_back) right (ap holds_still is) o.1),
+  subst (λ b. AreHeldIn b (effects_of (v ∷ h))) (sym c.1) (held_others h v (is_lost (lost_in e.held_back)) (rows_in e.held_back) right (ap holds_still is) o.1),
 )
 
 -- a ring that serves has what is left

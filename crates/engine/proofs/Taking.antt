@@ -1,6 +1,6 @@
 -- A closing takes the rows one by one, and offers each.
 use Rattle.std.proofs.Common.{List, None, Option, Some, [], ap, arith, filter, refl, subst, sym, false, ℕ, ◌≤◌, ◌≡◌, ◌++◌, ◌∷◌, ◌∙◌}
-use Rattle.std.specs.Prelude.{nat_le, option_map}
+use Rattle.std.specs.Prelude.{nat_le, nat_lt, option_map, ◌&&◌}
 use Rattle.std.proofs.lemmas.Bool.Decides.{nat_tests}
 use Rattle.std.proofs.lemmas.List.Elements.{filter-append}
 use Rattle.timestamps.specs.declared.row.Row.{Row}
@@ -8,7 +8,8 @@ use Rattle.feed.specs.Standing.{AreChanged, IsBoth, Standing, live_in, place_in}
 use Rattle.feed.specs.Live.{IsOffered, Live}
 use Rattle.feed.specs.OfferedAll.{IsOfferedAll}
 use Rattle.feed.proofs.Offering.{offers_begin, offers_more}
-use Rattle.hold_back.specs.Held.{AreAllAbove, Held, gap_above, is_above, is_lost}
+use Rattle.hold_back.specs.Held.{AreAllAbove, Held, is_above}
+use Rattle.hold_back.specs.Lost.{is_lost}
 use Rattle.hold_back.proofs.Holding.{let_go}
 use Rattle.kept.specs.HeldBack.{AreLetGo}
 use Rattle.spans.proofs.StreamOrder.{RisingRows}
@@ -45,8 +46,8 @@ pub taking_leaves : (n : ℕ) (first rest : List Row) (s s' : Standing) → IsTa
 taking_leaves n first rest s s' so = sym (ap (filter (is_above n)) (sym so.is) ∙ filter-append (is_above n) so.taken rest ∙ ap (λ l. l ++ filter (is_above n) rest) (none_above n so.taken so.low))
 
 -- what is let go is what was above
-pub let_go_after : (n : ℕ) (h m h' : Held) → RisingRows h'.rows → filter (is_above n) m.rows ≡ filter (is_above n) h.rows → m.gap ≡ h.gap → h'.rows ≡ filter (is_above n) m.rows → h'.gap ≡ gap_above n m.gap → AreLetGo n (is_lost h.gap) (is_lost h'.gap) h.rows h'.rows
-let_go_after n h m h' rising rows gap rows' gap' = let_go n h h' rising (rows' ∙ rows) (gap' ∙ ap (gap_above n) gap)
+pub let_go_after : (n : ℕ) (h m h' : Held) → RisingRows h'.rows → filter (is_above n) m.rows ≡ filter (is_above n) h.rows → m.lost ≡ h.lost → h'.rows ≡ filter (is_above n) m.rows → ((j : ℕ) → is_lost h'.lost j ≡ (nat_lt n j && is_lost m.lost j)) → AreLetGo n (is_lost h.lost) (is_lost h'.lost) h.rows h'.rows
+let_go_after n h m h' rising rows lost rows' lost' = let_go n h h' rising (rows' ∙ rows) (λ j. lost' j ∙ ap (λ l. nat_lt n j && is_lost l j) lost)
 
 -- offers leave the places
 pub places_stay : (rows : List Row) (s s' : Standing) → AreChanged (IsOfferedAll rows) s s' → (f : ℕ) → place_in s' f ≡ place_in s f

@@ -5,6 +5,7 @@ use Rattle.spans.specs.Effects.{After}
 use Rattle.version_chain.specs.Stores.{Stored, version_in}
 use Rattle.hold_back.specs.Held as holding
 use Rattle.hold_back.specs.Held.{IsAdded, row_at}
+use Rattle.hold_back.specs.Lost.{IsLostToo, Lost}
 
 -- the row of a key, where it has a version at t
 abbrev pub row_list : ℕ → List ℕ → Option After → List Row
@@ -21,7 +22,7 @@ abbrev pub IsKeyHeld : holding.Held → holding.Held → ℕ → List ℕ → Op
 IsKeyHeld h h' t x None = h' ≡ h
 IsKeyHeld h h' t x (Some a) = IsAdded h h' (row_at t x a)
 
--- the gap, where the rows of t at these keys were skipped, if there are any
-abbrev pub gap_after : List (List ℕ) → ℕ → Option holding.Gap → Option holding.Gap
-gap_after [] t gap = gap
-gap_after (x ∷ xs) t gap = holding.gap_with gap t
+-- the rows of t at these keys were lost, if there are any
+abbrev pub AreSkipped : List (List ℕ) → ℕ → Lost → Lost → Type 0
+AreSkipped [] t l l' = l' ≡ l
+AreSkipped (x ∷ xs) t l l' = IsLostToo l l' t

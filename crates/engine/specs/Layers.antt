@@ -10,7 +10,8 @@ use Rattle.kept.specs.StandsFor as keeping
 use Rattle.kept.specs.Table.{keys_of}
 use Rattle.closing.specs.Standing.{closed_in, made_in, protections_in}
 use Rattle.feed.specs.Standing.{is_behind, opened_in, place_in, ring_of}
-use Rattle.hold_back.specs.Held.{gap_in, is_lost, rows_in}
+use Rattle.hold_back.specs.Held.{lost_in, rows_in}
+use Rattle.hold_back.specs.Lost.{is_lost}
 use Rattle.version_chain.specs.Stores.{is_committed_in, version_in}
 use Rattle.mvto_rules.specs.Holding.{marked_of, transactions_of, versions_of}
 use Rattle.engine.specs.declared.layers.Layers.{Layers}
@@ -40,7 +41,7 @@ pub record StandsFor (e : Layers) (steps : ℕ) (h : List Event) : Type 0 where
   pub kept : keeping.StandsFor (kept_of e) h
   pub counted : steps ≡ length h
   pub rings : AreRings (ring_of e.feeds) (is_behind e.feeds) (effects_of h)
-  pub held : AreHeldBack (effects_of h) (is_lost (gap_in e.held_back)) (rows_in e.held_back)
+  pub held : AreHeldBack (effects_of h) (is_lost (lost_in e.held_back)) (rows_in e.held_back)
 
 -- of some history
 abbrev pub HasHistory : Layers → ℕ → Type 0

@@ -11,7 +11,8 @@ use Rattle.spans.proofs.StreamOrder.{IsRowIn, RisingRows}
 use Rattle.closing.specs.Standing.{closed_in}
 use Rattle.feed.specs.Live.{begins_behind}
 use Rattle.feed.specs.Standing.{IsPut, is_behind, place_in, ring_of}
-use Rattle.hold_back.specs.Held.{gap_in, is_lost, rows_in}
+use Rattle.hold_back.specs.Held.{lost_in, rows_in}
+use Rattle.hold_back.specs.Lost.{is_lost}
 use Rattle.kept.specs.HeldBack.{IsHeldFor}
 use Rattle.kept.specs.Places.{AreLeft}
 use Rattle.kept.specs.Rings.{AreOffered, AreOthersSame}
@@ -27,12 +28,12 @@ IsUnserved e e' = (e'.feeds ≡ e.feeds) × (e'.held_back ≡ e.held_back)
 
 -- where t had no row yet, those of its versions are there, or some were lost
 abbrev pub IsHeldBackFor : Layers → Layers → ℕ → Type 0
-IsHeldBackFor e e' t = RisingRows (rows_in e.held_back) → AreNoted (kept_of e) → closed_in e.closing < t → (is_lost (gap_in e.held_back) t ≡ false → (q : Row) → IsRowIn q (rows_in e.held_back) → (q.ts == t) ≡ false)
-    → IsHeldFor (kept_of e) t (is_lost (gap_in e.held_back)) (is_lost (gap_in e'.held_back)) (rows_in e.held_back) (rows_in e'.held_back)
+IsHeldBackFor e e' t = RisingRows (rows_in e.held_back) → AreNoted (kept_of e) → closed_in e.closing < t → (is_lost (lost_in e.held_back) t ≡ false → (q : Row) → IsRowIn q (rows_in e.held_back) → (q.ts == t) ≡ false)
+    → IsHeldFor (kept_of e) t (is_lost (lost_in e.held_back)) (is_lost (lost_in e'.held_back)) (rows_in e.held_back) (rows_in e'.held_back)
 
 -- the rows through n, of which none was lost
 abbrev pub AreThrough : Layers → ℕ → List Row → Type 0
-AreThrough e n rows = ((j : ℕ) → closed_in e.closing < j → j ≤ n → is_lost (gap_in e.held_back) j ≡ false) → filter (λ (r : Row). nat_le r.ts n) (rows_in e.held_back) ≡ rows
+AreThrough e n rows = ((j : ℕ) → closed_in e.closing < j → j ≤ n → is_lost (lost_in e.held_back) j ≡ false) → filter (λ (r : Row). nat_le r.ts n) (rows_in e.held_back) ≡ rows
 
 -- the rows through n are offered to the rings, and let go
 pub record IsReleased (e e' : Layers) (n : ℕ) : Type 0 where

@@ -4,9 +4,9 @@ ghost use Rattle.spans.proofs.StreamOrder.{RisingRows};
 ghost use Rattle.kept.specs.Table.{keys_of};
 ghost use Rattle.version_chain.specs.Stores.{version_in};
 ghost use Rattle.mvto_rules.specs.Holding.{transactions_of, versions_of};
-ghost use Rattle.hold_back.specs.Held.{gap_in, rows_in};
+ghost use Rattle.hold_back.specs.Held.{lost_in, rows_in};
 ghost use Rattle.hold_back.specs.HeldAll.{IsHeldAll};
-ghost use Rattle.engine.specs.Holding.{IsKeyHeld, gap_after, rows_at};
+ghost use Rattle.engine.specs.Holding.{AreSkipped, IsKeyHeld, rows_at};
 
 use hold_back::HoldBack;
 use mvto_rules::Rules;
@@ -20,7 +20,7 @@ pub(crate) fn hold_written(held: &mut HoldBack, rules: &Rules, ts: u64, feeds: u
     ensures held { IsHeldAll ts (rows_at (versions_of rules.now) ts (keys_of (transactions_of rules.now ts))) held.old held.new }
     ensures rising { RisingRows (rows_in held.old) → RisingRows (rows_in held.new) }
     ensures none { feeds ≡ 0 → rows_in held.new ≡ rows_in held.old }
-    ensures gap { feeds ≡ 0 → gap_in held.new ≡ gap_after (keys_of (transactions_of rules.now ts)) ts (gap_in held.old) }
+    ensures lost { feeds ≡ 0 → AreSkipped (keys_of (transactions_of rules.now ts)) ts (lost_in held.old) (lost_in held.new) }
     ensures empty { keys_of (transactions_of rules.now ts) ≡ [] → held.new ≡ held.old }
 {
     let Some(keys) = rules.write_set(ts) else {
@@ -35,7 +35,7 @@ pub(crate) fn hold_written(held: &mut HoldBack, rules: &Rules, ts: u64, feeds: u
 /// Holds back no row of `ts`, and notes that, where it wrote any of these keys.
 fn skip_rows(held: &mut HoldBack, ts: u64, keys: Range<'_, Key>)
     ensures rows { rows_in held.new ≡ rows_in held.old }
-    ensures gap { gap_in held.new ≡ gap_after keys.entry ts (gap_in held.old) }
+    ensures lost { AreSkipped keys.entry ts (lost_in held.old) (lost_in held.new) }
     ensures empty { keys.entry ≡ [] → held.new ≡ held.old }
 {
     let mut keys = keys;

@@ -1,5 +1,5 @@
 //! The layers that an engine stands on, and which of them answers a command.
-ghost use Rattle.std.specs.Prelude.{[], None, ◌≡◌, ◌<◌, ◌≤◌, ℕ};
+ghost use Rattle.std.specs.Prelude.{[], None, false, ◌≡◌, ◌<◌, ◌≤◌, ℕ};
 ghost use Rattle.timestamps.specs.declared.ts.TheConstants.{MAX};
 ghost use Rattle.kept.specs.StandsFor.{nothing_kept};
 ghost use Rattle.kept.specs.Changes.{IsAlike};
@@ -32,14 +32,15 @@ impl Layers {
     ghost use Rattle.engine.specs.Layers.{AreNoted, kept_of};
     ghost use Rattle.engine.specs.Served.{AreServing, IsServed};
     ghost use Rattle.feed.specs.Standing.{behind_in, live_in, opened_in};
-    ghost use Rattle.hold_back.specs.Held.{gap_in, rows_in};
+    ghost use Rattle.hold_back.specs.Held.{lost_in, rows_in};
+    ghost use Rattle.hold_back.specs.Lost.{is_lost};
 
     /// Nothing has happened.
     pub(crate) fn new(alloc: Global, ring: u32) -> Layers
         ensures kept { IsAlike nothing_kept (kept_of result) }
         ensures feeds { (f : ℕ) → live_in result.feeds f ≡ None }
         ensures rows { rows_in result.held_back ≡ [] }
-        ensures gap { gap_in result.held_back ≡ None }
+        ensures lost { (t : ℕ) → is_lost (lost_in result.held_back) t ≡ false }
     {
         Layers {
             rules: Rules::new(alloc),

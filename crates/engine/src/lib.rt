@@ -54,7 +54,7 @@ ghost use Rattle.spans.specs.Transactions.{closed_of};
 ghost use Rattle.engine.specs.Layers.{HasHistory};
 
 mod closings;
-mod collector;
+mod collections;
 mod holding;
 mod layers;
 mod openings;

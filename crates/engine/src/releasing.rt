@@ -1,7 +1,7 @@
 //! The rows that a closing releases.
 ghost use Rattle.std.specs.Prelude.{List, filter, ℕ, ◌≡◌};
 ghost use Rattle.timestamps.specs.declared.row.Row.{Row};
-ghost use Rattle.hold_back.specs.Held.{gap_in, is_above, rows_in};
+ghost use Rattle.hold_back.specs.Held.{is_above, lost_in, rows_in};
 ghost use Rattle.feed.specs.Standing.{AreChanged, opened_in, place_in};
 ghost use Rattle.feed.specs.OfferedAll.{IsOfferedAll};
 ghost use Rattle.engine.specs.Releasing.{AreDue, IsLetGo};
@@ -26,7 +26,7 @@ fn serve_through(feeds: &mut Feeds, held: &mut HoldBack, at: u64)
     ensures offered { (rows : List Row) → AreDue held.old at rows → AreChanged (IsOfferedAll rows) feeds.old feeds.new }
     ensures opened { opened_in feeds.new ≡ opened_in feeds.old }
     ensures rows { filter (is_above at) (rows_in held.new) ≡ filter (is_above at) (rows_in held.old) }
-    ensures gap { gap_in held.new ≡ gap_in held.old }
+    ensures lost { lost_in held.new ≡ lost_in held.old }
 {
     if !held.complete_through(at) {
         feeds.mark_behind();

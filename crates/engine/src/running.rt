@@ -1,5 +1,5 @@
 //! Calls made one after the other on a new engine.
-ghost use Rattle.std.specs.Prelude.{◌≡◌, ℕ, List, ◌∷◌, ◌+◌, ◌<◌, ◌≤◌, map, reverse, IfOk};
+ghost use Rattle.std.specs.Prelude.{◌≡◌, ℕ, List, [], ◌∷◌, ◌+◌, ◌<◌, ◌≤◌, map, reverse, IfOk, IsOk, vec_capacity, vec_len};
 ghost use Rattle.spans.specs.declared.calls.events.Event.{Event};
 ghost use Rattle.spans.specs.Legal.{IsGapless};
 ghost use Rattle.engine.specs.Runs.{call_of};
@@ -13,8 +13,8 @@ impl Engine {
 
     /// Makes the calls, each a seat's command, in their order on the engine of the empty history.
     ///
-    /// Positions run from 0. The list of events takes its room before the first call, so that want of
-    /// memory for it comes before anything has happened.
+    /// Positions run from 0. Only the room of the events can be refused, and it is asked for before the
+    /// engine is made.
     pub fn run(
         alloc: Global,
         calls: Vec<(u8, Cmd)>,
@@ -24,14 +24,34 @@ impl Engine {
         ensures history { IfOk result (λ r. StandsFor r.0 (reverse r.1.items)) }
         ensures positions { IfOk result (λ r. IsGapless 0 r.1.items) }
         ensures calls { IfOk result (λ r. map call_of r.1.items ≡ calls.items) }
+        ensures none { vec_len calls ≡ 0 → IsOk result }
+    {
+        let events = Vec::with_capacity(alloc, calls.len())?;
+        Ok(Engine::run_in(events, alloc, calls, ring))
+    }
+
+    /// The same, where an empty list has room for the event of each call: then nothing can be refused.
+    pub fn run_in(
+        mut events: Vec<Event>,
+        alloc: Global,
+        calls: Vec<(u8, Cmd)>,
+        ring: u32,
+    ) -> (Engine, Vec<Event>)
+        requires ring { (1 ≤ ring) × (ring ≤ 65536) }
+        requires empty { events.items ≡ [] }
+        requires room { vec_len events + vec_len calls ≤ vec_capacity events }
+        ensures history { StandsFor result.0 (reverse result.1.items) }
+        ensures positions { IsGapless 0 result.1.items }
+        ensures calls { map call_of result.1.items ≡ calls.items }
     {
         let mut engine = Engine::new(alloc, ring);
-        let mut events = Vec::with_capacity(alloc, calls.len())?;
         for (seat, cmd) in calls {
             let event = engine.event(seat, cmd);
-            events.push(event)?;
+            let Ok(()) = events.push(event) else {
+                unreachable!()
+            };
         }
-        Ok((engine, events))
+        (engine, events)
     }
 
     /// A seat's command with its answer, at the position of its step.

@@ -1,7 +1,7 @@
 -- Rows that are added one by one, and those that are let go, are so as the crate `kept` wants it.
-use Rattle.std.proofs.Common.{Bool, List, None, Option, Some, [], ap, arith, false, filter, inl, inr, refl, subst, sym, true, ℕ, ◌<◌, ◌≤◌, ◌&&◌, ◌==◌, ◌⊎◌, ◌≡◌, ◌++◌, ◌∷◌, ◌∙◌}
-use Rattle.std.specs.Prelude.{bytes_eq, max, min, nat_le, nat_lt, suc, ◌↔◌}
-use Rattle.std.proofs.lemmas.Bool.{and_parts, both_ways, eq-eqb, eqb-true, lt-ltb, ltb-true}
+use Rattle.std.proofs.Common.{List, Some, [], ap, arith, false, filter, inl, inr, subst, sym, true, ℕ, ◌<◌, ◌&&◌, ◌==◌, ◌≡◌, ◌++◌, ◌∷◌, ◌∙◌}
+use Rattle.std.specs.Prelude.{bytes_eq, nat_lt, ◌↔◌}
+use Rattle.std.proofs.lemmas.Bool.{both_ways, eq-eqb, eqb-true, lt-ltb, ltb-true}
 use Rattle.std.proofs.lemmas.Bool.Decides.{nat_tests}
 use Rattle.timestamps.specs.declared.row.Row.{Row}
 use Rattle.spans.specs.Feeds.{same_version}
@@ -10,15 +10,9 @@ use Rattle.spans.proofs.Steps.{by_test}
 use Rattle.spans.proofs.StreamOrder.{IsRowIn, RisingRows, in_append}
 use Rattle.kept.specs.HeldBack.{AreLetGo, IsHeldFor}
 use Rattle.hold_back.specs.HeldAll.{IsHeldAll}
-use Rattle.hold_back.specs.Held.{Gap, Held, IsAdded, gap_above, gap_with, is_above, is_lost}
-
-lost_with : (g : Option Gap) (t : ℕ) → is_lost (gap_with g t) t ≡ true
-lost_with None t = grind (arith, nat_tests)
-lost_with (Some g) t = grind (arith, nat_tests)
-
-lost_still : (g : Option Gap) (t j : ℕ) → is_lost (gap_with g t) j ≡ false → is_lost g j ≡ false
-lost_still None t j e = refl
-lost_still (Some g) t j e = grind (arith, nat_tests)
+use Rattle.hold_back.specs.Held.{Held, IsAdded, is_above}
+use Rattle.hold_back.specs.Lost.{IsLostToo, Lost, is_lost}
+use Rattle.hold_back.proofs.Losing.{lost_own, lost_still}
 
 pub held_none : (t : ℕ) (h : Held) → IsHeldAll t [] h h
 held_none t h = record {
@@ -42,12 +36,12 @@ held_more t added r h m h' at same all one = elim one [
       | inl is ↦ inr ((in_append q added (r ∷ [])).1 (inr (inl (sym is))))
       | inr j ↦ elim (all.only q j.1) [ inl k ↦ inl k | inr k ↦ inr ((in_append q added (r ∷ [])).1 (inl k)) ]
     ];
-    still = λ j e. all.still j (ap (λ g. is_lost g j) (sym put.0) ∙ e);
+    still = λ j e. all.still j (ap (λ l. is_lost l j) (sym put.0) ∙ e);
     others = λ q off. (
       λ i. elim ((put.1 q).0 i) [ inl is ↦ absurd (same_not r q t at off is) | inr j ↦ (all.others q off).0 j.1 ],
       λ i. (put.1 q).1 (inr (apart r q t at off, (all.others q off).1 i)),
     );
-    own = λ e none q on. let own' = all.own (ap (λ g. is_lost g t) (sym put.0) ∙ e) none q on in (
+    own = λ e none q on. let own' = all.own (ap (λ l. is_lost l t) (sym put.0) ∙ e) none q on in (
       λ i. elim ((put.1 q).0 i) [ inl is ↦ (in_append q added (r ∷ [])).1 (inr (inl (sym is))) | inr j ↦ (in_append q added (r ∷ [])).1 (inl (own'.0 j.1)) ],
       λ i. elim ((in_append q added (r ∷ [])).0 i) [
         | inl k ↦ by_test (same_version r q) (λ on'. (put.1 q).1 (inl (sym (same q k on')))) (λ off. (put.1 q).1 (inr (off, own'.1 k)))
@@ -57,24 +51,24 @@ held_more t added r h m h' at same all one = elim one [
   }
   | inr lost ↦ record {
     only = λ q i. elim (all.only q (subst (IsRowIn q) lost.1 i)) [ inl k ↦ inl k | inr k ↦ inr ((in_append q added (r ∷ [])).1 (inl k)) ];
-    still = λ j e. all.still j (lost_still m.gap r.ts j (ap (λ g. is_lost g j) (sym lost.0) ∙ e));
+    still = λ j e. all.still j (lost_still m.lost h'.lost r.ts j lost.0 e);
     others = λ q off. (λ i. (all.others q off).0 (subst (IsRowIn q) lost.1 i), λ i. subst (IsRowIn q) (sym lost.1) ((all.others q off).1 i));
-    own = λ e none q on. absurd (both_ways _ (ap (is_lost (gap_with m.gap r.ts)) at ∙ ap (λ g. is_lost g t) (sym lost.0) ∙ e) (lost_with m.gap r.ts));
+    own = λ e none q on. absurd (both_ways _ (ap (is_lost h'.lost) at ∙ e) (lost_own m.lost h'.lost r.ts lost.0));
   }
 ]
 
 -- where t was skipped, its rows may all be lost
-pub skipped : (t : ℕ) (added : List Row) (h h' : Held) → h'.rows ≡ h.rows → h'.gap ≡ gap_with h.gap t → IsHeldAll t added h h'
-skipped t added h h' rows gap = record {
+pub skipped : (t : ℕ) (added : List Row) (h h' : Held) → h'.rows ≡ h.rows → IsLostToo h.lost h'.lost t → IsHeldAll t added h h'
+skipped t added h h' rows lost = record {
   only = λ q i. inl (subst (IsRowIn q) rows i);
-  still = λ j e. lost_still h.gap t j (ap (λ g. is_lost g j) (sym gap) ∙ e);
+  still = λ j e. lost_still h.lost h'.lost t j lost e;
   others = λ q off. (subst (IsRowIn q) rows, subst (IsRowIn q) (sym rows));
-  own = λ e none q on. absurd (both_ways _ (ap (λ g. is_lost g t) (sym gap) ∙ e) (lost_with h.gap t));
+  own = λ e none q on. absurd (both_ways _ e (lost_own h.lost h'.lost t lost));
 }
 
 -- the theorem on held rows asks for this of a commit of t
 pub held_for : (k : Kept) (t : ℕ) (added : List Row) (h h' : Held) → RisingRows h'.rows → ((q : Row) → IsRowIn q added → q.ts ≡ t) → ((q : Row) → (q.ts == t) ≡ true → IsRowIn q added ↔ (k.version q.key t ≡ Some q.after))
-    → (is_lost h.gap t ≡ false → (q : Row) → IsRowIn q h.rows → (q.ts == t) ≡ false) → IsHeldAll t added h h' → IsHeldFor k t (is_lost h.gap) (is_lost h'.gap) h.rows h'.rows
+    → (is_lost h.lost t ≡ false → (q : Row) → IsRowIn q h.rows → (q.ts == t) ≡ false) → IsHeldAll t added h h' → IsHeldFor k t (is_lost h.lost) (is_lost h'.lost) h.rows h'.rows
 held_for k t added h h' rising of_t versions none all = record {
   rising = rising;
   only = λ q i. elim (all.only q i) [ inl j ↦ inl j | inr j ↦ inr (of_t q j) ];
@@ -82,7 +76,7 @@ held_for k t added h h' rising of_t versions none all = record {
   each = λ q e. by_test (q.ts == t)
       (λ on.
       let at : q.ts ≡ t = eqb-true q.ts t on in
-      let e' : is_lost h'.gap t ≡ false = ap (is_lost h'.gap) (sym at) ∙ e in
+      let e' : is_lost h'.lost t ≡ false = ap (is_lost h'.lost) (sym at) ∙ e in
       let none' = none (all.still t e') in
       let own = all.own e' none' q on in (
         λ i. inr (at, (versions q on).0 (own.0 i)),
@@ -106,17 +100,14 @@ in_above n q (r ∷ rows) = let more = in_above n q rows in by_test (is_above n 
       λ i. elim i.0 [ inl here ↦ absurd (both_ways _ isnt (lt-ltb n r.ts (subst (λ (v : Row). n < v.ts) (sym here) i.1))) | inr there ↦ more.1 (there, i.1) ],
     ))
 
-above_still : (g : Option Gap) (n j : ℕ) → n < j → is_lost (gap_above n g) j ≡ false → is_lost g j ≡ false
-above_still None n j high e = refl
-above_still (Some g) n j high e = by_test (nat_le g.last n)
-    (λ is. grind (arith, nat_tests))
-    (λ isnt. let e' : (nat_le (max g.first (suc n)) j && nat_le j g.last) ≡ false = rw isnt at e in grind (arith, nat_tests))
+above_still : (l l' : Lost) (n j : ℕ) → is_lost l' j ≡ (nat_lt n j && is_lost l j) → n < j → is_lost l' j ≡ false → is_lost l j ≡ false
+above_still l l' n j is high e = sym (is ∙ ap (λ b. b && is_lost l j) (lt-ltb n j high)) ∙ e
 
 -- and this of a closing at n
-pub let_go : (n : ℕ) (h h' : Held) → RisingRows h'.rows → h'.rows ≡ filter (is_above n) h.rows → h'.gap ≡ gap_above n h.gap → AreLetGo n (is_lost h.gap) (is_lost h'.gap) h.rows h'.rows
-let_go n h h' rising rows gap = record {
+pub let_go : (n : ℕ) (h h' : Held) → RisingRows h'.rows → h'.rows ≡ filter (is_above n) h.rows → ((j : ℕ) → is_lost h'.lost j ≡ (nat_lt n j && is_lost h.lost j)) → AreLetGo n (is_lost h.lost) (is_lost h'.lost) h.rows h'.rows
+let_go n h h' rising rows lost = record {
   rising = rising;
   only = λ q i. ((in_above n q h.rows).0 (subst (IsRowIn q) rows i)).1;
-  still = λ j high e. above_still h.gap n j high (ap (λ g. is_lost g j) (sym gap) ∙ e);
+  still = λ j high e. above_still h.lost h'.lost n j (lost j) high e;
   each = λ q e. (λ i. (in_above n q h.rows).0 (subst (IsRowIn q) rows i), λ i. subst (IsRowIn q) (sym rows) ((in_above n q h.rows).1 i));
 }

@@ -1,12 +1,14 @@
 //! What no clause says: that calls succeed, and that the clauses mean what was meant, by scripts of calls.
 
 mod closings;
+mod collections;
 mod marks;
 mod rules;
 mod script;
 mod versions;
 
 use closing::Closing;
+use collections::Held;
 use mvto_rules::Rules;
 use read_marks::Marks;
 use script::play;
@@ -18,6 +20,7 @@ fn layers(rt: HostRuntime) {
     for script in versions::SCRIPTS {
         play(&rt, &mut Store::new(rt.alloc()), script);
     }
+    play(&rt, &mut Held::new(rt.alloc()), collections::SCRIPT);
     for script in marks::SCRIPTS {
         play(&rt, &mut Marks::new(rt.alloc()), script);
     }

@@ -1,17 +1,13 @@
--- What closing and collecting do to what the rules hold.
+-- What closing does to what the rules hold.
 use Rattle.std.specs.Prelude.{Bool, List, None, Some, false, if◌then◌else◌, length, nat_le, true, ℕ, ◌&&◌, ◌≡◌}
-use Rattle.spans.specs.Collection.{VersionName}
 use Rattle.spans.specs.Effects.{After}
-use Rattle.spans.specs.Kept.{Kept}
 use Rattle.spans.proofs.WriteSets.{has}
-use Rattle.kept.specs.Changes.{IsCollectedTo}
-use Rattle.kept.specs.Finding.{is_dropped}
 use Rattle.kept.specs.Lists.{AreThose}
 use Rattle.kept.specs.Marks.{IsForgotten}
 use Rattle.kept.specs.Table.{is_open, keys_of}
 use Rattle.txn_table.specs.TransactionIn.{Table, transaction_in}
 use Rattle.version_chain.specs.Stores.{Stored, is_committed_in, version_in}
-use Rattle.mvto_rules.specs.Holding.{holding, marked_of}
+use Rattle.mvto_rules.specs.Holding.{marked_of}
 use Rattle.mvto_rules.specs.declared.rules.Rules.{Rules}
 
 -- a hard closing at to takes the transaction of t back: it is undecided, and at or below to
@@ -44,10 +40,3 @@ TakesBack r to count = IsCountTakenBack r.txns to count
 -- of each key the marks through n are forgotten, and those above it stand
 abbrev pub AreMarksForgotten : Rules → Rules → ℕ → Type 0
 AreMarksForgotten r r' n = (x : List ℕ) → IsForgotten (marked_of r x) (marked_of r' x) n
-
--- the versions that are dead by the horizon are gone, count of them
-pub record IsCollected (k : Kept) (r r' : Rules) (horizon count : ℕ) : Type 0 where
-  pub dropped : List VersionName
-  pub those : AreThose (is_dropped (holding k r) horizon) dropped
-  pub counted : length dropped ≡ count
-  pub change : IsCollectedTo (holding k r) (record (holding k r') { horizon = horizon }) horizon

@@ -6,3 +6,4 @@ pub mod Readings
 pub mod Holding
 pub mod Accepting
 pub mod Closings
+pub mod Lending

@@ -1,6 +1,5 @@
-//! What a closing and a collection let go: transactions, readers, and versions.
+//! What a closing lets go: transactions, readers, and versions.
 ghost use Rattle.std.specs.Prelude.{◌≤◌};
-ghost use Rattle.spans.specs.Kept.{Kept};
 ghost use Rattle.kept.specs.Changes.{IsClosedAt, IsHardClosedAt};
 ghost use Rattle.mvto_rules.specs.Closings.{AreOpenNoted, AreTakenBack, IsCountTakenBack, is_taken_back};
 ghost use Rattle.mvto_rules.specs.Tables.{AreInRange};
@@ -13,7 +12,7 @@ use version_chain::Store;
 
 impl Rules {
     ghost use Rattle.mvto_rules.specs.Holding.{Changes, with_closed};
-    ghost use Rattle.mvto_rules.specs.Closings.{AreAllNoted, AreMarksForgotten, IsCollected, TakesBack};
+    ghost use Rattle.mvto_rules.specs.Closings.{AreAllNoted, AreMarksForgotten, TakesBack};
 
     /// Forgets the transactions and the readers at or below what is now closed. It takes no memory.
     pub fn forget_through(&mut self, closed: u64)
@@ -36,13 +35,6 @@ impl Rules {
         let count = take_back_through(&mut self.store, &self.txns, to);
         self.forget_through(closed);
         count
-    }
-
-    /// Drops the versions that are dead by the horizon, and says how many. It takes no memory.
-    pub fn collect(&mut self, horizon: u64) -> u64
-        ensures { (k : Kept) → IsCollected k self.old self.new horizon result }
-    {
-        self.store.drop_dead(horizon)
     }
 }
 

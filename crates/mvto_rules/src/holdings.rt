@@ -1,5 +1,6 @@
-//! What the rules hold, to be read.
+//! What the rules hold, to be read, and the versions, to be collected.
 ghost use Rattle.std.specs.Prelude.{◌≡◌, None, IfOk, IfSome, MatchOption};
+ghost use Rattle.std.specs.Borrow.{sem};
 ghost use Rattle.spans.proofs.Keyed.{RisingKeys};
 ghost use Rattle.spans.proofs.WriteSets.{has};
 ghost use Rattle.kept.specs.Reports.{AreOpen};
@@ -17,6 +18,7 @@ use version_chain::Store;
 
 impl Rules {
     ghost use Rattle.mvto_rules.specs.Holding.{marked_of, transactions_of, versions_of};
+    ghost use Rattle.mvto_rules.specs.Lending.{LendsVersions};
     ghost use Rattle.read_marks.specs.Marks.{is_marked_in};
 
     /// The versions.
@@ -24,6 +26,14 @@ impl Rules {
         ensures { result.now ≡ versions_of self.now }
     {
         &self.store
+    }
+
+    /// The versions, lent to a collection.
+    pub fn versions_mut(&mut self) -> &mut Store
+        ensures* lent { sem 𝓛 (LendsVersions self.entry result) }
+        ensures value { result.now ≡ versions_of self.old }
+    {
+        &mut self.store
     }
 
     /// How many versions there are.

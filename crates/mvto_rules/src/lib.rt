@@ -33,7 +33,7 @@
 //!   O(m) for each span that it meets
 //! - `commit`, `abort`: O(log n), and O(log k + log v) for each key written
 //! - `forget_through`: O(log n) for each transaction that goes; `abort_through`: also an abort of each that it takes back
-//! - `collect`: as `version_chain` says of `drop_dead`
+//! - `versions_mut`: O(1)
 //! - `read_at`: O(log k + log v); `scan_at`: O(log k), and O(log v) for each key that it meets
 //!
 //! A read copies readers that its key shares with others, and goes over all spans once these have doubled. Memory:

@@ -212,6 +212,24 @@ script
 1 put 40 a 3
 1 commit 40
 0 close 50
+@ Rows far apart were committed before a feed was open
+1 1 ------rrrrsrrs only a closing that passes one of them sends the feed to the store
+1024 1 ------rrrrsrrs
+script
+1 begin 5
+1 put 5 a 1
+1 commit 5
+1 begin 1000000000
+1 put 1000000000 b 2
+1 commit 1000000000
+0 open - - 0
+1 begin 20
+1 put 20 a 3
+1 commit 20
+0 close 10
+0 poll 1 9
+0 close 30
+0 close 1000000000
 @ Transactions that wrote nothing commit before a feed is open, and while it is
 1 1 --rrrrr no row was missed
 script

@@ -210,7 +210,12 @@ fn set_of(alloc: Global, key: Key) -> Option<BTreeSet<Key>> {
 }
 
 /// Writes, commits, aborts or removes a version of a key.
-fn change(alloc: Global, store: &mut Store, letter: u8, words: &mut Words<'_>) -> Option<()> {
+pub(super) fn change(
+    alloc: Global,
+    store: &mut Store,
+    letter: u8,
+    words: &mut Words<'_>,
+) -> Option<()> {
     let ts = words.ts()?;
     let key = words.key(alloc)?;
     match letter {

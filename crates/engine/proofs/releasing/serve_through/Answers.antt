@@ -7,20 +7,20 @@ use Rattle.engine.proofs.Taking.{taking_begins, taking_ends, taking_leaves, taki
 use Rattle.engine.proofs.releasing.serve_through.Goals as goal
 
 pub loop-row-init : goal.loop-row-init
-loop-row-init c = record { taking = taking_begins c.args.at (rows_in c.args.held.now) c.args.feeds.now; opened = refl; gap = refl }
+loop-row-init c = record { taking = taking_begins c.args.at (rows_in c.args.held.now) c.args.feeds.now; opened = refl; lost = refl }
 
 pub loop-row-preserved : goal.loop-row-preserved
 loop-row-preserved c = let so = c.loop-row.invariant in let took = c.in-Some.ensures in record {
   taking = taking_more c.args.at (rows_in c.args.held.now) (rows_in c.loop-row.held) (rows_in c.take_first_through.new.self) c.in-Some.row c.args.feeds.now c.loop-row.feeds c.offer.new.self so.taking took.rest took.taken c.offer.ensures.offered;
   opened = c.offer.ensures.opened ∙ so.opened;
-  gap = took.gap ∙ so.gap;
+  lost = took.lost ∙ so.lost;
 }
 
 pub loop-row-preserved-in-Some : goal.loop-row-preserved-in-Some
 loop-row-preserved-in-Some c = let so = c.loop-row.invariant in let took = c.in-Some.ensures in record {
   taking = taking_more c.args.at (rows_in c.args.held.now) (rows_in c.loop-row.held) (rows_in c.take_first_through.new.self) c.in-Some.row c.args.feeds.now c.loop-row.feeds c.offer.new.self so.taking took.rest took.taken c.offer.ensures.offered;
   opened = c.offer.ensures.opened ∙ so.opened;
-  gap = took.gap ∙ so.gap;
+  lost = took.lost ∙ so.lost;
 }
 
 pub returns-clause-offered : goal.returns-clause-offered

@@ -1,5 +1,5 @@
 use Rattle.std.proofs.Common.{length, ◌≡◌}
-use Rattle.hold_back.specs.Held.{gap_in, rows_in}
+use Rattle.hold_back.specs.Held.{lost_in, rows_in}
 use Rattle.feed.specs.Standing.{opened_in}
 use Rattle.engine.proofs.Taking.{IsTaking}
 use Rattle.engine.proofs.releasing.serve_through.Given as goal
@@ -8,7 +8,7 @@ abbrev pub invariant-loop-row : goal.invariant-loop-row
 invariant-loop-row l = record {
   taking : IsTaking l.at (rows_in l.fn.held) (rows_in l.held) l.fn.feeds l.feeds;
   opened : opened_in l.feeds ≡ opened_in l.fn.feeds;
-  gap : gap_in l.held ≡ gap_in l.fn.held;
+  lost : lost_in l.held ≡ lost_in l.fn.held;
 }
 
 abbrev pub decreases-loop-row : goal.decreases-loop-row

@@ -5,13 +5,13 @@ use Rattle.engine.specs.Runs.{call_of}
 use Rattle.engine.specs.Engine.{StandsFor}
 use Rattle.spans.proofs.Histories.{gapless_more, turned_more}
 use Rattle.engine.proofs.Runs.{counted_more, calls_more}
-use Rattle.engine.proofs.Engine.run.Goals as goal
+use Rattle.engine.proofs.Engine.run_in.Goals as goal
 
 pub event-event-requires : goal.event-event-requires
 event-event-requires c = record { room = omega (arith, c.loop-seat.invariant.steps, c.loop-seat.invariant.left, c.in-Some.ensures.steps.1, c.into_iter-seat-iterator.ensures.into_iter_gives.1) }
 
 pub loop-seat-preserved : goal.loop-seat-preserved
-loop-seat-preserved c = let before = c.loop-seat.invariant in let grown = c.in_ok-push.ensures.items in record {
+loop-seat-preserved c = let before = c.loop-seat.invariant in let grown = c.in-Ok.ensures.items in record {
   stands = subst (λ es. StandsFor c.event-event.new.self (reverse es)) (sym grown)
       (subst (StandsFor c.event-event.new.self) (sym (turned_more c.loop-seat.events.items c.event-event.result)) (c.event-event.ensures.history (reverse c.loop-seat.events.items) before.stands));
   gapless = subst (IsGapless 0) (sym grown) (gapless_more 0 c.loop-seat.events.items c.event-event.result before.gapless (omega (arith, c.event-event.ensures.position, before.steps)));
@@ -22,6 +22,8 @@ loop-seat-preserved c = let before = c.loop-seat.invariant in let grown = c.in_o
       ∙ before.calls;
   steps = c.event-event.ensures.steps ∙ (omega (arith, before.steps, ap length grown, counted_more c.loop-seat.events.items c.event-event.result));
   left = omega (arith, before.left, c.in-Some.ensures.steps.1, ap length grown, counted_more c.loop-seat.events.items c.event-event.result);
+  filled = omega (arith, before.filled, c.in-Some.ensures.steps.1, c.in-Ok.ensures.len);
+  room = omega (arith, before.room, c.in-Ok.ensures.capacity);
 }
 
 pub returns-clause-history : goal.returns-clause-history
