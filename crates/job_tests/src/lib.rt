@@ -11,6 +11,8 @@
 //! followed                         feeds that are followed: faulty lines, limits, the guide to caches
 //! histories                        the rows that a follower tells, beside the rows of the database
 //! long                             many blocks, and devices that fail after any byte
+//! in_time                          answers leave before a read that may wait
+//! failing_once                     a read that failed isn't tried again
 //! random                           scripts of commands of all kinds
 //! playing, unfolding               the reading of a case, and texts as cases write them
 //! devices                          readers and writers in memory that may fail

@@ -24,7 +24,7 @@ open_at config (end.Spent line) r = r
 open_at config (end.Open reason) r = tt
 open_at config end.Input r = r
 open_at config end.Output r = r
-open_at config end.Memory r = tt
+open_at config end.Memory r = r
 
 kept_else : (e : End) (out pending : List ℕ) → e ≢ end.Output → kept_at e out pending ≡ out ++ pending
 kept_else end.Done out pending ne = refl
@@ -100,7 +100,7 @@ served_refused format config given taken ended end.Memory why = record {
   wrote = sym (append-nil taken);
   begins = λ whole may. ((script_at format config.seats whole).calls, refl);
   ends = record { last = []; is_last = inl refl; begins = (transcript_text format [] ++ [], refl) };
-  opened = tt;
+  opened = why;
 }
 served_refused format config given taken ended end.Done why = absurd why
 served_refused format config given taken ended (end.Fault line fault) why = absurd why

@@ -103,8 +103,8 @@ abbrev pub ServesAs : Run → End → List ℕ → List ℕ → End → Type 0
 ServesAs r e out out' e' =
     (given given' taken : List ℕ) (ended : Bool) → IsStopped given given' ended taken out r e → IsServed r.terms.format r.terms.config given given' ended taken out' e'
 
--- why nothing was begun
+-- why nothing was begun: the database wasn't opened, or it was, and memory was wanted
 abbrev pub IsRefused : Config → End → Type 0
 IsRefused config (end.Open reason) = IsReason config reason
-IsRefused config end.Memory = Unit {0}
+IsRefused config end.Memory = SeatsInRange config × RingInRange config
 IsRefused config _ = ⊥

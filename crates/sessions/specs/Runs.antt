@@ -74,10 +74,9 @@ EndsBy format used config input ended events output end.Input = AreLines format 
 EndsBy format used config input ended events output end.Output = IsPart format used config.seats input ended events output
 EndsBy format used config input ended events output end.Memory = IsPart format used config.seats input ended events output
 
--- the limits of a database are kept, but at the ends that say otherwise. That the header comes once it is open is read, not proved
+-- the limits of a database are kept, but at the end that says otherwise, which comes before all others
 abbrev pub IsOpenAt : Config → End → Type 0
 IsOpenAt config (end.Open reason) = Unit {0}
-IsOpenAt config end.Memory = Unit {0}
 IsOpenAt config _ = SeatsInRange config × RingInRange config
 
 -- what is known of a run, where a source had given and a sink had taken so much before it and so much after it

@@ -31,9 +31,9 @@
 //! - `read_whole`, `write_whole`: the bytes, once
 //! - `write_transcript`: the bytes of its text, once
 //!
-//! `serve` takes memory at the start, for a block of input and one of output and the database; then for each line's
-//! keys and values, for the answer, and where the text of answers outgrows its block. `read_whole` takes it for a block
-//! and all bytes, `write_transcript` for a block, `write_whole` none. A read or a write that fails in any way, an
+//! `serve` takes memory at the start, for the database, then for a block of input and one of output; then for each
+//! line's keys and values, for the answer, and where the text of answers outgrows its block. `read_whole` takes it for a
+//! block and all bytes, `write_transcript` for a block, `write_whole` none. A read or a write that fails in any way, an
 //! interrupted one too, is not tried again.
 //!
 //! Tests: `job_tests`, `session_tests`.

@@ -70,9 +70,10 @@ impl Run {
         ensures ok { IfOk result (λ run. IsFresh run × (run.terms ≡ terms)) }
         ensures err { IfErr result (IsRefused terms.config) }
     {
+        // A wrong count of seats, or a wrong ring, is told before memory is wanted for buffers.
+        let callers = Callers::open(alloc, terms.config)?;
         let lines = Lines::new(alloc, terms.format)?;
         let mut output = Output::new(alloc)?;
-        let callers = Callers::open(alloc, terms.config)?;
         output.keep(terms.format.header())?;
         Ok(Run {
             alloc,

@@ -1,8 +1,9 @@
 //! What seats and passes do beside calls, none of which waits or takes memory.
-ghost use Rattle.std.specs.Prelude.{◌≡◌, ◌<◌, ◌≤◌, ◌+◌, ◌++◌, [], ◌∷◌, max, IfOk, IfErr, OnOk, OnErr};
+ghost use Rattle.std.specs.Prelude.{◌≡◌, ◌<◌, ◌≤◌, ◌+◌, ◌++◌, [], ◌∷◌, ℕ, max, IfOk, IfErr, OnOk, OnErr};
 ghost use Rattle.std.specs.List.Sorted.{IsStrictlyIncreasing};
 ghost use Rattle.ticket_lock.specs.Lists.{of_seat, longer, StartsWith};
-ghost use Rattle.ticket_lock.specs.Seats.{number, seen, mine, known, met_spent, IsSame};
+ghost use Rattle.ticket_lock.specs.Seats.{number, seen, mine, known, met_spent, IsSame, looks as seat_looks};
+ghost use Rattle.ticket_lock.specs.declared.rule.Look.TheVariants.{Serving, Floor, Ignored};
 ghost use Rattle.timestamps.specs.Numbers.{timestamps_of, AreApart};
 ghost use Rattle.timestamps.specs.Passes.{drawn, leased, loaded, earlier, looks, IsOf as IsPassOf, IsSame as IsSamePass};
 ghost use Rattle.timestamps.specs.Reasons.{IsReason, steps_of};
@@ -23,6 +24,8 @@ impl Db {
         ensures spent { met_spent seat.new ≡ met_spent seat.old }
         ensures floor { known seat.old ≤ result }
         ensures known { known seat.new ≡ result }
+        // It is what one look of the lock found, and there was no other.
+        ensures looked { seat_looks seat.new ≡ Floor result ∷ seat_looks seat.old }
     {
         self.lock.floor(seat)
     }
@@ -40,6 +43,9 @@ impl Db {
         ensures other_owns { mine other.new ≡ of_seat (λ e. e.seat) (number other.new) (seen other.new) }
         ensures known { (known one.new ≡ max (known other.old) (known one.old)) × (known other.new ≡ known one.new) }
         ensures spent { (met_spent one.new ≡ met_spent one.old) × (met_spent other.new ≡ met_spent other.old) }
+        // Each noted three loads: one of the number whose turn it is, and two that are ignored.
+        ensures one_looked { (n : ℕ) × (seat_looks one.new ≡ Serving n ∷ Ignored ∷ Ignored ∷ seat_looks one.old) }
+        ensures other_looked { (n : ℕ) × (seat_looks other.new ≡ Ignored ∷ Serving n ∷ Ignored ∷ seat_looks other.old) }
     {
         self.lock.meet(one, other);
     }

@@ -1,17 +1,16 @@
 -- Two seats tell each other what they have seen.
-use Rattle.std.proofs.Common.{◌≡◌, ℕ, ◌≤◌, Bool, true, List, [], ◌∷◌, ◌++◌, max, get_or, sym, refl, ap, ◌∙◌, subst, arith, le_refl, true≢false, Option, Some, None}
+use Rattle.std.proofs.Common.{◌≡◌, ℕ, ◌≤◌, Bool, true, List, [], ◌∷◌, ◌++◌, max, set, get_or, sym, refl, ap, ◌∙◌, subst, arith, le_refl, true≢false, Option, Some, None}
 use Rattle.std.specs.List.{sum_by}
 use mathlib.Core.Option.{some-ne-none, none}
 use Rattle.atomic_table.specs.Table.{State, Me, Act, keeps, step, stepped, carried_after, Valid, Allows, Splits, Joins}
-use Rattle.atomic_table.proofs.Lists.{set_again}
 use Rattle.ticket_lock.specs.declared.rule.View.{View}
 use Rattle.ticket_lock.specs.declared.rule.Setup.{Setup}
 use Rattle.ticket_lock.specs.Lists.{longer}
-use Rattle.ticket_lock.specs.Views.{numbers, report, nobody, itself, report_of, hearing, caught_up}
+use Rattle.ticket_lock.specs.Views.{numbers, report, nobody, telling, report_of, hearing, caught_up}
 use Rattle.ticket_lock.specs.Rule.{Knows, Ordered}
 use Rattle.ticket_lock.specs.Steps.{compared}
-use Rattle.ticket_lock.proofs.ListFacts.{longer_starts, of_between}
-use Rattle.ticket_lock.proofs.Keeping.{at_words, unmoved, came_new, joined}
+use Rattle.ticket_lock.proofs.ListFacts.{set_there, longer_starts, of_between}
+use Rattle.ticket_lock.proofs.Keeping.{at_words, unmoved, knows_looking, came_new, joined}
 
 module _ {T E : Type 0} (stands : T → ℕ → List E → Type 0) (seat_of : E → ℕ) (floor_of : T → ℕ) (key : Setup) where
   abbrev S : Type 0
@@ -57,17 +56,21 @@ module _ {T E : Type 0} (stands : T → ℕ → List E → Type 0) (seat_of : E 
       (λ ku. let k = r.each id v at in let c : max v.kept.known u.kept.known ≤ r.floor = (let a = k.cap in let b = ku.cap in omega arith) in record { sees = k.sees; heard = ku.sees; fits = λ z. (let f = k.fits z in record { base = f.base; below = f.below; sees = f.sees; owns = f.owns; ended = f.ended; low = c }); gathered = k.gathered; unissued = k.unissued; low = k.low; cap = c; out = k.out; holder = k.holder })
       (λ f. let z : sum_by f (numbers u) ≡ 0 = ap (λ (x : View E). sum_by f (numbers x)) is in omega arith)
 
-  pub reports : (id : ℕ) (v : View E) → Splits Rule id v (itself v) (report_of v)
-  reports id v s r at = let k = r.each id v at in subst (λ (vs : List (View E)). Rule record { words = s.words; homes = s.homes; views = vs ++ report_of v ∷ [] }) (sym (set_again s.views id v at))
-      (came_new s r (report_of v) (λ j. record {
+  pub reports : (id : ℕ) (v : View E) → Splits Rule id v (telling v) (report_of v)
+  reports id v s r at = let w : View E = telling v in
+      let told : St = record { words = r.ticket ∷ r.serving ∷ r.floor ∷ r.beds; homes = s.homes; views = set s.views id w } in
+      let q : Rule told = unmoved s r id v w at refl refl refl (knows_looking s r id v (r.each id v at) w.looks) (λ f. refl) in
+      let k = q.each id w (set_there s.views id v w at) in
+      subst (λ (ws : List ℕ). Rule record { words = ws; homes = s.homes; views = set s.views id w ++ report_of v ∷ [] }) (sym r.words)
+      (came_new told q (report_of v) (λ j. record {
         sees = k.sees;
-        heard = (r.history, refl);
+        heard = (q.history, refl);
         fits = λ z. absurd (true≢false (sym z));
         gathered = λ i c g. absurd (some-ne-none c (sym g));
         unissued = λ i m g. absurd (some-ne-none m (sym g));
         low = omega arith;
         cap = k.cap;
-        out = λ t z. let q : None ≡ Some t = z in cc;
+        out = λ t z. let p : None ≡ Some t = z in cc;
         holder = λ z. absurd (true≢false (sym z));
       })
       (λ f. refl))

@@ -4,7 +4,7 @@ use Rattle.atomic_table.specs.Table.{Me, rest}
 use Rattle.ticket_lock.specs.declared.rule.View.{View}
 use Rattle.ticket_lock.specs.declared.rule.SeatRecord.{SeatRecord}
 use Rattle.ticket_lock.specs.Lists.{most, StartsWith, longer}
-use Rattle.ticket_lock.specs.Views.{gathering, gatherer, looked, noted_serving, holding}
+use Rattle.ticket_lock.specs.Views.{gathering, gatherer, looked, noted_serving, holding, telling}
 use Rattle.ticket_lock.specs.Steps.{Finds, Waits, HearsOf}
 use Rattle.ticket_lock.proofs.ListFacts.{longer_whole}
 
@@ -34,7 +34,7 @@ module _ {T E : Type 0} (stands : T → ℕ → List E → Type 0) (floor_of : T
   pub grew : (m u m' : M) (records : List (SeatRecord E)) → m' ≡ (gathering m.0 u.0, m.1) → m ≡ (gatherer records, []) → m' ≡ (gatherer (u.0.kept ∷ records), [])
   grew m u m' records now is = now ∙ ap (λ (z : M). (gathering z.0 u.0, z.1)) is
 
-  pub meets : (f : E → ℕ) (one other one1 other1 one2 other2 : M) → one1 ≡ one → HearsOf f one.0.kept.seen one.0.kept.known other other1 → other2 ≡ other1 → HearsOf f other1.0.kept.seen other1.0.kept.known one1 one2
+  pub meets : (f : E → ℕ) (one other one1 other1 one2 other2 : M) → one1 ≡ (telling one.0, one.1) → HearsOf f one.0.kept.seen one.0.kept.known other other1 → other2 ≡ (telling other1.0, other1.1) → HearsOf f other1.0.kept.seen other1.0.kept.known one1 one2
       → (one2.0.kept.seen ≡ longer other.0.kept.seen one.0.kept.seen) × (other2.0.kept.seen ≡ one2.0.kept.seen)
   meets f one other one1 other1 one2 other2 same first still second = let seen : M → List E = λ m. m.0.kept.seen in
       let b : seen other1 ≡ longer (seen other) (seen one) = ap seen first.1 in let a : seen one2 ≡ longer (seen one1) (seen other1) = ap seen second.1 in

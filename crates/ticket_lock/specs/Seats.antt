@@ -46,7 +46,7 @@ module _ {T E : Type 0} {C : Ghosts T E} where
   abbrev pub raised : Seat T E C → ℕ
   raised s = s.pass.me.0.raised
 
-  -- what it found in the serving word and the ticket word while it had no ticket, the newest first
+  -- what it found in the words, the newest first, but by the loads that await its turn
   abbrev pub looks : Seat T E C → List Look
   looks s = s.pass.me.0.looks
 

@@ -2,8 +2,9 @@
 use Rattle.std.specs.Prelude.{◌≡◌, ◌≢◌, ℕ, ◌+◌, ◌-◌, ◌^◌, ◌<◌, ◌≤◌, List, [], ◌∷◌, length, max, Option, Some, None, true, false}
 use Rattle.atomic_table.specs.Table.{Step, rest}
 use Rattle.ticket_lock.specs.Lists.{most, StartsWith, of_seat, longer}
-use Rattle.ticket_lock.specs.Views.{SeatState, nobody, caught_up, met_spent, drawn, looked, looking, noted_serving, noted_next, holding, ended, raises, knows_floor}
+use Rattle.ticket_lock.specs.Views.{SeatState, nobody, caught_up, met_spent, drawn, looked, looking, noted_serving, noted_next, holding, ended, raises, knows_floor, marked}
 use Rattle.ticket_lock.specs.Turns.{HasLooked}
+use Rattle.ticket_lock.specs.declared.rule.Look.TheVariants.{Ignored}
 use Rattle.ticket_lock.specs.declared.rule.View.{View}
 use Rattle.ticket_lock.specs.declared.denied.Denied.{Denied}
 use Rattle.ticket_lock.specs.declared.denied.Denied.TheVariants.{Busy, Spent}
@@ -31,8 +32,8 @@ module _ {T E : Type 0} where
   abbrev pub entered : Step (Option T) → SeatState T E → ℕ → SeatState T E → Type 0
   entered st m r m' = m' ≡ (nobody, [])
 
-  abbrev pub unchanged : Step (Option T) → SeatState T E → ℕ → SeatState T E → Type 0
-  unchanged st m r m' = m' ≡ m
+  abbrev pub stored_bed : Step (Option T) → SeatState T E → ℕ → SeatState T E → Type 0
+  stored_bed st m r m' = m' ≡ (marked m.0, m.1)
 
   -- at the turn t the value x stands for the list of all turns so far
   abbrev pub Finds : (T → ℕ → List E → Type 0) → (T → ℕ) → View E → ℕ → List E → T → Type 0
@@ -61,7 +62,7 @@ module _ {T E : Type 0} where
 
   -- what the other had seen is heard
   abbrev pub HearsOf : (E → ℕ) → List E → ℕ → SeatState T E → SeatState T E → Type 0
-  HearsOf seat_of other known m m' = (n : ℕ) × (m' ≡ (caught_up (record m.0 { kept = record m.0.kept { known = max m.0.kept.known known }; heard = other }) n, m.1)) × StartsWith (longer m.0.kept.seen other) m.0.kept.seen × StartsWith (longer m.0.kept.seen other) other
+  HearsOf seat_of other known m m' = (n : ℕ) × (m' ≡ (caught_up (record m.0 { kept = record m.0.kept { known = max m.0.kept.known known }; looks = Ignored ∷ m.0.looks; heard = other }) n, m.1)) × StartsWith (longer m.0.kept.seen other) m.0.kept.seen × StartsWith (longer m.0.kept.seen other) other
       × (m.0.kept.mine ≡ of_seat seat_of m.0.kept.number m.0.kept.seen → m.0.kept.mine ≡ of_seat seat_of m.0.kept.number (longer m.0.kept.seen other))
 
 -- what a refused turn tells

@@ -4,7 +4,7 @@ use Rattle.atomic_table.specs.Table.{Me}
 use Rattle.ticket_lock.specs.Lists.{span, head_or, tail, longer}
 use Rattle.ticket_lock.specs.declared.rule.SeatRecord.{SeatRecord}
 use Rattle.ticket_lock.specs.declared.rule.Look.{Look}
-use Rattle.ticket_lock.specs.declared.rule.Look.TheVariants.{Serving, Next}
+use Rattle.ticket_lock.specs.declared.rule.Look.TheVariants.{Serving, Next, Floor, Ignored, Bed}
 use Rattle.ticket_lock.specs.declared.rule.View.{View}
 use Rattle.ticket_lock.specs.declared.rule.Setup.{Setup}
 
@@ -45,15 +45,16 @@ module _ {E : Type 0} where
   abbrev pub nobody : View E
   nobody = report [] 0
 
-  abbrev pub itself : View E → View E
-  itself v = v
+  -- v has told what it has seen
+  abbrev pub telling : View E → View E
+  telling v = record v { looks = Ignored ∷ v.looks }
 
   abbrev pub report_of : View E → View E
   report_of v = report v.kept.seen v.kept.known
 
   -- v has taken in the report w
   abbrev pub hearing : View E → View E → View E
-  hearing v w = record v { kept = record v.kept { known = max v.kept.known w.kept.known }; heard = w.kept.seen }
+  hearing v w = record v { kept = record v.kept { known = max v.kept.known w.kept.known }; looks = Ignored ∷ v.looks; heard = w.kept.seen }
 
   -- no seat, but it has gathered seats that kept this
   abbrev pub gatherer : List (SeatRecord E) → View E
@@ -64,7 +65,7 @@ module _ {E : Type 0} where
 
   -- what was heard of is seen too
   abbrev pub caught_up : View E → ℕ → View E
-  caught_up v n = record v { kept = record v.kept { seen = longer v.kept.seen v.heard }; loaded = n; heard = [] }
+  caught_up v n = record v { kept = record v.kept { seen = longer v.kept.seen v.heard }; loaded = n; looks = Serving n ∷ v.looks; heard = [] }
 
   -- the numbers of the seats that it stands for
   abbrev pub numbers : View E → List ℕ
@@ -96,7 +97,10 @@ module _ {E : Type 0} where
   ended v entries = record v { kept = record v.kept { seen = v.found ++ entries; mine = v.kept.mine ++ entries }; ticket = None; holds = false; found = []; raised = 0 }
 
   abbrev pub raises : View E → ℕ → ℕ → View E
-  raises v r k = record v { kept = record v.kept { known = max r k }; raised = max v.raised k }
+  raises v r k = record v { kept = record v.kept { known = max r k }; raised = max v.raised k; looks = Floor r ∷ v.looks }
 
   abbrev pub knows_floor : View E → ℕ → View E
-  knows_floor v r = record v { kept = record v.kept { known = r } }
+  knows_floor v r = record v { kept = record v.kept { known = r }; looks = Floor r ∷ v.looks }
+
+  abbrev pub marked : View E → View E
+  marked v = looking v (Bed ∷ v.looks)

@@ -1,6 +1,7 @@
 //! The floor word: a floor that the value reached, to be read without a turn.
-ghost use Rattle.std.specs.Prelude.{◌≡◌, ◌≤◌, max, Some};
-ghost use Rattle.ticket_lock.specs.Seats.{seen, known, raised, ticket, IsOf, KeepsTurn};
+ghost use Rattle.std.specs.Prelude.{◌≡◌, ◌≤◌, ◌∷◌, ℕ, max, Some};
+ghost use Rattle.ticket_lock.specs.Seats.{seen, known, raised, ticket, looks, IsOf, KeepsTurn};
+ghost use Rattle.ticket_lock.specs.declared.rule.Look.TheVariants.{Floor};
 
 use crate::chronicle::Chronicle;
 use crate::lock::{Held, Seat, TicketLock};
@@ -17,6 +18,8 @@ impl<T: Chronicle> TicketLock<T> {
         ensures raised { raised seat.new ≡ raised seat.old }
         ensures floor { known seat.old ≤ result }
         ensures known { known seat.new ≡ result }
+        // It is what one look found, and there was no other.
+        ensures looked { looks seat.new ≡ Floor result ∷ looks seat.old }
     {
         self.board.shared.load::<LoadFloor>(&mut seat.pass, FLOOR)
     }
@@ -31,6 +34,8 @@ impl<T: Chronicle> TicketLock<T> {
         ensures raised { raised seat.new ≡ max (raised seat.old) (T.floor_of held.now.value) }
         ensures known { known seat.old ≤ known seat.new }
         ensures high { T.floor_of held.now.value ≤ known seat.new }
+        // The seat knows the greater of the floor of the value and the one that it replaced. There was no other look.
+        ensures looked { (was : ℕ) × (looks seat.new ≡ Floor was ∷ looks seat.old) × (known seat.new ≡ max was (T.floor_of held.now.value)) }
     {
         let floor = held.value.floor();
         self.board

@@ -94,9 +94,9 @@ impl<T: Chronicle> Play<Option<T>, View<T::Entry>> for LoadFloor {
 pub struct MarkBed;
 
 impl<T: Chronicle> Play<Option<T>, View<T::Entry>> for MarkBed {
-    ghost use Rattle.ticket_lock.specs.Steps.{unchanged};
+    ghost use Rattle.ticket_lock.specs.Steps.{stored_bed};
 
-    ghost then = { unchanged };
+    ghost then = { stored_bed };
 }
 
 /// A new seat at the table, to gather the others.
@@ -112,9 +112,9 @@ impl<T: Chronicle> Play<Option<T>, View<T::Entry>> for EnterGatherer {
 pub struct Report;
 
 impl<E> Split<View<E>> for Report {
-    ghost use Rattle.ticket_lock.specs.Views.{itself, report_of};
+    ghost use Rattle.ticket_lock.specs.Views.{telling, report_of};
 
-    ghost left = { itself };
+    ghost left = { telling };
 
     ghost right = { report_of };
 }

@@ -49,12 +49,18 @@ pub struct SeatRecord<E> {
     pub known: u64,
 }
 
-/// What a seat without a ticket found in a word. No value of it is made.
+/// What a seat found in a word. No value of it is made.
 pub enum Look {
     /// The ticket that is served.
     Serving(u64),
     /// The next ticket to be drawn.
     Next(u64),
+    /// The floor, by a load or by the fetch_max that raised it.
+    Floor(u64),
+    /// Nothing: what the load found is ignored.
+    Ignored,
+    /// Nothing: it stored a bed.
+    Bed,
 }
 
 /// What a seat at the table knows. No value of it is made.
@@ -77,8 +83,8 @@ pub struct View<E> {
     pub raised: u64,
     /// The serving number that it loaded last.
     pub loaded: u64,
-    /// What it found in the serving word and the ticket word while it had no ticket, by a load or by
-    /// a compare-exchange, the newest first.
+    /// What it found in the words, the newest first. The loads that await its turn and the store that
+    /// ends it aren't among them.
     pub looks: LinkedList<Look>,
     /// What another seat had seen, until it is compared with what this one has.
     pub heard: LinkedList<E>,

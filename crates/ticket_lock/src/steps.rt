@@ -108,7 +108,7 @@ impl<T: Chronicle> TicketLock<T> {
         requires own { pass.old.table_id ≡ self.now.board.shared.table_id }
         requires drew { HasDrawn ticket pass.old.me }
         ensures same { IsSamePass pass.old pass.new }
-        ensures takes { Took T.stands T.floor_of pass.old.me.0 ticket result pass.new.me }
+        ensures takes { Took T.stands T.floor_of (looking pass.old.me.0 pass.new.me.0.looks) ticket result pass.new.me }
     {
         let shared = &self.board.shared;
         let bed = self.bed(ticket);
@@ -154,7 +154,7 @@ impl<T: Chronicle> TicketLock<T> {
         requires stands { T.stands value pass.old.me.0.kept.first (pass.old.me.0.found ++ entry.now ∷ []) }
         requires high { pass.old.me.0.raised ≤ T.floor_of value }
         ensures same { IsSamePass pass.old pass.new }
-        ensures ended { pass.new.me ≡ (ended pass.old.me.0 (entry.now ∷ []), []) }
+        ensures ended { pass.new.me ≡ (looking (ended pass.old.me.0 (entry.now ∷ [])) pass.new.me.0.looks, []) }
         ensures high { pass.old.me.0.kept.known ≤ T.floor_of value }
         ensures own_before { pass.old.me.0.kept.mine ≡ of_seat T.seat_of pass.old.me.0.kept.number pass.old.me.0.found }
     {
@@ -179,7 +179,7 @@ impl<T: Chronicle> TicketLock<T> {
     // here, it will find its turn before it sleeps.
     fn wake(&self, pass: &mut Pass<T, T::Entry>, ticket: u64)
         requires own { pass.old.table_id ≡ self.now.board.shared.table_id }
-        ensures same { IsSamePass pass.old pass.new × (pass.new.me ≡ pass.old.me) }
+        ensures same { IsSamePass pass.old pass.new × (pass.new.me ≡ (looking pass.old.me.0 pass.new.me.0.looks, pass.old.me.1)) }
     {
         let shared = &self.board.shared;
         let bed = self.bed(ticket);
