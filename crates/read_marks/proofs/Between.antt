@@ -121,10 +121,6 @@ pub all_beyond : (xs : List ℕ) (t above : ℕ) (to : Option ℕ) (below beyond
     → (not beyond ≡ true) ↔ AreAllBetween (is_kept t xs) above to
 all_beyond xs t above to below beyond none low high = subst (λ b. ((not b && not beyond) ≡ true) ↔ AreAllBetween (is_kept t xs) above to) none (all_within xs t above to below beyond low high)
 
--- those that are kept are above what is forgotten
-pub above_forgotten : (xs : List ℕ) (t above : ℕ) (to : Option ℕ) → above ≤ t → to ≡ None → AreAllBetween (is_kept t xs) above to
-above_forgotten xs t above to low none n h = let k = kept-turn t n (nat_lt t n) (is_reader xs n) refl h in (omega (arith, k.0), subst (λ o. AtMost o n) (sym none) tt)
-
 -- where there are none, all of them are anywhere
 pub none_there : (xs : List ℕ) (t above : ℕ) (to : Option ℕ) → xs ≡ [] → AreAllBetween (is_kept t xs) above to
 none_there xs t above to none n h = let k = kept-turn t n (nat_lt t n) (is_reader xs n) refl h in (let no : is_reader xs n ≡ false = rw none refl in let e : true ≡ false = sym k.1 ∙ no in cc)

@@ -124,7 +124,7 @@ impl Readers {
         self.list[at] <= top
     }
 
-    // Whether a reader is above `forgotten` and, where `to` is given, above that too.
+    // Whether a reader above `forgotten` is above `to`. Where that is not given, none is.
     fn any_beyond(&self, forgotten: u64, to: Option<u64>) -> bool
         ensures { IsTrue result ↔ IsBeyond (is_kept forgotten self.now) to }
     {

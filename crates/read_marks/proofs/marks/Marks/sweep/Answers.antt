@@ -1,4 +1,4 @@
-use Rattle.std.proofs.Common.{ℕ, Bool, List, false, refl, true, ◌&&◌, ◌≡◌, ◌≤◌, ◌-◌, ◌∙◌, ap, arith, lt-ltb, ltb-true, min, nat_lt}
+use Rattle.std.proofs.Common.{ℕ, Bool, List, false, refl, true, ◌&&◌, ◌≡◌, ◌≤◌, ◌∙◌, ap, arith, lt-ltb, ltb-true, nat_lt}
 use Rattle.std.specs.List.{filter}
 use Rattle.read_marks.specs.Readers.{is_kept, is_reader}
 use Rattle.read_marks.specs.Segments.{readers_at}
