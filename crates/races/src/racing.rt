@@ -21,7 +21,7 @@ use std::thread::{Promise, PromisedHandle, Scope, Threads};
 #[derive(Clone, Copy, Debug, PartialEq, Eq)]
 pub enum RaceError {
     /// There are not as many seats as lists of commands.
-    Counts,
+    Counts = 1,
     /// A growth of memory was refused.
     NoMemory,
     /// A thread could not be started.

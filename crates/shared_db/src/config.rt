@@ -15,7 +15,7 @@ pub struct Config {
 #[derive(Clone, Copy, Debug, PartialEq, Eq)]
 pub enum OpenError {
     /// There are to be no seats, or more than 64.
-    SeatCount,
+    SeatCount = 1,
     /// The ring is to have no place, or more than 65536.
     RingSize,
     /// A growth of memory was refused.

@@ -1,16 +1,16 @@
 -- Each feed tells its list.
 use Rattle.std.proofs.Common.{◌≡◌, ℕ, zero, suc, ◌+◌, ◌-◌, ◌<◌, ◌≤◌, ◌==◌, Bool, true, false, not, cond, List, [], ◌∷◌, ◌++◌, map, length, take, drop, Some, None, refl, sym, ◌∙◌, ap, subst, arith, append_assoc}
-use Rattle.std.specs.Prelude.{max, filter}
+use Rattle.std.specs.Prelude.{max, filter, is_some}
 use Rattle.std.proofs.lemmas.List.{append-nil}
 use Rattle.std.proofs.lemmas.List.Elements.{filter_map-append}
 use Rattle.std.proofs.Math.Seq.{drop-append_seam}
-use Rattle.std.proofs.lemmas.Bool.{eqb-true, eq-eqb, ltb-true, ltb-false, leb-true, and_parts, false_from_ne_true}
+use Rattle.std.proofs.lemmas.Bool.{eqb-true, eq-eqb, ltb-true, leb-true, and_parts, false_from_ne_true}
 use Rattle.std.proofs.lemmas.Bool.Decides.{nat_tests}
 use Rattle.timestamps.specs.declared.row.Row.{Row}
 use Rattle.spans.specs.declared.calls.messages.Message.{Message}
 use Rattle.spans.specs.declared.calls.messages.Message.TheVariants as messages
 use Rattle.spans.specs.declared.kind.Kind.{Kind}
-use Rattle.spans.specs.Effects.{Effect, Opens, Polls}
+use Rattle.spans.specs.Effects.{Effect, Opens, Polls, Cancels}
 use Rattle.spans.specs.Transactions.{closed_of}
 use Rattle.spans.specs.Feeds.{Feed, feed_of, feeds_opened, is_cancelled, told_to, row_in, rows_in, last_resolved, list_of, start_of, resolved_of, asked_gap, is_due, due_message, untold_rows, next_messages}
 use Rattle.spans.specs.FeedRight.{DividesList, ResolvedApart, least_gap, ReachesClosed, IsSilentAfterCancel, LeavesNothingDue, RowsAreAbove, RowsFollowResolved, FeedIsRight}
@@ -180,6 +180,15 @@ unopened (Polls g max ms ∷ p) all f above =
     (λ same. absurd (let e : feed_of p g ≡ None = subst (λ n. feed_of p n ≡ None) (sym (eqb-true g f same)) before.0 in let both : None ≡ Some all.0.0 = sym e ∙ all.0.1 in cc))
     (λ other. (before.0, rw other before.1))
 unopened (_ ∷ p) all f above = unopened p all.1 f above
+
+-- a feed that wasn't opened wasn't cancelled
+pub uncancelled : (p : List Effect) → AllAllowed p → (f : ℕ) → feeds_opened p < f → is_cancelled p f ≡ false
+uncancelled [] all f above = refl
+uncancelled (Opens g seat kind span cursor ∷ p) all f above = uncancelled p all.1 f (omega arith)
+uncancelled (Cancels g ∷ p) all f above = by_test (g == f)
+    (λ same. absurd (let none : feed_of p g ≡ None = subst (λ n. feed_of p n ≡ None) (sym (eqb-true g f same)) (unopened p all.1 f above).0 in let no : false ≡ true = ap is_some (sym none) ∙ all.0 in cc))
+    (λ other. rw other (uncancelled p all.1 f above))
+uncancelled (_ ∷ p) all f above = uncancelled p all.1 f above
 
 pub feeding : (p : List Effect) → AllAllowed p → (f : ℕ) (feed : Feed) → feed_of p f ≡ Some feed → IsFeeding p f feed
 feeding [] all f feed is = cc

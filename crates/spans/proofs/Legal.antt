@@ -154,7 +154,7 @@ answer_allowed p seat (ReadAt t x) = unless_is (λ r. Allowed p (effect seat (Re
 answer_allowed p seat (ScanAt t span) = unless_is (λ r. Allowed p (effect seat (ScanAt t span) r)) ((nat_lt (closed_of p) t, NotClosed (closed_of p)) ∷ (nat_lt t (horizon_of p), BelowHorizon (horizon_of p)) ∷ []) (Rows (pairs_of (λ x. committed_value p x t) (filter (in_span span) (written_keys p))))
     (λ _. tt, λ low. (λ _. tt, λ _. (ltb-false (closed_of p) t low, are_rows span (λ x. committed_value p x t) (written_keys p) (keys_rise p) (λ x v is. settled_in p x t v is))))
 answer_allowed p seat (Protect t) = unless_is (λ r. Allowed p (effect seat (Protect t) r)) ((nat_lt MAX t, TsRange) ∷ (nat_lt t (horizon_of p), BelowHorizon (horizon_of p)) ∷ []) (Protected (suc (protections_made p)))
-    (λ _. tt, λ _. (λ _. tt, λ _. tt))
+    (λ _. tt, λ _. (λ _. tt, λ high. ltb-false t (horizon_of p) high))
 answer_allowed p seat (Release id) = unless_is (λ r. Allowed p (effect seat (Release id) r)) ((not (is_protected p id), NoProtection) ∷ []) Released (λ _. tt, λ _. tt)
 answer_allowed p seat (Collect to) = unless_is (λ r. Allowed p (effect seat (Collect to) r)) ((nat_lt MAX to, TsRange) ∷ []) (let n = collection_horizon p to in Collected n (length (dead_of (Collects n ∷ p)) - length (dead_of p)))
     (λ _. tt, λ _. (to, refl))

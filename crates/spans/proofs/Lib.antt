@@ -23,3 +23,8 @@ pub mod Floors
 pub mod Complete
 pub mod GoingOn
 pub mod Limits
+pub mod Horizon
+pub mod FeedFloors
+pub mod Dead
+pub mod Promises
+pub mod Lawful

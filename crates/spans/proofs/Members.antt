@@ -2,26 +2,18 @@
 use Rattle.std.proofs.Common.{Bool, List, refl, arith, inr, subst, false, suc, ap, true, inl, sym, length, ◌≡◌, ◌≤◌, ◌⊎◌, ◌==◌, ◌∷◌, ◌++◌, ◌∙◌, ℕ, []}
 use Rattle.std.proofs.lemmas.Bool.{eq-eqb, both_ways}
 use Rattle.std.proofs.lemmas.Cmp.{nat_list_cmp_total}
+use Rattle.std.proofs.lemmas.List.Elements.{All-nil, All-cons}
 use Rattle.std.specs.Ordering.{ordering_reverse}
-use Rattle.std.specs.Prelude.{filter, is_some, ◌↔◌}
+use Rattle.std.specs.Prelude.{All, filter, is_some, not, ◌+◌, ◌↔◌}
 use Rattle.std.specs.declared.cmp.Ordering.TheVariants.{Greater, Less}
 use Rattle.timestamps.specs.Bytes.{key_cmp}
+pub use Rattle.spans.specs.Members.{Has, AreDistinct}
 use Rattle.spans.specs.Effects.{Begins, Effect}
 use Rattle.spans.specs.Transactions.{is_undecided, owner_of, begun_of, undecided_timestamps}
 use Rattle.spans.proofs.Copies.{AllAllowed}
 use Rattle.spans.proofs.Keyed.{IsIn, RisingKeys}
 use Rattle.spans.proofs.Open.{IsAmong}
 use Rattle.spans.proofs.Steps.{by_test}
-
--- x is one of the list
-abbrev pub Has : {A : Type 0} → A → List A → Type 0
-Has x [] = ⊥
-Has x (y ∷ ys) = (y ≡ x) ⊎ Has x ys
-
--- nothing is in the list twice
-abbrev pub AreDistinct : {A : Type 0} → List A → Type 0
-AreDistinct [] = Unit {0}
-AreDistinct (x ∷ xs) = (Has x xs → ⊥) × AreDistinct xs
 
 -- the list without one that it has
 record Without {A : Type 0} (x : A) (ys : List A) : Type 0 where
@@ -149,3 +141,15 @@ begun_distinct (_ ∷ p) all = begun_distinct p all.1
 -- the undecided ones are distinct, so any distinct list of them counts them
 pub open_distinct : (p : List Effect) → AllAllowed p → AreDistinct (undecided_timestamps p)
 open_distinct p all = distinct_filter (is_undecided p) (begun_of p) (begun_distinct p all)
+
+-- a list is what fails the test and what passes it
+pub parted : {A : Type 0} (q : A → Bool) (xs : List A) → length xs ≡ length (filter (λ x. not (q x)) xs) + length (filter q xs)
+parted q [] = refl
+parted q (x ∷ xs) = let more = parted q xs in by_test (q x)
+    (λ is. rw is (omega (arith, more)))
+    (λ isnt. rw isnt (omega (arith, more)))
+
+-- what holds of each member holds of all
+pub all_of : {A : Type 0} (P : A → Type 0) (xs : List A) → ((x : A) → Has x xs → P x) → All P xs
+all_of P [] each = All-nil P
+all_of P (x ∷ xs) each = All-cons P x xs (each x (inl refl)) (all_of P xs (λ y i. each y (inr i)))

@@ -82,6 +82,12 @@ pub newest_same : (f g : ℕ → Option After) (t : ℕ) → ((i : ℕ) → i �
 newest_same f g zero same = refl
 newest_same f g (suc t) same = rw (same (suc t) (omega arith), newest_same f g t (λ i low. same i (omega arith))) refl
 
+-- the newest version is at or above each that is in reach
+pub newest_reaches : (f : ℕ → Option After) (t i : ℕ) (a : After) → i ≤ t → f i ≡ Some a → i ≤ (newest f t).ts
+newest_reaches f t i a low is = by_test (nat_lt (newest f t).ts i)
+    (λ below. absurd (let none : f i ≡ None = (newest_is f t).gap i (ltb-true _ _ below) low in let no' : None ≡ Some a = sym none ∙ is in cc))
+    (λ isnt. grind (arith, nat_tests))
+
 -- there is only one newest
 pub newest_only : (versions : ℕ → Option After) (t k : ℕ) (a : After) → IsNewest versions t k a → newest versions t ≡ version_at k a
 newest_only versions t k a h = by_order (newest versions t).ts (newest versions t).after (newest_is versions t)

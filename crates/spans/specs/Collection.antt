@@ -41,9 +41,13 @@ pub record LiveFeed : Type 0 where
   pub number : ℕ
   pub cursor : ℕ
 
+-- the live feed of this number and cursor
+abbrev pub live_feed : ℕ → ℕ → LiveFeed
+live_feed f c = record { number = f; cursor = c }
+
 abbrev pub live_feeds : List Effect → List LiveFeed
 live_feeds [] = []
-live_feeds (Opens f seat kind span cursor ∷ p) = record { number = f; cursor = cursor } ∷ live_feeds p
+live_feeds (Opens f seat kind span cursor ∷ p) = live_feed f cursor ∷ live_feeds p
 live_feeds (Cancels f ∷ p) = filter (λ (n : LiveFeed). not (n.number == f)) (live_feeds p)
 live_feeds (_ ∷ p) = live_feeds p
 

@@ -1,3 +1,4 @@
+pub mod Members
 pub mod Effects
 pub mod KeyOrder
 pub mod Keys
@@ -14,11 +15,14 @@ pub mod Legal
 pub mod FeedRight
 pub mod Consumer
 pub mod Completeness
+pub mod Promises
+pub mod Law
 pub mod Kept
 pub mod Report
 pub mod WorkedHistories
 pub mod WorkedCompleteness
 pub mod WorkedReports
+pub mod WorkedPromises
 pub mod Pieces
 pub mod Successors
 pub mod Starting

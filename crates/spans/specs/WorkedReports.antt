@@ -1,6 +1,6 @@
 -- Worked reports, each computed from the definitions: what holds a collection, and through where a feed's consumer knows that
 -- all was told.
-use Rattle.std.specs.Prelude.{◌≡◌, ℕ, List, [], ◌∷◌, Option, Some, None, refl}
+use Rattle.std.specs.Prelude.{◌≡◌, ℕ, List, [], ◌∷◌, Some, None, refl}
 use Rattle.spans.specs.declared.calls.commands.Cmd.{Cmd}
 use Rattle.spans.specs.declared.calls.commands.Cmd.TheVariants.{Begin, Put, Del, Commit, Close, CloseHard, Protect, Release, Collect, Open, OpenInitial, OpenEvery, Poll, Cancel}
 use Rattle.spans.specs.declared.report.Holder.TheVariants.{Closed, Protection, Feed}
@@ -12,7 +12,7 @@ use Rattle.spans.specs.Completeness.{complete_after}
 use Rattle.spans.specs.Report.{limit, limit_of, removable_of}
 
 -- what calls of seats did, after the effects p
-abbrev after : List Effect → List (ℕ × Cmd) → List Effect
+abbrev pub after : List Effect → List (ℕ × Cmd) → List Effect
 after p [] = p
 after p (call ∷ calls) = after (effect call.0 call.1 (answer_of p call.0 call.1) ∷ p) calls
 

@@ -68,7 +68,7 @@ impl Drop for BoundBytes {
 #[derive(Clone, Copy, Debug, PartialEq, Eq)]
 pub enum BoundError {
     /// There is no byte, or there are more than [`MAX_BOUND_BYTES`].
-    BoundLength,
+    BoundLength = 1,
     /// A growth of memory was refused.
     NoMemory,
 }

@@ -1,5 +1,5 @@
 //! The law of histories: what holds of every legal history, as the contract of one function.
-ghost use Rattle.std.specs.Prelude.{List, ℕ, ◌≡◌, ◌↔◌, true, Some};
+ghost use Rattle.std.specs.Prelude.{List, ◌∷◌, ℕ, ◌≡◌, ◌↔◌, true, Some};
 ghost use Rattle.spans.specs.declared.calls.events.Event.{Event};
 ghost use Rattle.spans.specs.Effects.{effects_of};
 ghost use Rattle.spans.specs.Legal.{IsLegal};
@@ -8,6 +8,8 @@ ghost use Rattle.spans.specs.Feeds.{Feed, feed_of};
 ghost use Rattle.spans.specs.FeedRight.{FeedIsRight};
 ghost use Rattle.spans.specs.Consumer.{ConsumerIsRight};
 ghost use Rattle.spans.specs.Completeness.{CompleteIsRight};
+ghost use Rattle.spans.specs.Promises.{ReadsOwn, NeverFalls, IsHorizonHeld, SnapshotsStand, AreVersionsCounted};
+ghost use Rattle.spans.specs.Law.{IsLawful};
 ghost use Rattle.spans.specs.Serial.{IsOneCopy};
 
 /// A legal history, its newest event first, is that of a database with one copy, run in timestamp
@@ -18,6 +20,11 @@ ghost use Rattle.spans.specs.Serial.{IsOneCopy};
 /// also one of a transaction that was aborted, that wasn't given its own transaction's version was
 /// given what is for good the newest committed version below its reader. (Timestamps begin at 1:
 /// `suc t` is the reader, and what is at most `t` is below it.)
+///
+/// It keeps what the guide promises too: a transaction reads its own writes; closed and the horizon
+/// never fall; the horizon passes neither closed, nor a protection, nor the floor of a live feed; what
+/// a collection drops changes no snapshot from the horizon on; and statistics count each version that
+/// isn't dead once. `lawful` says all of one history in one word, for the contracts above.
 ///
 /// Legal says of a history that each reply is the one that `answer_of` computes, or want of memory
 /// where a command may want it. Nothing else is assumed.
@@ -30,4 +37,10 @@ pub fn law_of_histories()
     ensures feeds { (h : List Event) → IsLegal h → (f : ℕ) (feed : Feed) → feed_of (effects_of h) f ≡ Some feed → FeedIsRight (effects_of h) f feed }
     ensures consumers { (h : List Event) → IsLegal h → (f : ℕ) (feed : Feed) → feed_of (effects_of h) f ≡ Some feed → ConsumerIsRight (effects_of h) f feed }
     ensures completes { (h : List Event) → IsLegal h → (f : ℕ) (feed : Feed) → feed_of (effects_of h) f ≡ Some feed → CompleteIsRight (effects_of h) f feed }
+    ensures own { (h : List Event) → IsLegal h → ReadsOwn (effects_of h) }
+    ensures rises { (e : Event) (h : List Event) → IsLegal (e ∷ h) → NeverFalls (effects_of h) (effects_of (e ∷ h)) }
+    ensures horizon { (h : List Event) → IsLegal h → IsHorizonHeld (effects_of h) }
+    ensures snapshots { (h : List Event) → IsLegal h → SnapshotsStand (effects_of h) }
+    ensures counts { (h : List Event) → IsLegal h → AreVersionsCounted (effects_of h) }
+    ensures lawful { (h : List Event) → IsLegal h → IsLawful h }
 {}

@@ -21,7 +21,7 @@
 //!
 //! Read `specs/` in the order of its `Lib.antt`: effects, transactions, versions and reads, streams and feeds,
 //! collection; then the answer to each command, and which histories are legal. [`law::law_of_histories`] states the law
-//! of legal histories.
+//! of legal histories, and `IsLawful` is that law in one word.
 //!
 //! Costs, where a bound or a key has b bytes:
 //!

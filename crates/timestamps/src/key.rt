@@ -36,7 +36,7 @@ impl Model for Key {
 #[derive(Clone, Copy, Debug, PartialEq, Eq)]
 pub enum KeyError {
     /// There is no byte, or there are more than [`MAX_KEY_BYTES`].
-    KeyLength,
+    KeyLength = 1,
     /// A growth of memory was refused.
     NoMemory,
 }

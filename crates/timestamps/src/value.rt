@@ -34,7 +34,7 @@ impl Model for Value {
 #[derive(Clone, Copy, Debug, PartialEq, Eq)]
 pub enum ValueError {
     /// There are more than [`MAX_VALUE_BYTES`] bytes.
-    ValueLength,
+    ValueLength = 1,
     /// A growth of memory was refused.
     NoMemory,
 }

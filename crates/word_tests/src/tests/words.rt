@@ -1,12 +1,12 @@
 //! Timestamps, keys, values, rows and bounds: what is taken, and how keys are ordered.
-use spans::bound::Bound;
+use spans::bound::{Bound, BoundError};
 use std::alloc::{AllocError, Global};
 use std::test::Fail;
-use timestamps::key::Key;
+use timestamps::key::{Key, KeyError};
 use timestamps::row::Row;
 use timestamps::ts::{MAX, Ts};
 use timestamps::ts_key::TsKey;
-use timestamps::value::Value;
+use timestamps::value::{Value, ValueError};
 
 /// So many bytes, each a 7.
 fn sevens(alloc: Global, length: u64) -> Result<Vec<u8>, AllocError> {
@@ -43,6 +43,9 @@ fn limits(rt: HostRuntime) {
     }
     assert!(rt; Ts::new(0).is_none() && Ts::new(1).is_some());
     assert!(rt; Ts::new(MAX).is_some() && Ts::new(9223372036854775808).is_none());
+    assert!(rt; KeyError::KeyLength as u8 == 1 && KeyError::NoMemory as u8 == 2);
+    assert!(rt; ValueError::ValueLength as u8 == 1 && ValueError::NoMemory as u8 == 2);
+    assert!(rt; BoundError::BoundLength as u8 == 1 && BoundError::NoMemory as u8 == 2);
 }
 
 /// Keys that rise.

@@ -1,0 +1,50 @@
+-- The horizon never falls, and stays at or below closed and each protection that stands.
+use Rattle.std.proofs.Common.{◌≡◌, ℕ, ◌≤◌, ◌==◌, not, List, [], ◌∷◌, ◌++◌, map, ap, inl, inr, arith}
+use Rattle.std.specs.Prelude.{min}
+use Rattle.spans.specs.Effects.{Effect, Closes, HardCloses, Protects, Releases, Collects}
+use Rattle.spans.specs.Transactions.{closed_of, least_of}
+use Rattle.spans.specs.Collection.{Protection, horizon_of, protections_of, live_feeds, floor_of}
+use Rattle.spans.proofs.Copies.{Allowed, AllAllowed, closed_grows}
+use Rattle.spans.specs.Members.{Has}
+use Rattle.spans.proofs.Members.{has_filter}
+
+-- the least is at most the bound
+pub least_low : (n : ℕ) (ms : List ℕ) → least_of n ms ≤ n
+least_low n [] = omega arith
+least_low n (m ∷ ms) = omega (arith, least_low n ms)
+
+-- the horizon is at or below closed
+pub horizon_low : (p : List Effect) → AllAllowed p → horizon_of p ≤ closed_of p
+horizon_low [] all = omega arith
+horizon_low (Collects n ∷ p) all = omega (arith, all.0.1, horizon_low p all.1, least_low (min all.0.0 (closed_of p)) (map (λ (n : Protection). n.at) (protections_of p) ++ map (floor_of p) (live_feeds p)))
+horizon_low (Closes n ∷ p) all = omega (arith, horizon_low p all.1, closed_grows p (Closes n) all.0)
+horizon_low (HardCloses to n ∷ p) all = omega (arith, horizon_low p all.1, closed_grows p (HardCloses to n) all.0)
+horizon_low (_ ∷ p) all = horizon_low p all.1
+
+-- the horizon never falls
+pub horizon_grows : (p : List Effect) (d : Effect) → Allowed p d → horizon_of p ≤ horizon_of (d ∷ p)
+horizon_grows p (Collects n) allowed = omega (arith, allowed.1)
+horizon_grows p (_) allowed = omega arith
+
+-- the least is at or below each
+least_under : (n : ℕ) (m : Protection) (ps : List Protection) (ns : List ℕ) → Has m ps → least_of n (map (λ (x : Protection). x.at) ps ++ ns) ≤ m.at
+least_under n m [] ns i = absurd i
+least_under n m (x ∷ ps) ns i = elim i [
+  | inl here ↦ (let e : x.at ≡ m.at = ap (λ (v : Protection). v.at) here in omega (arith, e))
+  | inr there ↦ (let low : least_of n (map (λ (v : Protection). v.at) ps ++ ns) ≤ m.at = least_under n m ps ns there in omega (arith, low))
+]
+
+-- each protection that stands is at or above the horizon
+pub protections_high : (p : List Effect) → AllAllowed p → (m : Protection) → Has m (protections_of p) → horizon_of p ≤ m.at
+protections_high [] all m i = absurd i
+protections_high (Protects id t ∷ p) all m i = elim i [
+  | inl here ↦ (let e : t ≡ m.at = ap (λ (v : Protection). v.at) here in omega (arith, e, all.0))
+  | inr there ↦ protections_high p all.1 m there
+]
+protections_high (Releases id ∷ p) all m i = protections_high p all.1 m ((has_filter (λ (n : Protection). not (n.id == id)) m (protections_of p)).0 i).1
+protections_high (Collects n ∷ p) all m i =
+    let was : horizon_of p ≤ m.at = protections_high p all.1 m i in
+    let low : least_of (min all.0.0 (closed_of p)) (map (λ (v : Protection). v.at) (protections_of p) ++ map (floor_of p) (live_feeds p)) ≤ m.at =
+    least_under (min all.0.0 (closed_of p)) m (protections_of p) (map (floor_of p) (live_feeds p)) i in
+    omega (arith, all.0.1, was, low)
+protections_high (_ ∷ p) all m i = protections_high p all.1 m i

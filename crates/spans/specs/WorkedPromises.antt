@@ -1,0 +1,60 @@
+-- Worked examples of what the guide promises, each computed from the definitions.
+use Rattle.std.specs.Prelude.{◌≡◌, ℕ, List, [], ◌∷◌, filter, length, not, Some, None, refl}
+use Rattle.spans.specs.declared.calls.commands.Cmd.TheVariants.{Begin, Get, Scan, Put, Del, Commit, Abort, Close, CloseHard, Protect, Release, Collect, Open, Cancel, Stats}
+use Rattle.spans.specs.declared.calls.replies.Reply.TheVariants.{Started, Found, Rows, Written, Aborted, Closed, Protected, Released, Collected, Opened, Cancelled}
+use Rattle.spans.specs.declared.calls.replies.Reply.TheVariants as replies
+use Rattle.spans.specs.declared.span.Span.{Span}
+use Rattle.spans.specs.Effects.{Effect}
+use Rattle.spans.specs.Newest.{newest, version_at}
+use Rattle.spans.specs.Versions.{committed_version_of}
+use Rattle.spans.specs.Collection.{versions_of, is_dead, dead_of}
+use Rattle.spans.specs.Promises.{left_version_of}
+use Rattle.spans.specs.WorkedHistories.{replies_to}
+use Rattle.spans.specs.WorkedReports.{after}
+
+abbrev a : List ℕ
+a = 97 ∷ []
+
+abbrev b : List ℕ
+b = 98 ∷ []
+
+abbrev one : List ℕ
+one = 49 ∷ []
+
+abbrev two : List ℕ
+two = 50 ∷ []
+
+abbrev whole : Span
+whole = record { lo = None; hi = None }
+
+-- a transaction reads and scans what it wrote last, a delete too, and aborts after that
+pub own_writes : replies_to [] ((0, Begin 10) ∷ (0, Put 10 a one) ∷ (0, Put 10 a two) ∷ (0, Get 10 a) ∷ (0, Scan 10 whole) ∷ (0, Del 10 a) ∷ (0, Get 10 a) ∷ (0, Scan 10 whole) ∷ (0, Abort 10) ∷ [])
+    ≡ Started ∷ Written ∷ Written ∷ Found (Some two) ∷ Rows ((a, two) ∷ []) ∷ Written ∷ Found None ∷ Rows [] ∷ Aborted ∷ []
+own_writes = refl
+
+-- closed and the horizon stay where less is asked
+pub no_way_back : replies_to [] ((0, Close 20) ∷ (0, Close 5) ∷ (0, CloseHard 7) ∷ (0, Collect 9) ∷ (0, Collect 4) ∷ [])
+    ≡ Closed 20 0 ∷ Closed 20 0 ∷ Closed 20 0 ∷ Collected 9 0 ∷ Collected 9 0 ∷ []
+no_way_back = refl
+
+-- a protection holds the horizon, then a feed, and then closed
+pub held_in_turn : replies_to [] ((0, Close 30) ∷ (1, Protect 5) ∷ (1, Open whole 7) ∷ (0, Collect 40) ∷ (1, Release 1) ∷ (0, Collect 40) ∷ (1, Cancel 1) ∷ (0, Collect 40) ∷ [])
+    ≡ Closed 30 0 ∷ Protected 1 ∷ Opened 1 ∷ Collected 5 0 ∷ Released ∷ Collected 7 0 ∷ Cancelled ∷ Collected 30 0 ∷ []
+held_in_turn = refl
+
+-- the value of 3 and the delete of 5 are dropped: nothing is found at 6 either way. Below the horizon that is no longer so
+abbrev dropped : List Effect
+dropped = after [] ((0, Begin 3) ∷ (0, Put 3 a one) ∷ (0, Commit 3) ∷ (0, Begin 5) ∷ (0, Del 5 a) ∷ (0, Commit 5) ∷ (0, Begin 8) ∷ (0, Put 8 a two) ∷ (0, Commit 8) ∷ (0, Close 9) ∷ (0, Collect 6) ∷ [])
+
+pub snapshots_of_dropped : (newest (left_version_of dropped a) 6 ≡ version_at 0 None) × (newest (committed_version_of dropped a) 6 ≡ version_at 5 None)
+    × (newest (left_version_of dropped a) 9 ≡ version_at 8 (Some two)) × (newest (committed_version_of dropped a) 9 ≡ version_at 8 (Some two))
+    × (newest (left_version_of dropped a) 4 ≡ version_at 0 None) × (newest (committed_version_of dropped a) 4 ≡ version_at 3 (Some one))
+snapshots_of_dropped = (refl, refl, refl, refl, refl, refl)
+
+-- a key that is written twice counts once, and what was aborted doesn't count
+abbrev counted : List Effect
+counted = after dropped ((0, Begin 10) ∷ (0, Put 10 a one) ∷ (0, Put 10 a two) ∷ (0, Put 10 b one) ∷ (0, Begin 11) ∷ (0, Put 11 a one) ∷ (0, Abort 11) ∷ [])
+
+pub versions_counted : (length (versions_of counted) ≡ 5) × (length (dead_of counted) ≡ 2) × (length (filter (λ v. not (is_dead counted v)) (versions_of counted)) ≡ 3)
+    × (replies_to counted ((0, Stats) ∷ []) ≡ replies.Stats 3 1 0 9 6 ∷ [])
+versions_counted = (refl, refl, refl, refl)
