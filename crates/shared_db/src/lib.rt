@@ -5,7 +5,7 @@
 //! of a ticket, makes one step of the engine, raises the floor to the timestamp that is then closed, and ends the turn
 //! with an event whose position is the ticket.
 //!
-//! 1. All events make one legal history, and the engine stands for it.
+//! 1. All events make one legal history, and the engine stands for it. [`law::law_of_seats`] says that it is lawful.
 //! 2. A seat's `seen` is the history up to its last call, or further where it met a seat that has seen more. Its `mine`
 //!    are its own events.
 //! 3. No two passes are leased the same timestamp.
@@ -41,6 +41,7 @@
 mod calls;
 mod config;
 mod db;
+pub mod law;
 mod served;
 mod sharing;
 

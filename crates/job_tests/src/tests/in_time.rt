@@ -51,6 +51,7 @@ struct Progress {
 #[derive(Drop)]
 struct Asking<'a> {
     turns: &'a [Turn],
+    next: usize,
     owed: u64,
     progress: &'a Progress,
 }
@@ -60,10 +61,11 @@ impl Read for Asking<'_> {
         if self.progress.written.load(SeqCst) != self.owed {
             self.progress.is_late.store(true, SeqCst);
         }
-        let Some(((asked, answer), rest)) = self.turns.split_first() else {
+        let turns = self.turns;
+        let Some((asked, answer)) = turns.get(self.next) else {
             return Ok(0);
         };
-        self.turns = rest;
+        self.next = self.next.saturating_add(1);
         self.owed = self.owed.saturating_add(answer.len() as u64);
         let count = asked.len().min(buf.len());
         buf[..count].copy_from_slice(&asked.as_bytes()[..count]);
@@ -99,6 +101,7 @@ fn devices<'a>(
 ) -> (Reading<Asking<'a>>, Writing<Answers<'a>>) {
     let asking = Asking {
         turns,
+        next: 0,
         owed: opening.len() as u64,
         progress,
     };

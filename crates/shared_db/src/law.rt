@@ -1,0 +1,22 @@
+//! The law of seats: what the calls of a shared database leave is lawful, as the contract of one function.
+ghost use Rattle.std.specs.Prelude.{ℕ, List, reverse};
+ghost use Rattle.spans.specs.declared.calls.commands.Cmd.{Cmd};
+ghost use Rattle.spans.specs.declared.calls.events.Event.{Event};
+ghost use Rattle.spans.specs.Law.{IsLawful};
+ghost use Rattle.engine.specs.declared.Engine.{Engine};
+ghost use Rattle.ticket_lock.specs.declared.lock.Seat.{Seat};
+ghost use Rattle.ticket_lock.specs.Seats.{seen};
+ghost use Rattle.shared_db.specs.contracts.served.ServedChronicle.TheImpl.{ghosts};
+ghost use Rattle.shared_db.specs.declared.served.Served.{Served};
+ghost use Rattle.shared_db.specs.declared.db.Db.{Db};
+ghost use Rattle.shared_db.specs.Calls.{IsAnswered};
+ghost use Rattle.shared_db.specs.Whole.{IsWhole};
+
+/// What a seat has seen after a call is lawful, and so is the whole history once all seats are back: whatever
+/// `spans::law::law_of_histories` says of a legal history holds of them.
+///
+/// It does nothing. Its contract is the theorem.
+pub fn law_of_seats()
+    ensures answered { (first : ℕ) (old new : Seat Served Event ghosts) (cmd : Cmd) (event : Event) → IsAnswered first old cmd event new → IsLawful (reverse (seen new)) }
+    ensures whole { (db : Db) (seats : List (Seat Served Event ghosts)) (engine : Engine) (w : IsWhole db seats engine) → IsLawful (reverse w.history) }
+{}
