@@ -82,7 +82,7 @@ enum {
     RIPSAWBEAN_REPLY = 10,         // a fault of transcripts: no function here returns it
     RIPSAWBEAN_FOLLOW = 11,        // a fault of transcripts: no function here returns it
 
-    // There was no memory for key, value, span, or a database to open: no call was made, and the same one may be made
+    // There was no memory for the line, or for a database to open: no call was made, and the same one may be made
     // again. Where the line was read and memory is wanting in the call itself, its answer is "nomemory": an event that
     // changed nothing else. Its text may want memory as well, as any text: see RIPSAWBEAN_UNWRITTEN.
     RIPSAWBEAN_NOMEMORY = 12,

@@ -103,7 +103,7 @@ class BadByte(LineFault):
 
 
 class NoMemory(Error, MemoryError):
-    """There was no memory for key, value, span, or a database to open. No call was made, and it may be made again."""
+    """There was no memory for the line, or for a database to open. No call was made, and it may be made again."""
 
     status = 12
 
