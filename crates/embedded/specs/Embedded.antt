@@ -8,6 +8,7 @@ use Rattle.engine.specs.Engine as engines
 use Rattle.text_format.specs.declared.Format.TheVariants.{Two}
 use Rattle.word_lines.specs.Commands.{command_line}
 use Rattle.word_lines.specs.Events.{event_text}
+use Rattle.word_lines.specs.Memory.{WantsMemory, verb_at}
 use Rattle.word_lines.specs.Reading.{command_at}
 use Rattle.word_lines.specs.Table.{table}
 use Rattle.embedded.specs.declared.database.Database.{Database}
@@ -68,7 +69,7 @@ abbrev pub Called : List Event → List ℕ → Database → Result (Unit {0}) C
 Called h line old (Ok _) new = ((e : Event) × Made h line new e) × IsWritten new
 Called h line old (Err Unwritten) new = ((e : Event) × Made h line new e) × IsUnwritten new
 Called h line old (Err (Fault f)) new = (new ≡ old) × (command_at Two table 64 line ≡ Err f)
-Called h line old (Err NoMemory) new = new ≡ old
+Called h line old (Err NoMemory) new = (new ≡ old) × WantsMemory (verb_at Two table 64 line)
 Called h line old (Err Spent) new = (new ≡ old) × (length h ≡ 18446744073709551615) × ((x : ℕ × Cmd) × (command_at Two table 64 line ≡ Ok x))
 
 -- the database holds an event of a seat's command after h, and has none of its text

@@ -1,7 +1,11 @@
 //! The database, with the last event that was made.
 
-ghost use Rattle.std.specs.Prelude.{◌≡◌, ◌<◌, ◌≤◌, List, ◌∷◌, [], Some, OnOk, OnErr};
+ghost use Rattle.std.specs.Prelude.{◌≡◌, ◌<◌, ◌≤◌, List, ◌∷◌, [], Some, IfErr, OnOk, OnErr};
 ghost use Rattle.spans.specs.declared.calls.events.Event.{Event};
+ghost use Rattle.text_format.specs.declared.Format.TheVariants.{Two};
+ghost use Rattle.word_lines.specs.Memory.{WantsMemory, verb_at};
+ghost use Rattle.word_lines.specs.Table.{table};
+ghost use Rattle.embedded.specs.declared.database.CallError.TheVariants.{NoMemory};
 ghost use Rattle.embedded.specs.Embedded.{StandsFor, HasLast, HasStepped, IsWritten, IsUnwritten, Called, Copied, last_of, kept_text, steps_in};
 
 use crate::copy::copy_front;
@@ -54,7 +58,9 @@ impl Database {
     ///
     /// After `Fault`, `NoMemory` and `Spent` all is as it was, the last text too.
     pub fn call(&mut self, line: &[u8]) -> Result<(), CallError>
-        ensures { (h : List Event) → StandsFor self.old h → Called h line.now self.old result self.new }
+        ensures called { (h : List Event) → StandsFor self.old h → Called h line.now self.old result self.new }
+        // Memory is wanted only for the name of a command with a key, a value or a span.
+        ensures memory { IfErr result (λ e. e ≡ NoMemory → WantsMemory (verb_at Two table 64 line.now)) }
     {
         let (seat, cmd) = match read_command(self.alloc, line, 64, Format::Two) {
             Ok(read) => read,

@@ -13,6 +13,7 @@ use Rattle.json_lines.specs.declared.fault.MessageFault.{MessageFault}
 use Rattle.json_lines.specs.declared.fault.MessageFault.TheVariants as lines
 use Rattle.json_lines.specs.Messages.{IsMessage, message_line}
 use Rattle.json_lines.specs.Tests.{message_at}
+use Rattle.word_lines.specs.Memory.{WantsMemory, verb_at}
 use Rattle.word_lines.specs.Reading.{command_at}
 use Rattle.word_lines.specs.Replies.{row_line}
 use Rattle.word_lines.specs.Table.{table}
@@ -53,6 +54,10 @@ start_at o = if nat_le o.cursor MAX then Some (if o.initial then initial_start o
 abbrev pub start_of : Cmd → Option Start
 start_of cmd = option_and_then start_at (opening_of cmd)
 
+-- the command opens a feed
+abbrev pub OpensFeed : Cmd → Type 0
+OpensFeed cmd = (o : Opening) × (opening_of cmd ≡ Some o)
+
 -- the replica begins as the one of the feed that the command opens, or there is none
 abbrev pub BeginsBy : Cmd → Option Replica → Type 0
 BeginsBy cmd None = start_of cmd ≡ None
@@ -65,11 +70,11 @@ pub record Begins (line : List ℕ) (new : Replica) : Type 0 where
   pub read : command_at Two table 64 line ≡ Ok (seat, command)
   pub begins : BeginsBy command (Some new)
 
--- why none begins
+-- why none begins; only the line of a command with a key, a value or a span may want memory
 abbrev pub IsUnopened : List ℕ → OpenError → Type 0
 IsUnopened line (errors.Fault f) = command_at Two table 64 line ≡ Err f
 IsUnopened line errors.NoFeed = (seat : ℕ) × (command : Cmd) × (command_at Two table 64 line ≡ Ok (seat, command)) × BeginsBy command None
-IsUnopened line errors.NoMemory = Unit {0}
+IsUnopened line errors.NoMemory = WantsMemory (verb_at Two table 64 line)
 
 -- the line is that of the message
 pub record IsLineOf (line : List ℕ) (m : Message) : Type 0 where

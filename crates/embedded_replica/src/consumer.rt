@@ -2,7 +2,7 @@
 ghost use Rattle.std.specs.Prelude.{◌≡◌, [], IfOk, IfErr, OnErr};
 ghost use Rattle.replica.specs.Replicas.{through_in, complete_in, Follows};
 ghost use Rattle.replica.specs.Starts.{seeded_start};
-ghost use Rattle.embedded_replica.specs.Consumers.{replica_of, opening_of, Begins, BeginsBy, IsUnopened, HasTaken, IsRefused, IsReady, IsNoMessage, IsNoKey, Shows, ShowsRows};
+ghost use Rattle.embedded_replica.specs.Consumers.{replica_of, opening_of, OpensFeed, Begins, BeginsBy, IsUnopened, HasTaken, IsRefused, IsReady, IsNoMessage, IsNoKey, Shows, ShowsRows};
 
 use crate::showing::{show, text_of};
 use json_lines::{MessageFault, read_message};
@@ -167,7 +167,8 @@ fn opening_of(cmd: Cmd) -> Option<Opening>
 
 /// The replica of the feed that a command opens, if it opens one at a timestamp.
 fn begun(alloc: Global, cmd: Cmd) -> Result<Option<Replica>, AllocError>
-    ensures { IfOk result (BeginsBy cmd) }
+    ensures ok { IfOk result (BeginsBy cmd) }
+    ensures memory { OnErr result (OpensFeed cmd) }
 {
     let Some(
         Opening {

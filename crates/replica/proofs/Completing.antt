@@ -1,20 +1,24 @@
 -- A replica of a feed is complete at each resolved timestamp.
-use Rattle.std.proofs.Common.{◌≡◌, ℕ, true, false, cond, List, [], ◌∷◌, ◌++◌, Some, refl, sym, ◌∙◌, ap, subst}
+use Rattle.std.proofs.Common.{◌≡◌, ℕ, ◌-◌, ◌<◌, Bool, true, false, cond, List, [], ◌∷◌, ◌++◌, Some, None, refl, sym, ◌∙◌, ap, subst, arith}
 use Rattle.std.specs.Prelude.{bytes_eq}
 use Rattle.spans.specs.declared.calls.messages.Message.{Message}
 use Rattle.spans.specs.declared.calls.messages.Message.TheVariants as messages
 use Rattle.spans.specs.Effects.{Effect}
 use Rattle.spans.specs.Keys.{AreRows}
 use Rattle.spans.specs.Serial.{Map, put, map_at, span_part}
-use Rattle.spans.specs.Feeds.{Feed, feed_of, told_to, start_at, start_of}
+use Rattle.spans.specs.Feeds.{Feed, feed_of, told_to, start_of}
+use Rattle.spans.specs.FeedRight.{FeedIsRight}
 use Rattle.spans.specs.Consumer.{view_of, seed_of, AllTaken, ConsumerIsRight}
-use Rattle.spans.specs.Completeness.{complete_after, complete_for, seen_after, is_new, CompleteIsRight}
+use Rattle.spans.specs.Completeness.{AllAbove, complete_after, complete_for, seen_after, is_new, CompleteIsRight}
+use Rattle.spans.proofs.Floors.{all_above_floor, taken_after}
+use Rattle.spans.proofs.Complete.{complete_is}
 use Rattle.replica.specs.declared.replica.Replica.{Replica}
 use Rattle.replica.specs.Replicas.{view_in, through_in, Follows}
 use Rattle.replica.specs.Starts.{Start, seeded_start, initial_start, IsStartOf}
 use Rattle.replica.specs.Right.{ReplicaIsRight}
 use Rattle.replica.proofs.Following.{view_join, at_join, through_is, ready_row}
 use Rattle.replica.proofs.Seeding.{among_part}
+use Rattle.replica.proofs.Again.{again_ready, new_above}
 
 -- maps that are alike stay alike
 view_like : (m n : Map) (ms : List Message) (x : List ℕ) → ((y : List ℕ) → m y ≡ n y) → view_of m ms x ≡ view_of n ms x
@@ -31,32 +35,60 @@ complete_seen : (p : List Effect) (feed : Feed) (s : Start) (r : Replica) (befor
 complete_seen p feed s r before starts follows =
     through_is r s before follows ∙ ap (λ n. complete_after n s.cursor before) starts.start ∙ ap (λ n. complete_after (start_of feed) n before) starts.cursor
 
+-- a seed that is complete at a timestamp is the map there
+seed_whole : (initial : Bool) (m part : Map) (cursor t : ℕ) (x : List ℕ) → cond initial None (Some cursor) ≡ Some t → (cursor ≡ t → part x ≡ m x) → cond initial (λ y. None) part x ≡ m x
+seed_whole true m part cursor t x is same = cc
+seed_whole false m part cursor t x is same = same cc
+
+-- what is told after the messages that a replica has taken is above where it was told all
+told_above : (r : Replica) (s : Start) (before rest : List Message) (n : ℕ) → AllTaken s.span s.start [] (before ++ rest) → Follows r s before → through_in r ≡ Some n → AllAbove n rest
+told_above r s before rest n taken follows is =
+    let at = complete_is s.start s.cursor n before (sym (through_is r s before follows) ∙ is) in
+    subst (λ k. AllAbove k rest) at.0 (all_above_floor s.span s.start before rest (taken_after s.span s.start [] before rest taken))
+
 pub replica_is_right : (p : List Effect) (f : ℕ) (feed : Feed) (s : Start) → IsStartOf p feed s → ConsumerIsRight p f feed → CompleteIsRight p f feed
-    → ((g : ℕ) (next : Feed) → feed_of p g ≡ Some next → ConsumerIsRight p g next) → ReplicaIsRight p f feed s
-replica_is_right p f feed s starts right complete others = record {
+    → ((g : ℕ) (next : Feed) → feed_of p g ≡ Some next → ConsumerIsRight p g next) → FeedIsRight p f feed → ((g : ℕ) (next : Feed) → feed_of p g ≡ Some next → FeedIsRight p g next)
+    → ReplicaIsRight p f feed s
+replica_is_right p f feed s starts right complete others fed fed_others = record {
   takes = subst (λ i. AllTaken i s.start [] (told_to p f)) (sym starts.span) (subst (λ n. AllTaken feed.span n [] (told_to p f)) (sym starts.start) right.takes);
   complete = λ r before rest t told follows. record {
     complete = follows.complete ∙ at_join s.first before (messages.Resolved t ∷ []);
     rows = λ x. follows.rows x ∙ ap (λ (m : Map). m x) (view_join s.rows before (messages.Resolved t ∷ []))
         ∙ view_like s.rows (seed_of feed.kind p feed.span feed.cursor) before x starts.rows ∙ right.views before rest t told x;
   };
+  whole = λ r t follows is x.
+      let first : cond feed.kind.initial None (Some feed.cursor) ≡ Some t = sym starts.first ∙ sym follows.complete ∙ is in
+      follows.rows x ∙ starts.rows x
+      ∙ seed_whole feed.kind.initial (span_part feed.span (map_at p t)) (span_part feed.span (map_at p feed.cursor)) feed.cursor t x first (λ at. ap (λ k. span_part feed.span (map_at p k) x) at);
   through = λ r before rest n told follows is. complete.above before rest n told (sym (complete_seen p feed s r before starts follows) ∙ is);
   ready = λ r before rest m n told follows is x.
       let shown = ready_row r m n s before follows is in
       let told' : told_to p f ≡ before ++ messages.Row shown.0 ∷ rest = told ∙ ap (λ k. before ++ k ∷ rest) shown.1 in
       let new : is_new feed.cursor before shown.0.ts ≡ true = subst (λ n. is_new n before shown.0.ts ≡ true) starts.cursor shown.2 in
       view_seen p feed s r before starts follows x ∙ complete.ready before rest shown.0 told' new x ∙ ap (λ k. span_part feed.span (map_at p k) x) shown.3;
-  goes_on = λ r before rest n told follows is g next opened goes s' from. record {
-    takes = let taken = (others g next opened).takes in
-        let span : next.span ≡ s'.span = goes.span ∙ sym starts.span ∙ sym follows.span ∙ sym from.span in
-        subst (λ k. AllTaken s'.span k [] (told_to p g)) (goes.start ∙ sym from.start) (subst (λ i. AllTaken i (start_of next) [] (told_to p g)) span taken);
-    complete = λ r' again later t told_again follows'. record {
-      complete = follows'.complete ∙ at_join s'.first again (messages.Resolved t ∷ []);
-      rows = λ x. follows'.rows x ∙ ap (λ (m : Map). m x) (view_join s'.rows again (messages.Resolved t ∷ []))
-          ∙ view_like s'.rows (seen_after p feed before) again x (λ y. from.rows y ∙ view_seen p feed s r before starts follows y)
-          ∙ complete.repeats before rest n told (sym (complete_seen p feed s r before starts follows) ∙ is) g next opened goes again later t told_again x;
-    };
-  };
+  goes_on = λ r before rest n told follows is g next opened goes s' from.
+      let span : next.span ≡ s'.span = goes.span ∙ sym starts.span ∙ sym follows.span ∙ sym from.span in
+      let taken : AllTaken s'.span s'.start [] (told_to p g) =
+      subst (λ k. AllTaken s'.span k [] (told_to p g)) (goes.start ∙ sym from.start) (subst (λ i. AllTaken i (start_of next) [] (told_to p g)) span (others g next opened).takes) in
+      let at = complete_is (start_of feed) feed.cursor n before (sym (complete_seen p feed s r before starts follows) ∙ is) in
+      let seen : (y : List ℕ) → s'.rows y ≡ seen_after p feed before y = λ y. from.rows y ∙ view_seen p feed s r before starts follows y in record {
+        takes = taken;
+        complete = λ r' again later t told_again follows'. record {
+          complete = follows'.complete ∙ at_join s'.first again (messages.Resolved t ∷ []);
+          rows = λ x. follows'.rows x ∙ ap (λ (m : Map). m x) (view_join s'.rows again (messages.Resolved t ∷ []))
+              ∙ view_like s'.rows (seen_after p feed before) again x seen
+              ∙ complete.repeats before rest n told (sym (complete_seen p feed s r before starts follows) ∙ is) g next opened goes again later t told_again x;
+        };
+        through = λ r' again later k told_again follows' is'. told_above r' s' again later k (subst (AllTaken s'.span s'.start []) told_again taken) follows' is';
+        ready = λ r' again later m k told_again follows' is' past x.
+            let shown = ready_row r' m k s' again follows' is' in
+            let told' : told_to p g ≡ again ++ messages.Row shown.0 ∷ later = told_again ∙ ap (λ i. again ++ i ∷ later) shown.1 in
+            let past' : n < shown.0.ts - 1 = omega (arith, from.start, past, shown.3) in
+            let new : is_new next.cursor again shown.0.ts ≡ true = new_above s'.cursor next.cursor shown.0.ts again shown.2 (omega (arith, goes.cursor, past')) in
+            follows'.rows x ∙ view_like s'.rows (seen_after p feed before) again x seen
+            ∙ again_ready p f feed before rest n fed right.takes told at.0 at.1 g next (fed_others g next opened) goes again later shown.0 told' new past' x
+            ∙ ap (λ i. span_part feed.span (map_at p i) x) shown.3;
+      };
 }
 
 pub starts_initial : (p : List Effect) (feed : Feed) → feed.kind.initial ≡ true → IsStartOf p feed (initial_start feed.span feed.cursor)

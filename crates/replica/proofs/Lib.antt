@@ -3,6 +3,7 @@ pub mod Tied
 pub mod Rising
 pub mod Seeding
 pub mod Following
+pub mod Again
 pub mod Completing
 pub mod Rests
 pub mod Putting

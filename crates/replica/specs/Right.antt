@@ -1,5 +1,5 @@
 -- When replicas of a feed are right.
-use Rattle.std.specs.Prelude.{ℕ, List, [], ◌∷◌, ◌++◌, ◌≡◌, Some}
+use Rattle.std.specs.Prelude.{ℕ, ◌<◌, List, [], ◌∷◌, ◌++◌, ◌≡◌, Some}
 use Rattle.spans.specs.declared.calls.messages.Message.TheVariants as messages
 use Rattle.spans.specs.declared.calls.messages.Message.{Message}
 use Rattle.spans.specs.Effects.{Effect}
@@ -17,11 +17,15 @@ pub record IsCompleteAt (p : List Effect) (feed : Feed) (r : Replica) (t : ℕ) 
   pub complete : complete_in r ≡ Some t
   pub rows : (x : List ℕ) → view_in r x ≡ span_part feed.span (map_at p t) x
 
--- the replica that begins so refuses none of the messages that the feed g told, and is complete at each of its resolved timestamps
+-- the replica that begins so refuses none of the messages that the feed g told, and is complete at each of its resolved timestamps.
+-- Nothing at or below where it was told all is told later. Where it is ready, above where it begins, its rows are the map
 pub record GoesOnRight (p : List Effect) (g : ℕ) (feed : Feed) (s : Start) : Type 0 where
   pub takes : AllTaken s.span s.start [] (told_to p g)
   pub complete : (r : Replica) (before rest : List Message) (t : ℕ) → told_to p g ≡ before ++ messages.Resolved t ∷ rest
       → Follows r s (before ++ messages.Resolved t ∷ []) → IsCompleteAt p feed r t
+  pub through : (r : Replica) (before rest : List Message) (n : ℕ) → told_to p g ≡ before ++ rest → Follows r s before → through_in r ≡ Some n → AllAbove n rest
+  pub ready : (r : Replica) (before rest : List Message) (m : Message) (n : ℕ) → told_to p g ≡ before ++ m ∷ rest → Follows r s before → ready_in r m ≡ Some n
+      → s.start < n → (x : List ℕ) → view_in r x ≡ span_part feed.span (map_at p n) x
 
 -- the start goes on with the replica's rows, from where it was told all
 pub record StartsFrom (s : Start) (r : Replica) (n : ℕ) : Type 0 where
@@ -30,13 +34,14 @@ pub record StartsFrom (s : Start) (r : Replica) (n : ℕ) : Type 0 where
   pub rows : (x : List ℕ) → s.rows x ≡ view_in r x
 
 -- a replica of the feed refuses none of the messages that the feed told, and is complete at each resolved timestamp once it
--- has taken the messages up to it and with it. Nothing at or below where it was told all is told later. Where it is ready its
+-- has taken the messages up to it and with it. Where it is complete before the first message its rows are the map. Nothing at or below where it was told all is told later. Where it is ready its
 -- rows are the map. A replica that goes on with its rows, of a feed that was opened where it was told all, refuses none of that
 -- feed's messages, and is complete at each of its resolved timestamps
 pub record ReplicaIsRight (p : List Effect) (f : ℕ) (feed : Feed) (s : Start) : Type 0 where
   pub takes : AllTaken s.span s.start [] (told_to p f)
   pub complete : (r : Replica) (before rest : List Message) (t : ℕ) → told_to p f ≡ before ++ messages.Resolved t ∷ rest
       → Follows r s (before ++ messages.Resolved t ∷ []) → IsCompleteAt p feed r t
+  pub whole : (r : Replica) (t : ℕ) → Follows r s [] → complete_in r ≡ Some t → (x : List ℕ) → view_in r x ≡ span_part feed.span (map_at p t) x
   pub through : (r : Replica) (before rest : List Message) (n : ℕ) → told_to p f ≡ before ++ rest → Follows r s before → through_in r ≡ Some n → AllAbove n rest
   pub ready : (r : Replica) (before rest : List Message) (m : Message) (n : ℕ) → told_to p f ≡ before ++ m ∷ rest → Follows r s before → ready_in r m ≡ Some n
       → (x : List ℕ) → view_in r x ≡ span_part feed.span (map_at p n) x

@@ -12,11 +12,12 @@ ghost use Rattle.replica.specs.Right.{ReplicasAreRight};
 
 /// Of a feed that was opened in a legal history, newest event first: a replica that began as its consumer is to
 /// begin refuses none of the messages that the feed told, unless memory is wanting, and after each resolved
-/// message it has the span's part of the map at its timestamp, and says so. Where a row is to be taken before which
-/// it is ready, it has the map too. What it says that it was told all through is right: all that is told later is
-/// above that. A replica that goes on with its rows, of a feed that was opened there, refuses none of that feed's
-/// messages, and has the map at each of its resolved timestamps. (The first of those messages may repeat what it
-/// has, so where it goes on from is no timestamp at which it is ready, or complete.)
+/// message it has the span's part of the map at its timestamp, and says so. Where it says so before the first message
+/// it has it too, and where a row is to be taken before which it is ready. What it says that it was told all through
+/// is right: all that is told later is above that. A replica that goes on with its rows, of a feed that was opened
+/// there, refuses none of that feed's messages. It has the map at each of its resolved timestamps, and where it is
+/// ready above where it went on from; and it too was told all through what it says. (The first of those messages may
+/// repeat what it has, so where it goes on from is no timestamp at which it is ready, or complete.)
 ///
 /// A consumer of an initial feed is to begin empty. Any other is to begin with what the span holds at the cursor:
 /// with the rows of a scan there, which no replica refuses.

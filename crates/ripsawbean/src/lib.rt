@@ -23,7 +23,7 @@
 //! |---|---|---|
 //! | 0 | done | open, call, text, state |
 //! | 1 to 9 | the line's fault by its code; no call was made | call |
-//! | 12 | no memory for the line, or for the database; nothing was done | call, open |
+//! | 12 | no memory for the line's key, value or span, or for the database; nothing was done | call, open |
 //! | 13 | no position is left; no call was made | call |
 //! | 14 | no memory for the text; the event stands, and `ripsawbean_text` tries again | call, text, state |
 //! | 15 | the ring is out of range; nothing was done | open |
@@ -99,7 +99,7 @@ pub extern "C" fn ripsawbean_open(alloc: Global, handle: &mut Handle, ring: u32)
 ///
 /// 0: the call was made, `out` begins with as much of the text as there is room for, and `length` is the whole text's.
 /// At every other number `out` is as it was and `length` is 0. 1 to 9: the line's fault by its code. 12: no memory for
-/// the line. 13: no position is left. 14: the call was made, and its text found no memory. 16: the handle is closed.
+/// the line's key, value or span. 13: no position is left. 14: the call was made, and its text found no memory. 16: the handle is closed.
 #[unsafe(no_mangle)]
 pub extern "C" fn ripsawbean_call(
     alloc: Global,

@@ -28,6 +28,10 @@
 //! | 23 | the key has no value | get |
 
 ghost use Rattle.std.specs.Prelude.{◌≡◌, None};
+ghost use Rattle.text_format.specs.declared.Format.TheVariants.{Two};
+ghost use Rattle.word_lines.specs.Memory.{WantsMemory, verb_at};
+ghost use Rattle.word_lines.specs.Table.{table};
+ghost use Rattle.embedded_replica.specs.declared.consumer.OpenError.TheVariants.{NoMemory};
 ghost use Rattle.ripsawbean.specs.ReplicaExports.{Opened, Taken, TakenBy, Told, NoTime, Hidden, ReadyBy, CompleteBy, GotBy, RowsBy, number_or_none, open_number, line_number, message_number, take_number, key_number};
 
 use crate::replica_handle::ReplicaHandle;
@@ -65,7 +69,9 @@ pub extern "C" fn ripsawbean_replica_open(
     handle: &mut ReplicaHandle,
     line: &[u8],
 ) -> u8
-    ensures { Opened line.now handle.old.consumer result handle.new.consumer }
+    ensures opened { Opened line.now handle.old.consumer result handle.new.consumer }
+    // 12 is told only of the name of a command with a key, a value or a span.
+    ensures memory { result ≡ 12 → WantsMemory (verb_at Two table 64 line.now) }
 {
     if handle.is_open() {
         return OPEN;
@@ -305,7 +311,8 @@ fn number_or_none(time: Option<u64>) -> u64
 }
 
 fn open_number(error: OpenError) -> u8
-    ensures { result ≡ open_number error }
+    ensures number { result ≡ open_number error }
+    ensures memory { result ≡ 12 → error ≡ NoMemory }
 {
     match error {
         OpenError::Fault(fault) => fault.code(),

@@ -41,7 +41,7 @@ pub enum LineFault {
 pub enum CallError {
     /// The line is faulty. No call was made.
     Line(LineFault),
-    /// There was no memory for the line. No call was made, and it may be made again.
+    /// No memory for key, value or span. No call was made, and it may be made again.
     NoMemory,
     /// No position is left. No call was made.
     Spent,

@@ -4,5 +4,5 @@ use Rattle.ripsawbean.proofs.call.Goals as goal
 
 pub returns-in-Ok-clause-text : goal.returns-in-Ok-clause-text
 returns-in-Ok-clause-text c h held =
-    let written = (c.in-Ok.ensures h held).1 in
+    let written = (c.in-Ok.ensures.called h held).1 in
     subst (λ (text : List ℕ). Copied text c.args.out.now c.copy_text.new.out c.copy_text.result) written c.copy_text.ensures

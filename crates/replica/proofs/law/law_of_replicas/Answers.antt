@@ -20,7 +20,7 @@ returns-clause-right c = λ h f legal feed is s starts.
     } in
     replica_is_right (effects_of h) f feed s starts (consumer f feed is)
     (complete_is_right (effects_of h) f feed (fed (effects_of h) all f feed is) (consumer f feed is).takes (λ g next opened. fed (effects_of h) all g next opened))
-    consumer
+    consumer (fed (effects_of h) all f feed is) (fed (effects_of h) all)
 
 pub returns-clause-initial : goal.returns-clause-initial
 returns-clause-initial c = starts_initial

@@ -1,13 +1,13 @@
 use Rattle.embedded.proofs.Stepping.{made}
 use Rattle.embedded.proofs.database.Database.call.Goals as goal
 
-pub returns-in-Ok-write : goal.returns-in-Ok-write
-returns-in-Ok-write c h held =
+pub returns-in-Ok-write-clause-called : goal.returns-in-Ok-write-clause-called
+returns-in-Ok-write-clause-called c h held =
     let step = c.step.ensures h held in
     let call = made h c.args.line.now c.in-Ok.read c.step.new.self c.write.new.self step c.write.ensures.same c.in-Ok.ensures.found.0 c.in-Ok.ensures.exact in
     (call, c.in-Ok-write.ensures.ok _ step.holds)
 
-pub returns-in-Err : goal.returns-in-Err
-returns-in-Err c h held =
+pub returns-in-Err-clause-called : goal.returns-in-Err-clause-called
+returns-in-Err-clause-called c h held =
     let step = c.step.ensures h held in
     (made h c.args.line.now c.in-Ok.read c.step.new.self c.write.new.self step c.write.ensures.same c.in-Ok.ensures.found.0 c.in-Ok.ensures.exact, c.in-Err.ensures.err.1)
