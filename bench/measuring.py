@@ -24,11 +24,11 @@ def program():
     return os.path.join(TOP, "crates", "mvfeed", "out", "mvfeed")
 
 
-def heading(what):
-    """When, on what and of which commit a table is."""
+def heading(what, named=os.environ.get("PROGRAM")):
+    """When, on what and of which commit a table is, unless it is of a program that was named."""
     commit = subprocess.run(["git", "-C", TOP, "rev-parse", "--short", "HEAD"], capture_output=True, text=True)
     day = time.strftime("%d %B %Y", time.gmtime()).lstrip("0")
-    of = "another program" if os.environ.get("PROGRAM") else commit.stdout.strip() or "no commit"
+    of = "another program" if named else commit.stdout.strip() or "no commit"
     return "%s, of %s, on %s, %d processors, load %.1f." % (what, of, day, os.cpu_count(), os.getloadavg()[0])
 
 

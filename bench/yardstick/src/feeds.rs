@@ -30,18 +30,16 @@ impl Feed {
     }
 }
 
-/// Which live feeds hold a key: feeds sorted by `lo` in an implicit tree with the greatest `hi`
-/// below each node, and a short list of feeds opened since it was built.
+type Feeds = [Option<Box<Feed>>];
+
+/// Which live feeds hold a key: feeds by their lower bounds as a tree without pointers, of which each node has the feed
+/// with the greatest upper bound below it, and a short list of feeds opened since that was built.
 #[derive(Default)]
 pub struct Index {
     ids: Vec<u32>,
-    max: Vec<u32>,
+    greatest: Vec<u32>,
     recent: Vec<u32>,
-    gone: usize,
-}
-
-fn hi_above(hi: &[u8], key: &[u8]) -> bool {
-    hi.is_empty() || key < hi
+    cancelled: usize,
 }
 
 impl Index {
@@ -50,81 +48,94 @@ impl Index {
     }
 
     pub fn cancel(&mut self) {
-        self.gone += 1;
+        self.cancelled += 1;
     }
 
-    pub fn settle(&mut self, feeds: &[Option<Box<Feed>>]) {
-        if self.recent.len() <= 16 + self.ids.len() / 16 && 2 * self.gone <= self.ids.len() + 16 {
+    /// Builds the tree anew, once enough feeds were opened or cancelled.
+    pub fn settle(&mut self, feeds: &Feeds) {
+        if self.recent.len() <= 16 + self.ids.len() / 16 && 2 * self.cancelled <= self.ids.len() + 16 {
             return;
         }
         self.ids.append(&mut self.recent);
-        self.ids.retain(|i| feeds[*i as usize].is_some());
-        self.gone = 0;
-        let f = |i: u32| feeds[i as usize].as_ref().unwrap();
-        self.ids.sort_unstable_by(|a, b| f(*a).lo.cmp(&f(*b).lo));
-        self.max = self.ids.clone();
-        build(&self.ids, &mut self.max, feeds, 0, self.ids.len());
-        fn build(ids: &[u32], max: &mut [u32], feeds: &[Option<Box<Feed>>], l: usize, r: usize) -> u32 {
-            let m = (l + r) / 2;
-            let mut best = ids[m];
-            let hi = |i: u32| &feeds[i as usize].as_ref().unwrap().hi;
-            let mut take = |c: u32| {
-                if !hi(best).is_empty() && (hi(c).is_empty() || hi(c) > hi(best)) {
-                    best = c;
-                }
-            };
-            if l < m {
-                take(build(ids, max, feeds, l, m));
-            }
-            if m + 1 < r {
-                take(build(ids, max, feeds, m + 1, r));
-            }
-            max[m] = best;
-            best
-        }
+        self.ids.retain(|id| feeds[*id as usize].is_some());
+        self.cancelled = 0;
+        self.ids.sort_unstable_by(|a, b| live(feeds, *a).lo.cmp(&live(feeds, *b).lo));
+        self.greatest = self.ids.clone();
+        build(&self.ids, &mut self.greatest, feeds, 0, self.ids.len());
     }
 
-    /// Offers row `seq` to each live feed that holds the key, is not behind and has a lower cursor.
-    pub fn offer(&self, feeds: &mut [Option<Box<Feed>>], ring: usize, key: &[u8], ts: u64, seq: u64) {
-        let give = |feeds: &mut [Option<Box<Feed>>], id: u32| {
-            let Some(feed) = &mut feeds[id as usize] else { return };
-            if feed.behind || feed.cursor >= ts || !feed.holds(key) {
-                return;
-            }
-            if feed.ring.len() == ring {
-                feed.behind = true;
-                feed.next = feed.ring[0];
-                feed.ring = VecDeque::new();
-            } else {
-                feed.ring.push_back(seq);
-            }
-        };
+    /// Offers a row of the log to each live feed that holds its key.
+    pub fn offer(&self, feeds: &mut Feeds, ring: usize, key: &[u8], ts: u64, seq: u64) {
         for id in &self.recent {
-            give(feeds, *id);
+            give(feeds, *id, ring, key, ts, seq);
         }
-        let mut stack = [(0usize, 0usize); 64];
-        let mut n = 1;
-        stack[0] = (0, self.ids.len());
-        while n > 0 {
-            n -= 1;
-            let (l, r) = stack[n];
-            if l >= r {
+        let mut open = [(0usize, 0usize); 64];
+        let mut count = 1;
+        open[0] = (0, self.ids.len());
+        while count > 0 {
+            count -= 1;
+            let (from, to) = open[count];
+            if from >= to {
                 continue;
             }
-            let m = (l + r) / 2;
-            match &feeds[self.max[m] as usize] {
-                Some(f) if !hi_above(&f.hi, key) => continue,
+            let middle = (from + to) / 2;
+            match &feeds[self.greatest[middle] as usize] {
+                Some(feed) if !is_below(key, &feed.hi) => continue,
                 _ => {}
             }
-            stack[n] = (l, m);
-            n += 1;
-            match &feeds[self.ids[m] as usize] {
-                Some(f) if *f.lo > *key => continue,
+            open[count] = (from, middle);
+            count += 1;
+            match &feeds[self.ids[middle] as usize] {
+                Some(feed) if *feed.lo > *key => continue,
                 _ => {}
             }
-            give(feeds, self.ids[m]);
-            stack[n] = (m + 1, r);
-            n += 1;
+            give(feeds, self.ids[middle], ring, key, ts, seq);
+            open[count] = (middle + 1, to);
+            count += 1;
         }
+    }
+}
+
+fn live(feeds: &Feeds, id: u32) -> &Feed {
+    feeds[id as usize].as_ref().expect("a live feed")
+}
+
+fn is_below(key: &[u8], hi: &[u8]) -> bool {
+    hi.is_empty() || key < hi
+}
+
+/// Fills in the nodes of a part of the tree: the feed with its greatest upper bound.
+fn build(ids: &[u32], greatest: &mut [u32], feeds: &Feeds, from: usize, to: usize) -> u32 {
+    let middle = (from + to) / 2;
+    let mut best = ids[middle];
+    let hi = |id: u32| &live(feeds, id).hi;
+    let mut take = |id: u32| {
+        if !hi(best).is_empty() && (hi(id).is_empty() || hi(id) > hi(best)) {
+            best = id;
+        }
+    };
+    if from < middle {
+        take(build(ids, greatest, feeds, from, middle));
+    }
+    if middle + 1 < to {
+        take(build(ids, greatest, feeds, middle + 1, to));
+    }
+    greatest[middle] = best;
+    best
+}
+
+/// Gives a row to a feed, if it holds the key, isn't behind and has a lower cursor. One with a full ring falls behind.
+#[inline]
+fn give(feeds: &mut Feeds, id: u32, ring: usize, key: &[u8], ts: u64, seq: u64) {
+    let Some(feed) = &mut feeds[id as usize] else { return };
+    if feed.behind || feed.cursor >= ts || !feed.holds(key) {
+        return;
+    }
+    if feed.ring.len() == ring {
+        feed.behind = true;
+        feed.next = feed.ring[0];
+        feed.ring = VecDeque::new();
+    } else {
+        feed.ring.push_back(seq);
     }
 }

@@ -14,22 +14,22 @@ pub struct Gaps {
 impl Gaps {
     #[inline]
     pub fn at(&self, key: &[u8]) -> u64 {
-        self.steps.range::<[u8], _>((Unbounded, Included(key))).next_back().map_or(0, |(_, v)| *v)
+        self.steps.range::<[u8], _>((Unbounded, Included(key))).next_back().map_or(0, |(_, reader)| *reader)
     }
 
     fn before(&self, key: &[u8]) -> u64 {
-        self.steps.range::<[u8], _>((Unbounded, Excluded(key))).next_back().map_or(0, |(_, v)| *v)
+        self.steps.range::<[u8], _>((Unbounded, Excluded(key))).next_back().map_or(0, |(_, reader)| *reader)
     }
 
     /// Every key at or above `lo` and below `hi` (empty: no bound) gets at least `ts`.
     pub fn raise(&mut self, lo: &[u8], hi: &[u8], ts: u64) {
-        self.change(lo, hi, |v| v.max(ts))
+        self.change(lo, hi, |reader| reader.max(ts))
     }
 
     pub fn raise_point(&mut self, key: &[u8], ts: u64) {
         if self.at(key) < ts {
             let next = Bytes::successor(key);
-            self.change(key, next.get(), |v| v.max(ts))
+            self.change(key, next.get(), |reader| reader.max(ts))
         }
     }
 
@@ -40,54 +40,54 @@ impl Gaps {
         }
     }
 
-    fn change(&mut self, lo: &[u8], hi: &[u8], f: impl Fn(u64) -> u64) {
+    fn change(&mut self, lo: &[u8], hi: &[u8], changed: impl Fn(u64) -> u64) {
         if !hi.is_empty() && hi <= lo {
             return;
         }
-        let mut prev = self.before(lo);
+        let mut before = self.before(lo);
         let at_hi = if hi.is_empty() { None } else { Some(self.at(hi)) };
-        let first = f(self.at(lo));
+        let first = changed(self.at(lo));
         let mut from = Included(lo);
-        if first != prev {
+        if first != before {
             self.steps.insert(Bytes::new(lo), first);
-            prev = first;
+            before = first;
             from = Excluded(lo);
         }
         let to = if hi.is_empty() { Unbounded } else { Excluded(hi) };
-        for (k, v) in self.steps.range_mut::<[u8], _>((from, to)) {
-            let nv = f(*v);
-            if nv == prev {
-                self.drop.push(k.clone());
-            } else {
-                *v = nv;
-                prev = nv;
+        for (start, reader) in self.steps.range_mut::<[u8], _>((from, to)) {
+            *reader = changed(*reader);
+            if *reader == before {
+                self.drop.push(start.clone());
             }
+            before = *reader;
         }
-        if let Some(v) = at_hi {
-            if v == prev {
+        match at_hi {
+            Some(reader) if reader == before => {
                 self.steps.remove(hi);
-            } else {
-                self.steps.insert(Bytes::new(hi), v);
             }
+            Some(reader) => {
+                self.steps.insert(Bytes::new(hi), reader);
+            }
+            None => {}
         }
-        for k in self.drop.drain(..) {
-            self.steps.remove(&k);
+        for start in self.drop.drain(..) {
+            self.steps.remove(&start);
         }
     }
 
-    /// Readers at or below `closed` refuse no write any more. Swept when the map has doubled.
+    /// Readers at or below `closed` refuse no write any more. They are swept once the map has doubled.
     pub fn forget_through(&mut self, closed: u64) {
         if self.steps.len() < 2 * self.swept + 256 {
             return;
         }
-        let mut prev = 0;
-        self.steps.retain(|_, v| {
-            if *v <= closed {
-                *v = 0;
+        let mut before = 0;
+        self.steps.retain(|_, reader| {
+            if *reader <= closed {
+                *reader = 0;
             }
-            let keep = *v != prev;
-            prev = *v;
-            keep
+            let stays = *reader != before;
+            before = *reader;
+            stays
         });
         self.swept = self.steps.len();
     }

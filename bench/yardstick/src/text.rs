@@ -30,19 +30,19 @@ impl Fault {
     }
 }
 
-fn number(w: &[u8]) -> Option<u64> {
-    if w.is_empty() || w.len() > 20 || (w[0] == b'0' && w.len() > 1) {
+fn number(word: &[u8]) -> Option<u64> {
+    if word.is_empty() || word.len() > 20 || (word[0] == b'0' && word.len() > 1) {
         return None;
     }
-    let mut n = 0u64;
-    for b in w {
-        let d = b.wrapping_sub(b'0');
-        if d > 9 {
+    let mut number = 0u64;
+    for byte in word {
+        let digit = byte.wrapping_sub(b'0');
+        if digit > 9 {
             return None;
         }
-        n = n.checked_mul(10)?.checked_add(d as u64)?;
+        number = number.checked_mul(10)?.checked_add(u64::from(digit))?;
     }
-    Some(n)
+    Some(number)
 }
 
 /// Scratch for words that are not their own spelling.
@@ -56,40 +56,43 @@ fn plain(b: u8) -> bool {
     (0x21..=0x7e).contains(&b) && b != b'%'
 }
 
-fn decode<'x>(w: &'x [u8], buf: &'x mut Vec<u8>) -> Result<&'x [u8], Fault> {
-    if w == b"-" {
+fn decode<'x>(word: &'x [u8], scratch: &'x mut Vec<u8>) -> Result<&'x [u8], Fault> {
+    if word == b"-" {
         return Ok(&[]);
     }
-    if !w.contains(&b'%') {
-        return Ok(w);
+    if !word.contains(&b'%') {
+        return Ok(word);
     }
-    if w == b"%2D" {
+    if word == b"%2D" {
         return Ok(b"-");
     }
-    buf.clear();
-    let hex = |b: u8| match b {
-        b'0'..=b'9' => Ok(b - b'0'),
-        b'A'..=b'F' => Ok(b - b'A' + 10),
-        _ => Err(Fault::BadByte),
-    };
-    let mut i = 0;
-    while i < w.len() {
-        if w[i] != b'%' {
-            buf.push(w[i]);
-            i += 1;
+    scratch.clear();
+    let mut at = 0;
+    while at < word.len() {
+        if word[at] != b'%' {
+            scratch.push(word[at]);
+            at += 1;
             continue;
         }
-        if i + 2 >= w.len() {
+        if at + 2 >= word.len() {
             return Err(Fault::BadByte);
         }
-        let b = hex(w[i + 1])? * 16 + hex(w[i + 2])?;
-        if plain(b) {
+        let byte = hex(word[at + 1])? * 16 + hex(word[at + 2])?;
+        if plain(byte) {
             return Err(Fault::BadByte);
         }
-        buf.push(b);
-        i += 3;
+        scratch.push(byte);
+        at += 3;
     }
-    Ok(buf)
+    Ok(scratch)
+}
+
+fn hex(byte: u8) -> Result<u8, Fault> {
+    match byte {
+        b'0'..=b'9' => Ok(byte - b'0'),
+        b'A'..=b'F' => Ok(byte - b'A' + 10),
+        _ => Err(Fault::BadByte),
+    }
 }
 
 /// The words of a line, as many of them as a command can have, and how many there are. It is nothing where one is empty.
