@@ -27,7 +27,7 @@ def workload(first, what):
 # -- transactions
 
 
-@workload(20_000, "transactions of a get and a put, and nothing else")
+@workload(20_000, "transactions of a get and a put")
 def basic(size, dice):
     for ts in range(1, size + 1):
         seat = ts % 4
@@ -46,7 +46,7 @@ def oltp_plan(seat, ts, dice):
     yield "%d commit %d" % (seat, ts)
 
 
-@workload(15_000, "four sessions with two gets and two puts a transaction, closed and collected")
+@workload(15_000, "four sessions, two gets and two puts a transaction")
 def oltp(size, dice):
     yield from load(10_000)
     first = ts = after_load(10_000)
@@ -65,7 +65,7 @@ def oltp(size, dice):
             yield line
 
 
-@workload(6_000, "ten gets and a put a transaction over 10,000 keys, and ten snapshot reads")
+@workload(6_000, "ten gets and a put a transaction, snapshot reads")
 def reads(size, dice):
     yield from load(10_000)
     first = after_load(10_000)
@@ -84,7 +84,7 @@ def reads(size, dice):
             yield "%d collect %d" % (seat, ts - 100)
 
 
-@workload(30_000, "readers of one key, and a writer of it after sixteen")
+@workload(30_000, "readers of one key, with a write after sixteen")
 def one_key(size, dice):
     for ts in range(1, size + 1):
         yield "0 begin %d" % ts
@@ -96,7 +96,7 @@ def one_key(size, dice):
             yield "0 close %d" % ts
 
 
-@workload(8_000, "readers of overlapping spans by any order of timestamps, then writes below them")
+@workload(8_000, "readers of overlapping spans, then writes below them")
 def marks(size, dice):
     space = 50 * size
     for number in dice.order(range(size)):
@@ -112,7 +112,7 @@ def marks(size, dice):
         yield "0 abort %d" % ts
 
 
-@workload(8_000, "a long chain of one key, written in its middle and aborted there")
+@workload(4_000, "a long chain, written in its middle and aborted there")
 def long_chain(size, dice):
     for ts in range(2, 2 * size + 2, 2):
         yield from write_one(ts, "k", dice.value())
@@ -123,7 +123,7 @@ def long_chain(size, dice):
         yield "0 abort %d" % ts
 
 
-@workload(12_000, "ten keys with long chains: read at any closed timestamp, and written late")
+@workload(12_000, "ten long chains, read at old timestamps, written late")
 def history(size, dice):
     closed = 0
     for ts in range(100, 2 * size + 100, 2):
@@ -140,7 +140,7 @@ def history(size, dice):
             yield "0 close %d" % closed
 
 
-@workload(10_000, "two transactions of all puts in any order of keys, of which one is aborted")
+@workload(10_000, "two transactions of all puts")
 def big_transaction(size, dice):
     for ts, end in ((1, "commit"), (2, "abort")):
         yield "0 begin %d" % ts
@@ -150,7 +150,7 @@ def big_transaction(size, dice):
     yield "0 close 2"
 
 
-@workload(10_000, "all undecided, then ended in any order, with a closing after each")
+@workload(10_000, "closings with many undecided")
 def undecided(size, dice):
     for ts in range(1, size + 1):
         yield "0 begin %d" % ts
@@ -163,7 +163,7 @@ def undecided(size, dice):
 # -- scans
 
 
-@workload(2_000, "scans of a hundred keys of 20,000, with a put after each")
+@workload(2_000, "scans of a hundred keys, with puts")
 def scans(size, dice):
     yield from load(20_000)
     first = after_load(20_000)
@@ -178,7 +178,7 @@ def scans(size, dice):
             yield "%d scanat %d %s %s" % (seat, ts, key(low), key(low + 100))
 
 
-@workload(400, "scans of a hundred keys by transactions that wrote fifty of them")
+@workload(400, "the same by transactions that wrote fifty of them")
 def written_scans(size, dice):
     yield from load(20_000)
     first = after_load(20_000)
@@ -192,7 +192,7 @@ def written_scans(size, dice):
         yield "0 commit %d" % ts
 
 
-@workload(15_000, "scans of five keys, in a transaction and of snapshots")
+@workload(15_000, "scans of five keys")
 def narrow_scans(size, dice):
     yield from load(size)
     ts = after_load(size)
@@ -207,7 +207,7 @@ def narrow_scans(size, dice):
 # -- feeds
 
 
-@workload(15_000, "transactions of two puts and four feeds, polled after each hundred")
+@workload(15_000, "four feeds, polled after each hundred commits")
 def feeds(size, dice):
     keys = 10_000
     for low, high in (("-", "-"), ("-", key(keys // 2)), (key(keys // 2), "-"), (key(keys // 4), key(keys // 4 + 100))):
@@ -229,7 +229,7 @@ def feeds(size, dice):
             yield "0 collect %d" % ts
 
 
-@workload(15_000, "a feed that falls behind by all rows, and then reads them")
+@workload(15_000, "a feed that reads after all was written")
 def lagging(size, dice):
     yield "0 open - - 0"
     for ts in range(1, size + 1):
@@ -240,7 +240,7 @@ def lagging(size, dice):
         yield "0 poll 1 100"
 
 
-@workload(8_000, "a thousand feeds, most of narrow spans; fifty polled after each hundred puts")
+@workload(8_000, "a thousand feeds, most of narrow spans")
 def many_feeds(size, dice):
     keys, feed = 10_000, 0
     for number in range(1000):
@@ -256,7 +256,7 @@ def many_feeds(size, dice):
                 feed += 1
 
 
-@workload(1_500, "64 feeds of all keys, all polled after each ten puts")
+@workload(1_500, "64 feeds of all keys")
 def all_feeds(size, dice):
     for _ in range(64):
         yield "0 open - - 0"
@@ -268,7 +268,7 @@ def all_feeds(size, dice):
                 yield "0 poll %d 100" % feed
 
 
-@workload(10_000, "five initial feeds of all keys")
+@workload(10_000, "five initial feeds over a store")
 def initial(size, dice):
     yield from load(size)
     closed = after_load(size) - 1
@@ -279,7 +279,7 @@ def initial(size, dice):
         yield "0 cancel %d" % feed
 
 
-@workload(10_000, "closings with at most one new row, and a poll of each")
+@workload(10_000, "closings with one new row at most, each polled")
 def idle_polls(size, dice):
     yield from load(size)
     first = after_load(size)
@@ -291,7 +291,7 @@ def idle_polls(size, dice):
         yield "0 poll 1 10"
 
 
-@workload(60_000, "polls of 64 feeds that have nothing to tell")
+@workload(60_000, "polls that have nothing to tell")
 def quiet_polls(size, dice):
     for _ in range(64):
         yield "0 open - - 0"
@@ -317,7 +317,7 @@ def collections(size, dice):
             yield "0 collect %d" % ts
 
 
-@workload(6_000, "values of 1,000 bytes, put, read, told and collected")
+@workload(6_000, "values of 1,000 bytes")
 def big_values(size, dice):
     letters = "abcdefghijklmnopqrstuvwxyz0123456789"
     texts = ["".join(letters[dice.below(36)] for _ in range(1000)) for _ in range(50)]
@@ -334,7 +334,7 @@ def big_values(size, dice):
             yield "0 collect %d" % ts
 
 
-@workload(60_000, "all commands, by transactions that cross one another")
+@workload(60_000, "all commands, crossing one another")
 def mixed(size, dice):
     return Mix(size // 20 + 200, dice).lines(range(1, size + 1))
 
