@@ -180,16 +180,19 @@ def scans(size, dice):
 
 @workload(400, "the same by transactions that wrote fifty of them")
 def written_scans(size, dice):
-    yield from load(20_000)
-    first = after_load(20_000)
+    yield from load(4_000)
+    first = after_load(4_000)
     for ts in range(first, first + size):
-        low = dice.below(19_900)
+        low = dice.below(3_900)
         yield "0 begin %d" % ts
         for number in dice.order(range(100))[:50]:
             yield "0 put %d %s %s" % (ts, key(low + number), dice.value())
         for _ in range(5):
             yield "0 scan %d %s %s" % (ts, key(low), key(low + 100))
         yield "0 commit %d" % ts
+        if ts % 50 == 0:
+            yield "0 close %d" % ts
+            yield "0 collect %d" % ts
 
 
 @workload(15_000, "scans of five keys")
