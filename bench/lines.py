@@ -29,7 +29,7 @@ def key(number):
 
 
 def load(keys, each=500):
-    """Each key once, some in a transaction, and all of it closed. The next timestamp is `after_load` of as many keys."""
+    """Each key once, some in a transaction, and all of it closed. `after_load` is the next timestamp."""
     ts = 0
     for first in range(0, keys, each):
         ts += 1

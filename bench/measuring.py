@@ -43,8 +43,8 @@ def instructions(words, source):
     """How many instructions a run takes."""
     command = ["valgrind", "--tool=callgrind", "--callgrind-out-file=/dev/null", *words]
     with open(source, "rb") as script:
-        told = subprocess.run(command, stdin=script, stdout=subprocess.DEVNULL, stderr=subprocess.PIPE, text=True).stderr
-    return int(re.search(r"Collected : (\d+)", told)[1])
+        run = subprocess.run(command, stdin=script, stdout=subprocess.DEVNULL, stderr=subprocess.PIPE, text=True)
+    return int(re.search(r"Collected : (\d+)", run.stderr)[1])
 
 
 def growth(points):

@@ -96,10 +96,12 @@ class Sessions:
         if drawn < 28:
             return "closehard %d" % to if number < 10 else "close %d" % to
         if drawn < 35:
-            forms = ("readat {to} {key}", "scanat {to} - {key}", "protect {to}", "release {number}", "collect {to}", "stats")
+            reads = "readat {to} {key}", "scanat {to} - {key}"
+            forms = *reads, "protect {to}", "release {number}", "collect {to}", "stats"
             return forms[dice.below(6)].format(to=to, key=name, number=number + 1)
         if drawn < 36:
-            forms = ("openinitial - - {to}", "openevery - {key} {to} 5", "openinitialevery - {key} {to} 5", "open {key} - {to}")
+            spans = "openevery - {key} {to} 5", "openinitialevery - {key} {to} 5", "open {key} - {to}"
+            forms = "openinitial - - {to}", *spans
             return forms[dice.below(4)].format(to=to, key=name)
         if drawn < 37 and number < 4:
             return "cancel %d" % (number + 1)

@@ -1,11 +1,12 @@
 #!/usr/bin/env python3
-"""Scripts of `mvfeed run`, the same each time for one workload and size: what `bench/run`, `bench/check` and `soak` run.
+"""Scripts of `mvfeed run`, the same each time for one workload and size: what `bench/run`, `bench/check` and `soak`
+run.
 
     workloads.py                      lists the workloads
     workloads.py NAME SIZE [SEED]     writes a script to standard output; another seed draws another script
 
-A workload is a function that yields lines, of a size and drawn numbers. `bench/run` takes one, two, four and eight times
-its first size."""
+A workload is a function that yields lines, of a size and drawn numbers. `bench/run` takes one, two, four and eight
+times its first size."""
 import itertools
 import sys
 

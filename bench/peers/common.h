@@ -1,6 +1,6 @@
 /* What each peer's program is given: transactions of two reads and two writes over 10,000 keys, with values of eight
-   bytes; then the rows that they changed, read back as a feed; then the time from the start of a transaction to its rows
-   in the feed. Each prints lines of a name and a number. bench/yardstick/src/peer.rs does the same work. */
+   bytes; then the rows that they changed, read back as a feed; then the time from the start of a transaction to its
+   rows in the feed. Each prints lines of a name and a number. bench/yardstick/src/peer.rs does the same work. */
 #include <stdint.h>
 #include <stdio.h>
 #include <stdlib.h>

@@ -1,5 +1,5 @@
-// RocksDB in process, without a sync: TransactionDB with two reads for update and two writes. The feed is the log's iterator
-// from a sequence number.
+// RocksDB in process, without a sync: TransactionDB with two reads for update and two writes. The feed is the log's
+// iterator from a sequence number.
 extern "C" {
 #include "common.h"
 }

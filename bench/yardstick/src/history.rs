@@ -112,8 +112,8 @@ impl Engine {
         Ok(Reply::Released)
     }
 
-    /// How many versions it drops. The log names the keys that were written between the old horizon and the new one, and
-    /// only those can have newly dead versions.
+    /// How many versions it drops. The log names the keys that were written between the old horizon and the new one,
+    /// and only those can have newly dead versions.
     pub fn collect(&mut self, to: u64) -> u64 {
         let mut horizon = to.min(self.closed);
         if let Some((t, _)) = self.protected.first_key_value() {

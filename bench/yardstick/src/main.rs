@@ -1,13 +1,13 @@
-//! The yardstick: all commands of a run in plain Rust over std, written for speed. It writes the bytes of `mvfeed run`, and so
-//! says what the machine can do. It has no proof, no lock, and no answer for want of memory.
+//! The yardstick: all commands of a run in plain Rust over std, written for speed. It writes the bytes of `mvfeed run`,
+//! and so says what the machine can do. It has no proof, no lock, and no answer for want of memory.
 //!
-//! Short keys and values stand in place, versions in lists of 256 with their greatest readers, and rows of feeds are written
-//! as they are walked.
+//! Short keys and values stand in place, versions in lists of 256 with their greatest readers, and rows of feeds are
+//! written as they are walked.
 //!
 //! ```text
 //! yardstick run [--seats N] [--ring N] [--first N]    a script on standard input
 //! yardstick threads N CALLS                           calls of one engine under a mutex by N threads
-//! yardstick peer N [PROGRAM]                          the peers' work in process, or through PROGRAM's `run` over pipes
+//! yardstick peer N [PROGRAM]                          the peers' work in process, or by PROGRAM's `run` over pipes
 //! yardstick time LIMIT INPUT OUTPUT PROGRAM [ARG..]   what a run of a program took
 //! ```
 mod bytes;
@@ -64,6 +64,7 @@ fn fail(what: &str) -> ! {
 }
 
 fn usage() -> ! {
-    eprintln!("yardstick run [--seats N] [--ring N] [--first N] | threads N CALLS | peer N [PROGRAM] | time LIMIT IN OUT PROGRAM [ARG..]");
+    eprintln!("yardstick run [--seats N] [--ring N] [--first N] | threads N CALLS | peer N [PROGRAM]");
+    eprintln!("yardstick time LIMIT INPUT OUTPUT PROGRAM [ARG..]");
     exit(1)
 }

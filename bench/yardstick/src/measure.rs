@@ -1,6 +1,6 @@
-//! Runs a program with its standard streams in files, and prints processor seconds, greatest resident kilobytes and exit
-//! status: 256 and the signal for one that was ended, as it is after the limit of seconds. It is a small process, because a
-//! child is told to have held what its parent did.
+//! Runs a program with its standard streams in files, and prints processor seconds, greatest resident kilobytes and
+//! exit status: 256 and the signal for one that was ended, as it is after the limit of seconds. It is a small
+//! process, because a child is told to have held what its parent did.
 use std::fs::File;
 use std::process::{Command, Stdio};
 use std::time::Duration;

@@ -1,6 +1,6 @@
-//! The work of the peers' programs: transactions of two reads and two writes over 10,000 keys; the changed rows read back as
-//! a feed; the time from the start of a transaction to its rows in the feed. In process, or as text over pipes to `PROGRAM
-//! run`. It prints lines of a name and a number.
+//! The work of the peers' programs: transactions of two reads and two writes over 10,000 keys; the changed rows read
+//! back as a feed; the time from the start of a transaction to its rows in the feed. In process, or as text over
+//! pipes to `PROGRAM run`. It prints lines of a name and a number.
 use crate::calls::{Cmd, Kind, Reply, Sink, Span};
 use crate::engine::Engine;
 use std::hint::black_box;

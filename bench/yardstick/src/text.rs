@@ -95,7 +95,7 @@ fn hex(byte: u8) -> Result<u8, Fault> {
     }
 }
 
-/// The words of a line, as many of them as a command can have, and how many there are. It is nothing where one is empty.
+/// The words of a line, as many as a command can have, and how many there are. It is nothing where one is empty.
 fn words(line: &[u8]) -> Result<Option<([&[u8]; 6], usize)>, Fault> {
     let mut words: [&[u8]; 6] = [&[]; 6];
     let (mut count, mut start, mut is_bad, mut has_empty) = (0, 0, false, false);

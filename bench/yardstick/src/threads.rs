@@ -1,6 +1,6 @@
-//! Calls by threads at once, of one engine under a `std::sync::Mutex`: those of `bench/bench_calls`, so that the two can be
-//! compared. It prints how many nanoseconds passed from the first call to the end of the last, how many calls were refused,
-//! and how many rows were told.
+//! Calls by threads at once, of one engine under a `std::sync::Mutex`: those of `bench/bench_calls`, so that the two
+//! can be compared. It prints how many nanoseconds passed from the first call to the end of the last, how many calls
+//! were refused, and how many rows were told.
 use crate::calls::{Cmd, Kind, Reply, Sink, Span};
 use crate::engine::Engine;
 use std::hint::black_box;
@@ -45,8 +45,8 @@ impl Sink for Tally {
     }
 }
 
-/// Where threads wait for each other, so that none begins alone, and draw their timestamps. These rise with time, so that
-/// which thread gets ahead doesn't change what a call costs.
+/// Where threads wait for each other, so that none begins alone, and draw their timestamps. These rise with time, so
+/// that which thread gets ahead doesn't change what a call costs.
 struct Gate {
     arrived: AtomicU64,
     next: AtomicU64,
