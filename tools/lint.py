@@ -24,8 +24,6 @@ WRITTEN = "docs/LAST-RUN.md"
 UNITS = """zero one two three four five six seven eight nine ten eleven twelve thirteen fourteen fifteen sixteen
 seventeen eighteen nineteen""".split()
 TENS = {"twenty": 20, "thirty": 30, "forty": 40, "fifty": 50, "sixty": 60}
-# Benchmarks keep one program a file, so that one compiler call builds it.
-MAY_BE_LONG = ("bench/",)
 # Files that nobody reads line by line. The page is built, as one file.
 NOT_READ = (".svg", ".lock", ".tsv", ".transcript", ".json", ".png", ".wasm", "web/playground.html")
 
@@ -266,7 +264,7 @@ def heads(house):
 def file_length(house):
     """A file that people read has at most 600 lines."""
     for path in house.paths:
-        if path.endswith(NOT_READ) or path.startswith(MAY_BE_LONG):
+        if path.endswith(NOT_READ):
             continue
         count = house.text(path).count("\n")
         if count > MOST_LINES:
