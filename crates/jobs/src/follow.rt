@@ -20,6 +20,7 @@ mod span_words;
 mod texts;
 
 use crate::ending::End;
+pub use fault::FollowFault;
 use follower::Follower;
 use sessions::{Sink, Source};
 pub use span_words::span_of;

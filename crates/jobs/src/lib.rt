@@ -45,7 +45,7 @@ mod verdicts;
 
 pub use check::check_io;
 pub use ending::End;
-pub use follow::{FollowOptions, Start, follow_io, span_of};
+pub use follow::{FollowFault, FollowOptions, Start, follow_io, span_of};
 pub use race::{RaceOptions, race_io};
 pub use run::{DEFAULTS, run_io};
 pub use verdicts::verdict;

@@ -7,8 +7,8 @@ use replica::Fault;
 use word_lines::fault::LineFault;
 
 /// What is wrong with a line, or with its message after those before it.
-#[derive(Clone, Copy, PartialEq, Eq)]
-pub(crate) enum FollowFault {
+#[derive(Clone, Copy, Debug, PartialEq, Eq)]
+pub enum FollowFault {
     /// The line is no JSON.
     NotJson = 1,
     /// The JSON isn't of a message's form, or isn't written as a message's line is.
@@ -35,14 +35,14 @@ impl FollowFault {
     ghost use Rattle.jobs.specs.Followed.{code_of, name_of};
 
     /// Its number.
-    pub(crate) fn code(self) -> u8
+    pub fn code(self) -> u8
         ensures { result ≡ code_of self }
     {
         self as u8
     }
 
     /// Its name, as it stands in a fault's line.
-    pub(crate) fn name(self) -> &'static str
+    pub fn name(self) -> &'static str
         ensures { result.now ≡ name_of self }
     {
         match self {

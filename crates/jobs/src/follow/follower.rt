@@ -165,7 +165,10 @@ impl Follower {
         ensures { (reads writes : ℕ) → FailsAt result reads reads writes writes }
     {
         match self.report.tell_fault(number, fault) {
-            Ok(()) => End::Faulty,
+            Ok(()) => End::Unfollowed {
+                line: number,
+                fault,
+            },
             Err(_) => End::Memory,
         }
     }
