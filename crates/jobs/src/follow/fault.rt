@@ -4,6 +4,7 @@ ghost use Rattle.jobs.specs.Followed.{error_of_line, error_of_message, error_of_
 
 use json_lines::MessageFault;
 use replica::Fault;
+use std::alloc::AllocError;
 use word_lines::fault::LineFault;
 
 /// What is wrong with a line, or with its message after those before it.
@@ -67,6 +68,17 @@ pub(crate) enum FollowError {
     Fault(FollowFault),
     /// A growth of memory was refused.
     NoMemory,
+}
+
+impl From<AllocError> for FollowError {
+    ghost use Rattle.std.specs.Prelude.{◌≡◌};
+    ghost use Rattle.jobs.specs.declared.follow.fault.FollowError.TheVariants.{NoMemory};
+
+    ghost from_gives = { λ _ error. error ≡ NoMemory };
+
+    fn from(_refused: AllocError) -> FollowError {
+        FollowError::NoMemory
+    }
 }
 
 /// Why a line was not taken whose length or end is wrong.
