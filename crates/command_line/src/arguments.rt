@@ -3,9 +3,10 @@
 //! The builder's calls stand in small functions that promise nothing, since a proof over many of its calls in one function
 //! takes minutes.
 
+use crate::following::{Seeded, seeded_of, shown_of, start_of, with_shown, with_start};
 use clap::error::ErrorKind;
-use clap::{Arg, ArgAction, ArgGroup, ArgMatches, Command, Error, value_parser};
-use jobs::{DEFAULTS, FollowOptions, RaceOptions, Start, span_of};
+use clap::{Arg, ArgMatches, Command, Error, value_parser};
+use jobs::{DEFAULTS, FollowOptions, RaceOptions, span_of};
 use sessions::Config;
 use std::alloc::{AllocError, Global};
 use std::convert::AsStr;
@@ -61,30 +62,8 @@ fn follow_command<'a>(alloc: Global) -> Result<Command<'a>, AllocError> {
     let command = with(command, option(alloc, "hi", "KEY", hi))?;
     let command = with_start(alloc, command)?;
     let command = with(command, feed(alloc))?;
-    let command = with(command, view(alloc))?;
+    let command = with_shown(alloc, command)?;
     with(command, format(alloc))
-}
-
-/// Adds how a replica starts, which is one of two ways.
-fn with_start<'a>(alloc: Global, command: Command<'a>) -> Result<Command<'a>, AllocError> {
-    let cursor = option(alloc, "cursor", "T", "Begin with no rows at this timestamp");
-    let initial = option(
-        alloc,
-        "initial",
-        "T",
-        "Begin as an initial feed of this timestamp does",
-    );
-    let command = with(command, as_cursor(cursor))?;
-    let command = with(command, as_cursor(initial))?;
-    with_group(command, start_group(alloc)?)
-}
-
-fn start_group<'a>(alloc: Global) -> Result<ArgGroup<'a>, AllocError> {
-    let start = ArgGroup::new(alloc, "start")
-        .arg("cursor")?
-        .arg("initial")?
-        .required(true);
-    Ok(start)
 }
 
 fn seats<'a>(alloc: Global) -> Arg<'a> {
@@ -120,24 +99,12 @@ fn feed<'a>(alloc: Global) -> Arg<'a> {
     as_number(option(alloc, "feed", "N", help))
 }
 
-fn view<'a>(alloc: Global) -> Arg<'a> {
-    Arg::new(alloc, "view")
-        .long("view")
-        .action(ArgAction::SetTrue)
-        .help("Write the rows at each resolved message, and not their number alone")
-}
-
 fn as_number<'a>(arg: Arg<'a>) -> Arg<'a> {
     arg.value_parser(value_parser!(u64))
 }
 
-/// A timestamp, or 0.
-fn as_cursor<'a>(arg: Arg<'a>) -> Arg<'a> {
-    arg.value_parser(value_parser!(u64).range(0..=9223372036854775807))
-}
-
 /// An option with a value.
-fn option<'a>(alloc: Global, name: &'a str, value: &'a str, help: &'a str) -> Arg<'a> {
+pub(crate) fn option<'a>(alloc: Global, name: &'a str, value: &'a str, help: &'a str) -> Arg<'a> {
     Arg::new(alloc, name)
         .long(name)
         .value_name(value)
@@ -150,10 +117,6 @@ fn subcommand<'a>(alloc: Global, name: &'a str, about: &'a str) -> Command<'a> {
 
 fn with<'a>(command: Command<'a>, arg: Arg<'a>) -> Result<Command<'a>, AllocError> {
     command.arg(arg)
-}
-
-fn with_group<'a>(command: Command<'a>, group: ArgGroup<'a>) -> Result<Command<'a>, AllocError> {
-    command.group(group)
 }
 
 fn with_subcommand<'a>(
@@ -174,6 +137,8 @@ pub enum Job {
     Check,
     /// To follow a feed.
     Follow(FollowOptions),
+    /// To follow a feed from the seed of a file on.
+    FollowSeed(Seeded),
 }
 
 /// What the words of a command line ask for.
@@ -202,6 +167,9 @@ fn job_of(alloc: Global, matches: &ArgMatches) -> Result<Job, Error> {
 
 /// The job of `mvfeed follow`.
 fn follow_of(alloc: Global, follow: &ArgMatches) -> Result<Job, Error> {
+    if let Some(file) = follow.get_str("seed") {
+        return Ok(Job::FollowSeed(seeded_of(alloc, file, follow)?));
+    }
     let lo = follow.get_str("lo").unwrap_or("-");
     let hi = follow.get_str("hi").unwrap_or("-");
     let format = format_of(follow);
@@ -210,7 +178,8 @@ fn follow_of(alloc: Global, follow: &ArgMatches) -> Result<Job, Error> {
             span,
             start: start_of(follow),
             feed: follow.get_one("feed"),
-            view: follow.get_flag("view"),
+            shown: shown_of(follow),
+            complete: follow.get_flag("complete"),
             format,
         })),
         Err(ReadError::NoMemory) => Err(Error::from(AllocError)),
@@ -229,19 +198,11 @@ fn bound_refusal(format: Format) -> &'static str {
 }
 
 /// The format of the texts.
-fn format_of(options: &ArgMatches) -> Format {
+pub(crate) fn format_of(options: &ArgMatches) -> Format {
     let number: Option<u8> = options.get_one("format");
     match number {
         Some(2) => Format::Two,
         _ => Format::One,
-    }
-}
-
-/// What the rows are at first.
-fn start_of(follow: &ArgMatches) -> Start {
-    match follow.get_one("initial") {
-        Some(cursor) => Start::Initial(cursor),
-        None => Start::Cursor(follow.get_one("cursor").unwrap_or(0)),
     }
 }
 

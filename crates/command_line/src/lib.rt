@@ -20,6 +20,8 @@
 #![tactic(auto)]
 
 mod arguments;
+mod following;
 pub mod status;
 
 pub use arguments::{Job, command, job_in};
+pub use following::Seeded;

@@ -23,8 +23,8 @@ const NO: u8 = 3;
 /// The exit status of an end: 0 where all was done, 2 for a faulty line, 3 for what is not right, else 1.
 pub fn status_of(end: End) -> u8 {
     match end {
-        End::Done => 0,
-        End::Faulty => 2,
+        End::Done | End::NoMessages => 0,
+        End::Faulty { .. } | End::Unfollowed { .. } => 2,
         End::No => NO,
         End::Open(_) | End::Input | End::Output | End::Memory | End::Thread | End::Spent => FAILED,
     }
@@ -33,7 +33,7 @@ pub fn status_of(end: End) -> u8 {
 /// The word that standard error is told, at status 1.
 pub fn word_of(end: End) -> Option<&'static str> {
     match end {
-        End::Done | End::Faulty | End::No => None,
+        End::Done | End::NoMessages | End::Faulty { .. } | End::Unfollowed { .. } | End::No => None,
         End::Open(OpenError::SeatCount) => Some("seats"),
         End::Open(OpenError::RingSize) => Some("ring"),
         End::Open(OpenError::NoMemory) | End::Memory => Some(MEMORY),

@@ -8,6 +8,7 @@
 //! cases                            runs, checks and races: faulty lines, limits, verdicts, devices that fail
 //! command_lines                    what words ask for, and the status and word of each end
 //! formats                          texts of format two, beside texts of format one
+//! changes                          what is told of a feed but its rows; seeds
 //! followed                         feeds that are followed: faulty lines, limits, the guide to caches
 //! histories                        the rows that a follower tells, beside the rows of the database
 //! long                             many blocks, and devices that fail after any byte

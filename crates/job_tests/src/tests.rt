@@ -1,6 +1,7 @@
 //! Runs, races, checks and followers, byte for byte, over readers and writers in memory.
 
 mod cases;
+mod changes;
 mod closings;
 mod command_lines;
 mod devices;
@@ -43,6 +44,7 @@ fn all_cases(rt: HostRuntime) {
         followed::FOLLOWED,
         followed::CACHES,
         followed::FAILING,
+        changes::CHANGES,
     ] {
         for case in cases.split("@ ").skip(1) {
             assert!(rt; is_right(&rt, rt.alloc(), case) == Some(true), "{case}");

@@ -8,10 +8,10 @@ use Rattle.sessions.specs.declared.ending.End.TheVariants as run
 use Rattle.jobs.specs.declared.ending.End.{End}
 use Rattle.jobs.specs.declared.ending.End.TheVariants as ends
 
--- the end of a run, without the line that it came at
+-- the end of a run, without the line at which positions were spent
 abbrev pub end_of_run : RunEnd → End
 end_of_run run.Done = ends.Done
-end_of_run (run.Fault line fault) = ends.Faulty
+end_of_run (run.Fault line fault) = ends.Faulty line fault
 end_of_run (run.Spent line) = ends.Spent
 end_of_run (run.Open reason) = ends.Open reason
 end_of_run run.Input = ends.Input

@@ -1,5 +1,5 @@
 -- What a follower takes, and what is told of a feed that is followed.
-use Rattle.std.specs.Prelude.{◌≡◌, ◌≢◌, ◌⊎◌, ℕ, ◌&&◌, Bool, true, false, List, [], ◌∷◌, ◌++◌, Option, None, Ok, Err, codes, decimal}
+use Rattle.std.specs.Prelude.{◌≡◌, ◌≢◌, ◌⊎◌, ℕ, ◌&&◌, Bool, true, false, List, [], ◌∷◌, ◌++◌, Option, Some, None, Ok, Err, codes, decimal}
 use Rattle.text_format.specs.declared.Format.{Format}
 use Rattle.spans.specs.declared.calls.messages.Message.{Message}
 use Rattle.spans.specs.declared.span.Span.{Span}
@@ -10,16 +10,16 @@ use Rattle.json_lines.specs.Tests.{message_at}
 use Rattle.word_lines.specs.declared.fault.LineFault.{LineFault}
 use Rattle.word_lines.specs.declared.fault.LineFault.TheVariants as line_faults
 use Rattle.word_lines.specs.Commands.{joined}
+use Rattle.word_lines.specs.Spelling.{spelling}
 use Rattle.word_lines.specs.Words.{text_at}
 use Rattle.replica.specs.declared.fault.Fault.{Fault}
 use Rattle.replica.specs.declared.fault.Fault.TheVariants as replica_faults
-use Rattle.replica.specs.declared.replica.Replica.{Replica}
-use Rattle.replica.specs.Replicas.{complete_in, Takes, IsFaultAt, test_of}
-use Rattle.replica.specs.Starts.{Start as ReplicaStart, seeded_start, initial_start}
+use Rattle.replica.specs.Replicas.{test_of}
+use Rattle.replica.specs.Starts.{Start as ReplicaStart, seeded_start, initial_start, IsSeedFault}
+use Rattle.spans.specs.Consumer.{apply_fault}
 use Rattle.jobs.specs.declared.follow.Start.{Start}
 use Rattle.jobs.specs.declared.follow.Start.TheVariants as starts
-use Rattle.jobs.specs.declared.follow.choice.Choice.{Choice}
-use Rattle.jobs.specs.Chosen.{begins_message, is_taking_after}
+use Rattle.jobs.specs.Chosen.{begins_message}
 use Rattle.jobs.specs.declared.follow.fault.FollowFault.{FollowFault}
 use Rattle.jobs.specs.declared.follow.fault.FollowFault.TheVariants as faults
 use Rattle.jobs.specs.declared.follow.fault.FollowError.{FollowError}
@@ -29,26 +29,16 @@ use Rattle.jobs.specs.declared.follow.fault.FollowError.TheVariants as errors
 abbrev pub start_of : Span → Start → ReplicaStart
 start_of span (starts.Cursor cursor) = seeded_start span cursor []
 start_of span (starts.Initial cursor) = initial_start span cursor
+start_of span (starts.Seed cursor rows) = seeded_start span cursor rows.items
 
--- the line is that of a message, which the replica has taken; then it is complete at the timestamp, if at any
-pub record HasTakenMessage (format : Format) (old new : Replica) (line : List ℕ) (at : Option ℕ) : Type 0 where
-  pub message : Message
-  pub lawful : IsMessage format message
-  pub is : line ≡ message_line message
-  pub taken : Takes old new message
-  pub complete : at ≡ complete_in new
+-- whether a line is a message to take, where those that come now are or not
+abbrev pub is_chosen : Bool → List ℕ → Bool
+is_chosen taking text = begins_message text && taking
 
--- whether a line is a message to take
-abbrev pub is_chosen : Choice → List ℕ → Bool
-is_chosen choice text = begins_message text && choice.taking
-
--- the line has its newline and isn't too long; it was passed over, or its message was taken, as is chosen
-pub record IsTaken (format : Format) (choice choice' : Choice) (old new : Replica) (line : List ℕ) (at : Option ℕ) : Type 0 where
-  pub text : List ℕ
-  pub whole : text_at format line ≡ Ok text
-  pub done : ((is_chosen choice text ≡ false) × (at ≡ None) × (new ≡ old)) ⊎ ((is_chosen choice text ≡ true) × HasTakenMessage format old new line at)
-  pub feed : choice'.feed ≡ choice.feed
-  pub taking : choice'.taking ≡ is_taking_after choice.feed choice.taking text
+-- the message of a line, where it is one to take
+abbrev pub HasMessage : Format → Bool → List ℕ → Option Message → Type 0
+HasMessage format chosen line None = chosen ≡ false
+HasMessage format chosen line (Some m) = (chosen ≡ true) × IsMessage format m × (line ≡ message_line m)
 
 -- the faults of lines, of messages and of replicas, as those of a follower
 abbrev pub error_of_line : LineFault → FollowError
@@ -69,25 +59,48 @@ error_of_replica replica_faults.OutsideSpan = errors.Fault faults.OutsideSpan
 error_of_replica replica_faults.ResolvedBack = errors.Fault faults.ResolvedBack
 error_of_replica replica_faults.NoMemory = errors.NoMemory
 
--- the line is that of a message, which the replica is to refuse
-pub record HasRefusedMessage (format : Format) (old : Replica) (line : List ℕ) (e : FollowError) : Type 0 where
+-- a line that is to be taken is no message of the format, and this is the first test that it doesn't pass
+pub record IsNoMessage (format : Format) (taking : Bool) (line : List ℕ) (e : FollowError) : Type 0 where
+  pub text : List ℕ
+  pub whole : text_at format line ≡ Ok text
+  pub chosen : is_chosen taking text ≡ true
+  pub fault : MessageFault
+  pub first : fault ≢ message.NoMemory → message_at format line ≡ Err fault
+  pub error : e ≡ error_of_message fault
+
+-- why a line can't be read: its length or its end, or else what is wrong with it as a message
+abbrev pub IsMisread : Format → Bool → List ℕ → FollowError → Type 0
+IsMisread format taking line e =
+    ((fault : LineFault) × (text_at format line ≡ Err fault) × (e ≡ error_of_line fault))
+    ⊎ IsNoMessage format taking line e
+
+-- the line is that of a message to take, and a replica that began so and took the messages before it is to refuse it
+pub record IsRefusedMessage (format : Format) (taking : Bool) (s : ReplicaStart) (before : List Message) (line : List ℕ) (e : FollowError) : Type 0 where
+  pub text : List ℕ
+  pub whole : text_at format line ≡ Ok text
   pub message : Message
-  pub lawful : IsMessage format message
-  pub is : line ≡ message_line message
+  pub is : HasMessage format (is_chosen taking text) line (Some message)
   pub fault : Fault
-  pub test : IsFaultAt old message (test_of fault)
+  pub test : apply_fault s.span s.start before message ≡ test_of fault
   pub error : e ≡ error_of_replica fault
 
--- why a line is not taken: its length or its end, or else what is wrong with it as a message, or else what the replica refuses
-abbrev pub IsRefused : Format → Replica → List ℕ → FollowError → Type 0
-IsRefused format old line e =
-    ((fault : LineFault) × (text_at format line ≡ Err fault) × (e ≡ error_of_line fault))
-    ⊎ ((fault : MessageFault) × (fault ≢ message.NoMemory → message_at format line ≡ Err fault) × (e ≡ error_of_message fault))
-    ⊎ HasRefusedMessage format old line e
+-- why a line is not followed: it can't be read, or the replica refuses its message
+abbrev pub IsRefused : Format → Bool → ReplicaStart → List Message → List ℕ → FollowError → Type 0
+IsRefused format taking s before line e = IsMisread format taking line e ⊎ IsRefusedMessage format taking s before line e
 
--- that the rows are complete at a timestamp, and how many there are
-abbrev pub resolved_line : ℕ → ℕ → List ℕ
-resolved_line at rows = joined (codes "resolved" ∷ decimal at ∷ decimal rows ∷ []) ++ 10 ∷ []
+-- why a replica can't begin so: the rows don't rise, or they do and one lies outside the span; or memory was wanting
+abbrev pub IsUnbegun : Span → Start → FollowError → Type 0
+IsUnbegun span start errors.NoMemory = Unit {0}
+IsUnbegun span (starts.Seed cursor rows) (errors.Fault f) = (fault : Fault) × IsSeedFault span rows.items fault × (errors.Fault f ≡ error_of_replica fault)
+IsUnbegun span start (errors.Fault f) = ⊥
+
+-- by a word, that the rows are complete at a timestamp, and how many there are
+abbrev pub count_line : List ℕ → ℕ → ℕ → List ℕ
+count_line word at rows = joined (word ∷ decimal at ∷ decimal rows ∷ []) ++ 10 ∷ []
+
+-- that a key has no value any more
+abbrev pub gone_line : List ℕ → List ℕ
+gone_line key = joined (codes "gone" ∷ spelling key ∷ []) ++ 10 ∷ []
 
 -- the faults by number and name
 abbrev pub code_of : FollowFault → ℕ

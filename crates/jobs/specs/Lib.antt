@@ -6,3 +6,5 @@ pub mod Races
 pub mod Followed
 pub mod Chosen
 pub mod Taking
+pub mod SpanWords
+pub mod Seeds

@@ -6,7 +6,7 @@ use Rattle.spans.specs.declared.calls.commands.Cmd.{Cmd}
 use Rattle.spans.specs.declared.calls.events.Event.{Event}
 use Rattle.word_lines.specs.Events.{fault_line}
 use Rattle.script.specs.Scripts.{script_at}
-use Rattle.script.specs.Transcripts.{Fault, transcript_text}
+use Rattle.script.specs.Transcripts.{transcript_text}
 use Rattle.shared_db.specs.declared.config.Config.{Config}
 use Rattle.shared_db.specs.Opening.{IsReason}
 use Rattle.races.specs.Calls.{IsRaceOf}
@@ -35,7 +35,7 @@ pub record IsRaced (format : Format) (sessions : ℕ) (text out : List ℕ) : Ty
 -- a database could not be opened, or a thread not started
 abbrev pub IsRace : RaceOptions → List ℕ → End → List ℕ → Type 0
 IsRace options text ends.Done out = IsRaced options.format options.sessions text out
-IsRace options text ends.Faulty out = (f : Fault) × ((script_at options.format options.sessions text).fault ≡ Some f) × (out ≡ header options.format ++ fault_line f.line f.fault)
+IsRace options text (ends.Faulty line fault) out = ((script_at options.format options.sessions text).fault ≡ Some (record { line = line; fault = fault })) × (out ≡ header options.format ++ fault_line line fault)
 IsRace options text (ends.Open reason) out = IsReason (config_of options) reason × (out ≡ [])
 IsRace options text ends.Thread out = out ≡ []
 IsRace options text _ out = ⊥
@@ -56,10 +56,10 @@ end_of_refusal (errors.Race _) = ends.Memory
 
 -- how a race ends whose answer is written whole
 abbrev pub end_of_answer : Answer → End
-end_of_answer (answer.Fault text) = ends.Faulty
+end_of_answer (answer.Fault line fault text) = ends.Faulty line fault
 end_of_answer (answer.Events events) = ends.Done
 
 -- the text of an answer
 abbrev pub text_of_answer : Format → Answer → List ℕ
-text_of_answer format (answer.Fault text) = text.items
+text_of_answer format (answer.Fault line fault text) = text.items
 text_of_answer format (answer.Events events) = transcript_text format events.items

@@ -1,9 +1,28 @@
 -- What a follower takes of the bytes that wait.
-use Rattle.std.specs.Prelude.{ℕ, take, Option}
-use Rattle.sessions.specs.Waiting.{waiting}
+use Rattle.std.specs.Prelude.{◌≡◌, ℕ, List, take, drop, Option, Ok}
+use Rattle.spans.specs.declared.calls.messages.Message.{Message}
+use Rattle.word_lines.specs.Words.{text_at}
+use Rattle.sessions.specs.Waiting.{waiting, has_ended, format_of}
 use Rattle.jobs.specs.declared.follow.follower.Follower.{Follower}
-use Rattle.jobs.specs.Followed.{IsTaken}
+use Rattle.jobs.specs.declared.follow.fault.FollowError.{FollowError}
+use Rattle.jobs.specs.Chosen.{is_taking_after}
+use Rattle.jobs.specs.Followed.{is_chosen, HasMessage, IsMisread}
 
--- so many bytes are a line that is taken, and then the rows are complete at a timestamp, if at any
-abbrev pub HasTaken : Follower → Follower → ℕ → Option ℕ → Type 0
-HasTaken f f' count at = IsTaken f.format f.choice f'.choice f.replica f'.replica (take count (waiting f.lines)) at
+-- the bytes that wait in front, so many of them
+abbrev pub front_of : Follower → ℕ → List ℕ
+front_of f count = take count (waiting f.lines)
+
+-- so many bytes are a line that has its newline and isn't too long, with this message where it is one to take; they were taken off the front
+pub record HasRead (f f' : Follower) (count : ℕ) (taken : Option Message) : Type 0 where
+  pub text : List ℕ
+  pub whole : text_at f.format (front_of f count) ≡ Ok text
+  pub message : HasMessage f.format (is_chosen f.choice.taking text) (front_of f count) taken
+  pub feed : f'.choice.feed ≡ f.choice.feed
+  pub taking : f'.choice.taking ≡ is_taking_after f.choice.feed f.choice.taking text
+  pub left : waiting f'.lines ≡ drop count (waiting f.lines)
+  pub ended : has_ended f'.lines ≡ has_ended f.lines
+  pub formed : format_of f'.lines ≡ format_of f.lines
+
+-- so many bytes can't be read
+abbrev pub IsMisreadAt : Follower → ℕ → FollowError → Type 0
+IsMisreadAt f count e = IsMisread f.format f.choice.taking (front_of f count) e

@@ -20,5 +20,5 @@ IsJudged read (verdict.No position) = (events : List Event) × (read ≡ Ok even
 abbrev pub IsVerdict : List ℕ → End → List ℕ → Type 0
 IsVerdict text ends.Done out = (events : List Event) × (transcript_at (format_of text) text ≡ Ok events) × IsTrace events × (out ≡ codes "yes\n")
 IsVerdict text ends.No out = (events : List Event) × (transcript_at (format_of text) text ≡ Ok events) × (position : ℕ) × IsFirstWrong events position × (out ≡ codes "no " ++ (decimal position ++ codes "\n"))
-IsVerdict text ends.Faulty out = (f : Fault) × (transcript_at (format_of text) text ≡ Err f) × (out ≡ fault_line f.line f.fault)
+IsVerdict text (ends.Faulty line fault) out = (transcript_at (format_of text) text ≡ Err (record { line = line; fault = fault })) × (out ≡ fault_line line fault)
 IsVerdict text _ out = ⊥

@@ -8,12 +8,17 @@ use sessions::{Sink, write_transcript, write_whole};
 use spans::calls::Event;
 use std::alloc::Global;
 use text_format::Format;
+use word_lines::fault::LineFault;
 
 /// What a race answers.
 #[derive(Drop)]
 pub(crate) enum Answer {
     /// The format's header, and the line that tells the script's first fault.
-    Fault(Vec<u8>),
+    Fault {
+        line: u64,
+        fault: LineFault,
+        text: Vec<u8>,
+    },
     /// The history of all calls.
     Events(Vec<Event>),
 }
@@ -24,7 +29,10 @@ impl Answer {
         ensures { result ≡ end_of_answer self.now }
     {
         match self {
-            Answer::Fault(_) => End::Faulty,
+            Answer::Fault { line, fault, .. } => End::Faulty {
+                line: *line,
+                fault: *fault,
+            },
             Answer::Events(_) => End::Done,
         }
     }
@@ -42,7 +50,7 @@ impl Answer {
         ensures failed { IfErr result (λ end. StopsWriting end (K.failures output.old) (K.failures output.new)) }
     {
         match self {
-            Answer::Fault(text) => write_whole(output, text.as_slice()),
+            Answer::Fault { text, .. } => write_whole(output, text.as_slice()),
             Answer::Events(events) => write_transcript(alloc, output, format, events.as_slice()),
         }
     }

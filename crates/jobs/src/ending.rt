@@ -2,15 +2,21 @@
 ghost use Rattle.std.specs.Prelude.{◌≡◌};
 ghost use Rattle.jobs.specs.Ends.{end_of_run};
 
+use crate::follow::FollowFault;
 use sessions::OpenError;
+use word_lines::fault::LineFault;
 
 /// Why the program came to its end.
 #[derive(Clone, Copy, Debug, PartialEq, Eq)]
 pub enum End {
     /// All of the input was taken, and all of the output written; what was checked is right.
     Done,
-    /// A line of the input is faulty. The output says which, as its last line.
-    Faulty,
+    /// All of a follower's input was taken, and none of it was a message to take.
+    NoMessages,
+    /// A line of a script or of a transcript is faulty. The output says so too, as its last line.
+    Faulty { line: u64, fault: LineFault },
+    /// A line of a feed can't be followed. The output says so too, as its last line.
+    Unfollowed { line: u64, fault: FollowFault },
     /// What was checked is not right. The output says at which event.
     No,
     /// No position is left for another call. The output says at which line, as its last line.
@@ -33,7 +39,7 @@ pub(crate) fn told(end: sessions::End) -> End
 {
     match end {
         sessions::End::Done => End::Done,
-        sessions::End::Fault { .. } => End::Faulty,
+        sessions::End::Fault { line, fault } => End::Faulty { line, fault },
         sessions::End::Spent { .. } => End::Spent,
         sessions::End::Open(refused) => End::Open(refused),
         sessions::End::Input => End::Input,

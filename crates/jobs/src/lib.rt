@@ -45,7 +45,9 @@ mod verdicts;
 
 pub use check::check_io;
 pub use ending::End;
-pub use follow::{FollowOptions, Start, follow_io, span_of};
+pub use follow::{
+    FollowFault, FollowOptions, Seed, SeedError, Shown, Start, follow_io, seed_of, span_of,
+};
 pub use race::{RaceOptions, race_io};
 pub use run::{DEFAULTS, run_io};
 pub use verdicts::verdict;

@@ -80,7 +80,7 @@ fn answer_to<R: Threads + Wait + Sync, G: Gate + Sync>(
         Err(TranscriptError::NoMemory) => Err(End::Memory),
         Err(TranscriptError::Fault { line, fault }) => {
             match fault_text(alloc, options.format, line, fault) {
-                Ok(told) => Ok(Answer::Fault(told)),
+                Ok(text) => Ok(Answer::Fault { line, fault, text }),
                 Err(_) => Err(End::Memory),
             }
         }

@@ -28,7 +28,7 @@ pub fn verdict(alloc: Global, text: &[u8]) -> Result<(End, Vec<u8>), AllocError>
         Err(TranscriptError::NoMemory) => Err(AllocError),
         Err(TranscriptError::Fault { line, fault }) => {
             write_fault(&mut answer, line, fault)?;
-            Ok((End::Faulty, answer))
+            Ok((End::Faulty { line, fault }, answer))
         }
         Ok(Verdict::Yes) => {
             answer.extend_from_slice(b"yes\n")?;

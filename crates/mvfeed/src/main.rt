@@ -21,16 +21,17 @@
 //! Tests: `examples/check`, outside the gate.
 #![tactic(auto)]
 
-use command_line::{Job, command, job_in, status};
-use jobs::{End, check_io, follow_io, race_io, run_io};
+use command_line::{Job, Seeded, command, job_in, status};
+use jobs::{End, FollowOptions, SeedError, check_io, follow_io, race_io, run_io, seed_of};
 use races::Open;
 use sessions::{Reading, Sink, Source, Writing};
 use std::alloc::Global;
 use std::env::Env;
-use std::io;
+use std::fs::Files;
 use std::process::ExitCode;
 use std::sync::Wait;
 use std::thread::Threads;
+use std::{fs, io};
 
 fn main(rt: HostRuntime) -> ExitCode {
     let words = match words(&rt) {
@@ -44,27 +45,57 @@ fn main(rt: HostRuntime) -> ExitCode {
         Ok(job) => {
             let mut input = Reading::new(rt.reader());
             let mut output = Writing::new(io::writer(&rt));
-            let end = done(&rt, rt.alloc(), job, &mut input, &mut output);
-            status::told(&rt, end)
+            match done(&rt, rt.alloc(), job, &mut input, &mut output) {
+                Ok(end) => status::told(&rt, end),
+                Err(failed) => failed,
+            }
         }
         Err(refused) => status::refused(&rt, &refused),
     }
 }
 
-/// How a job ends.
-fn done<S: Source, K: Sink, R: Threads + Wait + Sync>(
+/// How a job ends, or the status where it can't begin.
+fn done<S: Source, K: Sink, R: Threads + Wait + Sync + Files + AllocGlobal + Eprint>(
     rt: &R,
     alloc: Global,
     job: Job,
     input: &mut S,
     output: &mut K,
-) -> End {
-    match job {
+) -> Result<End, ExitCode> {
+    let end = match job {
         Job::Run(options, format) => run_io(rt, alloc, options, format, input, output),
         Job::Race(options) => race_io(rt, alloc, options, &Open, input, output),
         Job::Check => check_io(alloc, input, output),
         Job::Follow(options) => follow_io(alloc, options, input, output),
+        Job::FollowSeed(seeded) => follow_io(alloc, options_of(rt, &seeded)?, input, output),
+    };
+    Ok(end)
+}
+
+/// What is followed from the seed of a file on.
+fn options_of<R: Files + AllocGlobal + Eprint>(
+    rt: &R,
+    seeded: &Seeded,
+) -> Result<FollowOptions, ExitCode> {
+    let Ok(text) = fs::read(rt, seeded.file.as_str()) else {
+        return Err(status::failed(rt, "the seed's file can't be read"));
+    };
+    match seed_of(rt.alloc(), &text) {
+        Ok(seed) => Ok(seeded.options(seed)),
+        Err(SeedError::NoMemory) => Err(status::failed(rt, status::MEMORY)),
+        Err(SeedError::NoScan) => Err(status::failed(
+            rt,
+            "the seed's file has no scanat that was answered with rows",
+        )),
+        Err(SeedError::Fault { line, .. }) => Err(faulty_seed(rt, line)),
     }
+}
+
+/// The status where a line of the seed's file is faulty.
+fn faulty_seed(rt: &impl Eprint, line: u64) -> ExitCode {
+    // The status stands also where standard error can't be told why.
+    let _ = eprintln!(rt; "mvfeed: line {line} of the seed's file is faulty");
+    ExitCode::from(1)
 }
 
 /// The words of the command line, or what to say where they can't be had.

@@ -2,13 +2,13 @@
 
 use command_line::status::{status_of, word_of};
 use command_line::{Job, command, job_in};
-use jobs::{End, FollowOptions, span_of};
+use jobs::{End, FollowFault, FollowOptions, span_of};
 use sessions::OpenError;
 use std::alloc::{AllocError, Global};
 
 /// Command lines, whose words commas part, with what each asks for: `run` with its seats, its ring, its first position and
 /// its format, `race` with its sessions, its ring and its format, `check`, or `follow` with its bounds, its start, its feed,
-/// whether the rows are told, and its format. Others are refused.
+/// what is told of the rows and whether completeness is, and its format. Others are refused.
 const LINES: &str = "mvfeed,run => run 64 1024 0 One
 mvfeed,run,--seats,1 => run 1 1024 0 One
 mvfeed,run,--ring,65536 => run 64 65536 0 One
@@ -17,7 +17,7 @@ mvfeed,run,--first=7,--ring=1,--seats=64 => run 64 1 7 One
 mvfeed,run,--format,1 => run 64 1024 0 One
 mvfeed,run,--seats,2,--format=2 => run 2 1024 0 Two
 mvfeed,race,2,--format,2 => race 2 1024 Two
-mvfeed,follow,--cursor,0,--format,2 => follow - - Cursor(0) None false Two
+mvfeed,follow,--cursor,0,--format,2 => follow - - Cursor(0) None Count false Two
 mvfeed,run,--format,0 => refused
 mvfeed,run,--format,3 => refused
 mvfeed,run,--format => refused
@@ -47,9 +47,9 @@ mvfeed,race,2,--ring,0 => refused
 mvfeed,race,2,--first,1 => refused
 mvfeed,check => check
 mvfeed,check,--ring,1 => refused
-mvfeed,follow,--cursor,0 => follow - - Cursor(0) None false One
-mvfeed,follow,--lo=-a,--hi,%25,--initial,9223372036854775807,--feed,18446744073709551615,--view => follow -a %25 Initial(9223372036854775807) Some(18446744073709551615) true One
-mvfeed,follow,--lo,-,--cursor,7 => follow - - Cursor(7) None false One
+mvfeed,follow,--cursor,0 => follow - - Cursor(0) None Count false One
+mvfeed,follow,--lo=-a,--hi,%25,--initial,9223372036854775807,--feed,18446744073709551615,--view => follow -a %25 Initial(9223372036854775807) Some(18446744073709551615) Rows false One
+mvfeed,follow,--lo,-,--cursor,7 => follow - - Cursor(7) None Count false One
 mvfeed,follow => refused
 mvfeed,follow,--view => refused
 mvfeed,follow,--cursor,1,--initial,1 => refused
@@ -61,6 +61,19 @@ mvfeed,follow,--cursor,1,--feed,one => refused
 mvfeed,follow,--cursor,1,--lo, => refused
 mvfeed,follow,--cursor,1,--hi,%41 => refused
 mvfeed,follow,--cursor,1,--hi,a b => refused
+mvfeed,follow,--cursor,0,--changes => follow - - Cursor(0) None Changes false One
+mvfeed,follow,--cursor,0,--view,--complete => follow - - Cursor(0) None Rows true One
+mvfeed,follow,--initial,3,--complete,--changes,--format,2 => follow - - Initial(3) None Changes true Two
+mvfeed,follow,--cursor,0,--view,--changes => refused
+mvfeed,follow,--cursor,0,--complete,--complete => refused
+mvfeed,follow,--cursor,0,--changes=1 => refused
+mvfeed,follow,--seed,s.transcript => seed s.transcript None Count false One
+mvfeed,follow,--seed,-,--feed,2,--changes,--complete,--format,2 => seed - Some(2) Changes true Two
+mvfeed,follow,--seed => refused
+mvfeed,follow,--seed,s,--cursor,1 => refused
+mvfeed,follow,--seed,s,--initial,1 => refused
+mvfeed,follow,--seed,s,--lo,a => refused
+mvfeed,follow,--seed,s,--hi,a => refused
 mvfeed,follow,--cursor,1,it => refused";
 
 #[test]
@@ -91,6 +104,14 @@ fn is_asked(alloc: Global, line: &str) -> Option<bool> {
         }
         Some(Job::Check) => Some(wanted == "check"),
         Some(Job::Follow(options)) => is_followed(alloc, &options, wanted),
+        Some(Job::FollowSeed(seeded)) => {
+            let (file, feed, shown) = (&seeded.file, seeded.feed, seeded.shown);
+            let (complete, format) = (seeded.complete, seeded.format);
+            is_text(
+                wanted,
+                format!(in alloc; "seed {file} {feed:?} {shown:?} {complete} {format:?}"),
+            )
+        }
     }
 }
 
@@ -111,16 +132,23 @@ fn is_followed(alloc: Global, options: &FollowOptions, wanted: &str) -> Option<b
     let (lo, rest) = bounds.split_once(' ')?;
     let (hi, rest) = rest.split_once(' ')?;
     let span = span_of(alloc, lo.as_bytes(), hi.as_bytes(), options.format).ok()?;
-    let (start, feed, view) = (options.start, options.feed, options.view);
-    let format = options.format;
-    let told = format!(in alloc; "{start:?} {feed:?} {view} {format:?}").ok()?;
+    let (start, feed, shown) = (&options.start, options.feed, options.shown);
+    let (complete, format) = (options.complete, options.format);
+    let told = format!(in alloc; "{start:?} {feed:?} {shown:?} {complete} {format:?}").ok()?;
     Some(options.span == span && told.as_str() == rest)
 }
 
 /// Each end, with its status and its word.
 const ENDS: [(End, u8, &str); 11] = [
     (End::Done, 0, ""),
-    (End::Faulty, 2, ""),
+    (
+        End::Unfollowed {
+            line: 2,
+            fault: FollowFault::NoNewline,
+        },
+        2,
+        "",
+    ),
     (End::No, 3, ""),
     (End::Open(OpenError::SeatCount), 1, "seats"),
     (End::Open(OpenError::RingSize), 1, "ring"),

@@ -141,13 +141,13 @@ fault 1 8 linetoolong
 /// Inputs that are followed to their end; an initial feed alone tells a row of its cursor; and the polls of one feed of
 /// a transcript, with lines that look like polls.
 pub(super) const FOLLOWED: &str = "@ follow - - cursor 5 - yes
-= done
+= nothing
 @ follow - - cursor 5 - yes
 
 0 0 stats => stats 0 0 0 0 0
  \u{e9}
 row a 1
-= done
+= nothing
 @ follow - - cursor 5 - yes
 {'resolved':'9223372036854775807'}
 = done
@@ -298,7 +298,7 @@ row a 1
 {'resolved':'5'}
 9 0 poll 01 9
 {'resolved':'5'}
-= done
+= nothing
 ";
 
 /// The examples of the guide to caches, and messages without a transcript.

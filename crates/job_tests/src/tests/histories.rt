@@ -3,7 +3,7 @@
 use super::devices::{Sink, Source};
 use super::playing::{follow, ran};
 use super::random::{Dice, put_form};
-use jobs::{FollowOptions, Start, span_of};
+use jobs::{FollowOptions, Shown, Start, span_of};
 use std::alloc::{AllocError, Global};
 use std::sync::Wait;
 use text_format::Format;
@@ -72,31 +72,39 @@ fn put_lines(
 
 /// A feed that was opened, in words of its opening.
 #[derive(Clone, Copy)]
-struct Opened<'a> {
+pub(super) struct Opened<'a> {
     number: &'a str,
     low: &'a str,
     high: &'a str,
-    start: Start,
+    is_initial: bool,
+    cursor: u64,
+}
+
+impl Opened<'_> {
+    /// How its replica starts.
+    fn start(&self) -> Start {
+        if self.is_initial {
+            Start::Initial(self.cursor)
+        } else {
+            Start::Cursor(self.cursor)
+        }
+    }
 }
 
 /// The feed that a transcript's line opens.
-fn opened_in(line: &str) -> Option<Opened<'_>> {
+pub(super) fn opened_in(line: &str) -> Option<Opened<'_>> {
     let (call, number) = line.split_once(" => opened ")?;
     let mut words = call.split(' ').skip(2);
     let name = words.next()?;
     let low = words.next()?;
     let high = words.next()?;
     let cursor = words.next()?.parse::<u64>().ok()?;
-    let start = if name.starts_with("openinitial") {
-        Start::Initial(cursor)
-    } else {
-        Start::Cursor(cursor)
-    };
     Some(Opened {
         number,
         low,
         high,
-        start,
+        is_initial: name.starts_with("openinitial"),
+        cursor,
     })
 }
 
@@ -144,7 +152,14 @@ fn told_by(alloc: Global, answers: &str) -> Result<Vec<u8>, AllocError> {
 }
 
 /// Follows a feed that a transcript opens, and adds what is told.
-fn put_told(sink: &mut Sink, alloc: Global, transcript: &str, feed: Opened<'_>) -> Option<()> {
+pub(super) fn put_told(
+    sink: &mut Sink,
+    alloc: Global,
+    transcript: &str,
+    feed: Opened<'_>,
+    shown: Shown,
+    complete: bool,
+) -> Option<()> {
     let options = FollowOptions {
         span: span_of(
             alloc,
@@ -153,9 +168,10 @@ fn put_told(sink: &mut Sink, alloc: Global, transcript: &str, feed: Opened<'_>) 
             Format::One,
         )
         .ok()?,
-        start: feed.start,
+        start: feed.start(),
         feed: feed.number.parse::<u64>().ok(),
-        view: true,
+        shown,
+        complete,
         format: Format::One,
     };
     follow(alloc, options, Source::new(transcript.as_bytes()), sink);
@@ -170,7 +186,7 @@ pub(super) fn told_right<R: Wait>(rt: &R, alloc: Global, script: &[u8]) -> Optio
     let mut sink = Sink::new(alloc);
     let mut longer = Vec::from_slice(alloc, script).ok()?;
     for feed in transcript.lines().filter_map(opened_in) {
-        put_told(&mut sink, alloc, transcript, feed)?;
+        put_told(&mut sink, alloc, transcript, feed, Shown::Rows, false)?;
         put_scans(alloc, &mut longer, transcript, feed).ok()?;
     }
     let whole = ran(rt, alloc, 1024, &longer)?;

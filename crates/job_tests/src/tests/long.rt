@@ -3,7 +3,7 @@ use super::devices::{Sink, Source};
 use super::followed::CACHE;
 use super::playing::{check, follow, is_yes, ran, run};
 use super::random::{Shape, script};
-use jobs::{DEFAULTS, End, FollowOptions, Start};
+use jobs::{DEFAULTS, End, FollowOptions, Shown, Start};
 use spans::span::Span;
 use std::alloc::{AllocError, Global};
 use std::sync::Wait;
@@ -61,7 +61,8 @@ pub(super) fn followed(alloc: Global, messages: &[u8], room: Option<usize>) -> (
         span: Span { lo: None, hi: None },
         start: Start::Cursor(9),
         feed: None,
-        view: true,
+        shown: Shown::Rows,
+        complete: false,
         format: Format::One,
     };
     let end = follow(alloc, options, Source::new(messages), &mut sink);

@@ -2,7 +2,8 @@
 use super::devices::{Sink, Source};
 use super::unfolding::{Words, unfolded};
 use jobs::{
-    DEFAULTS, End, FollowOptions, RaceOptions, Start, check_io, follow_io, race_io, run_io, span_of,
+    DEFAULTS, End, FollowOptions, RaceOptions, Shown, Start, check_io, follow_io, race_io, run_io,
+    span_of,
 };
 use races::Open;
 use sessions::{Config, OpenError, Reading, Writing};
@@ -56,7 +57,8 @@ fn behind(header: &str, word: &str) -> Option<usize> {
 fn word_of(end: End) -> &'static str {
     match end {
         End::Done => "done",
-        End::Faulty => "faulty",
+        End::Faulty { .. } | End::Unfollowed { .. } => "faulty",
+        End::NoMessages => "nothing",
         End::No => "no",
         End::Input => "input",
         End::Output => "output",
@@ -138,9 +140,19 @@ fn follow_options_of(alloc: Global, words: &mut Words<'_>) -> Option<FollowOptio
             Start::Cursor(cursor)
         },
         feed: words.number(),
-        view: words.word() == "yes",
+        shown: shown_of(words.word()),
+        complete: words.word() == "complete",
         format: Format::One,
     })
+}
+
+/// What is told of the rows, by a word.
+pub(super) fn shown_of(word: &str) -> Shown {
+    match word.as_bytes() {
+        b"yes" => Shown::Rows,
+        b"changes" => Shown::Changes,
+        _ => Shown::Count,
+    }
 }
 
 /// How a run ends that reads from the one and writes to the other.

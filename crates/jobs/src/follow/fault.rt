@@ -4,11 +4,12 @@ ghost use Rattle.jobs.specs.Followed.{error_of_line, error_of_message, error_of_
 
 use json_lines::MessageFault;
 use replica::Fault;
+use std::alloc::AllocError;
 use word_lines::fault::LineFault;
 
 /// What is wrong with a line, or with its message after those before it.
-#[derive(Clone, Copy, PartialEq, Eq)]
-pub(crate) enum FollowFault {
+#[derive(Clone, Copy, Debug, PartialEq, Eq)]
+pub enum FollowFault {
     /// The line is no JSON.
     NotJson = 1,
     /// The JSON isn't of a message's form, or isn't written as a message's line is.
@@ -35,14 +36,14 @@ impl FollowFault {
     ghost use Rattle.jobs.specs.Followed.{code_of, name_of};
 
     /// Its number.
-    pub(crate) fn code(self) -> u8
+    pub fn code(self) -> u8
         ensures { result ≡ code_of self }
     {
         self as u8
     }
 
     /// Its name, as it stands in a fault's line.
-    pub(crate) fn name(self) -> &'static str
+    pub fn name(self) -> &'static str
         ensures { result.now ≡ name_of self }
     {
         match self {
@@ -67,6 +68,17 @@ pub(crate) enum FollowError {
     Fault(FollowFault),
     /// A growth of memory was refused.
     NoMemory,
+}
+
+impl From<AllocError> for FollowError {
+    ghost use Rattle.std.specs.Prelude.{◌≡◌};
+    ghost use Rattle.jobs.specs.declared.follow.fault.FollowError.TheVariants.{NoMemory};
+
+    ghost from_gives = { λ _ error. error ≡ NoMemory };
+
+    fn from(_refused: AllocError) -> FollowError {
+        FollowError::NoMemory
+    }
 }
 
 /// Why a line was not taken whose length or end is wrong.

@@ -1,21 +1,22 @@
 //! A follower: a replica, with the input that changes it and what is told of it.
-ghost use Rattle.std.specs.Prelude.{◌≡◌, ◌≤◌, ℕ, [], length, take, IfOk, IfErr, OnOk, OnErr};
+ghost use Rattle.std.specs.Prelude.{◌≡◌, ◌≤◌, ℕ, [], length, take, IfOk, IfErr, OnOk};
 ghost use Rattle.replica.specs.Replicas.{Follows};
 ghost use Rattle.jobs.specs.Ends.{FailsAt};
 ghost use Rattle.sessions.specs.Waiting.{format_of};
-ghost use Rattle.jobs.specs.Followed.{start_of, IsRefused};
+ghost use Rattle.jobs.specs.Followed.{start_of, IsUnbegun};
 ghost use Rattle.sessions.specs.declared.lines.Next.TheVariants.{More};
 
 use crate::ending::End;
 use crate::follow::choice::Choice;
 use crate::follow::fault::{FollowError, FollowFault, of_line, of_message, of_replica};
-use crate::follow::report::Report;
+use crate::follow::telling::Telling;
 use crate::follow::{FollowOptions, Start};
 use json_lines::read_message;
-use replica::{Fault, Replica, Rows};
+use replica::Replica;
 use sessions::{Lines, Next, Sink, Source};
+use spans::calls::Message;
 use spans::span::Span;
-use std::alloc::{AllocError, Global};
+use std::alloc::Global;
 use text_format::Format;
 use word_lines::words::text_of;
 
@@ -25,38 +26,41 @@ pub(crate) struct Follower {
     alloc: Global,
     lines: Lines,
     choice: Choice,
-    replica: Replica,
-    view: bool,
     format: Format,
-    report: Report,
+    /// Whether a message was taken.
+    started: bool,
+    replica: Replica,
+    telling: Telling,
     ghost formatted: { format_of lines ≡ format },
 }
 
 impl Follower {
     ghost use Rattle.sessions.specs.Waiting.{waiting, IsNext};
-    ghost use Rattle.jobs.specs.Taking.{HasTaken};
+    ghost use Rattle.jobs.specs.Taking.{HasRead, IsMisreadAt};
 
-    pub(crate) fn begin(alloc: Global, options: FollowOptions) -> Result<Follower, AllocError>
+    pub(crate) fn begin(alloc: Global, options: FollowOptions) -> Result<Follower, FollowError>
         ensures format { IfOk result (λ follower. follower.format ≡ options.format) }
+        ensures refused { IfErr result (IsUnbegun options.span options.start) }
     {
         let FollowOptions {
             span,
             start,
             feed,
-            view,
+            shown,
+            complete,
             format,
         } = options;
         let lines = Lines::new(alloc, format)?;
-        let report = Report::new(alloc)?;
+        let telling = Telling::new(alloc, shown, complete)?;
         let replica = begun(alloc, span, start)?;
         Ok(Follower {
             alloc,
             lines,
             choice: Choice::new(feed),
-            replica,
-            view,
             format,
-            report,
+            started: false,
+            replica,
+            telling,
         })
     }
 
@@ -67,7 +71,7 @@ impl Follower {
         let mut number = 0;
         for _turn in 0..u64::MAX {
             match self.lines.next() {
-                Next::End => return End::Done,
+                Next::End => return self.done(),
                 Next::More => match self.read_more(input, output) {
                     Ok(()) => continue,
                     Err(end) => return end,
@@ -84,13 +88,24 @@ impl Follower {
         self.spent(number)
     }
 
+    /// How it ends where no line is left.
+    fn done(&self) -> End
+        ensures { (reads writes : ℕ) → FailsAt result reads reads writes writes }
+    {
+        if self.started {
+            End::Done
+        } else {
+            End::NoMessages
+        }
+    }
+
     /// Writes what waits, and reads once.
     fn read_more<S: Source, K: Sink>(&mut self, input: &mut S, output: &mut K) -> Result<(), End>
         requires more { IsNext self.old.lines More }
         ensures worked { OnOk result ((S.failures input.new ≡ S.failures input.old) × (K.failures output.new ≡ K.failures output.old)) }
         ensures failed { IfErr result (λ end. FailsAt end (S.failures input.old) (S.failures input.new) (K.failures output.old) (K.failures output.new)) }
     {
-        match self.report.write_out(output) {
+        match self.telling.write_out(output) {
             Ok(()) => {}
             Err(_) => return Err(End::Output),
         }
@@ -100,27 +115,28 @@ impl Follower {
         }
     }
 
-    /// Takes one line, and tells what it resolves.
+    /// Takes one line, with its message if it is chosen.
     fn line<K: Sink>(&mut self, output: &mut K, number: u64, count: usize) -> Result<(), End>
         requires within { count ≤ length (waiting self.old.lines) }
         ensures worked { OnOk result (K.failures output.new ≡ K.failures output.old) }
         ensures failed { IfErr result (λ end. (reads : ℕ) → FailsAt end reads reads (K.failures output.old) (K.failures output.new)) }
     {
-        match self.take(count) {
+        match self.read(count) {
             Ok(None) => Ok(()),
-            Ok(Some(at)) => self.tell(output, at),
-            Err(FollowError::NoMemory) => Err(End::Memory),
-            Err(FollowError::Fault(fault)) => Err(self.faulty(number, fault)),
+            Ok(Some(message)) => self.take(output, number, message),
+            Err(error) => Err(self.stopped(number, error)),
         }
     }
 
-    /// Takes one line, and answers at which timestamp the rows are complete by it.
-    fn take(&mut self, count: usize) -> Result<Option<u64>, FollowError>
+    /// Takes one line off the front, and answers its message where it is one to take.
+    fn read(&mut self, count: usize) -> Result<Option<Message>, FollowError>
         requires within { count ≤ length (waiting self.old.lines) }
-        ensures ok { IfOk result (HasTaken self.old self.new count) }
+        ensures ok { IfOk result (HasRead self.old self.new count) }
+        ensures refused { IfErr result (IsMisreadAt self.old count) }
         ensures format { self.new.format ≡ self.old.format }
-        ensures err { OnErr result (self.new.replica ≡ self.old.replica) }
-        ensures refused { IfErr result (λ error. IsRefused self.old.format self.old.replica (take count (waiting self.old.lines)) error) }
+        ensures replica { self.new.replica ≡ self.old.replica }
+        ensures telling { self.new.telling ≡ self.old.telling }
+        ensures started { self.new.started ≡ self.old.started }
     {
         let line = self.lines.line(count);
         let text = match text_of(line, self.format) {
@@ -131,41 +147,54 @@ impl Follower {
             self.lines.advance(count);
             return Ok(None);
         }
-        let message = match read_message(self.alloc, line, self.format) {
-            Ok(message) => message,
-            Err(fault) => return Err(of_message(fault)),
-        };
-        self.lines.advance(count);
-        match self.replica.apply(message) {
-            Ok(()) => Ok(self.replica.at_resolved()),
-            Err(fault) => Err(of_replica(fault)),
+        match read_message(self.alloc, line, self.format) {
+            Ok(message) => {
+                self.lines.advance(count);
+                Ok(Some(message))
+            }
+            Err(fault) => Err(of_message(fault)),
         }
     }
 
-    /// Tells that the rows are complete, and the rows where they are asked for.
-    fn tell<K: Sink>(&mut self, output: &mut K, at: u64) -> Result<(), End>
+    /// Takes a message, and tells what it shows before it and behind it.
+    fn take<K: Sink>(&mut self, output: &mut K, number: u64, message: Message) -> Result<(), End>
         ensures worked { OnOk result (K.failures output.new ≡ K.failures output.old) }
         ensures failed { IfErr result (λ end. (reads : ℕ) → FailsAt end reads reads (K.failures output.old) (K.failures output.new)) }
     {
-        match self.report.tell_resolved(at, self.replica.len()) {
+        match self.telling.before(&self.replica, &message, output) {
+            Ok(()) => {}
+            Err(end) => return Err(end),
+        }
+        match self.telling.note(&message) {
             Ok(()) => {}
             Err(_) => return Err(End::Memory),
         }
-        if self.view {
-            return tell_rows(&mut self.report, self.replica.rows(), output);
+        match self.replica.apply(message) {
+            Ok(()) => {}
+            Err(fault) => return Err(self.stopped(number, of_replica(fault))),
         }
-        match self.report.write_full(output) {
-            Ok(()) => Ok(()),
-            Err(_) => Err(End::Output),
-        }
+        self.started = true;
+        self.telling.behind(&self.replica, output)
     }
 
     /// Tells what is wrong with a line.
+    fn stopped(&mut self, number: u64, error: FollowError) -> End
+        ensures { (reads writes : ℕ) → FailsAt result reads reads writes writes }
+    {
+        match error {
+            FollowError::NoMemory => End::Memory,
+            FollowError::Fault(fault) => self.faulty(number, fault),
+        }
+    }
+
     fn faulty(&mut self, number: u64, fault: FollowFault) -> End
         ensures { (reads writes : ℕ) → FailsAt result reads reads writes writes }
     {
-        match self.report.tell_fault(number, fault) {
-            Ok(()) => End::Faulty,
+        match self.telling.tell_fault(number, fault) {
+            Ok(()) => End::Unfollowed {
+                line: number,
+                fault,
+            },
             Err(_) => End::Memory,
         }
     }
@@ -174,7 +203,7 @@ impl Follower {
     fn spent(&mut self, number: u64) -> End
         ensures { (reads writes : ℕ) → FailsAt result reads reads writes writes }
     {
-        match self.report.tell_spent(number) {
+        match self.telling.tell_spent(number) {
             Ok(()) => End::Spent,
             Err(_) => End::Memory,
         }
@@ -187,7 +216,7 @@ impl Follower {
         if let End::Output = end {
             return End::Output;
         }
-        match self.report.write_out(output) {
+        match self.telling.write_out(output) {
             Ok(()) => end,
             Err(_) => End::Output,
         }
@@ -195,35 +224,17 @@ impl Follower {
 }
 
 /// The replica that a feed's consumer begins with.
-fn begun(alloc: Global, span: Span, start: Start) -> Result<Replica, AllocError>
-    ensures { IfOk result (λ replica. Follows replica (start_of span start) []) }
+fn begun(alloc: Global, span: Span, start: Start) -> Result<Replica, FollowError>
+    ensures ok { IfOk result (λ replica. Follows replica (start_of span start) []) }
+    ensures refused { IfErr result (IsUnbegun span start) }
 {
-    match start {
-        Start::Cursor(cursor) => match Replica::new(alloc, span, cursor, Vec::new(alloc)) {
-            Ok(replica) => Ok(replica),
-            // no rows are no fault
-            Err(Fault::NoMemory | Fault::NotAfter | Fault::OutsideSpan | Fault::ResolvedBack) => {
-                Err(AllocError)
-            }
-        },
-        Start::Initial(cursor) => Ok(Replica::new_initial(alloc, span, cursor)),
+    let (cursor, rows) = match start {
+        Start::Initial(cursor) => return Ok(Replica::new_initial(alloc, span, cursor)),
+        Start::Cursor(cursor) => (cursor, Vec::new(alloc)),
+        Start::Seed { cursor, rows } => (cursor, rows),
+    };
+    match Replica::new(alloc, span, cursor, rows) {
+        Ok(replica) => Ok(replica),
+        Err(fault) => Err(of_replica(fault)),
     }
-}
-
-/// Tells the rows, and writes each block of them that is full.
-fn tell_rows<K: Sink>(report: &mut Report, rows: Rows<'_>, output: &mut K) -> Result<(), End>
-    ensures worked { OnOk result (K.failures output.new ≡ K.failures output.old) }
-    ensures failed { IfErr result (λ end. (reads : ℕ) → FailsAt end reads reads (K.failures output.old) (K.failures output.new)) }
-{
-    for (key, value) in rows {
-        match report.tell_row(key, value) {
-            Ok(()) => {}
-            Err(_) => return Err(End::Memory),
-        }
-        match report.write_full(output) {
-            Ok(()) => {}
-            Err(_) => return Err(End::Output),
-        }
-    }
-    Ok(())
 }

@@ -2,10 +2,10 @@
 ghost use Rattle.std.specs.Prelude.{◌≡◌, ◌+◌, ◌++◌, [], IfOk, OnOk, OnErr};
 ghost use Rattle.word_lines.specs.Events.{spent_line};
 ghost use Rattle.word_lines.specs.Replies.{row_line};
-ghost use Rattle.jobs.specs.Followed.{resolved_line, fault_line};
+ghost use Rattle.jobs.specs.Followed.{count_line, gone_line, fault_line};
 
 use crate::follow::fault::FollowFault;
-use crate::follow::texts::{put_fault, put_resolved, put_row};
+use crate::follow::texts::{put_count, put_fault, put_gone, put_row};
 use sessions::{Output, Sink, WriteFailed};
 use std::alloc::{AllocError, Global};
 use timestamps::key::Key;
@@ -33,13 +33,13 @@ impl Report {
         })
     }
 
-    /// Tells that the rows are complete at a timestamp, and how many there are.
-    pub(crate) fn tell_resolved(&mut self, at: u64, rows: usize) -> Result<(), AllocError>
-        ensures ok { OnOk result (pending_of self.new.kept ≡ pending_of self.old.kept ++ resolved_line at rows) }
+    /// Tells by a word at which timestamp the rows are complete, and how many there are.
+    pub(crate) fn tell_count(&mut self, word: &[u8], at: u64, rows: usize) -> Result<(), AllocError>
+        ensures ok { OnOk result (pending_of self.new.kept ≡ pending_of self.old.kept ++ count_line word.now at rows) }
         ensures err { OnErr result (pending_of self.new.kept ≡ pending_of self.old.kept) }
     {
         self.line.clear();
-        put_resolved(&mut self.line, at, rows as u64)?;
+        put_count(&mut self.line, word, at, rows as u64)?;
         self.kept.keep(self.line.as_slice())
     }
 
@@ -50,6 +50,16 @@ impl Report {
     {
         self.line.clear();
         put_row(&mut self.line, key, value)?;
+        self.kept.keep(self.line.as_slice())
+    }
+
+    /// Tells that a key has no value any more.
+    pub(crate) fn tell_gone(&mut self, key: &Key) -> Result<(), AllocError>
+        ensures ok { OnOk result (pending_of self.new.kept ≡ pending_of self.old.kept ++ gone_line key.now) }
+        ensures err { OnErr result (pending_of self.new.kept ≡ pending_of self.old.kept) }
+    {
+        self.line.clear();
+        put_gone(&mut self.line, key)?;
         self.kept.keep(self.line.as_slice())
     }
 

@@ -1,7 +1,7 @@
 //! The lines that are told of a feed.
 ghost use Rattle.std.specs.Prelude.{◌≡◌, ◌++◌, OnOk};
 ghost use Rattle.word_lines.specs.Replies.{row_line};
-ghost use Rattle.jobs.specs.Followed.{resolved_line, fault_line};
+ghost use Rattle.jobs.specs.Followed.{count_line, gone_line, fault_line};
 
 use crate::follow::fault::FollowFault;
 use json_lines::numbers::put_number;
@@ -10,14 +10,30 @@ use timestamps::key::Key;
 use timestamps::value::Value;
 use word_lines::spelling::put_spelling;
 
-/// Writes that all is told up to a timestamp, and how many rows there are.
-pub(crate) fn put_resolved(out: &mut Vec<u8>, at: u64, rows: u64) -> Result<(), AllocError>
-    ensures { OnOk result (out.new.items ≡ out.old.items ++ resolved_line at rows) }
+/// Writes a word, a timestamp at which the rows are complete, and how many there are.
+pub(crate) fn put_count(
+    out: &mut Vec<u8>,
+    word: &[u8],
+    at: u64,
+    rows: u64,
+) -> Result<(), AllocError>
+    ensures { OnOk result (out.new.items ≡ out.old.items ++ count_line word.now at rows) }
 {
-    out.extend_from_slice(b"resolved ")?;
+    out.extend_from_slice(word)?;
+    out.push(b' ')?;
     put_number(out, at)?;
     out.push(b' ')?;
     put_number(out, rows)?;
+    out.push(b'\n')?;
+    Ok(())
+}
+
+/// Writes that a key has no value any more.
+pub(crate) fn put_gone(out: &mut Vec<u8>, key: &Key) -> Result<(), AllocError>
+    ensures { OnOk result (out.new.items ≡ out.old.items ++ gone_line key.now) }
+{
+    out.extend_from_slice(b"gone ")?;
+    put_spelling(out, key.bytes())?;
     out.push(b'\n')?;
     Ok(())
 }

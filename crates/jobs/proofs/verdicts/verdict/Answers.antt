@@ -7,4 +7,4 @@ use Rattle.jobs.proofs.verdicts.verdict.Goals as goal
 pub returns-in_ok-write_fault-in-Err-Fault : goal.returns-in_ok-write_fault-in-Err-Fault
 returns-in_ok-write_fault-in-Err-Fault c =
     let told : transcript_at (format_of c.args.text.now) c.args.text.now ≡ Err (record { line = c.in-Err-Fault.line; fault = c.in-Err-Fault.fault }) = search rules in
-    (record { line = c.in-Err-Fault.line; fault = c.in-Err-Fault.fault }, told, search rules)
+    (told, search rules)
