@@ -1,6 +1,6 @@
 //! A read that failed isn't tried again, though a second try would give the rest.
 use jobs::{
-    DEFAULTS, End, FollowOptions, RaceOptions, Start, check_io, follow_io, race_io, run_io,
+    DEFAULTS, End, FollowOptions, RaceOptions, Shown, Start, check_io, follow_io, race_io, run_io,
 };
 use races::Open;
 use sessions::{ReadFailed, Reading, Source, Writing};
@@ -103,7 +103,8 @@ fn a_follower_reads_no_more_once_a_read_has_failed(rt: HostRuntime) {
         span: Span { lo: None, hi: None },
         start: Start::Cursor(0),
         feed: None,
-        view: false,
+        shown: Shown::Count,
+        complete: false,
         format: Format::One,
     };
     let end = follow_io(rt.alloc(), options, &mut input, &mut output);

@@ -1,5 +1,5 @@
 //! Answers leave before a read that may wait: each read looks whether all that was asked so far is answered.
-use jobs::{DEFAULTS, End, FollowOptions, Start, follow_io, run_io};
+use jobs::{DEFAULTS, End, FollowOptions, Shown, Start, follow_io, run_io};
 use sessions::{Reading, Writing};
 use spans::span::Span;
 use std::alloc::Global;
@@ -154,7 +154,8 @@ fn a_follower_tells_before_it_reads(rt: HostRuntime) {
         span: Span { lo: None, hi: None },
         start: Start::Cursor(0),
         feed: None,
-        view: true,
+        shown: Shown::Rows,
+        complete: false,
         format: Format::One,
     };
     let end = follow_io(rt.alloc(), options, &mut input, &mut output);
