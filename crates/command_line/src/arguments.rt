@@ -3,6 +3,8 @@
 //! The builder's calls stand in small functions that promise nothing, since a proof over many of its calls in one function
 //! takes minutes.
 
+use crate::examples::example_of;
+use crate::version::VERSION;
 use clap::error::ErrorKind;
 use clap::{Arg, ArgAction, ArgGroup, ArgMatches, Command, Error, value_parser};
 use jobs::{DEFAULTS, FollowOptions, RaceOptions, Start, span_of};
@@ -23,6 +25,8 @@ pub fn command<'a>(alloc: Global) -> Result<Command<'a>, AllocError> {
 fn program<'a>(alloc: Global) -> Command<'a> {
     Command::new(alloc, "mvfeed")
         .about("A multiversion timestamp database whose changes leave it as ordered streams")
+        .after_help("The guide is docs/GUIDE.md. The help of each command ends with an example.")
+        .version(VERSION)
         .subcommand_required(true)
 }
 
@@ -145,7 +149,9 @@ fn option<'a>(alloc: Global, name: &'a str, value: &'a str, help: &'a str) -> Ar
 }
 
 fn subcommand<'a>(alloc: Global, name: &'a str, about: &'a str) -> Command<'a> {
-    Command::new(alloc, name).about(about)
+    Command::new(alloc, name)
+        .about(about)
+        .after_help(example_of(name))
 }
 
 fn with<'a>(command: Command<'a>, arg: Arg<'a>) -> Result<Command<'a>, AllocError> {

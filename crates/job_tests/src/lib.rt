@@ -6,7 +6,7 @@
 //! ```text
 //! transactions, closings, feeds    worked transcripts
 //! cases                            runs, checks and races: faulty lines, limits, verdicts, devices that fail
-//! command_lines                    what words ask for, and the status and word of each end
+//! command_lines                    what words ask for, and the status and sentence of each end
 //! formats                          texts of format two, beside texts of format one
 //! followed                         feeds that are followed: faulty lines, limits, the guide to caches
 //! histories                        the rows that a follower tells, beside the rows of the database

@@ -109,7 +109,7 @@ fn timestamps_of_any_shape_are_answered_right(rt: HostRuntime) {
 fn a_check_of_many_blocks(rt: HostRuntime) -> Result<(), Fail> {
     let transcript = long_transcript(rt.alloc())?;
     for piece in [1, 7, 4096, 65536, usize::MAX] {
-        assert!(rt; is_checked(rt.alloc(), &transcript, piece, None, End::No, b"no 4000\n"));
+        assert!(rt; is_checked(rt.alloc(), &transcript, piece, None, End::No { position: 4000 }, b"no 4000\n"));
         // within a line, behind a whole line, in the second block, and in the place of the end
         for length in [5000, 21, 70000, transcript.len()] {
             assert!(rt;

@@ -18,7 +18,7 @@
 //! run      0 begin 10\n0 jump\n                   0 0 begin 10 => started\nfault 2 2 unknowncommand\n    ends Faulty
 //! race     0 begin 10\n1 begin 20\n               0 1 begin 20 => started\n1 0 begin 10 => started\n     ends Done
 //! check    0 0 stats => started\n                 no 0\n                                                 ends No
-//! follow   {"resolved":"5"}\n{"resolved":"5"}\n   resolved 5 0\nfault 2 23 resolvedback\n                ends Faulty
+//! follow   {"resolved":"5"}\n{"resolved":"5"}\n   resolved 5 0\nfault 2 23 resolvedback\n                ends Unfollowed
 //! ```
 //!
 //! Costs:

@@ -15,7 +15,7 @@
 //! ```
 //!
 //! What each command does is a function of the crate `jobs`, over its options, a source and a sink, that
-//! answers an `End`. Which job the words ask for, and which status and word an end leaves, is said by the crate
+//! answers an `End`. Which job the words ask for, and which status and sentence an end leaves, is said by the crate
 //! `command_line`. Here they meet standard input and output.
 //!
 //! Tests: `examples/check`, outside the gate.

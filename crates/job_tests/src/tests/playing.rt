@@ -41,6 +41,9 @@ pub(super) fn is_right<R: Threads + Wait + Sync>(
             if word_of(ended) != end || sink.taken.as_slice() != output.as_slice() {
                 return Some(false);
             }
+            if !is_told(alloc, ended, &output)? {
+                return Some(false);
+            }
         }
     }
     Some(true)
@@ -56,8 +59,8 @@ fn behind(header: &str, word: &str) -> Option<usize> {
 fn word_of(end: End) -> &'static str {
     match end {
         End::Done => "done",
-        End::Faulty => "faulty",
-        End::No => "no",
+        End::Faulty { .. } | End::Unfollowed { .. } => "faulty",
+        End::No { .. } => "no",
         End::Input => "input",
         End::Output => "output",
         End::Open(OpenError::SeatCount) => "seats",
@@ -65,6 +68,21 @@ fn word_of(end: End) -> &'static str {
         End::Spent => "spent",
         _ => "other",
     }
+}
+
+/// Whether an output ends with the line that tells what its end tells.
+fn is_told(alloc: Global, end: End, output: &[u8]) -> Option<bool> {
+    let line = match end {
+        End::Faulty { line, fault } => fault_line(alloc, line, fault.code(), fault.name()),
+        End::Unfollowed { line, fault } => fault_line(alloc, line, fault.code(), fault.name()),
+        End::No { position } => format!(in alloc; "no {position}\n"),
+        _ => return Some(true),
+    };
+    Some(output.ends_with(line.ok()?.as_bytes()))
+}
+
+fn fault_line(alloc: Global, line: u64, code: u8, name: &str) -> Result<String, AllocError> {
+    format!(in alloc; "fault {line} {code} {name}\n")
 }
 
 /// How what a header asks for ends.
