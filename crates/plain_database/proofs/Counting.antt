@@ -36,7 +36,7 @@ all_versions db p all tied n c =
 
 -- ---- those of a transaction
 
-count_is : (db : Database) (p : List Effect) → IsTied db p → (t n : ℕ) → is_aborted p t ≡ false → IsCountOf (wrote db.chains t) n → n ≡ write_count p t
+pub count_is : (db : Database) (p : List Effect) → IsTied db p → (t n : ℕ) → is_aborted p t ≡ false → IsCountOf (wrote db.chains t) n → n ≡ write_count p t
 count_is db p tied t n live c =
     sym c.count ∙ same_length c.all (write_set p t) c.distinct (rising_distinct (write_set p t) (write_set_rises p t)) (λ x. let here = c.each x in let there = has_in x (write_set p t) in (
       λ i. in_has x (write_set p t) (there.1 (sym (same x) ∙ here.0 i)),

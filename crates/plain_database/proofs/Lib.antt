@@ -16,3 +16,4 @@ mod Replacing
 pub mod Dying
 pub mod Collecting
 pub mod Limits
+pub mod Reporting

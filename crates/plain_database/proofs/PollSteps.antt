@@ -35,11 +35,16 @@ no_timestamp (suc n) none low = absurd (none (omega arith, low))
 pub nothing_closed : (db : Database) (h : List Event) → StandsFor db h → ((1 ≤ db.closed) × (db.closed ≤ MAX) → ⊥) → closed_of (effects_of h) ≡ 0
 nothing_closed db h stands none = sym stands.tied.closed_at ∙ no_timestamp db.closed none (let low = closed_in_range h stands.legal in omega (arith, stands.tied.closed_at, low))
 
+-- where nothing is closed, no row is left to be told
+pub nothing_left : (p : List Effect) (f : ℕ) (feed : Feed) → IsSettled p feed → closed_of p ≡ 0 → untold_rows p f feed ≡ []
+nothing_left p f feed settled none =
+    let first : first_rows feed.kind p feed.span feed.cursor ≡ [] = first_none feed.kind p feed.span feed.cursor (λ is. let low : feed.cursor ≤ closed_of p = settled is in omega arith) in
+    ap (filter (λ r. not (list_any (same_version r) (rows_in (told_to p f))))) (ap (list_of p feed) none ∙ ap (λ l. l ++ []) first)
+
 -- where nothing is closed, nothing is told
 pub nothing_next : (p : List Effect) (f : ℕ) (feed : Feed) (max : ℕ) → IsSettled p feed → closed_of p ≡ 0 → [] ≡ next_messages p f feed max
 nothing_next p f feed max settled none =
-    let first : first_rows feed.kind p feed.span feed.cursor ≡ [] = first_none feed.kind p feed.span feed.cursor (λ is. let low : feed.cursor ≤ closed_of p = settled is in omega arith) in
-    let rows : untold_rows p f feed ≡ [] = ap (filter (λ r. not (list_any (same_version r) (rows_in (told_to p f))))) (ap (list_of p feed) none ∙ ap (λ l. l ++ []) first) in
+    let rows : untold_rows p f feed ≡ [] = nothing_left p f feed settled none in
     let due : due_message p f feed ≡ [] = ap (λ c. if is_due feed.kind (resolved_of p f feed) c then messages.Resolved c ∷ [] else []) none ∙ rw (due_none feed.kind (resolved_of p f feed)) refl in
     none_taken max ∙ sym (ap (λ l. take max (map messages.Row l ++ due_message p f feed)) rows ∙ ap (take max) due)
   where

@@ -55,23 +55,34 @@ protect_answers db h seat t made id stands few here was is =
 pub next_opened : (db : Database) (h : List Event) (opened f : ℕ) → StandsFor db h → length h < 18446744073709551615 → opened ≡ length db.feeds → f ≡ min (opened + 1) (2 ^ 64 - 1) → Opened f ≡ Opened (suc (feeds_opened (effects_of h)))
 next_opened db h opened f stands few was is = ap Opened (omega (arith, opened_fits h few, stands.tied.feeds.opened))
 
+-- how many versions a collection that takes the horizon to n drops
+pub collection_drops : (db : Database) (h : List Event) (to n removed : ℕ) → StandsFor db h → length h < 18446744073709551615 → n ≡ collection_horizon (effects_of h) to
+    → IsDeathCount (version_at db.chains) db.horizon n removed → removed ≡ length (dead_of (Collects n ∷ effects_of h)) - length (dead_of (effects_of h))
+collection_drops db h to n removed stands few reached counted =
+    let p = effects_of h in
+    let died : removed ≡ min (length (dead_of (Collects n ∷ p)) - length (dead_of p)) (2 ^ 64 - 1) = died_between db p (legal_allowed h stands.legal) stands.tied to n removed reached counted in
+    omega (arith, died, dead_fit h stands.legal few n)
+
 -- what a collection that takes the horizon to n is answered
 pub collect_answers : (db : Database) (h : List Event) (seat to n removed : ℕ) → StandsFor db h → length h < 18446744073709551615 → to ≤ MAX → n ≡ collection_horizon (effects_of h) to
     → IsDeathCount (version_at db.chains) db.horizon n removed → Collected n removed ≡ answer_of (effects_of h) seat (Collect to)
 collect_answers db h seat to n removed stands few low reached counted =
     let p = effects_of h in
-    let died : removed ≡ min (length (dead_of (Collects n ∷ p)) - length (dead_of p)) (2 ^ 64 - 1) = died_between db p (legal_allowed h stands.legal) stands.tied to n removed reached counted in
-    let more : removed ≡ length (dead_of (Collects n ∷ p)) - length (dead_of p) = omega (arith, died, dead_fit h stands.legal few n) in
     rw (le-ltb MAX to low)
-    (ap (Collected n) more ∙ ap (λ m. Collected m (length (dead_of (Collects m ∷ p)) - length (dead_of p))) reached)
+    (ap (Collected n) (collection_drops db h to n removed stands few reached counted) ∙ ap (λ m. Collected m (length (dead_of (Collects m ∷ p)) - length (dead_of p))) reached)
 
--- what is counted
-pub stats_answers : (db : Database) (h : List Event) (seat all versions undecided feeds : ℕ) → StandsFor db h → length h < 18446744073709551615
-    → all ≡ length (versions_of (effects_of h)) → versions ≡ all - db.dead
-    → undecided ≡ length (undecided_timestamps (effects_of h)) → feeds ≡ length (live_feeds (effects_of h))
-    → replies.Stats versions undecided feeds db.closed db.horizon ≡ answer_of (effects_of h) seat Stats
-stats_answers db h seat all versions undecided feeds stands few whole is opened live =
+-- how many versions aren't dead
+pub kept_versions : (db : Database) (h : List Event) (all versions : ℕ) → StandsFor db h → length h < 18446744073709551615
+    → all ≡ length (versions_of (effects_of h)) → versions ≡ all - db.dead → versions ≡ length (versions_of (effects_of h)) - length (dead_of (effects_of h))
+kept_versions db h all versions stands few whole is =
     let p = effects_of h in
     let gone : db.dead ≡ min (length (dead_of p)) (2 ^ 64 - 1) = stands.tied.dead_count ∙ ap (λ n. min n (2 ^ 64 - 1)) (dead_then_is p (legal_allowed h stands.legal)) in
-    let left : versions ≡ length (versions_of p) - length (dead_of p) = omega (arith, gone, dead_fit h stands.legal few (horizon_of p)) in
+    omega (arith, gone, dead_fit h stands.legal few (horizon_of p))
+
+-- what is counted
+pub stats_answers : (db : Database) (h : List Event) (seat versions undecided feeds : ℕ) → StandsFor db h
+    → versions ≡ length (versions_of (effects_of h)) - length (dead_of (effects_of h))
+    → undecided ≡ length (undecided_timestamps (effects_of h)) → feeds ≡ length (live_feeds (effects_of h))
+    → replies.Stats versions undecided feeds db.closed db.horizon ≡ answer_of (effects_of h) seat Stats
+stats_answers db h seat versions undecided feeds stands left opened live =
     rw (left, opened, live, stands.tied.closed_at, stands.tied.horizon_at) refl

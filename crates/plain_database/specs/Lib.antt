@@ -6,3 +6,4 @@ pub mod Streams
 pub mod Late
 pub mod Replies
 pub mod Answering
+pub mod Reports

@@ -33,9 +33,11 @@
 //! - `poll`: O(log n) for each row from the feed's place to the last that it tells, of all spans; P for each key of a
 //!   snapshot
 //! - `protect`, `open`, `cancel`: O(1); `release`: the protections that stand; `stats`: the feeds
+//! - `report`: the undecided transactions, the protections and the feeds; a whole one also a `collect` up to closed, and
+//!   for each live feed a `poll` of all its rows
 //!
-//! `answer` takes memory for rows, values and messages. `record` takes it for a begin, get, scan, put, del, protect,
-//! opening or poll that is accepted, and none for other commands.
+//! `answer` takes memory for rows, values and messages, and `report` for its lists. `record` takes it for a begin, get,
+//! scan, put, del, protect, opening or poll that is accepted, and none for other commands.
 //!
 //! Tests: `job_tests`, by random transcripts that are checked.
 #![tactic(auto)]
@@ -48,6 +50,7 @@ pub mod limit_law;
 mod protections;
 mod readers;
 mod reads;
+mod report;
 mod scans;
 mod snapshots;
 mod span_reads;

@@ -1,9 +1,9 @@
 //! Statistics: how many transactions are undecided, and how many versions there are and are dead.
-ghost use Rattle.std.specs.Prelude.{◌≡◌, length, ℕ};
+ghost use Rattle.std.specs.Prelude.{◌≡◌, ◌-◌, length, ℕ};
 ghost use Rattle.spans.specs.declared.calls.commands.Cmd.TheVariants.{Stats};
-ghost use Rattle.spans.specs.Collection.{versions_of};
+ghost use Rattle.spans.specs.Collection.{dead_of, versions_of};
 ghost use Rattle.spans.specs.Transactions.{undecided_timestamps};
-ghost use Rattle.plain_database.specs.Answering.{AfterEach, AnswersCounted};
+ghost use Rattle.plain_database.specs.Answering.{AfterCounted, AfterEach, AnswersCounted};
 
 use crate::database::Database;
 use spans::calls::Reply;
@@ -14,12 +14,19 @@ impl Database {
         ensures { (seat : ℕ) → AnswersCounted self.now seat Stats result }
     {
         Reply::Stats {
-            versions: self.version_count().saturating_sub(self.dead),
+            versions: self.kept_versions(),
             undecided: self.undecided_count(),
             feeds: self.feeds.live_count(),
             closed: self.closed,
             horizon: self.horizon,
         }
+    }
+
+    /// How many versions aren't dead.
+    pub(crate) fn kept_versions(&self) -> u64
+        ensures { AfterCounted self.now (λ p. result ≡ length (versions_of p) - length (dead_of p)) }
+    {
+        self.version_count().saturating_sub(self.dead)
     }
 
     /// How many transactions are undecided.

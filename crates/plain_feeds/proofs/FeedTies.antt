@@ -1,21 +1,22 @@
 -- The tie of a book of feeds is kept: by each call, and by every effect of no feed.
-use Rattle.std.proofs.Common.{◌≡◌, ◌≤◌, ℕ, zero, suc, ◌+◌, ◌<◌, ◌==◌, true, List, [], ◌∷◌, ◌++◌, map, length, take, Option, Some, None, refl, sym, ◌∙◌, ap, subst, arith}
+use Rattle.std.proofs.Common.{◌≡◌, ◌≤◌, ℕ, zero, suc, ◌+◌, ◌<◌, ◌==◌, true, List, [], ◌∷◌, ◌++◌, map, length, take, max, Option, Some, None, refl, sym, ◌∙◌, ap, subst, arith}
 use Rattle.std.specs.Prelude.{slice_get, option_map, count_by}
 use Rattle.std.proofs.lemmas.List.{length_push}
 use Rattle.std.proofs.lemmas.Bool.{eqb-true}
 use Rattle.spans.specs.declared.calls.messages.Message.{Message}
 use Rattle.spans.specs.Effects.{Effect, Opens, Polls, Cancels}
 use Rattle.spans.specs.Transactions.{closed_of}
-use Rattle.spans.specs.Feeds.{feeds_opened, Feed, feed_of, told_to, untold_rows, next_messages}
+use Rattle.spans.specs.Feeds.{feeds_opened, Feed, feed_of, start_at, told_to, untold_rows, next_messages}
 use Rattle.spans.specs.Collection.{floor_after, floor_of, live_feeds}
+use Rattle.spans.proofs.Listing.{start_low}
 use Rattle.spans.proofs.Steps.{by_test}
 use Rattle.timestamps.specs.declared.row.Row.{Row}
 use Rattle.plain_feeds.specs.declared.record.FeedRecord.{FeedRecord}
 use Rattle.plain_feeds.specs.declared.told.Told.{Told}
-use Rattle.plain_feeds.specs.Records.{telling, cancelled, changed_at, record_at, feed_part, fresh_told, told_more, IsToldIn, is_live, is_cancelled_in, floors_in, next_in}
+use Rattle.plain_feeds.specs.Records.{telling, cancelled, changed_at, record_at, feed_part, fresh_told, told_more, IsToldIn, is_live, is_cancelled_in, floor_in, floors_in, next_in}
 use Rattle.plain_feeds.specs.FeedTie.{FeedsTied, IsOfNoFeed}
 use Rattle.plain_feeds.proofs.RecordLists.{record_push, record_past, live_push, record_changed, length_changed, live_told, live_cancelled, live_count, floors_are}
-use Rattle.plain_feeds.proofs.Telling.{next_is, told_join}
+use Rattle.plain_feeds.proofs.Telling.{floor_from, next_is, told_join}
 
 -- an effect of no feed leaves the tie
 pub feeds_kept : (book : List FeedRecord) (p : List Effect) (d : Effect) → IsOfNoFeed d → FeedsTied book p → FeedsTied book (d ∷ p)
@@ -103,15 +104,20 @@ feeds_tell book p i f max ms at low tied = rw (← at) (record {
 pub feeds_count : (book : List FeedRecord) (p : List Effect) → FeedsTied book p → count_by is_live book ≡ length (live_feeds p)
 feeds_count book p tied = sym (ap length tied.live ∙ live_count 1 book)
 
+-- the floor of a feed
+pub feeds_floor : (book : List FeedRecord) (p : List Effect) (f : ℕ) (x : FeedRecord) → FeedsTied book p → record_at book f ≡ Some x → floor_in x ≡ max x.cursor (floor_after x.cursor (told_to p f))
+feeds_floor book p f x tied is =
+    let told : IsToldIn (Some x) (told_to p f) = subst (λ (o : Option FeedRecord). IsToldIn o (told_to p f)) is (tied.told f) in
+    ap (λ (t : Told). max x.cursor t.floor) told ∙ sym (floor_from x.cursor (start_at x.kind x.cursor) (told_to p f) (start_low x.kind x.cursor))
+
 -- the floors of the feeds that live
 pub feeds_floors : (book : List FeedRecord) (p : List Effect) → FeedsTied book p → map (floor_of p) (live_feeds p) ≡ floors_in book
 feeds_floors book p tied = ap (map (floor_of p)) tied.live ∙ floors_are p 1 book (λ i x is. told_here i x is)
   where
-    told_here : (i : ℕ) (x : FeedRecord) → slice_get book i ≡ Some x → x.told.floor ≡ floor_after x.cursor (told_to p (1 + i))
+    told_here : (i : ℕ) (x : FeedRecord) → slice_get book i ≡ Some x → floor_in x ≡ max x.cursor (floor_after x.cursor (told_to p (1 + i)))
     told_here i x is =
-        let told : IsToldIn (Some x) (told_to p (suc i)) = subst (λ (o : Option FeedRecord). IsToldIn o (told_to p (suc i))) is (tied.told (suc i)) in
         let at : suc i ≡ 1 + i = omega arith in
-        ap (λ (t : Told). t.floor) told ∙ ap (λ n. floor_after x.cursor (told_to p n)) at
+        feeds_floor book p (suc i) x tied is ∙ ap (λ n. max x.cursor (floor_after x.cursor (told_to p n))) at
 
 -- what a feed is told next
 pub feeds_next : (book : List FeedRecord) (p : List Effect) (f : ℕ) (feed : Feed) (x : FeedRecord) (max : ℕ) (rows : List Row) → FeedsTied book p → feed_of p f ≡ Some (feed_part x) → record_at book f ≡ Some x → feed_of p f ≡ Some feed

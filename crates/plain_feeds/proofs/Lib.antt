@@ -3,3 +3,4 @@ pub mod Telling
 pub mod FeedTies
 pub mod ProtectionTies
 pub mod Refusals
+pub mod Reporting

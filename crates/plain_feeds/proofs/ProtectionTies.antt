@@ -1,16 +1,18 @@
 -- The tie of the protections is kept: by each call, and by every effect of no protection.
-use Rattle.std.proofs.Common.{◌≡◌, ◌≤◌, ◌<◌, ◌+◌, ℕ, suc, length, drop, get_or, ◌==◌, Bool, true, false, not, ◌||◌, List, [], ◌∷◌, ◌++◌, map, refl, sym, ◌∙◌, ap, arith}
+use Rattle.std.proofs.Common.{◌≡◌, ◌≤◌, ◌<◌, ◌+◌, ℕ, suc, length, drop, get_or, ◌==◌, Bool, true, false, not, ◌||◌, List, [], ◌∷◌, ◌++◌, map, reverse, refl, sym, ◌∙◌, ap, arith}
 use Rattle.std.specs.Prelude.{filter, min}
 use Rattle.std.specs.List.{list_any}
-use Rattle.std.proofs.lemmas.List.{append-nil, map-append, at_drop_more}
+use Rattle.std.proofs.lemmas.List.{append-nil, map-append, at_drop_more, reverse-append}
 use Rattle.std.proofs.lemmas.List.Elements.{filter-append}
 use Rattle.std.proofs.lemmas.List.Folds.{list_any-append}
 use Rattle.spans.specs.Effects.{Effect, Protects, Releases}
 use Rattle.spans.specs.Transactions.{least_of}
 use Rattle.spans.specs.Collection as collection
 use Rattle.spans.specs.Collection.{protections_made, protections_of, is_protected}
+use Rattle.spans.specs.Report.{protection_report}
 use Rattle.spans.proofs.Steps.{by_test}
 use Rattle.plain_feeds.specs.declared.protections.Protection.{Protection}
+use Rattle.plain_feeds.specs.Reports.{standing_report}
 use Rattle.plain_feeds.specs.ProtectionTie.{Standing, protection, released, newest_first, ProtectionsTied, IsOfNoProtection}
 
 -- an effect of no protection leaves the tie
@@ -65,6 +67,16 @@ any_newest id (x ∷ xs) =
 -- whether a protection of this number stands
 pub protections_any : (kept : Standing) (p : List Effect) (id : ℕ) → ProtectionsTied kept p → list_any (λ (x : Protection). x.id == id) kept.standing ≡ is_protected p id
 protections_any kept p id tied = sym (ap (list_any (λ (x : collection.Protection). x.id == id)) tied.standing ∙ any_newest id kept.standing)
+
+-- the protections that stand, the oldest first
+pub oldest_first : (xs : List Protection) → map standing_report xs ≡ map protection_report (reverse (newest_first xs))
+oldest_first [] = refl
+oldest_first (x ∷ xs) =
+    ap (λ l. standing_report x ∷ l) (oldest_first xs)
+    ∙ ap (map protection_report) (sym (reverse-append (newest_first xs) (record { id = x.id; at = x.at } ∷ [])))
+
+pub protections_reported : (kept : Standing) (p : List Effect) → ProtectionsTied kept p → map standing_report kept.standing ≡ map protection_report (reverse (protections_of p))
+protections_reported kept p tied = oldest_first kept.standing ∙ ap (λ l. map protection_report (reverse l)) (sym tied.standing)
 
 -- the protected timestamps
 pub protections_at : (kept : Standing) (p : List Effect) → ProtectionsTied kept p → map (λ (x : collection.Protection). x.at) (protections_of p) ≡ map (λ (x : collection.Protection). x.at) (newest_first kept.standing)

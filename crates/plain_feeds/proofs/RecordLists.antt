@@ -1,5 +1,5 @@
 -- Lists of feed records: one more at the end, and one of them changed.
-use Rattle.std.proofs.Common.{◌≡◌, ◌≢◌, ℕ, zero, suc, ◌+◌, drop, ◌<◌, ◌==◌, true, false, not, cond, List, [], ◌∷◌, ◌++◌, map, length, get_or, set, Some, None, refl, sym, ◌∙◌, ap, subst, arith, append_assoc, add-zero}
+use Rattle.std.proofs.Common.{◌≡◌, ◌≢◌, ℕ, zero, suc, ◌+◌, drop, ◌<◌, ◌==◌, true, false, not, cond, List, [], ◌∷◌, ◌++◌, map, length, get_or, set, Some, None, refl, sym, ◌∙◌, ap, subst, arith, append_assoc, add-zero, max}
 use Rattle.std.specs.Prelude.{filter, min, count_by, slice_get, option_map}
 use Rattle.std.proofs.lemmas.List.{append-nil, map-append, length-append, at_drop_more}
 use Rattle.std.proofs.lemmas.List.Elements.{filter-append}
@@ -150,15 +150,15 @@ pub least_cancelled : (n : ℕ) (x : FeedRecord) → is_live x ≡ false → n �
 least_cancelled n x isnt = rw isnt refl
 
 -- the floors of the records are those of the feeds that live
-pub floors_are : (p : List Effect) (n : ℕ) (xs : List FeedRecord) → ((i : ℕ) (x : FeedRecord) → slice_get xs i ≡ Some x → x.told.floor ≡ floor_after x.cursor (told_to p (n + i))) → map (floor_of p) (live_in n xs) ≡ floors_in xs
+pub floors_are : (p : List Effect) (n : ℕ) (xs : List FeedRecord) → ((i : ℕ) (x : FeedRecord) → slice_get xs i ≡ Some x → floor_in x ≡ max x.cursor (floor_after x.cursor (told_to p (n + i)))) → map (floor_of p) (live_in n xs) ≡ floors_in xs
 floors_are p n [] told = refl
 floors_are p n (x ∷ xs) told =
     map-append (floor_of p) (live_in (suc n) xs) (live_one n x)
-    ∙ ap (λ l. l ++ map (floor_of p) (live_one n x)) (floors_are p (suc n) xs (λ i y is. let at : n + suc i ≡ suc n + i = omega arith in told (suc i) y is ∙ ap (λ m. floor_after y.cursor (told_to p m)) at))
+    ∙ ap (λ l. l ++ map (floor_of p) (live_one n x)) (floors_are p (suc n) xs (λ i y is. let at : n + suc i ≡ suc n + i = omega arith in told (suc i) y is ∙ ap (λ m. max y.cursor (floor_after y.cursor (told_to p m))) at))
     ∙ ap (λ l. floors_in xs ++ l) one
   where
-    here : x.told.floor ≡ floor_after x.cursor (told_to p n)
-    here = told 0 x refl ∙ ap (λ m. floor_after x.cursor (told_to p m)) (add-zero n)
+    here : max x.cursor (floor_after x.cursor (told_to p n)) ≡ floor_in x
+    here = sym (told 0 x refl ∙ ap (λ m. max x.cursor (floor_after x.cursor (told_to p m))) (add-zero n))
 
     one : map (floor_of p) (live_one n x) ≡ floor_one x
-    one = by_test (is_live x) (λ is. rw (is, here) refl) (λ isnt. rw isnt refl)
+    one = by_test (is_live x) (λ is. rw is (ap (λ m. m ∷ []) here)) (λ isnt. rw isnt refl)

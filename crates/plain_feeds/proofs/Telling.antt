@@ -11,6 +11,7 @@ use Rattle.spans.specs.Feeds.{Feed, told_to, last_resolved, start_of, is_due, du
 use Rattle.spans.specs.Collection.{VersionName, floor_after}
 use Rattle.spans.specs.Consumer.{name_of}
 use Rattle.spans.specs.Kept.{last_name}
+use Rattle.spans.specs.Report.{last_told}
 use Rattle.plain_feeds.specs.declared.told.Told.{Told}
 use Rattle.plain_feeds.specs.declared.record.FeedRecord.{FeedRecord}
 use Rattle.plain_feeds.specs.Records.{due_at, due_in, feed_part, next_in, told_more, IsToldIn}
@@ -66,11 +67,23 @@ floor_join n [] ns = refl
 floor_join n (messages.Row r ∷ ms) ns = floor_join (r.ts - 1) ms ns
 floor_join n (messages.Resolved t ∷ ms) ns = floor_join t ms ns
 
-told_is : (row row' : Option VersionName) (resolved resolved' floor floor' : ℕ) → row ≡ row' → resolved ≡ resolved' → floor ≡ floor' → let t : Told = record { row = row; resolved = resolved; floor = floor } in t ≡ record { row = row'; resolved = resolved'; floor = floor' }
-told_is row row' resolved resolved' floor floor' a b c = rw (a, b, c) refl
+latest_join : (o : Option ℕ) (ms ns : List Message) → last_told o (ms ++ ns) ≡ last_told (last_told o ms) ns
+latest_join o [] ns = refl
+latest_join o (messages.Row r ∷ ms) ns = latest_join o ms ns
+latest_join o (messages.Resolved t ∷ ms) ns = latest_join (Some t) ms ns
+
+told_is : (row row' : Option VersionName) (resolved resolved' : ℕ) (latest latest' : Option ℕ) (floor floor' : ℕ) → row ≡ row' → resolved ≡ resolved' → latest ≡ latest' → floor ≡ floor'
+    → let t : Told = record { row = row; resolved = resolved; latest = latest; floor = floor } in t ≡ record { row = row'; resolved = resolved'; latest = latest'; floor = floor' }
+told_is row row' resolved resolved' latest latest' floor floor' a b c d = rw (a, b, c, d) refl
 
 pub told_join : (ms ns : List Message) (t : Told) → told_more (ms ++ ns) t ≡ told_more ns (told_more ms t)
-told_join ms ns t = told_is _ _ _ _ _ _ (last_join t.row ms ns) (resolved_join t.resolved ms ns) (floor_join t.floor ms ns)
+told_join ms ns t = told_is _ _ _ _ _ _ _ _ (last_join t.row ms ns) (resolved_join t.resolved ms ns) (latest_join t.latest ms ns) (floor_join t.floor ms ns)
+
+-- the start and the cursor give one floor, which isn't below the cursor
+pub floor_from : (c s : ℕ) (ms : List Message) → s ≤ c → max c (floor_after c ms) ≡ max c (floor_after s ms)
+floor_from c s [] low = omega arith
+floor_from c s (messages.Row r ∷ ms) low = refl
+floor_from c s (messages.Resolved t ∷ ms) low = refl
 
 -- the last row of some messages is that of all where there is one
 pub last_over : (o : Option VersionName) (ms : List Message) (n : VersionName) → last_name None ms ≡ Some n → last_name o ms ≡ Some n
@@ -89,10 +102,11 @@ last_under o (messages.Row r ∷ ms) is = absurd (named_row (name_of r) ms is)
 last_under o (messages.Resolved t ∷ ms) is = last_under o ms is
 
 -- what more messages leave is put together of its parts
-pub told_added : (t t' : Told) (ms : List Message) (resolved floor : ℕ) → t'.row ≡ last_name t.row ms → t'.resolved ≡ t.resolved → t'.floor ≡ t.floor → resolved ≡ last_resolved t'.resolved ms → floor ≡ floor_after t'.floor ms
-    → let all : Told = record { row = t'.row; resolved = resolved; floor = floor } in all ≡ told_more ms t
-told_added t t' ms resolved floor row same same' reaches stands =
-    told_is _ _ _ _ _ _ row (reaches ∙ ap (λ (n : ℕ). last_resolved n ms) same) (stands ∙ ap (λ (n : ℕ). floor_after n ms) same')
+pub told_added : (t t' : Told) (ms : List Message) (resolved : ℕ) (latest : Option ℕ) (floor : ℕ) → t'.row ≡ last_name t.row ms → t'.resolved ≡ t.resolved → t'.latest ≡ t.latest → t'.floor ≡ t.floor
+    → resolved ≡ last_resolved t'.resolved ms → latest ≡ last_told t'.latest ms → floor ≡ floor_after t'.floor ms
+    → let all : Told = record { row = t'.row; resolved = resolved; latest = latest; floor = floor } in all ≡ told_more ms t
+told_added t t' ms resolved latest floor row same same' same'' reaches tells stands =
+    told_is _ _ _ _ _ _ _ _ row (reaches ∙ ap (λ (n : ℕ). last_resolved n ms) same) (tells ∙ ap (λ (o : Option ℕ). last_told o ms) same') (stands ∙ ap (λ (n : ℕ). floor_after n ms) same'')
 
 -- one message more of the walk over them
 pub next_row : (i : ℕ) (ms : List Message) (m : Message) → i < length ms → m ≡ get_or ms i m → last_name None (take (i + 1) ms) ≡ last_name (last_name None (take i ms)) (m ∷ [])

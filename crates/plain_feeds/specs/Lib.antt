@@ -3,3 +3,4 @@ pub mod Places
 pub mod FeedTie
 pub mod ProtectionTie
 pub mod Horizon
+pub mod Reports

@@ -8,6 +8,7 @@ use Rattle.spans.specs.declared.calls.messages.Message.TheVariants as messages
 use Rattle.spans.specs.Feeds.{Feed, last_resolved, start_at, is_due}
 use Rattle.spans.specs.Collection.{LiveFeed, floor_after}
 use Rattle.spans.specs.Kept.{last_name}
+use Rattle.spans.specs.Report.{last_told}
 use Rattle.plain_feeds.specs.declared.record.FeedRecord.{FeedRecord}
 use Rattle.plain_feeds.specs.declared.told.Told.{Told}
 use Rattle.plain_feeds.specs.declared.record.FeedState.{FeedState}
@@ -15,11 +16,11 @@ use Rattle.plain_feeds.specs.declared.record.FeedState.TheVariants.{Live, Cancel
 
 -- a feed of this kind and cursor was told nothing
 abbrev pub fresh_told : Kind → ℕ → Told
-fresh_told kind cursor = record { row = None; resolved = start_at kind cursor; floor = cursor }
+fresh_told kind cursor = record { row = None; resolved = start_at kind cursor; latest = None; floor = start_at kind cursor }
 
 -- what more messages leave of what was told
 abbrev pub told_more : List Message → Told → Told
-told_more ms t = record { row = last_name t.row ms; resolved = last_resolved t.resolved ms; floor = floor_after t.floor ms }
+told_more ms t = record { row = last_name t.row ms; resolved = last_resolved t.resolved ms; latest = last_told t.latest ms; floor = floor_after t.floor ms }
 
 -- a feed that has just been opened
 abbrev pub new_record : ℕ → Kind → Span → ℕ → FeedRecord

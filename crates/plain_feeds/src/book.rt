@@ -1,17 +1,21 @@
 //! The book of all feeds that were opened.
-ghost use Rattle.std.specs.Prelude.{◌≡◌, ◌<◌, ◌≤◌, [], ℕ, suc, map, length, count_by, Some, IfOk, IfErr, OnOk, OnErr, IfNone, true, vec_len};
+ghost use Rattle.std.specs.Prelude.{◌≡◌, ◌<◌, ◌≤◌, [], ℕ, suc, map, length, count_by, Some, IfOk, IfErr, OnOk, OnErr, IfNone, true, false, vec_len};
 ghost use Rattle.std.specs.Option.{option_copied};
 ghost use Rattle.timestamps.specs.declared.ts.TheConstants.{MAX};
 ghost use Rattle.spans.specs.Effects.{Opens, Cancels, Polls};
 ghost use Rattle.spans.specs.Transactions.{least_of};
 ghost use Rattle.spans.specs.Feeds.{feed_of, feeds_opened};
 ghost use Rattle.spans.specs.Collection.{floor_of, live_feeds};
+ghost use Rattle.spans.specs.Report.{AreFeeds};
 ghost use Rattle.plain_feeds.specs.Records.{feed_part, floors_in, telling, cancelled, changed_at, record_at, is_live};
 ghost use Rattle.plain_feeds.specs.FeedTie.{FeedsTied, IsOpened, Says, LeadsTo, AreNext, refusal_of_poll, refusal_of_cancel, refusal_of_record};
+ghost use Rattle.plain_feeds.specs.Reports.{AreOpened};
 
 use crate::record::{FeedRecord, FeedState};
+use crate::report::feed_reports;
 use spans::calls::{Message, Messages, Refusal};
 use spans::kind::Kind;
+use spans::report::FeedReport;
 use spans::span::Span;
 use std::alloc::{AllocError, Global};
 use std::marker::Model;
@@ -158,6 +162,14 @@ impl FeedBook {
         ensures { Says self.now (λ p. result ≡ length (live_feeds p)) }
     {
         count_live(self.feeds.as_slice()) as u64
+    }
+
+    /// The feeds that live, numbers rising, without how many rows they have still to tell.
+    pub fn report(&self, alloc: Global) -> Result<Vec<FeedReport>, AllocError>
+        ensures feeds { IfOk result (λ ns. Says self.now (λ p. AreFeeds false p ns.items)) }
+        ensures opened { IfOk result (λ ns. AreOpened self.now ns.items) }
+    {
+        feed_reports(alloc, self.feeds.as_slice())
     }
 
     /// The least of `n` and the floors of the feeds that live.

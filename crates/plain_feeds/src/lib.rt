@@ -5,8 +5,8 @@
 //! that stand, and how many were made.
 //!
 //! 1. Records stand in the order of opening: feed n stands at place n - 1.
-//! 2. Of the messages that it was told a feed keeps the name of the last row, the greatest resolved timestamp and the
-//!    floor. They say at which [`Place`] its next rows begin.
+//! 2. Of the messages that it was told a feed keeps the name of the last row, the greatest and the latest resolved
+//!    timestamp, and the floor. They say at which [`Place`] its next rows begin.
 //! 3. A call that finds no memory changes nothing.
 //!
 //! ```text
@@ -21,12 +21,13 @@
 //! - `open`, `opened`, `feed`, `place`, `cancel`, `poll_refusal`, `cancel_refusal`: O(1), one record
 //! - `next_messages`, `tell`: the messages, once
 //! - `live_count`, `least_floor`: O(f)
+//! - `FeedBook::report`: O(f), and a copy of the span and the last row's key for each feed that lives
 //! - `protect`, `made`: O(1)
-//! - `release`, `is_standing`, `least`: O(p)
+//! - `release`, `is_standing`, `least`, `Protections::report`: O(p)
 //! - `horizon_reached`: O(f + p)
 //!
 //! `open` takes memory for the record and its span, `protect` for a place in its list, `next_messages` for the list of
-//! messages, and `tell` for the key of the last row. The other calls take none.
+//! messages, `tell` for the key of the last row, and the reports for their lists. The other calls take none.
 //!
 //! Tests: `job_tests`, by random transcripts that are checked.
 #![tactic(auto)]
@@ -36,6 +37,7 @@ mod horizon;
 mod place;
 mod protections;
 mod record;
+mod report;
 mod told;
 
 pub use book::FeedBook;

@@ -1,12 +1,15 @@
 //! The protections that stand.
-ghost use Rattle.std.specs.Prelude.{◌≡◌, ◌==◌, ◌<◌, [], suc, IfOk, OnErr};
+ghost use Rattle.std.specs.Prelude.{◌≡◌, ◌==◌, ◌<◌, [], map, reverse, suc, IfOk, OnErr};
 ghost use Rattle.std.specs.List.{list_any};
 ghost use Rattle.spans.specs.Effects.{Protects, Releases};
 ghost use Rattle.spans.specs.Transactions.{least_of};
 ghost use Rattle.spans.specs.Collection.{protections_made, protections_of, is_protected};
+ghost use Rattle.spans.specs.Report.{protection_report};
 ghost use Rattle.plain_feeds.specs.declared.protections.Protection.{Protection};
 ghost use Rattle.plain_feeds.specs.ProtectionTie.{ProtectionsTied, Says, LeadsTo, newest_first, timestamps_of};
 
+use crate::report::protection_reports;
+use spans::report::ProtectionReport;
 use std::alloc::{AllocError, Global};
 use std::marker::Model;
 
@@ -75,6 +78,14 @@ impl Protections {
         ensures { Says self.now (λ p. result ≡ is_protected p id) }
     {
         has_id(self.standing.as_slice(), id)
+    }
+
+    /// The protections that stand, numbers rising.
+    pub fn report(&self, alloc: Global) -> Result<Vec<ProtectionReport>, AllocError>
+        ensures { IfOk result (λ ns. Says self.now (λ p.
+            ns.items ≡ map protection_report (reverse (protections_of p)))) }
+    {
+        protection_reports(alloc, self.standing.as_slice())
     }
 
     /// The least of `n` and the protected timestamps.

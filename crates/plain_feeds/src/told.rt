@@ -5,6 +5,7 @@ ghost use Rattle.spans.specs.Collection.{floor_after};
 ghost use Rattle.spans.specs.Consumer.{name_of};
 ghost use Rattle.spans.specs.Feeds.{last_resolved};
 ghost use Rattle.spans.specs.Kept.{last_name};
+ghost use Rattle.spans.specs.Report.{last_told};
 ghost use Rattle.plain_feeds.specs.Records.{fresh_told, told_more};
 
 use spans::calls::Message;
@@ -36,7 +37,9 @@ pub(crate) struct Told {
     pub(crate) row: Option<RowName>,
     /// The greatest of the start and the resolved timestamps.
     pub(crate) resolved: u64,
-    /// Up to where the last message says that all is told; the cursor before the first.
+    /// The timestamp that was resolved last, if one was.
+    pub(crate) latest: Option<u64>,
+    /// Up to where the last message says that all is told; the start before the first.
     pub(crate) floor: u64,
 }
 
@@ -48,7 +51,8 @@ impl Told {
         Told {
             row: None,
             resolved: kind.start(cursor),
-            floor: cursor,
+            latest: None,
+            floor: kind.start(cursor),
         }
     }
 
@@ -66,6 +70,7 @@ impl Told {
             }
         }
         self.resolved = greatest_resolved(self.resolved, messages);
+        self.latest = latest_resolved(self.latest, messages);
         self.floor = floor_of_last(self.floor, messages);
         Ok(())
     }
@@ -105,6 +110,18 @@ fn greatest_resolved(start: u64, messages: &[Message]) -> u64
         }
     }
     greatest
+}
+
+fn latest_resolved(before: Option<u64>, messages: &[Message]) -> Option<u64>
+    ensures { result ≡ last_told before messages.now }
+{
+    let mut latest = before;
+    for message in messages {
+        if let Message::Resolved(t) = message {
+            latest = Some(t.get());
+        }
+    }
+    latest
 }
 
 fn floor_of_last(floor: u64, messages: &[Message]) -> u64

@@ -10,3 +10,4 @@ pub mod Listed
 pub mod AddedRows
 pub mod ValueRows
 pub mod Deaths
+pub mod Reporting

@@ -12,9 +12,11 @@ use Rattle.std.specs.declared.ops.Bound.TheVariants.{Excluded, Included, Unbound
 use Rattle.std.proofs.lemmas.Bool.{or_cases, or_left, or_right}
 use Rattle.std.proofs.lemmas.Bool.Decides.{nat_tests}
 use Rattle.std.proofs.lemmas.Cmp.{nat_cmp_total, tied_itself}
+use Rattle.std.proofs.lemmas.Map.Keys.{IsStrictlyIncreasing-from_sorted}
 use Rattle.spans.proofs.Members.{AreDistinct, Has, distinct_filter, has_filter}
 use Rattle.spans.proofs.Steps.{by_test}
 use Rattle.plain_versions.specs.Counting.{IsCountOf}
+use Rattle.plain_versions.specs.Reports.{AreAllOpen}
 use Rattle.plain_versions.specs.Transactions.{Table, transaction_at, open_in, is_undecided_through}
 use Rattle.plain_versions.specs.Undecided.{AreUndecided, AreUndecidedBetween}
 
@@ -58,6 +60,18 @@ counted table undecided ordered tied = record {
   each = has_open table undecided tied;
   count = refl;
 }
+
+all_within : (ts : List ℕ) → filter (range_contains nat_cmp Unbounded Unbounded) ts ≡ ts
+all_within [] = refl
+all_within (t ∷ ts) = ap (λ (l : List ℕ). t ∷ l) (all_within ts)
+
+-- the whole of it has them, rising
+pub all_open : (table : Table) (undecided : BTreeSet ℕ) (ts : List ℕ) → IsOrdered nat_cmp undecided → AreUndecided table undecided
+    → ts ≡ filter (range_contains nat_cmp Unbounded Unbounded) undecided.keys → AreAllOpen table ts
+all_open table undecided ts ordered tied are = rw (are ∙ all_within undecided.keys) (record {
+  rising = IsStrictlyIncreasing-from_sorted undecided.keys ordered;
+  each = has_open table undecided tied;
+})
 
 in_range : (to t : ℕ) → range_contains nat_cmp Unbounded (Included to) t ≡ nat_le t to
 in_range to t = grind (arith, nat_tests)

@@ -10,3 +10,4 @@ pub mod Scans
 pub mod Streams
 pub mod Snapshots
 pub mod Dying
+pub mod Reports

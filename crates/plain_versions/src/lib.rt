@@ -31,9 +31,11 @@
 //! - `rows_after`: O(log n), and O(log k + log v) for each row told; rows in between that aren't told are passed over,
 //!   key by key
 //! - `died_between`: O(log k + log v) for each version between
+//! - `undecided_report`: O(log n) for each undecided transaction
 //!
 //! `begin` and `write` take memory for their places, and change nothing where they find none. `visible_rows`,
-//! `committed_rows`, `value_rows_after`, `rows_after` and `sources` take it for their lists. The other calls take none.
+//! `committed_rows`, `value_rows_after`, `rows_after`, `sources` and `undecided_report` take it for their lists. The
+//! other calls take none.
 //!
 //! Tests: `job_tests`, by random transcripts that are checked.
 #![tactic(auto)]
@@ -43,6 +45,7 @@ mod chains;
 mod counts;
 mod decisions;
 mod in_span;
+mod report;
 mod scans;
 mod snapshots;
 mod sources;

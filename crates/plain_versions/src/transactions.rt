@@ -1,6 +1,7 @@
 //! Which transactions began, whose they are and how far they are.
 ghost use Rattle.std.specs.Prelude.{◌≡◌, ◌<◌, ℕ, [], OnOk, OnErr, nat_le, option_map};
 ghost use Rattle.plain_versions.specs.Counting.{IsCountOf};
+ghost use Rattle.plain_versions.specs.Reports.{AreAllOpen};
 ghost use Rattle.plain_versions.specs.Undecided.{AreUndecidedBetween};
 ghost use Rattle.plain_versions.specs.Transactions.{transaction_at, committed_in, open_in, begun, decided, hard_closed, is_undecided_through, IsDecidedThrough, IsSetAt};
 
@@ -122,6 +123,13 @@ impl Transactions {
         ensures { IsCountOf (λ t. open_in (transaction_at self.now t)) result }
     {
         self.undecided.len() as u64
+    }
+
+    /// The undecided timestamps, rising.
+    pub(crate) fn undecided(&self) -> Range<'_, TsKey>
+        ensures { AreAllOpen self.now result }
+    {
+        self.undecided.range(..)
     }
 
     /// How many transactions at or below `to` are undecided.

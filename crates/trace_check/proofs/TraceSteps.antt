@@ -1,7 +1,7 @@
 -- A trace grows by right events alone, and what begins it is a trace.
 use Rattle.std.proofs.Common.{◌≡◌, ℕ, suc, ◌+◌, ◌<◌, ◌≤◌, List, [], ◌∷◌, ◌++◌, reverse, length, take, drop, get_or, Some, refl, sym, ap, ◌∙◌, subst, arith, add-one, append_assoc}
 use Rattle.std.proofs.Math.Seq.{drop-cons}
-use Rattle.std.proofs.lemmas.List.{reverse-append, take-append-drop, take_more, length-take-le}
+use Rattle.std.proofs.lemmas.List.{length-reverse, reverse-append, take-append-drop, take_more, length-take-le}
 use Rattle.spans.specs.declared.calls.events.Event.{Event}
 use Rattle.spans.specs.Effects.{effects_of}
 use Rattle.spans.specs.Legal.{IsRightEvent, IsLegal, IsGapless}
@@ -86,6 +86,10 @@ trace_place events e trace = place_is events e trace.gapless
 
 pub trace_right : (events : List Event) (e : Event) → IsTrace (events ++ e ∷ []) → IsRightEvent (effects_of (reverse events)) e
 trace_right events e trace = (subst IsLegal (turned_more events e) trace.legal).0
+
+-- turned, they are as few
+pub turned_few : (events : List Event) → length events < 18446744073709551615 → length (reverse events) < 18446744073709551615
+turned_few events few = omega (arith, length-reverse events)
 
 -- ---- the event at an index
 

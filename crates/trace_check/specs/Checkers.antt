@@ -1,6 +1,9 @@
--- What a checker has taken, and what it says of the next event.
+-- What a checker has taken, what it says of the next event, and what it tells of all.
 use Rattle.std.specs.Prelude.{List, [], ◌∷◌, ◌++◌, ◌≡◌, ◌<◌, ◌↔◌, Bool, true, length, reverse}
 use Rattle.spans.specs.declared.calls.events.Event.{Event}
+use Rattle.spans.specs.declared.report.Report.{Report}
+use Rattle.spans.specs.Effects.{effects_of}
+use Rattle.spans.specs.Report.{IsReport, limit_in, limit_of}
 use Rattle.plain_database.specs.Tied as plain
 use Rattle.trace_check.specs.declared.checker.Checker.{Checker}
 use Rattle.trace_check.specs.Traces.{IsTrace, last_position}
@@ -18,3 +21,9 @@ JudgesNext c e right = (events : List Event) → StandsFor c events → length e
 -- where it is, the checker has taken the event too
 abbrev pub TakesNext : Checker → Checker → Event → Bool → Type 0
 TakesNext c c' e right = right ≡ true → (events : List Event) → StandsFor c events → length events < 18446744073709551615 → StandsFor c' (events ++ e ∷ [])
+
+-- whatever events a checker has taken, this is their report, and its limit is that of the definitions
+abbrev pub Reports : Checker → Bool → Report → Type 0
+Reports c whole r =
+    (events : List Event) → StandsFor c events → length events < 18446744073709551615
+    → IsReport whole (effects_of (reverse events)) r × (limit_in r ≡ limit_of (effects_of (reverse events)))

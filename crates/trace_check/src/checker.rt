@@ -1,11 +1,12 @@
 //! Events checked one at a time.
 ghost use Rattle.std.specs.Prelude.{◌≡◌, ◌↔◌, [], true, false, IfOk, OnErr};
-ghost use Rattle.trace_check.specs.Checkers.{StandsFor, JudgesNext, TakesNext};
+ghost use Rattle.trace_check.specs.Checkers.{StandsFor, JudgesNext, Reports, TakesNext};
 ghost use Rattle.trace_check.specs.Traces.{IsInPlace};
 
 use crate::taking::take_in;
 use plain_database::database::Database;
 use spans::calls::Event;
+use spans::report::Report;
 use std::alloc::{AllocError, Global};
 
 /// The events that were taken so far are legal and have no gap. It holds what they left, and not the events.
@@ -39,6 +40,13 @@ impl Checker {
         }
         self.last = Some(event.position);
         Ok(true)
+    }
+
+    /// The report after the events that were taken: the whole one, or the live one.
+    pub fn report(&self, whole: bool) -> Result<Report, AllocError>
+        ensures report { IfOk result (Reports self.now whole) }
+    {
+        self.database.report(whole)
     }
 }
 

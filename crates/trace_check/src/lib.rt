@@ -24,9 +24,11 @@
 //!
 //! - `Checker::new`: O(1)
 //! - `Checker::take`: `answer` and `record` of `plain_database`, and one comparison of two replies
+//! - `Checker::report`: `report` of `plain_database`
 //! - `check`: a `take` for each event, up to the first that isn't right
 //!
-//! `take` takes memory for one answer at a time, and for the event's trace in the database. A checker keeps no event.
+//! `take` takes memory for one answer at a time, and for the event's trace in the database; `report` for the report. A
+//! checker keeps no event.
 //!
 //! Tests: `job_tests`, `session_tests`.
 #![tactic(auto)]

@@ -4,5 +4,5 @@ use Rattle.plain_database.proofs.database.Database.answer_stats.Goals as goal
 
 pub returns : goal.returns
 returns c = λ seat h stands few.
-    stats_answers c.args.self.now h seat c.version_count.result c.saturating_sub.result c.undecided_count.result c.live_count.result stands few
-    (c.version_count.ensures h stands) c.saturating_sub.ensures (c.undecided_count.ensures h stands) (c.live_count.ensures (effects_of h) stands.tied.feeds)
+    stats_answers c.args.self.now h seat c.kept_versions.result c.undecided_count.result c.live_count.result stands
+    (c.kept_versions.ensures h stands few) (c.undecided_count.ensures h stands) (c.live_count.ensures (effects_of h) stands.tied.feeds)

@@ -1,15 +1,10 @@
-use Rattle.std.proofs.Common.{◌≡◌, ℕ, ◌<◌, true, false, List, Option, reverse, length, refl, sym, ◌∙◌, subst, arith}
-use Rattle.std.proofs.lemmas.List.{length-reverse}
-use Rattle.spans.specs.declared.calls.events.Event.{Event}
+use Rattle.std.proofs.Common.{◌≡◌, ℕ, true, false, Option, reverse, refl, sym, ◌∙◌, subst}
 use Rattle.spans.proofs.Histories.{turned_more}
 use Rattle.plain_database.specs.Tied.{StandsFor}
 use Rattle.trace_check.specs.Traces.{IsInPlace}
-use Rattle.trace_check.proofs.TraceSteps.{last_more, trace_more, trace_place, trace_right}
+use Rattle.trace_check.proofs.TraceSteps.{last_more, trace_more, trace_place, trace_right, turned_few}
 use Rattle.trace_check.proofs.checker.Checker.take.Goals as goal
 use Rattle.trace_check.proofs.checker.Checker.take.Goals.{then-not-is_in_place-via-then-not-is_in_place, then-not-is_in_place-via-else-not-is_in_place+in_ok-take_in+then-not-branch}
-
-turned_few : (events : List Event) → length events < 18446744073709551615 → length (reverse events) < 18446744073709551615
-turned_few events few = omega (arith, length-reverse events)
 
 pub returns-then-not-is_in_place-clause-right : goal.returns-then-not-is_in_place-clause-right
 returns-then-not-is_in_place-clause-right c = λ events taken few. (
