@@ -7,7 +7,7 @@ use crate::examples::example_of;
 use crate::version::VERSION;
 use clap::error::ErrorKind;
 use clap::{Arg, ArgAction, ArgGroup, ArgMatches, Command, Error, value_parser};
-use jobs::{DEFAULTS, FollowOptions, RaceOptions, Start, span_of};
+use jobs::{DEFAULTS, Detail, FollowOptions, RaceOptions, Start, span_of};
 use sessions::Config;
 use std::alloc::{AllocError, Global};
 use std::convert::AsStr;
@@ -19,6 +19,7 @@ pub fn command<'a>(alloc: Global) -> Result<Command<'a>, AllocError> {
     let command = with_subcommand(program(alloc), run_command(alloc)?)?;
     let command = with_subcommand(command, race_command(alloc)?)?;
     let command = with_subcommand(command, check_command(alloc))?;
+    let command = with_subcommand(command, state_command(alloc)?)?;
     with_subcommand(command, follow_command(alloc)?)
 }
 
@@ -51,6 +52,12 @@ fn check_command<'a>(alloc: Global) -> Command<'a> {
         "check",
         "Say whether a transcript is right, or where it is not",
     )
+}
+
+fn state_command<'a>(alloc: Global) -> Result<Command<'a>, AllocError> {
+    let about =
+        "Write the state after a transcript: what holds closed and the horizon, and how far each feed has come";
+    with(subcommand(alloc, "state", about), live(alloc))
 }
 
 fn follow_command<'a>(alloc: Global) -> Result<Command<'a>, AllocError> {
@@ -131,6 +138,13 @@ fn view<'a>(alloc: Global) -> Arg<'a> {
         .help("Write the rows at each resolved message, and not their number alone")
 }
 
+fn live<'a>(alloc: Global) -> Arg<'a> {
+    Arg::new(alloc, "live")
+        .long("live")
+        .action(ArgAction::SetTrue)
+        .help("Leave out the two counts that a database in use can't tell")
+}
+
 fn as_number<'a>(arg: Arg<'a>) -> Arg<'a> {
     arg.value_parser(value_parser!(u64))
 }
@@ -178,6 +192,8 @@ pub enum Job {
     Race(RaceOptions),
     /// To check a transcript.
     Check,
+    /// To tell the state after a transcript.
+    State(Detail),
     /// To follow a feed.
     Follow(FollowOptions),
 }
@@ -199,6 +215,9 @@ fn job_of(alloc: Global, matches: &ArgMatches) -> Result<Job, Error> {
     }
     if let Some(race) = matches.subcommand_matches("race") {
         return Ok(Job::Race(race_options_of(race)));
+    }
+    if let Some(state) = matches.subcommand_matches("state") {
+        return Ok(Job::State(detail_of(state)));
     }
     match matches.subcommand_matches("follow") {
         Some(follow) => follow_of(alloc, follow),
@@ -240,6 +259,15 @@ fn format_of(options: &ArgMatches) -> Format {
     match number {
         Some(2) => Format::Two,
         _ => Format::One,
+    }
+}
+
+/// How much is told of a state.
+fn detail_of(state: &ArgMatches) -> Detail {
+    if state.get_flag("live") {
+        Detail::Live
+    } else {
+        Detail::Whole
     }
 }
 

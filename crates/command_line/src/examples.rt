@@ -6,6 +6,7 @@ pub(crate) fn example_of(command: &str) -> &'static str {
         b"run" => RUN,
         b"race" => RACE,
         b"check" => CHECK,
+        b"state" => STATE,
         _ => FOLLOW,
     }
 }
@@ -23,6 +24,10 @@ const RACE: &str = "Example:
 const CHECK: &str = "Example:
   $ printf '0 0 begin 10 => started\\n1 0 commit 10 => ended\\n' | mvfeed check
   no 1";
+
+const STATE: &str = "Example:
+  $ printf '0 3 begin 10 => started\\n1 3 put 10 a 1 => written\\n' | mvfeed state | tail -n 1
+  {\"kind\":\"transaction\",\"timestamp\":\"10\",\"seat\":\"3\",\"keys\":\"1\"}";
 
 const FOLLOW: &str = "Example:
   $ printf '{\"after\":\"MQ==\",\"key\":\"YQ==\",\"updated\":\"10\"}\\n{\"resolved\":\"12\"}\\n' | mvfeed follow --cursor 0 --view

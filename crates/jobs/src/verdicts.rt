@@ -34,7 +34,7 @@ pub fn verdict(alloc: Global, text: &[u8]) -> Result<(End, Vec<u8>), AllocError>
 
 /// What is said of a text that isn't a transcript which the database could have written. Of another the checker,
 /// which has taken nothing before, has taken all events.
-fn refusal(
+pub(crate) fn refusal(
     alloc: Global,
     text: &[u8],
     checker: &mut Checker,

@@ -10,6 +10,9 @@
 //! 1 0 begin 10 => started
 //! $ printf '0 0 begin 10 => tsused\n' | mvfeed check
 //! no 0
+//! $ printf '0 0 begin 10 => started\n' | mvfeed state
+//! {"kind":"database","closed":"0","horizon":"0","limit":"0","holder":"closed",..}
+//! {"kind":"transaction","timestamp":"10","seat":"0","keys":"0"}
 //! $ printf '{"resolved":"5"}\n' | mvfeed follow --cursor 0
 //! resolved 5 0
 //! ```
@@ -22,7 +25,7 @@
 #![tactic(auto)]
 
 use command_line::{Job, command, job_in, status};
-use jobs::{End, check_io, follow_io, race_io, run_io};
+use jobs::{End, check_io, follow_io, race_io, run_io, state_io};
 use races::Open;
 use sessions::{Reading, Sink, Source, Writing};
 use std::alloc::Global;
@@ -63,6 +66,7 @@ fn done<S: Source, K: Sink, R: Threads + Wait + Sync>(
         Job::Run(options, format) => run_io(rt, alloc, options, format, input, output),
         Job::Race(options) => race_io(rt, alloc, options, &Open, input, output),
         Job::Check => check_io(alloc, input, output),
+        Job::State(detail) => state_io(alloc, detail, input, output),
         Job::Follow(options) => follow_io(alloc, options, input, output),
     }
 }

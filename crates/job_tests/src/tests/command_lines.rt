@@ -8,8 +8,8 @@ use std::alloc::{AllocError, Global};
 use word_lines::fault::LineFault;
 
 /// Command lines, whose words commas part, with what each asks for: `run` with its seats, its ring, its first position and
-/// its format, `race` with its sessions, its ring and its format, `check`, or `follow` with its bounds, its start, its feed,
-/// whether the rows are told, and its format. Others are refused.
+/// its format, `race` with its sessions, its ring and its format, `check`, `state` with how much is told, or `follow` with its
+/// bounds, its start, its feed, whether the rows are told, and its format. Others are refused.
 const LINES: &str = "mvfeed,run => run 64 1024 0 One
 mvfeed,run,--seats,1 => run 1 1024 0 One
 mvfeed,run,--ring,65536 => run 64 65536 0 One
@@ -48,6 +48,13 @@ mvfeed,race,2,--ring,0 => refused
 mvfeed,race,2,--first,1 => refused
 mvfeed,check => check
 mvfeed,check,--ring,1 => refused
+mvfeed,state => state Whole
+mvfeed,state,--live => state Live
+mvfeed,state,--live,--live => refused
+mvfeed,state,--live=yes => refused
+mvfeed,state,--format,2 => refused
+mvfeed,state,it => refused
+mvfeed,--live => refused
 mvfeed,follow,--cursor,0 => follow - - Cursor(0) None false One
 mvfeed,follow,--lo=-a,--hi,%25,--initial,9223372036854775807,--feed,18446744073709551615,--view => follow -a %25 Initial(9223372036854775807) Some(18446744073709551615) true One
 mvfeed,follow,--lo,-,--cursor,7 => follow - - Cursor(7) None false One
@@ -91,6 +98,7 @@ fn is_asked(alloc: Global, line: &str) -> Option<bool> {
             )
         }
         Some(Job::Check) => Some(wanted == "check"),
+        Some(Job::State(detail)) => is_text(wanted, format!(in alloc; "state {detail:?}")),
         Some(Job::Follow(options)) => is_followed(alloc, &options, wanted),
     }
 }
@@ -261,7 +269,7 @@ fn is_left(alloc: Global, end: End, status: u8, wanted: &str) -> Option<bool> {
 }
 
 /// Words that ask for help or for the version, with how the text begins, and how it ends.
-const TEXTS: [(&str, &str, &str); 8] = [
+const TEXTS: [(&str, &str, &str); 9] = [
     (
         "mvfeed,--version",
         "mvfeed 0.1.0\nproved with rattle-kit-",
@@ -284,6 +292,11 @@ const TEXTS: [(&str, &str, &str); 8] = [
         "mvfeed,help,check",
         "Say whether a transcript",
         " | mvfeed check\n  no 1\n",
+    ),
+    (
+        "mvfeed,state,--help",
+        "Write the state after",
+        ",\"seat\":\"3\",\"keys\":\"1\"}\n",
     ),
     (
         "mvfeed,help,follow",
