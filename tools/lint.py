@@ -244,6 +244,23 @@ def kit_version(house):
 
 
 @rule
+def program_version(house):
+    """`mvfeed --version` tells the version of the Rust wrapper, and the kit that is installed."""
+    path = "crates/command_line/src/version.rt"
+    if path not in house.paths:
+        return
+    told, wrapper = re.search(r'"([\d.]+)\nproved with ([^"\n]*)"', house.text(path)), "embed/rust/Cargo.toml"
+    if not told:
+        yield path, 1, "it tells no version and kit"
+        return
+    number, version = line_at(house.text(path), told.start()), re.search(r'^version = "(.*)"', house.text(wrapper), re.M)
+    if not version or version[1] != told[1]:
+        yield path, number, "it tells %s, and %s has %s" % (told[1], wrapper, version and version[1])
+    if told[2] != house.version():
+        yield path, number + 1, "it tells %s, and the kit is %s" % (told[2], house.version())
+
+
+@rule
 def heads(house):
     """A file says at its top what it is: a source, a definition, a script; and a page for whom it is."""
     for path in house.paths:

@@ -24,6 +24,8 @@ SOUND = {
     "crates/spans/src/calls/commands.rt": "//! Commands.\n\npub enum Cmd {\n%s}\n"
     % "".join("    C%d { ts: u64 },\n" % n for n in range(11)),
     "crates/low/specs/Ones.antt": "-- what one is\n",
+    "crates/command_line/src/version.rt": '//! Which.\n\nconst VERSION: &str = "0.1.0\nproved with %s";\n' % KIT,
+    "embed/rust/Cargo.toml": '[package]\nversion = "0.1.0"\n',
     "tools/run": "#!/bin/sh\n# Runs it.\n",
 }
 SOUND.update(
@@ -83,6 +85,12 @@ PLANTED = {
         ("docs/PROOF.md", "", "# Proof\n\nFor auditors.\n\n## Low (crate `low`)\n\n| `one`, `_ne`, `_two` | one |\n"),
     ],
     "kit_version": [("README.md", "kit-1a", "kit-1b"), ("README.md", KIT, "")],
+    "program_version": [
+        ("crates/command_line/src/version.rt", "kit-1a", "kit-1b"),
+        ("crates/command_line/src/version.rt", "0.1.0", "0.1.1"),
+        ("crates/command_line/src/version.rt", "proved", "built"),
+        ("embed/rust/Cargo.toml", "0.1.0", "0.2.0"),
+    ],
     "heads": [
         (LIB, "//! Low.\n", ""),
         ("crates/low/specs/Ones.antt", "-- ", ""),

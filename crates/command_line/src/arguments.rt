@@ -3,10 +3,12 @@
 //! The builder's calls stand in small functions that promise nothing, since a proof over many of its calls in one function
 //! takes minutes.
 
+use crate::examples::example_of;
 use crate::following::{Seeded, seeded_of, shown_of, start_of, with_shown, with_start};
+use crate::version::VERSION;
 use clap::error::ErrorKind;
-use clap::{Arg, ArgMatches, Command, Error, value_parser};
-use jobs::{DEFAULTS, FollowOptions, RaceOptions, span_of};
+use clap::{Arg, ArgAction, ArgMatches, Command, Error, value_parser};
+use jobs::{DEFAULTS, Detail, FollowOptions, RaceOptions, span_of};
 use sessions::Config;
 use std::alloc::{AllocError, Global};
 use std::convert::AsStr;
@@ -18,12 +20,15 @@ pub fn command<'a>(alloc: Global) -> Result<Command<'a>, AllocError> {
     let command = with_subcommand(program(alloc), run_command(alloc)?)?;
     let command = with_subcommand(command, race_command(alloc)?)?;
     let command = with_subcommand(command, check_command(alloc))?;
+    let command = with_subcommand(command, state_command(alloc)?)?;
     with_subcommand(command, follow_command(alloc)?)
 }
 
 fn program<'a>(alloc: Global) -> Command<'a> {
     Command::new(alloc, "mvfeed")
         .about("A multiversion timestamp database whose changes leave it as ordered streams")
+        .after_help("The guide is docs/GUIDE.md. The help of each command ends with an example.")
+        .version(VERSION)
         .subcommand_required(true)
 }
 
@@ -48,6 +53,12 @@ fn check_command<'a>(alloc: Global) -> Command<'a> {
         "check",
         "Say whether a transcript is right, or where it is not",
     )
+}
+
+fn state_command<'a>(alloc: Global) -> Result<Command<'a>, AllocError> {
+    let about =
+        "Write the state after a transcript: what holds closed and the horizon, and how far each feed has come";
+    with(subcommand(alloc, "state", about), live(alloc))
 }
 
 fn follow_command<'a>(alloc: Global) -> Result<Command<'a>, AllocError> {
@@ -99,6 +110,13 @@ fn feed<'a>(alloc: Global) -> Arg<'a> {
     as_number(option(alloc, "feed", "N", help))
 }
 
+fn live<'a>(alloc: Global) -> Arg<'a> {
+    Arg::new(alloc, "live")
+        .long("live")
+        .action(ArgAction::SetTrue)
+        .help("Leave out the two counts that a database in use can't tell")
+}
+
 fn as_number<'a>(arg: Arg<'a>) -> Arg<'a> {
     arg.value_parser(value_parser!(u64))
 }
@@ -112,7 +130,9 @@ pub(crate) fn option<'a>(alloc: Global, name: &'a str, value: &'a str, help: &'a
 }
 
 fn subcommand<'a>(alloc: Global, name: &'a str, about: &'a str) -> Command<'a> {
-    Command::new(alloc, name).about(about)
+    Command::new(alloc, name)
+        .about(about)
+        .after_help(example_of(name))
 }
 
 fn with<'a>(command: Command<'a>, arg: Arg<'a>) -> Result<Command<'a>, AllocError> {
@@ -135,6 +155,8 @@ pub enum Job {
     Race(RaceOptions),
     /// To check a transcript.
     Check,
+    /// To tell the state after a transcript.
+    State(Detail),
     /// To follow a feed.
     Follow(FollowOptions),
     /// To follow a feed from the seed of a file on.
@@ -158,6 +180,9 @@ fn job_of(alloc: Global, matches: &ArgMatches) -> Result<Job, Error> {
     }
     if let Some(race) = matches.subcommand_matches("race") {
         return Ok(Job::Race(race_options_of(race)));
+    }
+    if let Some(state) = matches.subcommand_matches("state") {
+        return Ok(Job::State(detail_of(state)));
     }
     match matches.subcommand_matches("follow") {
         Some(follow) => follow_of(alloc, follow),
@@ -203,6 +228,15 @@ pub(crate) fn format_of(options: &ArgMatches) -> Format {
     match number {
         Some(2) => Format::Two,
         _ => Format::One,
+    }
+}
+
+/// How much is told of a state.
+fn detail_of(state: &ArgMatches) -> Detail {
+    if state.get_flag("live") {
+        Detail::Live
+    } else {
+        Detail::Whole
     }
 }
 

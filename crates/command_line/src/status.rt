@@ -1,8 +1,10 @@
-//! What the program leaves its caller: an exit status, and a word where it failed.
+//! What the program leaves its caller: an exit status, and a sentence where there is more to say.
 
+use crate::faults::{words_of_line, words_of_message};
 use clap::Error;
 use jobs::End;
 use sessions::OpenError;
+use std::fmt;
 use std::process::ExitCode;
 
 /// The word where a growth of memory was refused.
@@ -17,6 +19,9 @@ pub const NO_TEXT: &str = "an argument is not UTF-8";
 /// The exit status where the program failed.
 const FAILED: u8 = 1;
 
+/// The exit status where a line is faulty.
+const FAULTY: u8 = 2;
+
 /// The exit status where what was checked is not right.
 const NO: u8 = 3;
 
@@ -24,41 +29,75 @@ const NO: u8 = 3;
 pub fn status_of(end: End) -> u8 {
     match end {
         End::Done | End::NoMessages => 0,
-        End::Faulty { .. } | End::Unfollowed { .. } => 2,
-        End::No => NO,
+        End::Faulty { .. } | End::Unfollowed { .. } => FAULTY,
+        End::No { .. } => NO,
         End::Open(_) | End::Input | End::Output | End::Memory | End::Thread | End::Spent => FAILED,
     }
 }
 
-/// The word that standard error is told, at status 1.
-pub fn word_of(end: End) -> Option<&'static str> {
-    match end {
-        End::Done | End::NoMessages | End::Faulty { .. } | End::Unfollowed { .. } | End::No => None,
-        End::Open(OpenError::SeatCount) => Some("seats"),
-        End::Open(OpenError::RingSize) => Some("ring"),
-        End::Open(OpenError::NoMemory) | End::Memory => Some(MEMORY),
-        End::Input => Some("input"),
-        End::Output => Some(OUTPUT),
-        End::Thread => Some("thread"),
-        End::Spent => Some("spent"),
+/// What standard error is told.
+#[derive(Clone, Copy)]
+pub enum Sentence {
+    /// A word or more for themselves.
+    Words(&'static str),
+    /// What is wrong with a line, counted from 1.
+    Line { number: u64, words: &'static str },
+    /// Which event can't be right.
+    Event { position: u64 },
+}
+
+impl fmt::Display for Sentence {
+    fn fmt<W: fmt::Write>(&self, f: &mut fmt::Formatter<W>) -> fmt::Result {
+        match self {
+            Sentence::Words(words) => f.write_str(words),
+            Sentence::Line { number, words } => write!(f, "line {number} {words}"),
+            Sentence::Event { position } => {
+                write!(f, "the event at position {position} can't be right")
+            }
+        }
     }
 }
 
-/// The exit status of an end, of which standard error is told where it is a failure.
+/// What standard error is told of an end.
+pub fn sentence_of(end: End) -> Option<Sentence> {
+    let sentence = match end {
+        End::Done => return None,
+        End::NoMessages => Sentence::Words("the input has no message to follow"),
+        End::Faulty { line, fault } => Sentence::Line {
+            number: line,
+            words: words_of_line(fault),
+        },
+        End::Unfollowed { line, fault } => Sentence::Line {
+            number: line,
+            words: words_of_message(fault),
+        },
+        End::No { position } => Sentence::Event { position },
+        End::Spent => Sentence::Words("spent"),
+        End::Open(OpenError::SeatCount) => Sentence::Words("seats"),
+        End::Open(OpenError::RingSize) => Sentence::Words("ring"),
+        End::Open(OpenError::NoMemory) | End::Memory => Sentence::Words(MEMORY),
+        End::Input => Sentence::Words("input"),
+        End::Output => Sentence::Words(OUTPUT),
+        End::Thread => Sentence::Words("thread"),
+    };
+    Some(sentence)
+}
+
+/// The exit status of an end, of which standard error is told where there is more to say.
 pub fn told(rt: &impl Eprint, end: End) -> ExitCode {
-    if let Some(word) = word_of(end) {
-        tell(rt, word);
+    if let Some(sentence) = sentence_of(end) {
+        tell(rt, sentence);
     }
     ExitCode::from(status_of(end))
 }
 
 /// The exit status of a failure, of which standard error is told.
-pub fn failed(rt: &impl Eprint, word: &str) -> ExitCode {
-    tell(rt, word);
+pub fn failed(rt: &impl Eprint, words: &'static str) -> ExitCode {
+    tell(rt, Sentence::Words(words));
     ExitCode::from(FAILED)
 }
 
-/// The exit status of a command line that asks for no run: for help, which is printed, or for what
+/// The exit status of a command line that asks for no run: for help or the version, which is printed, or for what
 /// the program doesn't do.
 pub fn refused<R: Print + Eprint>(rt: &R, error: &Error) -> ExitCode {
     let printed = error.print(rt);
@@ -71,7 +110,7 @@ pub fn refused<R: Print + Eprint>(rt: &R, error: &Error) -> ExitCode {
     ExitCode::SUCCESS
 }
 
-fn tell(rt: &impl Eprint, word: &str) {
+fn tell(rt: &impl Eprint, sentence: Sentence) {
     // The status stands also where standard error can't be told why.
-    let _ = eprintln!(rt; "mvfeed: {word}");
+    let _ = eprintln!(rt; "mvfeed: {sentence}");
 }

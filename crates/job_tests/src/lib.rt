@@ -1,12 +1,13 @@
 //! Tests of the program's jobs and of its command line. The jobs are tested byte for byte: scripts run, sessions that
-//! race, transcripts checked, and feeds followed, over readers and writers in memory that may fail. They show which
+//! race, transcripts checked, states told, and feeds followed, over readers and writers in memory that may fail. They show which
 //! bytes each job writes and how it ends.
 //! Nothing depends on this crate.
 //!
 //! ```text
 //! transactions, closings, feeds    worked transcripts
 //! cases                            runs, checks and races: faulty lines, limits, verdicts, devices that fail
-//! command_lines                    what words ask for, and the status and word of each end
+//! command_lines                    what words ask for, and the status and sentence of each end
+//! states                           the state after a transcript, and texts without one
 //! formats                          texts of format two, beside texts of format one
 //! changes                          what is told of a feed but its rows; seeds
 //! followed                         feeds that are followed: faulty lines, limits, the guide to caches

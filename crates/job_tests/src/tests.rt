@@ -14,6 +14,7 @@ mod in_time;
 mod long;
 mod playing;
 mod random;
+mod states;
 mod transactions;
 mod unfolding;
 
@@ -24,7 +25,7 @@ use long::{
     altered, are_right, followed, is_checked, long_transcript, messages, reads_may_fail,
     writes_may_fail,
 };
-use playing::{is_played, is_right, is_yes, race, ran, script_of};
+use playing::{is_live_right, is_played, is_right, is_yes, race, ran, script_of};
 use random::{Dice, Shape, script};
 use std::test::Fail;
 use text_format::Format;
@@ -45,6 +46,8 @@ fn all_cases(rt: HostRuntime) {
         followed::CACHES,
         followed::FAILING,
         changes::CHANGES,
+        states::STATES,
+        states::STATELESS,
     ] {
         for case in cases.split("@ ").skip(1) {
             assert!(rt; is_right(&rt, rt.alloc(), case) == Some(true), "{case}");
@@ -65,6 +68,14 @@ fn all_transcripts(rt: HostRuntime) {
                 "{transcript}"
             );
         }
+    }
+}
+
+/// A live state is the whole one without the members `removable` and `untold`, which end their lines.
+#[test]
+fn live_states(rt: HostRuntime) {
+    for case in states::STATES.split("@ ").skip(1) {
+        assert!(rt; is_live_right(rt.alloc(), case) == Some(true), "{case}");
     }
 }
 
@@ -113,7 +124,16 @@ fn timestamps_of_any_shape_are_answered_right(rt: HostRuntime) {
 fn a_check_of_many_blocks(rt: HostRuntime) -> Result<(), Fail> {
     let transcript = long_transcript(rt.alloc())?;
     for piece in [1, 7, 4096, 65536, usize::MAX] {
-        assert!(rt; is_checked(rt.alloc(), &transcript, piece, None, End::No, b"no 4000\n"));
+        assert!(rt;
+            is_checked(
+                rt.alloc(),
+                &transcript,
+                piece,
+                None,
+                End::No { position: 4000 },
+                b"no 4000\n"
+            )
+        );
         // within a line, behind a whole line, in the second block, and in the place of the end
         for length in [5000, 21, 70000, transcript.len()] {
             assert!(rt;

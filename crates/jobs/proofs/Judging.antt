@@ -10,31 +10,35 @@ use Rattle.trace_check.specs.declared.checker.Checker.{Checker}
 use Rattle.trace_check.specs.declared.Verdict.TheVariants.{Yes, No}
 use Rattle.trace_check.specs.Checkers.{StandsFor, JudgesNext, TakesNext}
 use Rattle.trace_check.specs.Traces.{IsTrace, IsFirstWrong}
-use Rattle.jobs.specs.Verdicts.{IsJudged}
-use Rattle.jobs.specs.Judging.{IsAhead}
+use Rattle.jobs.specs.Judging.{IsAhead, IsJudged}
 
 -- the events that were read so far are a trace, which a checker has taken; so few are there in all that a number counts them
 pub record IsJudging (total : Result (List Event) Fault) (left : Transcript) (checker : Checker) : Type 0 where
   pub taken : List Event
   pub so_far : total ≡ behind taken left
   pub trace : StandsFor checker taken
-  pub few : length taken + length left.events < 18446744073709551616
+  pub few : length taken + length left.events < 18446744073709551615
 
 -- no event was read yet
-pub judging_all : (left : Transcript) (checker : Checker) → StandsFor checker [] → length left.events < 18446744073709551616 → IsJudging (outcome left) left checker
+pub judging_all : (left : Transcript) (checker : Checker) → StandsFor checker [] → length left.events < 18446744073709551615 → IsJudging (outcome left) left checker
 judging_all left checker trace few = record { taken = []; so_far = refl; trace = trace; few = omega arith }
 
 -- no event is left
-pub judging_ends : (total : Result (List Event) Fault) (left : Transcript) (checker : Checker) → left ≡ nothing_left → IsJudging total left checker → IsJudged total Yes
-judging_ends total left checker none judging = (judging.taken, reads_end judging.taken left total none judging.so_far, judging.trace.trace)
+pub judging_ends : (total : Result (List Event) Fault) (left : Transcript) (checker : Checker) → left ≡ nothing_left → IsJudging total left checker → IsJudged total checker Yes
+judging_ends total left checker none judging = record {
+  events = judging.taken;
+  is = reads_end judging.taken left total none judging.so_far;
+  stands = judging.trace;
+  few = omega (arith, judging.few);
+}
 
 -- the next event is faulty
 pub judging_fails : (error : TranscriptError) (total : Result (List Event) Fault) (left : Transcript) (checker : Checker) → IsFaulty error left → IsJudging total left checker → Fails error total
 judging_fails error total left checker faulty judging = reads_fail error judging.taken left total faulty judging.so_far
 
 -- what is left in front is counted
-few_front : (taken : List Event) (e : Event) (left left' : Transcript) → IsAhead e left left' → length taken + length left.events < 18446744073709551616
-    → (length taken < 18446744073709551615) × (length (taken ++ e ∷ []) + length left'.events < 18446744073709551616)
+few_front : (taken : List Event) (e : Event) (left left' : Transcript) → IsAhead e left left' → length taken + length left.events < 18446744073709551615
+    → (length taken < 18446744073709551615) × (length (taken ++ e ∷ []) + length left'.events < 18446744073709551615)
 few_front taken e left left' is few =
     let all : length left.events ≡ length (e ∷ left'.events) = ap (λ (t : Transcript). length t.events) is in
     (omega (arith, all), omega (arith, all, length-append taken (e ∷ [])))
@@ -52,9 +56,9 @@ judging_goes_on total left left' checker checker' e is takes judging =
     }
 
 -- the next event is the first wrong one, and behind it no fault is left
-pub judging_stops : (total : Result (List Event) Fault) (left left' : Transcript) (checker : Checker) (e : Event) → IsAhead e left left' → JudgesNext checker e false → left'.fault ≡ None
-    → IsJudging total left checker → IsJudged total (No e.position)
-judging_stops total left left' checker e is judges whole judging =
+pub judging_stops : (total : Result (List Event) Fault) (left left' : Transcript) (checker checker' : Checker) (e : Event) → IsAhead e left left' → JudgesNext checker e false → left'.fault ≡ None
+    → IsJudging total left checker → IsJudged total checker' (No e.position)
+judging_stops total left left' checker checker' e is judges whole judging =
     let few = few_front judging.taken e left left' is judging.few in
     let wrong : IsFirstWrong (judging.taken ++ e ∷ left'.events) e.position = record {
       before = judging.taken;

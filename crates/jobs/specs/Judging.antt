@@ -1,11 +1,18 @@
--- What a checker says of the next event of a transcript.
-use Rattle.std.specs.Prelude.{◌≡◌, ◌∷◌, true, false}
+-- What a checker says of a transcript, event by event and at its end.
+use Rattle.std.specs.Prelude.{◌≡◌, ◌≢◌, ◌<◌, ℕ, List, ◌∷◌, length, true, false, Result, Ok}
+use Rattle.text_format.specs.Limits.{format_of}
 use Rattle.spans.specs.declared.calls.events.Event.{Event}
-use Rattle.script.specs.Transcripts.{Transcript, nothing_left}
+use Rattle.script.specs.Transcripts.{Fault, Transcript, nothing_left, transcript_at}
+use Rattle.trace_check.specs.Traces.{IsFirstWrong}
+use Rattle.trace_check.specs.declared.Verdict.{Verdict}
+use Rattle.trace_check.specs.declared.Verdict.TheVariants as verdict
 use Rattle.trace_check.specs.declared.checker.Checker.{Checker}
-use Rattle.trace_check.specs.Checkers.{JudgesNext, TakesNext}
+use Rattle.trace_check.specs.Checkers.{StandsFor, JudgesNext, TakesNext}
+use Rattle.jobs.specs.declared.ending.End.{End}
+use Rattle.jobs.specs.declared.ending.End.TheVariants as ends
 use Rattle.jobs.specs.declared.verdicts.Next.{Next}
-use Rattle.jobs.specs.declared.verdicts.Next.TheVariants.{Right, Wrong, End}
+use Rattle.jobs.specs.declared.verdicts.Next.TheVariants as next
+use Rattle.jobs.specs.Verdicts.{IsVerdict}
 
 -- the event stands in front of what is left behind it
 abbrev pub IsAhead : Event → Transcript → Transcript → Type 0
@@ -13,6 +20,26 @@ IsAhead e left left' = left ≡ record { events = e ∷ left'.events; fault = le
 
 -- the next event was read, and the checker has taken it, or it isn't right; or there is none
 abbrev pub IsNext : Transcript → Transcript → Checker → Checker → Next → Type 0
-IsNext left left' checker checker' Right = (e : Event) × IsAhead e left left' × TakesNext checker checker' e true
-IsNext left left' checker checker' (Wrong position) = (e : Event) × IsAhead e left left' × (e.position ≡ position) × JudgesNext checker e false
-IsNext left left' checker checker' End = left ≡ nothing_left
+IsNext left left' checker checker' next.Right = (e : Event) × IsAhead e left left' × TakesNext checker checker' e true
+IsNext left left' checker checker' (next.Wrong position) = (e : Event) × IsAhead e left left' × (e.position ≡ position) × JudgesNext checker e false
+IsNext left left' checker checker' next.End = (left ≡ nothing_left) × (checker' ≡ checker)
+
+-- the transcript could be read, and the checker has taken all of its events, which a number counts
+pub record HasTakenAll (read : Result (List Event) Fault) (checker : Checker) : Type 0 where
+  pub events : List Event
+  pub is : read ≡ Ok events
+  pub stands : StandsFor checker events
+  pub few : length events < 18446744073709551615
+
+-- what is said of a transcript that could be read: that the checker has taken all of its events, or where they first go wrong
+abbrev pub IsJudged : Result (List Event) Fault → Checker → Verdict → Type 0
+IsJudged read checker verdict.Yes = HasTakenAll read checker
+IsJudged read checker (verdict.No position) = (events : List Event) × (read ≡ Ok events) × IsFirstWrong events position
+
+-- the checker has taken all events of a text
+abbrev pub HasTakenText : List ℕ → Checker → Type 0
+HasTakenText text checker = HasTakenAll (transcript_at (format_of text) text) checker
+
+-- what is said of a text that isn't that of a trace
+abbrev pub IsRefusal : List ℕ → End → List ℕ → Type 0
+IsRefusal text end out = (end ≢ ends.Done) × IsVerdict text end out

@@ -1,5 +1,6 @@
 pub mod Verdicts
 pub mod Judging
+pub mod States
 pub mod Ends
 pub mod Answers
 pub mod Races

@@ -18,7 +18,7 @@ pub enum End {
     /// A line of a feed can't be followed. The output says so too, as its last line.
     Unfollowed { line: u64, fault: FollowFault },
     /// What was checked is not right. The output says at which event.
-    No,
+    No { position: u64 },
     /// No position is left for another call. The output says at which line, as its last line.
     Spent,
     /// The database was not opened. Nothing was written.

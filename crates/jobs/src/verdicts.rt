@@ -1,10 +1,10 @@
 //! What is said of a transcript, apart from where it comes from and where the answer goes.
-ghost use Rattle.std.specs.Prelude.{◌≡◌, ◌<◌, ◌++◌, [], length, IfOk, OnOk, MatchResult, None, decimal, codes};
+ghost use Rattle.std.specs.Prelude.{◌≡◌, ◌<◌, ◌++◌, [], length, IfOk, IfSome, OnOk, MatchResult, None, decimal, codes};
 ghost use Rattle.text_format.specs.Limits.{format_of};
 ghost use Rattle.script.specs.Transcripts.{Fails, IsFaulty, outcome, transcript_at};
 ghost use Rattle.trace_check.specs.Checkers.{StandsFor};
-ghost use Rattle.jobs.specs.Verdicts.{IsJudged, IsVerdict};
-ghost use Rattle.jobs.specs.Judging.{IsNext};
+ghost use Rattle.jobs.specs.Verdicts.{IsVerdict};
+ghost use Rattle.jobs.specs.Judging.{IsJudged, IsNext, IsRefusal, HasTakenText};
 
 use crate::ending::End;
 use json_lines::numbers::put_number;
@@ -23,34 +23,49 @@ use word_lines::events::write_fault;
 pub fn verdict(alloc: Global, text: &[u8]) -> Result<(End, Vec<u8>), AllocError>
     ensures { IfOk result (λ answer. IsVerdict text.now answer.0 answer.1.items) }
 {
+    let mut checker = Checker::new(alloc);
+    if let Some(refused) = refusal(alloc, text, &mut checker)? {
+        return Ok(refused);
+    }
     let mut answer = Vec::new(alloc);
-    match judge(alloc, text) {
+    answer.extend_from_slice(b"yes\n")?;
+    Ok((End::Done, answer))
+}
+
+/// What is said of a text that isn't a transcript which the database could have written. Of another the checker,
+/// which has taken nothing before, has taken all events.
+pub(crate) fn refusal(
+    alloc: Global,
+    text: &[u8],
+    checker: &mut Checker,
+) -> Result<Option<(End, Vec<u8>)>, AllocError>
+    requires fresh { StandsFor checker.old [] }
+    ensures refused { IfOk result (λ refused. IfSome refused (λ answer. IsRefusal text.now answer.0 answer.1.items)) }
+    ensures taken { IfOk result (λ refused. refused ≡ None → HasTakenText text.now checker.new) }
+{
+    let mut answer = Vec::new(alloc);
+    match judge(alloc, text, checker) {
         Err(TranscriptError::NoMemory) => Err(AllocError),
         Err(TranscriptError::Fault { line, fault }) => {
             write_fault(&mut answer, line, fault)?;
-            Ok((End::Faulty { line, fault }, answer))
-        }
-        Ok(Verdict::Yes) => {
-            answer.extend_from_slice(b"yes\n")?;
-            Ok((End::Done, answer))
+            Ok(Some((End::Faulty { line, fault }, answer)))
         }
         Ok(Verdict::No { position }) => {
             put_no(&mut answer, position)?;
-            Ok((End::No, answer))
+            Ok(Some((End::No { position }, answer)))
         }
+        Ok(Verdict::Yes) => Ok(None),
     }
 }
 
-/// What is said of the events of a transcript, in the format that it is in. A fault anywhere in it is told before a
-/// wrong event.
-fn judge(alloc: Global, text: &[u8]) -> Result<Verdict, TranscriptError>
-    ensures { MatchResult result (IsJudged (transcript_at (format_of text.now) text.now)) (λ e. Fails e (transcript_at (format_of text.now) text.now)) }
+/// Has a checker that has taken nothing judge the events of a transcript, in the format that it is in. A fault
+/// anywhere in it is told before a wrong event.
+fn judge(alloc: Global, text: &[u8], checker: &mut Checker) -> Result<Verdict, TranscriptError>
+    requires fresh { StandsFor checker.old [] }
+    ensures { MatchResult result (IsJudged (transcript_at (format_of text.now) text.now) checker.new) (λ e. Fails e (transcript_at (format_of text.now) text.now)) }
 {
     match Events::new(text, Format::of_transcript(text)) {
-        Ok(mut events) => {
-            let mut checker = Checker::new(alloc);
-            judge_all(alloc, &mut events, &mut checker)
-        }
+        Ok(mut events) => judge_all(alloc, &mut events, checker),
         Err(e) => Err(e),
     }
 }
@@ -61,9 +76,9 @@ fn judge_all(
     events: &mut Events,
     checker: &mut Checker,
 ) -> Result<Verdict, TranscriptError>
-    requires few { length events.old.events < 18446744073709551616 }
+    requires few { length events.old.events < 18446744073709551615 }
     requires fresh { StandsFor checker.old [] }
-    ensures { MatchResult result (IsJudged (outcome events.old)) (λ e. Fails e (outcome events.old)) }
+    ensures { MatchResult result (IsJudged (outcome events.old) checker.new) (λ e. Fails e (outcome events.old)) }
 {
     loop {
         match judge_next(alloc, events, checker)? {

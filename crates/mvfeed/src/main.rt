@@ -10,19 +10,24 @@
 //! 1 0 begin 10 => started
 //! $ printf '0 0 begin 10 => tsused\n' | mvfeed check
 //! no 0
+//! $ printf '0 0 begin 10 => started\n' | mvfeed state
+//! {"kind":"database","closed":"0","horizon":"0","limit":"0","holder":"closed",..}
+//! {"kind":"transaction","timestamp":"10","seat":"0","keys":"0"}
 //! $ printf '{"resolved":"5"}\n' | mvfeed follow --cursor 0
 //! resolved 5 0
 //! ```
 //!
 //! What each command does is a function of the crate `jobs`, over its options, a source and a sink, that
-//! answers an `End`. Which job the words ask for, and which status and word an end leaves, is said by the crate
+//! answers an `End`. Which job the words ask for, and which status and sentence an end leaves, is said by the crate
 //! `command_line`. Here they meet standard input and output.
 //!
 //! Tests: `examples/check`, outside the gate.
 #![tactic(auto)]
 
 use command_line::{Job, Seeded, command, job_in, status};
-use jobs::{End, FollowOptions, SeedError, check_io, follow_io, race_io, run_io, seed_of};
+use jobs::{
+    End, FollowOptions, SeedError, check_io, follow_io, race_io, run_io, seed_of, state_io,
+};
 use races::Open;
 use sessions::{Reading, Sink, Source, Writing};
 use std::alloc::Global;
@@ -66,6 +71,7 @@ fn done<S: Source, K: Sink, R: Threads + Wait + Sync + Files + AllocGlobal + Epr
         Job::Run(options, format) => run_io(rt, alloc, options, format, input, output),
         Job::Race(options) => race_io(rt, alloc, options, &Open, input, output),
         Job::Check => check_io(alloc, input, output),
+        Job::State(detail) => state_io(alloc, detail, input, output),
         Job::Follow(options) => follow_io(alloc, options, input, output),
         Job::FollowSeed(seeded) => follow_io(alloc, options_of(rt, &seeded)?, input, output),
     };

@@ -1,14 +1,15 @@
 //! What the program's command lines ask for, and what it leaves its caller.
 
-use command_line::status::{status_of, word_of};
+use command_line::status::{sentence_of, status_of};
 use command_line::{Job, command, job_in};
 use jobs::{End, FollowFault, FollowOptions, span_of};
 use sessions::OpenError;
 use std::alloc::{AllocError, Global};
+use word_lines::fault::LineFault;
 
 /// Command lines, whose words commas part, with what each asks for: `run` with its seats, its ring, its first position and
-/// its format, `race` with its sessions, its ring and its format, `check`, or `follow` with its bounds, its start, its feed,
-/// what is told of the rows and whether completeness is, and its format. Others are refused.
+/// its format, `race` with its sessions, its ring and its format, `check`, `state` with how much is told, or `follow` with its
+/// bounds, its start, its feed, what is told of the rows and whether completeness is, and its format. Others are refused.
 const LINES: &str = "mvfeed,run => run 64 1024 0 One
 mvfeed,run,--seats,1 => run 1 1024 0 One
 mvfeed,run,--ring,65536 => run 64 65536 0 One
@@ -47,6 +48,13 @@ mvfeed,race,2,--ring,0 => refused
 mvfeed,race,2,--first,1 => refused
 mvfeed,check => check
 mvfeed,check,--ring,1 => refused
+mvfeed,state => state Whole
+mvfeed,state,--live => state Live
+mvfeed,state,--live,--live => refused
+mvfeed,state,--live=yes => refused
+mvfeed,state,--format,2 => refused
+mvfeed,state,it => refused
+mvfeed,--live => refused
 mvfeed,follow,--cursor,0 => follow - - Cursor(0) None Count false One
 mvfeed,follow,--lo=-a,--hi,%25,--initial,9223372036854775807,--feed,18446744073709551615,--view => follow -a %25 Initial(9223372036854775807) Some(18446744073709551615) Rows false One
 mvfeed,follow,--lo,-,--cursor,7 => follow - - Cursor(7) None Count false One
@@ -103,6 +111,7 @@ fn is_asked(alloc: Global, line: &str) -> Option<bool> {
             )
         }
         Some(Job::Check) => Some(wanted == "check"),
+        Some(Job::State(detail)) => is_text(wanted, format!(in alloc; "state {detail:?}")),
         Some(Job::Follow(options)) => is_followed(alloc, &options, wanted),
         Some(Job::FollowSeed(seeded)) => {
             let (file, feed, shown) = (&seeded.file, seeded.feed, seeded.shown);
@@ -120,11 +129,16 @@ fn is_text(wanted: &str, told: Result<String, AllocError>) -> Option<bool> {
 }
 
 fn job_of_words(alloc: Global, words: &str) -> Option<Job> {
+    let words = words_in(alloc, words)?;
+    job_in(alloc, command(alloc).ok()?, words.as_slice()).ok()
+}
+
+fn words_in<'a>(alloc: Global, words: &'a str) -> Option<Vec<&'a str>> {
     let mut list = Vec::new(alloc);
     for word in words.split(',') {
         list.push(word).ok()?;
     }
-    job_in(alloc, command(alloc).ok()?, list.as_slice()).ok()
+    Some(list)
 }
 
 fn is_followed(alloc: Global, options: &FollowOptions, wanted: &str) -> Option<bool> {
@@ -138,18 +152,15 @@ fn is_followed(alloc: Global, options: &FollowOptions, wanted: &str) -> Option<b
     Some(options.span == span && told.as_str() == rest)
 }
 
-/// Each end, with its status and its word.
+/// Each end but those of faulty lines, with its status and its sentence.
 const ENDS: [(End, u8, &str); 11] = [
     (End::Done, 0, ""),
+    (End::NoMessages, 0, "the input has no message to follow"),
     (
-        End::Unfollowed {
-            line: 2,
-            fault: FollowFault::NoNewline,
-        },
-        2,
-        "",
+        End::No { position: 7 },
+        3,
+        "the event at position 7 can't be right",
     ),
-    (End::No, 3, ""),
     (End::Open(OpenError::SeatCount), 1, "seats"),
     (End::Open(OpenError::RingSize), 1, "ring"),
     (End::Open(OpenError::NoMemory), 1, "memory"),
@@ -160,12 +171,180 @@ const ENDS: [(End, u8, &str); 11] = [
     (End::Spent, 1, "spent"),
 ];
 
+/// Each fault of a script or of a transcript, with its sentence at line 2.
+const LINE_FAULTS: [(LineFault, &str); 11] = [
+    (
+        LineFault::WordCount,
+        "line 2 is empty, or has an empty word, or the wrong number of words",
+    ),
+    (
+        LineFault::UnknownCommand,
+        "line 2 has a command that there isn't",
+    ),
+    (LineFault::Number, "line 2 has no number where one belongs"),
+    (
+        LineFault::KeyLength,
+        "line 2 has a key of no bytes, or a key or a bound that is too long",
+    ),
+    (
+        LineFault::ValueLength,
+        "line 2 has a value that is too long",
+    ),
+    (
+        LineFault::Session,
+        "line 2 has a session that isn't a number below the number of sessions",
+    ),
+    (LineFault::NoNewline, "line 2 has no newline at its end"),
+    (
+        LineFault::LineTooLong,
+        "line 2 is longer than the format lets it be",
+    ),
+    (
+        LineFault::BadByte,
+        "line 2 has a byte outside printable ASCII, or a word that spells no bytes",
+    ),
+    (LineFault::Reply, "line 2 has no answer behind its `=>`"),
+    (
+        LineFault::Follow,
+        "line 2 isn't what has to follow the answer above it",
+    ),
+];
+
+/// Each fault of a feed that is followed, with its sentence at the last line that there can be.
+const FOLLOW_FAULTS: [(FollowFault, &str); 10] = [
+    (FollowFault::NotJson, "line 18446744073709551615 is no JSON"),
+    (
+        FollowFault::Shape,
+        "line 18446744073709551615 isn't written as a message is",
+    ),
+    (
+        FollowFault::Number,
+        "line 18446744073709551615 has a timestamp that is no number, or out of range",
+    ),
+    (
+        FollowFault::Base64,
+        "line 18446744073709551615 has a key or a value that isn't base64",
+    ),
+    (
+        FollowFault::Length,
+        "line 18446744073709551615 has a key of no bytes, or a key or a value that is too long",
+    ),
+    (
+        FollowFault::NoNewline,
+        "line 18446744073709551615 has no newline at its end",
+    ),
+    (
+        FollowFault::LineTooLong,
+        "line 18446744073709551615 is longer than the format lets it be",
+    ),
+    (
+        FollowFault::NotAfter,
+        "line 18446744073709551615 has a row that doesn't come after the messages above it",
+    ),
+    (
+        FollowFault::OutsideSpan,
+        "line 18446744073709551615 has a key outside the span",
+    ),
+    (
+        FollowFault::ResolvedBack,
+        "line 18446744073709551615 resolves what the messages above it have passed",
+    ),
+];
+
 #[test]
-fn statuses(rt: HostRuntime) {
-    for (end, status, word) in ENDS {
+fn ends(rt: HostRuntime) {
+    for (end, status, sentence) in ENDS {
         assert!(rt;
-            status_of(end) == status && word_of(end).unwrap_or("") == word,
-            "{word}"
+            is_left(rt.alloc(), end, status, sentence) == Some(true),
+            "{sentence}"
         );
     }
+    for (fault, sentence) in LINE_FAULTS {
+        let end = End::Faulty { line: 2, fault };
+        assert!(rt;
+            is_left(rt.alloc(), end, 2, sentence) == Some(true),
+            "{sentence}"
+        );
+    }
+    for (fault, sentence) in FOLLOW_FAULTS {
+        let end = End::Unfollowed {
+            line: u64::MAX,
+            fault,
+        };
+        assert!(rt;
+            is_left(rt.alloc(), end, 2, sentence) == Some(true),
+            "{sentence}"
+        );
+    }
+}
+
+/// Whether an end leaves a status and a sentence, which is none where it is empty.
+fn is_left(alloc: Global, end: End, status: u8, wanted: &str) -> Option<bool> {
+    if status_of(end) != status {
+        return Some(false);
+    }
+    match sentence_of(end) {
+        None => Some(wanted.is_empty()),
+        Some(sentence) => is_text(wanted, format!(in alloc; "{sentence}")),
+    }
+}
+
+/// Words that ask for help or for the version, with how the text begins, and how it ends.
+const TEXTS: [(&str, &str, &str); 9] = [
+    (
+        "mvfeed,--version",
+        "mvfeed 0.1.0\nproved with rattle-kit-",
+        "\n",
+    ),
+    ("mvfeed,-V", "mvfeed 0.1.0\nproved with rattle-kit-", "\n"),
+    ("mvfeed,help", "A multiversion timestamp database", GUIDE),
+    ("mvfeed,--help", "A multiversion timestamp database", GUIDE),
+    (
+        "mvfeed,run,--help",
+        "Make the calls of a script,",
+        "\n  2 0 commit 10 => committed 1\n",
+    ),
+    (
+        "mvfeed,race,-h",
+        "Make the calls of a script's",
+        " | mvfeed check\n  yes\n",
+    ),
+    (
+        "mvfeed,help,check",
+        "Say whether a transcript",
+        " | mvfeed check\n  no 1\n",
+    ),
+    (
+        "mvfeed,state,--help",
+        "Write the state after",
+        ",\"seat\":\"3\",\"keys\":\"1\"}\n",
+    ),
+    (
+        "mvfeed,help,follow",
+        "Apply a feed's messages",
+        "\n  resolved 12 1\n  row a 1\n",
+    ),
+];
+
+/// How the program's help ends.
+const GUIDE: &str = "The guide is docs/GUIDE.md. The help of each command ends with an example.\n";
+
+#[test]
+fn help_and_version(rt: HostRuntime) {
+    for (words, begin, end) in TEXTS {
+        assert!(rt;
+            is_printed(rt.alloc(), words, begin, end) == Some(true),
+            "{words}"
+        );
+    }
+}
+
+/// Whether words ask for a text that begins so, and ends so.
+fn is_printed(alloc: Global, words: &str, begin: &str, end: &str) -> Option<bool> {
+    let words = words_in(alloc, words)?;
+    let Err(error) = job_in(alloc, command(alloc).ok()?, words.as_slice()) else {
+        return Some(false);
+    };
+    let text = format!(in alloc; "{error}").ok()?;
+    Some(error.exit_code() == 0 && text.starts_with(begin) && text.ends_with(end))
 }

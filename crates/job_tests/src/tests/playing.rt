@@ -2,8 +2,8 @@
 use super::devices::{Sink, Source};
 use super::unfolding::{Words, unfolded};
 use jobs::{
-    DEFAULTS, End, FollowOptions, RaceOptions, Shown, Start, check_io, follow_io, race_io, run_io,
-    span_of,
+    DEFAULTS, Detail, End, FollowOptions, RaceOptions, Shown, Start, check_io, follow_io, race_io,
+    run_io, span_of, state_io,
 };
 use races::Open;
 use sessions::{Config, OpenError, Reading, Writing};
@@ -42,9 +42,38 @@ pub(super) fn is_right<R: Threads + Wait + Sync>(
             if word_of(ended) != end || sink.taken.as_slice() != output.as_slice() {
                 return Some(false);
             }
+            if !is_told(alloc, ended, &output)? {
+                return Some(false);
+            }
         }
     }
     Some(true)
+}
+
+/// Whether the live state of a case of a whole one is the same, without the counts.
+pub(super) fn is_live_right(alloc: Global, case: &str) -> Option<bool> {
+    let (_, rest) = case.split_once('\n')?;
+    let (input, rest) = rest.split_once("= ")?;
+    let (_, whole) = rest.split_once('\n')?;
+    let input = unfolded(alloc, input).ok()?;
+    let wanted = unfolded(alloc, without_counts(alloc, whole).ok()?.as_str()).ok()?;
+    let mut sink = Sink::new(alloc);
+    let end = state(alloc, Detail::Live, Source::new(&input), &mut sink);
+    Some(end == End::Done && sink.taken.as_slice() == wanted.as_slice())
+}
+
+/// The lines of a state, as a case writes it, each without a count at its end.
+fn without_counts(alloc: Global, whole: &str) -> Result<String, AllocError> {
+    let mut live = String::new(alloc);
+    for line in whole.lines() {
+        let (members, _) = line
+            .split_once(",'removable'")
+            .or(line.split_once(",'untold'"))
+            .unwrap_or((line.strip_suffix('}').unwrap_or(line), ""));
+        live.push_str(members)?;
+        live.push_str("}\n")?;
+    }
+    Ok(live)
 }
 
 /// The number behind a word, if there is one.
@@ -59,7 +88,7 @@ fn word_of(end: End) -> &'static str {
         End::Done => "done",
         End::Faulty { .. } | End::Unfollowed { .. } => "faulty",
         End::NoMessages => "nothing",
-        End::No => "no",
+        End::No { .. } => "no",
         End::Input => "input",
         End::Output => "output",
         End::Open(OpenError::SeatCount) => "seats",
@@ -67,6 +96,21 @@ fn word_of(end: End) -> &'static str {
         End::Spent => "spent",
         _ => "other",
     }
+}
+
+/// Whether an output ends with the line that tells what its end tells.
+fn is_told(alloc: Global, end: End, output: &[u8]) -> Option<bool> {
+    let line = match end {
+        End::Faulty { line, fault } => fault_line(alloc, line, fault.code(), fault.name()),
+        End::Unfollowed { line, fault } => fault_line(alloc, line, fault.code(), fault.name()),
+        End::No { position } => format!(in alloc; "no {position}\n"),
+        _ => return Some(true),
+    };
+    Some(output.ends_with(line.ok()?.as_bytes()))
+}
+
+fn fault_line(alloc: Global, line: u64, code: u8, name: &str) -> Result<String, AllocError> {
+    format!(in alloc; "fault {line} {code} {name}\n")
 }
 
 /// How what a header asks for ends.
@@ -84,6 +128,7 @@ fn done<R: Threads + Wait + Sync>(
             Some(run(rt, alloc, config, format_of(header), source, sink))
         }
         b"check" => Some(check(alloc, source, sink)),
+        b"state" => Some(state(alloc, detail_of(&mut words), source, sink)),
         b"race" => {
             let mut options = race_options_of(&mut words)?;
             options.format = format_of(header);
@@ -100,6 +145,15 @@ fn done<R: Threads + Wait + Sync>(
             let source = Source::new(&played.taken);
             Some(follow(alloc, follow_options_of(alloc, &mut words)?, source, sink))
         }
+    }
+}
+
+/// How much of a state a header asks for.
+fn detail_of(words: &mut Words<'_>) -> Detail {
+    if words.word() == "live" {
+        Detail::Live
+    } else {
+        Detail::Whole
     }
 }
 
@@ -174,6 +228,13 @@ pub(super) fn check(alloc: Global, source: Source<'_>, sink: &mut Sink) -> End {
     let mut input = Reading::new(source);
     let mut output = Writing::new(sink);
     check_io(alloc, &mut input, &mut output)
+}
+
+/// How the telling of a state ends that does.
+pub(super) fn state(alloc: Global, detail: Detail, source: Source<'_>, sink: &mut Sink) -> End {
+    let mut input = Reading::new(source);
+    let mut output = Writing::new(sink);
+    state_io(alloc, detail, &mut input, &mut output)
 }
 
 /// How a race ends that does.

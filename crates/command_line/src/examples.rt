@@ -1,0 +1,35 @@
+//! The examples that end the help of each command, with what they print. `examples/check` runs them.
+
+/// The example of a command.
+pub(crate) fn example_of(command: &str) -> &'static str {
+    match command.as_bytes() {
+        b"run" => RUN,
+        b"race" => RACE,
+        b"check" => CHECK,
+        b"state" => STATE,
+        _ => FOLLOW,
+    }
+}
+
+const RUN: &str = "Example:
+  $ printf '0 begin 10\\n0 put 10 a 1\\n0 commit 10\\n' | mvfeed run
+  0 0 begin 10 => started
+  1 0 put 10 a 1 => written
+  2 0 commit 10 => committed 1";
+
+const RACE: &str = "Example:
+  $ printf '0 begin 10\\n1 begin 20\\n' | mvfeed race 2 | mvfeed check
+  yes";
+
+const CHECK: &str = "Example:
+  $ printf '0 0 begin 10 => started\\n1 0 commit 10 => ended\\n' | mvfeed check
+  no 1";
+
+const STATE: &str = "Example:
+  $ printf '0 3 begin 10 => started\\n1 3 put 10 a 1 => written\\n' | mvfeed state | tail -n 1
+  {\"kind\":\"transaction\",\"timestamp\":\"10\",\"seat\":\"3\",\"keys\":\"1\"}";
+
+const FOLLOW: &str = "Example:
+  $ printf '{\"after\":\"MQ==\",\"key\":\"YQ==\",\"updated\":\"10\"}\\n{\"resolved\":\"12\"}\\n' | mvfeed follow --cursor 0 --view
+  resolved 12 1
+  row a 1";

@@ -1,0 +1,32 @@
+-- How a state is told: by the report of what a checker has taken, or as a check says that there is none.
+use Rattle.std.proofs.Common.{◌≡◌, ℕ, List, refl, arith}
+use Rattle.spans.specs.declared.report.Report.{Report}
+use Rattle.trace_check.specs.declared.checker.Checker.{Checker}
+use Rattle.trace_check.specs.Checkers.{Reports}
+use Rattle.report_lines.specs.Lines.{report_text}
+use Rattle.jobs.specs.declared.ending.End.{End}
+use Rattle.jobs.specs.declared.ending.End.TheVariants as ends
+use Rattle.jobs.specs.declared.state.Detail.{Detail}
+use Rattle.jobs.specs.Judging.{HasTakenText, IsRefusal}
+use Rattle.jobs.specs.States.{is_whole, IsState}
+
+-- what is said of a text that isn't a trace's is said in the place of its state
+pub refused_state : (detail : Detail) (text : List ℕ) (end : End) (out : List ℕ) → IsRefusal text end out → IsState detail text end out
+refused_state detail text ends.Done out refusal = absurd (refusal.0 refl)
+refused_state detail text ends.NoMessages out refusal = refusal.1
+refused_state detail text (ends.Faulty line fault) out refusal = refusal.1
+refused_state detail text (ends.Unfollowed line fault) out refusal = refusal.1
+refused_state detail text (ends.No position) out refusal = refusal.1
+refused_state detail text ends.Spent out refusal = refusal.1
+refused_state detail text (ends.Open reason) out refusal = refusal.1
+refused_state detail text ends.Input out refusal = refusal.1
+refused_state detail text ends.Output out refusal = refusal.1
+refused_state detail text ends.Memory out refusal = refusal.1
+refused_state detail text ends.Thread out refusal = refusal.1
+
+-- the report of a checker that has taken all events of a text is the text's state
+pub reported_state : (detail : Detail) (text : List ℕ) (checker : Checker) (r : Report) (out : List ℕ) → HasTakenText text checker → Reports checker (is_whole detail) r
+    → out ≡ report_text r → IsState detail text ends.Done out
+reported_state detail text checker r out taken reports told =
+    let right = reports taken.events taken.stands (omega (arith, taken.few)) in
+    (taken.events, taken.is, taken.stands.trace, (r, right.0, right.1, told))

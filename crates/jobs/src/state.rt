@@ -1,0 +1,72 @@
+//! The state after a transcript is told.
+ghost use Rattle.std.specs.Prelude.{◌≡◌, IfOk};
+ghost use Rattle.jobs.specs.Answers.{IsAnswered};
+ghost use Rattle.jobs.specs.Ends.{FailsAt};
+ghost use Rattle.jobs.specs.States.{IsState, is_whole};
+
+use crate::ending::{End, told};
+use crate::verdicts::refusal;
+use report_lines::write_report;
+use sessions::{Sink, Source, read_whole, write_whole};
+use std::alloc::{AllocError, Global};
+use trace_check::checker::Checker;
+
+/// How much is told of a state.
+#[derive(Clone, Copy, Debug, PartialEq, Eq)]
+pub enum Detail {
+    /// All of it.
+    Whole,
+    /// All but the two counts that a database in use can't tell.
+    Live,
+}
+
+impl Detail {
+    fn is_whole(self) -> bool
+        ensures { result ≡ is_whole self }
+    {
+        match self {
+            Detail::Whole => true,
+            Detail::Live => false,
+        }
+    }
+}
+
+/// Reads a transcript, and writes the state after its last event: lines of JSON, whole or live. Where it isn't one that the
+/// database could have written it answers as `check` does: `no P`, or the fault line.
+pub fn state_io<S: Source, K: Sink>(
+    alloc: Global,
+    detail: Detail,
+    input: &mut S,
+    output: &mut K,
+) -> End
+    ensures answered { IsAnswered (IsState detail) (S.given input.old) (S.given input.new) (S.ended input.new) (K.taken output.old) (K.taken output.new) result }
+    ensures failed { FailsAt result (S.failures input.old) (S.failures input.new) (K.failures output.old) (K.failures output.new) }
+{
+    let text = match read_whole(alloc, input) {
+        Ok(text) => text,
+        Err(end) => return told(end),
+    };
+    let (end, answer) = match state_text(alloc, detail, text.as_slice()) {
+        Ok(answered) => answered,
+        Err(_) => return End::Memory,
+    };
+    match write_whole(output, answer.as_slice()) {
+        Ok(()) => end,
+        Err(_) => End::Output,
+    }
+}
+
+/// How [`state_io`] ends on a text, and what it writes. It costs what [`verdict`](crate::verdict) does, and the report.
+#[tactic(auto, using(crate::proofs::States::refused_state, crate::proofs::States::reported_state))]
+pub fn state_text(alloc: Global, detail: Detail, text: &[u8]) -> Result<(End, Vec<u8>), AllocError>
+    ensures { IfOk result (λ answer. IsState detail text.now answer.0 answer.1.items) }
+{
+    let mut checker = Checker::new(alloc);
+    if let Some(refused) = refusal(alloc, text, &mut checker)? {
+        return Ok(refused);
+    }
+    let report = checker.report(detail.is_whole())?;
+    let mut answer = Vec::new(alloc);
+    write_report(&report, &mut answer)?;
+    Ok((End::Done, answer))
+}
