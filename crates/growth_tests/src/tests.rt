@@ -1,11 +1,11 @@
 //! Scripts in which a growth may be refused.
 
 mod playing;
-mod races;
+mod racing;
 mod scripts;
 
 use playing::play_twice;
-use races::race_twice;
+use racing::race_twice;
 
 // Memory is wanting once at most.
 #[test]

@@ -47,7 +47,10 @@ fn raced<R: Threads + Wait + Sync>(rt: &R, alloc: Global) -> Option<Vec<Event>> 
 
 /// How many calls were answered that memory was wanting.
 fn refused_in(events: &[Event]) -> u64 {
-    let refused = events.iter().filter(|event| matches!(&event.reply, Reply::Refused(Refusal::NoMemory)));
+    let refused = events.iter().filter(|event| matches!(
+        &event.reply,
+        Reply::Refused(Refusal::NoMemory)
+    ));
     refused.count() as u64
 }
 
