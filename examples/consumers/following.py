@@ -66,13 +66,18 @@ def follow(server, name, make, lo=None, hi=None, failures=()):
 
     `failures` are what the target raises where its software can't serve.
     """
+    said = None
     while True:
+        began = time.monotonic()
         try:
             with contextlib.closing(make()) as target:
                 with contextlib.closing(Follower(server, name, target, lo, hi)) as follower:
                     follower.run()
         except (OSError, http.client.HTTPException, Ended, Error, *failures) as why:
-            print("%s: %s: %s" % (name, type(why).__name__, why), file=sys.stderr, flush=True)
+            words = "%s: %s: %s" % (name, type(why).__name__, why)
+            if words != said or time.monotonic() - began > IDLE:  # a server that is down is told of once
+                print(words, file=sys.stderr, flush=True)
+            said = words
             time.sleep(PAUSE)
 
 

@@ -6,8 +6,8 @@ which it reads first. So two of these programs at once get in each other's way, 
 lost.
 """
 
+import argparse
 import asyncio
-import sys
 
 from writing import connect, transact
 
@@ -45,4 +45,6 @@ async def main(server):
 
 
 if __name__ == "__main__":
-    asyncio.run(main(sys.argv[1]))
+    words = argparse.ArgumentParser(description=__doc__, formatter_class=argparse.RawDescriptionHelpFormatter)
+    words.add_argument("server")
+    asyncio.run(main(words.parse_args().server))
