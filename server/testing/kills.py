@@ -264,7 +264,7 @@ def kill_and_compare(program, wanted, seed, seconds, say):
         anew = {one.name: one.program.words().count("begins anew") for one in run.consumers}
     passed = time.monotonic() - began
     say("%d kills in %.0f seconds (%.0f an hour): %s" % (run.count(), passed, 3600 * run.count() / passed, run.kills))
-    say("%d transactions committed, %d of them known to their writers; %d events in %d transcripts" % (
+    say("%d transactions with rows, and %d commits of which their writers were told; %d events in %d transcripts" % (
         run.transactions, run.acknowledged, run.events, run.checked))
     say("%d compared with scanat, %d with the history, %d rows of ledgers; begun anew: %s" % (
         run.compared(), run.compared_with_history, run.told_rows, anew))
