@@ -6,19 +6,20 @@
 
 /// The cases.
 pub(super) const CASES: &str = "@ Two rows, whose commits come in another order
-1 1 rrrrrrrs two rows and one place
-2 1 rrrrrrrr two places, and more
-3 1 rrrrrrrr
-1024 1 rrrrrrrr
-65536 1 rrrrrrrr
+1 1 rrrrrrrrs two rows and one place
+2 1 rrrrrrrrr two places, and more
+3 1 rrrrrrrrr
+1024 1 rrrrrrrrr
+65536 1 rrrrrrrrr
 script
 0 open - - 0
 1 begin 20
 1 put 20 a 2
 1 commit 20
 2 begin 10
-2 put 10 b 5
+2 put 10 b 1
 2 commit 10
+0 poll 1 10
 0 close 30
 @ Two rows of one key
 1 1 rrrrrrrs both rows have one key: each version is a row

@@ -40,6 +40,20 @@ fn draws(db: &Db, pass: &mut OraclePass) -> Option<u64>
     lease.next().map(|ts| ts.get())
 }
 
+// A fresh database with one seat answers a call that waits for nobody.
+#[test]
+fn one_seat_is_answered(rt: HostRuntime) -> Result<(), Fail> {
+    let config = Config {
+        seats: 1,
+        ring: 1,
+        first: 0,
+    };
+    let (db, mut seats, _passes) = Db::open(rt.alloc(), config)?;
+    let mut seat = last(&rt, &db, &mut seats);
+    assert!(rt; closes(&db, &mut seat, 10) == Some(0));
+    Ok(())
+}
+
 // A floor is read anew, and passes draw from the first block.
 #[test]
 fn seats_and_passes_wait_for_nobody(rt: HostRuntime) -> Result<(), Fail> {
