@@ -27,19 +27,14 @@ pub fn race_calls<R: Threads + Wait + Sync, G: Gate + Sync>(
     ensures raced { IfOk result (λ events. IsRaceOf sessions calls.items events.items) }
     ensures refused { IfErr result (IsFreshReason (record { seats = sessions; ring = ring; first = 0 }) sessions) }
 {
-    let lists = match lists_of(alloc, sessions, calls) {
-        Ok(lists) => lists,
-        Err(_) => return Err(FreshError::NoMemory),
-    };
+    let lists = lists_of(alloc, sessions, calls)?;
     let config = Config {
         seats: u32::from(sessions),
         ring,
         first: 0,
     };
-    match race_fresh(rt, alloc, config, lists, gate) {
-        Ok(settled) => Ok(settled.events),
-        Err(refused) => Err(refused),
-    }
+    let settled = race_fresh(rt, alloc, config, lists, gate)?;
+    Ok(settled.events)
 }
 
 /// The commands of each session, in their order.
@@ -52,15 +47,9 @@ pub fn lists_of(
     ensures count { IfOk result (λ lists. vec_len lists ≡ sessions) }
     ensures each { IfOk result (λ lists. AreLists calls.items lists.items) }
 {
-    let mut lists = match empty_lists(alloc, sessions) {
-        Ok(lists) => lists,
-        Err(refused) => return Err(refused),
-    };
+    let mut lists = empty_lists(alloc, sessions)?;
     for (session, cmd) in calls {
-        match lists[usize::from(session)].push(cmd) {
-            Ok(()) => {}
-            Err(_) => return Err(AllocError),
-        }
+        lists[usize::from(session)].push(cmd)?;
     }
     Ok(lists)
 }
@@ -72,10 +61,7 @@ fn empty_lists(alloc: Global, count: u8) -> Result<Vec<Vec<Cmd>>, AllocError>
 {
     let mut lists = Vec::new(alloc);
     for _place in 0..count {
-        match lists.push(Vec::new(alloc)) {
-            Ok(()) => {}
-            Err(_) => return Err(AllocError),
-        }
+        lists.push(Vec::new(alloc))?;
     }
     Ok(lists)
 }

@@ -1,8 +1,8 @@
 //! Sessions that race, each in a thread of its own, and the one history that they leave.
 //!
-//! `jobs` and tests call [`race_calls`], with the calls of a script, or [`race_fresh`], with a list of
-//! commands for each session. Beneath stand [`race`], for a database that is there already, [`merge`], which
-//! puts the events of sessions together, and [`settle`], which ends the database and merges its sessions' events.
+//! `jobs` and tests call [`race_calls`] with the calls of a script. Beneath stand [`race`], for a database that is
+//! there already, [`merge`], which puts the events of sessions together, and [`settle`], which ends the database and
+//! merges its sessions' events.
 //!
 //! Memory is taken for the lists, and by each session for all of its events before its first call; then by the
 //! database's calls, and by the sort of the events.
@@ -50,4 +50,4 @@ pub use ended::Ended;
 pub use gate::{Gate, Open};
 pub use merging::{MergeError, merge};
 pub use racing::{RaceError, race};
-pub use settling::{FreshError, Settled, race_fresh, settle, settle_checked};
+pub use settling::{FreshError, Settled, settle, settle_checked};

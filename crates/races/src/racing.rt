@@ -28,6 +28,16 @@ pub enum RaceError {
     Thread,
 }
 
+impl From<AllocError> for RaceError {
+    ghost use Rattle.races.specs.declared.racing.RaceError.TheVariants as errors;
+
+    ghost from_gives = { λ _ e. e ≡ errors.NoMemory };
+
+    fn from(_refused: AllocError) -> RaceError {
+        RaceError::NoMemory
+    }
+}
+
 /// Makes the calls of one session, one after the other, with room for its events made first.
 fn play<R: Wait, G: Gate>(
     rt: &R,
@@ -132,14 +142,10 @@ fn start_all<'s, E, R: Wait + Sync, G: Gate + Sync>(
         let Some(commands) = others.next() else {
             unreachable!()
         };
-        let handle = match start(scope, rt, alloc, db, gate, seat, commands) {
-            Ok(handle) => handle,
-            Err(refused) => return Err(refused),
+        let handle = start(scope, rt, alloc, db, gate, seat, commands)?;
+        let Ok(()) = handles.push(handle) else {
+            return Err(RaceError::NoMemory);
         };
-        match handles.push(handle) {
-            Ok(()) => {}
-            Err(_) => return Err(RaceError::NoMemory),
-        }
     }
     Ok(handles)
 }
@@ -151,14 +157,10 @@ fn gather(alloc: Global, results: Vec<Result<Ended, AllocError>>) -> Result<Vec<
 {
     let mut all = Vec::new(alloc);
     for result in results {
-        let ended = match result {
-            Ok(ended) => ended,
-            Err(_) => return Err(RaceError::NoMemory),
+        let ended = result?;
+        let Ok(()) = all.push(ended) else {
+            return Err(RaceError::NoMemory);
         };
-        match all.push(ended) {
-            Ok(()) => {}
-            Err(_) => return Err(RaceError::NoMemory),
-        }
     }
     Ok(all)
 }
@@ -179,10 +181,7 @@ fn run<'s, E, R: Threads + Wait + Sync, G: Gate + Sync>(
     ensures never { IfErr result (λ e. e ≢ Counts) }
     ensures ended { IfOk result (AllEnded db.now seats.items lists.items) }
 {
-    let handles = match start_all(scope, rt, alloc, db, gate, seats, lists) {
-        Ok(handles) => handles,
-        Err(refused) => return Err(refused),
-    };
+    let handles = start_all(scope, rt, alloc, db, gate, seats, lists)?;
     match thread::join_promised(rt, handles) {
         Ok(results) => gather(alloc, results),
         Err(_) => Err(RaceError::NoMemory),

@@ -32,10 +32,7 @@ pub fn settle(alloc: Global, db: Db, ended: Vec<Ended>) -> Result<Settled, Alloc
     requires all { vec_len ended ≡ seat_count db }
     ensures { IfOk result (λ r. IsSettled db ended.items r.engine r.events.items) }
 {
-    let (seats, lists) = match parted(alloc, ended) {
-        Ok(parts) => parts,
-        Err(refused) => return Err(refused),
-    };
+    let (seats, lists) = parted(alloc, ended)?;
     match db.finish(seats) {
         Ok(engine) => match merge(alloc, lists) {
             Ok(events) => Ok(Settled { engine, events }),
@@ -58,14 +55,9 @@ pub fn settle_checked(
     ensures settled { IfOk result (λ r. IsSettled db ended.items r.0.engine r.0.events.items) }
     ensures right { IfOk result (λ r. r.1 ≡ Yes) }
 {
-    let settled = match settle(alloc, db, ended) {
-        Ok(settled) => settled,
-        Err(refused) => return Err(refused),
-    };
-    match check(alloc, settled.events.as_slice()) {
-        Ok(verdict) => Ok((settled, verdict)),
-        Err(refused) => Err(refused),
-    }
+    let settled = settle(alloc, db, ended)?;
+    let verdict = check(alloc, settled.events.as_slice())?;
+    Ok((settled, verdict))
 }
 
 /// Why a race on a database of its own left nothing.
@@ -79,11 +71,41 @@ pub enum FreshError {
     NoMemory,
 }
 
+impl From<OpenError> for FreshError {
+    ghost use Rattle.races.specs.declared.settling.FreshError.TheVariants as errors;
+
+    ghost from_gives = { λ reason e. e ≡ errors.Open reason };
+
+    fn from(refused: OpenError) -> FreshError {
+        FreshError::Open(refused)
+    }
+}
+
+impl From<RaceError> for FreshError {
+    ghost use Rattle.races.specs.declared.settling.FreshError.TheVariants as errors;
+
+    ghost from_gives = { λ error e. e ≡ errors.Race error };
+
+    fn from(refused: RaceError) -> FreshError {
+        FreshError::Race(refused)
+    }
+}
+
+impl From<AllocError> for FreshError {
+    ghost use Rattle.races.specs.declared.settling.FreshError.TheVariants as errors;
+
+    ghost from_gives = { λ _ e. e ≡ errors.NoMemory };
+
+    fn from(_refused: AllocError) -> FreshError {
+        FreshError::NoMemory
+    }
+}
+
 /// Opens a database, has a session race for each list of commands, and gives the engine and the one
 /// history of all their calls.
 ///
 /// Whether it returns is not promised.
-pub fn race_fresh<R: Threads + Wait + Sync, G: Gate + Sync>(
+pub(crate) fn race_fresh<R: Threads + Wait + Sync, G: Gate + Sync>(
     rt: &R,
     alloc: Global,
     config: Config,
@@ -93,18 +115,10 @@ pub fn race_fresh<R: Threads + Wait + Sync, G: Gate + Sync>(
     ensures raced { IfOk result (λ r. HasRaced config lists.items r.engine r.events.items) }
     ensures refused { IfErr result (IsFreshReason config (vec_len lists)) }
 {
-    let (db, seats, _passes) = match Db::open(alloc, config) {
-        Ok(opened) => opened,
-        Err(refused) => return Err(FreshError::Open(refused)),
-    };
-    let ended = match race(rt, alloc, &db, seats, lists, gate) {
-        Ok(ended) => ended,
-        Err(refused) => return Err(FreshError::Race(refused)),
-    };
-    match settle(alloc, db, ended) {
-        Ok(settled) => Ok(settled),
-        Err(_) => Err(FreshError::NoMemory),
-    }
+    let (db, seats, _passes) = Db::open(alloc, config)?;
+    let ended = race(rt, alloc, &db, seats, lists, gate)?;
+    let settled = settle(alloc, db, ended)?;
+    Ok(settled)
 }
 
 /// The seats and the lists of events, in the order of the sessions.

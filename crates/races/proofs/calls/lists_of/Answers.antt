@@ -8,7 +8,7 @@ use Rattle.races.proofs.Giving.{AreLeft, none_given, one_given, all_given}
 use Rattle.races.proofs.calls.lists_of.Goals as goal
 
 pub loop-session-init : goal.loop-session-init
-loop-session-init c = (search rules, none_given (into_iter_items c.into_iter-session-iterator.result) c.in-Ok.lists.items c.in-Ok.ensures.each, search rules, search rules)
+loop-session-init c = (search rules, none_given (into_iter_items c.into_iter-session-iterator.result) c.in_ok-lists.lists.items c.in_ok-lists.ensures.each, search rules, search rules)
 
 pub loop-session-preserved : goal.loop-session-preserved
 loop-session-preserved c =

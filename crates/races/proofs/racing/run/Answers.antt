@@ -6,9 +6,9 @@ use Rattle.races.specs.Racing.{AreOk, AllEnded}
 use Rattle.races.proofs.Promised.{read_at, there_at, got_at, all_ended}
 use Rattle.races.proofs.racing.run.Goals as goal
 
-pub returns-in-Ok-join_promised-clause-ended : goal.returns-in-Ok-join_promised-clause-ended
-returns-in-Ok-join_promised-clause-ended g c =
-    let handles = c.in-Ok.handles.items in let results = c.in-Ok-join_promised.results.items in let j = c.in-Ok-join_promised.ensures in let s = c.in-Ok.ensures in
+pub returns-in-Ok-clause-ended : goal.returns-in-Ok-clause-ended
+returns-in-Ok-clause-ended g c =
+    let handles = c.in_ok-handles.handles.items in let results = c.in-Ok.results.items in let j = c.in-Ok.ensures in let s = c.in_ok-handles.ensures in
     let as_many : length results ≡ length handles = search rules in
     IfOk-weaker c.gather.result (λ all. AreOk results all.items) (AllEnded c.args.db.now c.args.seats.items c.args.lists.items)
     (λ all ok. all_ended (λ h. h.promise) c.args.db.now c.args.seats.items c.args.lists.items handles results all s.started

@@ -8,7 +8,7 @@ use Rattle.races.proofs.racing.start_all.Goals as goal
 
 pub loop-seat-preserved : goal.loop-seat-preserved
 loop-seat-preserved g c =
-    let was = c.loop-seat.invariant in let s = c.in-Ok.ensures.promised in let h = c.in-Ok.handle in
+    let was = c.loop-seat.invariant in let s = c.in_ok-handle.ensures.promised in let h = c.in_ok-handle.handle in
     let seats = into_iter_items c.loop-seat.seat-iterator in let seats' = into_iter_items c.next.new.self in
     let lists = into_iter_items c.loop-seat.others in let lists' = into_iter_items c.next-in-loop-seat.new.self in
     let hs = c.loop-seat.handles.items in let hs' = c.push.new.self.items in
