@@ -16,7 +16,7 @@ use Rattle.spans.specs.Versions.{version_of}
 use Rattle.spans.proofs.Copies.{AllAllowed}
 use Rattle.spans.proofs.Legal.{legal_allowed}
 use Rattle.spans.proofs.Steps.{by_test, newest_same}
-use Rattle.kept.proofs.Dead.{horizon_low}
+use Rattle.spans.proofs.Horizon.{horizon_low}
 use Rattle.plain_versions.specs.Chains.{version_at}
 use Rattle.plain_versions.specs.Dying.{IsDeathCount, is_between, is_delete_between, replaces_between}
 use Rattle.plain_feeds.proofs.FeedTies.{feeds_kept}

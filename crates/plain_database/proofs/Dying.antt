@@ -14,8 +14,8 @@ use Rattle.spans.proofs.Copies.{AllAllowed, closed_stays, not_both}
 use Rattle.spans.proofs.Members.{Has, AreDistinct, distinct_append, distinct_filter, fits_in, has_append, has_filter, same_length}
 use Rattle.spans.proofs.Steps.{by_test, newest_same, version_wrote}
 use Rattle.spans.proofs.VersionNames.{has_versions, versions_distinct}
+use Rattle.spans.proofs.Horizon.{horizon_low}
 use Rattle.kept.proofs.AfterCollects.{dead_grows, removed_is}
-use Rattle.kept.proofs.Dead.{horizon_low}
 use Rattle.plain_versions.specs.Dying.{is_between, is_delete_between, replaces_between}
 use Rattle.plain_database.specs.Dying.{dead_then}
 use Rattle.plain_database.proofs.Replacing.{dead_by, dies, delete_dies, replaced_dies, replaces_once}

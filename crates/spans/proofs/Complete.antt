@@ -60,7 +60,7 @@ low_then_high n (r ∷ rows) rises = by_test (nat_le r.ts n)
     ] in
     sym (ap (λ l. l ++ high_rows n (r ∷ rows)) (none_low n (r ∷ rows) later) ∙ all_high n (r ∷ rows) later))
 
-in_above : (n : ℕ) (rows : List Row) (r : Row) → RowsAbove n rows → IsRowIn r rows → n < r.ts
+pub in_above : (n : ℕ) (rows : List Row) (r : Row) → RowsAbove n rows → IsRowIn r rows → n < r.ts
 in_above n [] r above i = absurd i
 in_above n (s ∷ rows) r above i = elim i [ inl here ↦ subst (λ (q : Row). n < q.ts) here above.0 | inr there ↦ in_above n rows r above.1 there ]
 

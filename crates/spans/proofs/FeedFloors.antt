@@ -18,14 +18,10 @@ use Rattle.spans.proofs.Listing.{IsListed, in_list, list_above, list_rises, list
 use Rattle.spans.proofs.StreamOrder.{RisingRows, IsRowIn, in_append, rises_parts}
 use Rattle.spans.proofs.Streaming.{RowsAbove}
 use Rattle.spans.proofs.Taking.{resolved_grows}
+use Rattle.spans.proofs.Complete.{in_above}
 use Rattle.spans.proofs.Horizon.{horizon_low}
 use Rattle.spans.specs.Members.{Has}
 use Rattle.spans.specs.declared.calls.messages.Message.TheVariants as messages
-
--- a row of rows above t is above t
-above_in : (t : ℕ) (rows : List Row) (r : Row) → RowsAbove t rows → IsRowIn r rows → t < r.ts
-above_in t [] r h i = absurd i
-above_in t (s ∷ rows) r h i = elim i [ inl here ↦ subst (λ (q : Row). t < q.ts) here h.0 | inr there ↦ above_in t rows r h.1 there ]
 
 -- what wasn't told is above the resolved messages
 pub rest_above : (p : List Effect) (feed : Feed) (n : ℕ) (before rest : List Row) (ms : List Message) → before ++ (rows_in ms ++ rest) ≡ list_of p feed (closed_of p) → DividesList p feed before ms → AllBelow (closed_of p) ms
@@ -35,7 +31,7 @@ rest_above p feed n before rest (messages.Row s ∷ ms) is h below r i low = res
 rest_above p feed n before rest (messages.Resolved t ∷ ms) is h below r i low =
     let more = list_above p feed t (closed_of p) below.0 in
     let e : rows_in ms ++ rest ≡ more.0 = cancel_front (list_of p feed t) (rows_in ms ++ rest) more.0 (ap (λ l. l ++ (rows_in ms ++ rest)) (sym h.0) ∙ is ∙ more.1) in
-    let above : t < r.ts = above_in t (rows_in ms ++ rest) r (subst (RowsAbove t) (sym e) more.2) ((in_append r (rows_in ms) rest).1 (inr i)) in
+    let above : t < r.ts = in_above t (rows_in ms ++ rest) r (subst (RowsAbove t) (sym e) more.2) ((in_append r (rows_in ms) rest).1 (inr i)) in
     rest_above p feed (max n t) before rest ms is h.1 below.1 r i (omega arith)
 
 -- a row beyond what was told is above the floor

@@ -11,7 +11,7 @@ use Rattle.spans.proofs.Feeding.{fed, feed_rises, feeding}
 use Rattle.spans.proofs.Taking.{told_taken}
 use Rattle.spans.proofs.Viewing.{views}
 use Rattle.spans.proofs.GoingOn.{complete_is_right}
-use Rattle.spans.proofs.Promises.{reads_own, horizon_held, snapshots_stand, versions_counted}
+use Rattle.spans.proofs.Promises.{reads_own, has_risen, horizon_held, snapshots_stand, versions_counted}
 
 pub lawful : (h : List Event) → IsLegal h → IsLawful h
 lawful h legal =
@@ -32,6 +32,7 @@ lawful h legal =
           (told_taken p f feed so_far.begins.0 so_far.begins.1 so_far.divides (feed_rises p f feed so_far) so_far.below)
           (λ g next opened. fed p all g next opened);
       own = reads_own p all;
+      rises = has_risen p all;
       horizon = horizon_held p all;
       snapshots = snapshots_stand p;
       counts = versions_counted p all;

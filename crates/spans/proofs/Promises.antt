@@ -1,17 +1,19 @@
 -- Allowed deeds keep what the guide promises.
-use Rattle.std.proofs.Common.{◌≡◌, ◌+◌, ◌≤◌, ℕ, List, [], ◌∷◌, not, length, Some, ◌∙◌, inr, arith}
-use Rattle.std.specs.Prelude.{filter}
-use Rattle.spans.specs.Effects.{After, Effect, Reads, Scans}
+use Rattle.std.proofs.Common.{◌≡◌, ℕ, ◌+◌, ◌-◌, ◌≤◌, ◌==◌, not, List, [], ◌∷◌, ◌++◌, length, Some, refl, sym, ◌∙◌, ap, subst, true, inl, inr, arith}
+use Rattle.std.proofs.lemmas.Bool.{eqb-true}
+use Rattle.spans.specs.declared.calls.replies.Reply.TheVariants as replies
+use Rattle.spans.specs.Effects.{After, Effect, Reads, Scans, Protects, Releases}
+use Rattle.spans.specs.Transactions.{closed_of, undecided_timestamps}
 use Rattle.spans.specs.Versions.{write_of, version_of, visible}
 use Rattle.spans.specs.Collection.{Protection, LiveFeed, horizon_of, protections_of, live_feeds, floor_of, versions_of, is_dead, dead_of}
-use Rattle.spans.specs.Promises.{ReadsOwn, NeverFalls, IsHorizonHeld, SnapshotsStand, AreVersionsCounted}
-use Rattle.spans.proofs.Steps.{newest_at}
+use Rattle.spans.specs.Promises.{ReadsOwn, NeverFalls, HasRisen, Stands, ProtectionsHold, IsHorizonHeld, SnapshotsStand, left_versions, AreVersionsCounted}
+use Rattle.spans.proofs.Steps.{by_test, newest_at}
 use Rattle.spans.proofs.Keyed.{among_rows}
 use Rattle.spans.proofs.Copies.{IsActive, Allowed, AllAllowed, closed_grows}
-use Rattle.spans.proofs.Members.{all_of, parted}
+use Rattle.spans.proofs.Members.{Has, all_of, has_filter, parted}
 use Rattle.spans.proofs.VersionNames.{versions_distinct}
 use Rattle.spans.proofs.Horizon.{horizon_low, horizon_grows, protections_high}
-use Rattle.spans.proofs.FeedFloors.{live_floor_high}
+use Rattle.spans.proofs.FeedFloors.{floors_high, live_floor_high}
 use Rattle.spans.proofs.Dead.{left_newest}
 
 -- of a key that it wrote an open transaction sees what it wrote last
@@ -31,21 +33,47 @@ reads_own (Scans t span rows ∷ p) all = (
 )
 reads_own (_ ∷ p) all = reads_own p all.1
 
-pub never_falls : (p : List Effect) (d : Effect) → Allowed p d → NeverFalls p (d ∷ p)
+never_falls : (p : List Effect) (d : Effect) → Allowed p d → NeverFalls p (d ∷ p)
 never_falls p d allowed = record { closed = closed_grows p d allowed; horizon = horizon_grows p d allowed }
+
+pub has_risen : (p : List Effect) → AllAllowed p → HasRisen p
+has_risen [] all = tt
+has_risen (d ∷ p) all = (never_falls p d all.0, has_risen p all.1)
+
+abbrev protection : ℕ → ℕ → Protection
+protection id t = record { id = id; at = t }
+
+-- a protection that isn't released is one of those that stand
+stands_listed : (after before : List Effect) (id t : ℕ) → Stands id after → Has (protection id t) (protections_of (after ++ Protects id t ∷ before))
+stands_listed [] before id t stands = inl refl
+stands_listed (Protects n m ∷ after) before id t stands = inr (stands_listed after before id t stands)
+stands_listed (Releases n ∷ after) before id t stands =
+    let other : not (id == n) ≡ true = by_test (id == n) (λ same. absurd (stands.0 (sym (eqb-true id n same)))) (λ isnt. ap not isnt) in
+    (has_filter (λ (m : Protection). not (m.id == n)) (protection id t) (protections_of (after ++ Protects id t ∷ before))).1
+    (other, stands_listed after before id t stands.1)
+stands_listed (_ ∷ after) before id t stands = stands_listed after before id t stands
+
+protections_hold : (p : List Effect) → AllAllowed p → ProtectionsHold p
+protections_hold p all = λ after before id t is stands.
+    protections_high p all (protection id t) (subst (λ q. Has (protection id t) (protections_of q)) (sym is) (stands_listed after before id t stands))
 
 pub horizon_held : (p : List Effect) → AllAllowed p → IsHorizonHeld p
 horizon_held p all = record {
   closed = horizon_low p all;
   protections = all_of (λ (n : Protection). horizon_of p ≤ n.at) (protections_of p) (protections_high p all);
   feeds = all_of (λ (n : LiveFeed). horizon_of p ≤ floor_of p n) (live_feeds p) (live_floor_high p all);
+  held = protections_hold p all;
+  living = floors_high p all;
 }
 
 pub snapshots_stand : (p : List Effect) → SnapshotsStand p
 snapshots_stand p = left_newest p
 
 pub versions_counted : (p : List Effect) → AllAllowed p → AreVersionsCounted p
-versions_counted p all = record {
-  once = versions_distinct p all;
-  left = let both : length (versions_of p) ≡ length (filter (λ v. not (is_dead p v)) (versions_of p)) + length (dead_of p) = parted (is_dead p) (versions_of p) in omega (arith, both);
-}
+versions_counted p all =
+    let both : length (versions_of p) ≡ length (left_versions p) + length (dead_of p) = parted (is_dead p) (versions_of p) in
+    let left : length (left_versions p) ≡ length (versions_of p) - length (dead_of p) = omega (arith, both) in record {
+      once = versions_distinct p all;
+      left = left;
+      told = λ seat. ap (λ n. replies.Stats n (length (undecided_timestamps p)) (length (live_feeds p)) (closed_of p) (horizon_of p)) (sym left);
+    }

@@ -1,5 +1,5 @@
--- The law of histories in one word: all that `law_of_histories` says of one legal history, clause by clause. (The write rule
--- holds of every list of events, and that closed and the horizon never fall speaks of two histories.)
+-- The law of histories in one word: each clause of `law_of_histories`, said of one legal history. (The write rule holds of
+-- every list of events.)
 use Rattle.std.specs.Prelude.{ℕ, List, true, ◌≡◌, ◌↔◌, Some}
 use Rattle.spans.specs.declared.calls.events.Event.{Event}
 use Rattle.spans.specs.Effects.{effects_of}
@@ -9,7 +9,7 @@ use Rattle.spans.specs.Feeds.{Feed, feed_of}
 use Rattle.spans.specs.FeedRight.{FeedIsRight}
 use Rattle.spans.specs.Consumer.{ConsumerIsRight}
 use Rattle.spans.specs.Completeness.{CompleteIsRight}
-use Rattle.spans.specs.Promises.{ReadsOwn, IsHorizonHeld, SnapshotsStand, AreVersionsCounted}
+use Rattle.spans.specs.Promises.{ReadsOwn, HasRisen, IsHorizonHeld, SnapshotsStand, AreVersionsCounted}
 
 pub record IsLawful (h : List Event) : Type 0 where
   pub one_copy : IsOneCopy (effects_of h)
@@ -19,6 +19,7 @@ pub record IsLawful (h : List Event) : Type 0 where
   pub consumers : (f : ℕ) (feed : Feed) → feed_of (effects_of h) f ≡ Some feed → ConsumerIsRight (effects_of h) f feed
   pub completes : (f : ℕ) (feed : Feed) → feed_of (effects_of h) f ≡ Some feed → CompleteIsRight (effects_of h) f feed
   pub own : ReadsOwn (effects_of h)
+  pub rises : HasRisen (effects_of h)
   pub horizon : IsHorizonHeld (effects_of h)
   pub snapshots : SnapshotsStand (effects_of h)
   pub counts : AreVersionsCounted (effects_of h)

@@ -1,5 +1,5 @@
 -- Worked examples of what the guide promises, each computed from the definitions.
-use Rattle.std.specs.Prelude.{◌≡◌, ℕ, List, [], ◌∷◌, filter, length, not, Some, None, refl}
+use Rattle.std.specs.Prelude.{◌≡◌, ℕ, List, [], ◌∷◌, length, Some, None, refl}
 use Rattle.spans.specs.declared.calls.commands.Cmd.TheVariants.{Begin, Get, Scan, Put, Del, Commit, Abort, Close, CloseHard, Protect, Release, Collect, Open, Cancel, Stats}
 use Rattle.spans.specs.declared.calls.replies.Reply.TheVariants.{Started, Found, Rows, Written, Aborted, Closed, Protected, Released, Collected, Opened, Cancelled}
 use Rattle.spans.specs.declared.calls.replies.Reply.TheVariants as replies
@@ -7,8 +7,8 @@ use Rattle.spans.specs.declared.span.Span.{Span}
 use Rattle.spans.specs.Effects.{Effect}
 use Rattle.spans.specs.Newest.{newest, version_at}
 use Rattle.spans.specs.Versions.{committed_version_of}
-use Rattle.spans.specs.Collection.{versions_of, is_dead, dead_of}
-use Rattle.spans.specs.Promises.{left_version_of}
+use Rattle.spans.specs.Collection.{horizon_of, versions_of, dead_of}
+use Rattle.spans.specs.Promises.{Stands, left_version_of, left_versions}
 use Rattle.spans.specs.WorkedHistories.{replies_to}
 use Rattle.spans.specs.WorkedReports.{after}
 
@@ -55,6 +55,16 @@ snapshots_of_dropped = (refl, refl, refl, refl, refl, refl)
 abbrev counted : List Effect
 counted = after dropped ((0, Begin 10) ∷ (0, Put 10 a one) ∷ (0, Put 10 a two) ∷ (0, Put 10 b one) ∷ (0, Begin 11) ∷ (0, Put 11 a one) ∷ (0, Abort 11) ∷ [])
 
-pub versions_counted : (length (versions_of counted) ≡ 5) × (length (dead_of counted) ≡ 2) × (length (filter (λ v. not (is_dead counted v)) (versions_of counted)) ≡ 3)
+pub versions_counted : (length (versions_of counted) ≡ 5) × (length (dead_of counted) ≡ 2) × (length (left_versions counted) ≡ 3)
     × (replies_to counted ((0, Stats) ∷ []) ≡ replies.Stats 3 1 0 9 6 ∷ [])
 versions_counted = (refl, refl, refl, refl)
+
+-- a protection of 15 stops a collection through 20 there, also past another's release. Its own release lets that go on, and
+-- statistics tell the counts before and after
+abbrev held : List Effect
+held = after [] ((0, Begin 10) ∷ (0, Put 10 a one) ∷ (0, Commit 10) ∷ (0, Begin 12) ∷ (0, Put 12 a two) ∷ (0, Commit 12) ∷ (0, Begin 18) ∷ (0, Del 18 a) ∷ (0, Commit 18) ∷ (0, Close 20)
+    ∷ (1, Protect 15) ∷ (1, Protect 12) ∷ (1, Release 2) ∷ (0, Collect 20) ∷ [])
+
+pub protection_holds : (horizon_of held ≡ 15) × (Stands 1 held) × (Stands 2 held → ⊥)
+    × (replies_to held ((0, Stats) ∷ (1, Release 1) ∷ (0, Collect 20) ∷ (0, Stats) ∷ []) ≡ replies.Stats 2 0 0 20 15 ∷ Released ∷ Collected 20 2 ∷ replies.Stats 0 0 0 20 20 ∷ [])
+protection_holds = (refl, (λ e. cc, tt), λ stands. stands.0 refl, refl)

@@ -22,9 +22,10 @@ ghost use Rattle.spans.specs.Serial.{IsOneCopy};
 /// `suc t` is the reader, and what is at most `t` is below it.)
 ///
 /// It keeps what the guide promises too: a transaction reads its own writes; closed and the horizon
-/// never fall; the horizon passes neither closed, nor a protection, nor the floor of a live feed; what
-/// a collection drops changes no snapshot from the horizon on; and statistics count each version that
-/// isn't dead once. `lawful` says all of one history in one word, for the contracts above.
+/// never fall; the horizon passes neither closed, nor a protection before its release, nor the floor of
+/// a feed before its cancellation; what a collection drops changes no snapshot from the horizon on; and
+/// `stats` tells how many versions aren't dead, each counted once. `lawful` says each clause of one
+/// history in one word, for the contracts above.
 ///
 /// Legal says of a history that each reply is the one that `answer_of` computes, or want of memory
 /// where a command may want it. Nothing else is assumed.

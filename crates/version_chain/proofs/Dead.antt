@@ -7,7 +7,7 @@ use Rattle.std.proofs.lemmas.Bool.Decides.{nat_tests}
 use Rattle.spans.specs.Effects.{After}
 use Rattle.spans.specs.Collection.{is_delete}
 use Rattle.spans.specs.Newest.{newest}
-use Rattle.spans.proofs.Steps.{by_test, newest_is, newest_same}
+use Rattle.spans.proofs.Steps.{by_test, newest_is, newest_reaches, newest_same}
 use Rattle.version_chain.specs.declared.chain.Version.{Version}
 use Rattle.version_chain.specs.Versions.{AreAbove, DoRise, version_of}
 use Rattle.version_chain.specs.Stores.{after_of, is_committed}
@@ -18,11 +18,6 @@ abbrev pub is_dead_of : (ℕ → Option Version) → ℕ → ℕ → Bool
 is_dead_of f n t = is_committed (f t) && (nat_le t n && (is_delete (after_of (f t)) || nat_lt t (newest (λ i. after_if_committed (f i)) n).ts))
 
 -- ---- the newest
-
-pub newest_reaches : (f : ℕ → Option After) (t i : ℕ) (a : After) → i ≤ t → f i ≡ Some a → i ≤ (newest f t).ts
-newest_reaches f t i a low is = by_test (nat_lt (newest f t).ts i)
-    (λ below. absurd (let none : f i ≡ None = (newest_is f t).gap i (ltb-true _ _ below) low in let no' : None ≡ Some a = sym none ∙ is in cc))
-    (λ isnt. grind (arith, nat_tests))
 
 newest_fewer : (f g : ℕ → Option After) (t : ℕ) → ((j : ℕ) → j ≤ t → f j ≡ None → g j ≡ None) → (newest g t).ts ≤ (newest f t).ts
 newest_fewer f g t fewer = elim (newest_is g t).has [

@@ -1,7 +1,6 @@
-use Rattle.spans.specs.Effects.{effect_of, effects_of}
-use Rattle.spans.proofs.Legal.{right_allowed}
+use Rattle.std.specs.Prelude.{◌∷◌}
+use Rattle.spans.specs.Effects.{effects_of}
 use Rattle.spans.proofs.Marks.{late_across, across_late}
-use Rattle.spans.proofs.Promises.{never_falls}
 use Rattle.spans.proofs.Lawful.{lawful}
 use Rattle.spans.proofs.law.law_of_histories.Goals as goal
 
@@ -27,7 +26,7 @@ pub returns-clause-own : goal.returns-clause-own
 returns-clause-own c = λ h legal. (lawful h legal).own
 
 pub returns-clause-rises : goal.returns-clause-rises
-returns-clause-rises c = λ e h legal. never_falls (effects_of h) (effect_of e) (right_allowed (effects_of h) e legal.0)
+returns-clause-rises c = λ e h legal. (lawful (e ∷ h) legal).rises.0
 
 pub returns-clause-horizon : goal.returns-clause-horizon
 returns-clause-horizon c = λ h legal. (lawful h legal).horizon
