@@ -1,5 +1,5 @@
 -- Of the keys of a span the first committed versions after a place.
-use Rattle.std.specs.Prelude.{List, Some, [], true, ℕ, ◌∷◌, ◌<◌, ◌⊎◌, ◌≡◌, ◌≤◌}
+use Rattle.std.specs.Prelude.{List, Some, [], suc, true, zero, ℕ, ◌∷◌, ◌<◌, ◌⊎◌, ◌≡◌, ◌≤◌}
 use Rattle.std.specs.BTreeMap.{BTreeMap, IsOrdered}
 use Rattle.std.specs.Borrow.{Bor}
 use Rattle.std.specs.Ordering.{nat_cmp, ordering_then}
@@ -10,7 +10,7 @@ use Rattle.spans.specs.declared.span.Span.{Span}
 use Rattle.spans.proofs.Keyed.{IsIn}
 use Rattle.version_chain.specs.declared.chain.Version.{Version}
 use Rattle.version_chain.specs.Chains.{chain_of}
-use Rattle.version_chain.specs.Following.{IsLeft}
+use Rattle.version_chain.specs.Following.{IsLeft, is_before}
 use Rattle.version_chain.specs.Stores.{Stored, is_committed}
 use Rattle.version_chain.specs.Versions.{version_of}
 
@@ -64,13 +64,24 @@ abbrev pub HasHead : List ℕ → List (Spot × Found) → Type 0
 HasHead y [] = ⊥
 HasHead y (e ∷ es) = (e.0.1.now ≡ y) ⊎ HasHead y es
 
--- the heads of all keys of the span that have one, but for some that are still looked at
-pub record AreHeads (s : Stored) (span : Span) (t : ℕ) (x : List ℕ) (through : ℕ) (ahead : List (List ℕ)) (heads : BTreeMap Spot Found) : Type 0 where
+-- the first n of them are before y at i
+abbrev pub AreBefore : ℕ → List (Spot × Found) → ℕ → List ℕ → Type 0
+AreBefore zero es i y = Unit {0}
+AreBefore (suc n) [] i y = ⊥
+AreBefore (suc n) (e ∷ es) i y = (is_before e.0.0 e.0.1.now i y ≡ true) × AreBefore n es i y
+
+-- the first heads of the keys of the span, but for some that are still looked at: what is left of a key without a head has
+-- the first n of them before it
+pub record AreHeads (s : Stored) (span : Span) (t : ℕ) (x : List ℕ) (through n : ℕ) (ahead : List (List ℕ)) (heads : BTreeMap Spot Found) : Type 0 where
   pub rising : IsOrdered spot_cmp heads
   pub each : AllHeads s span t x through heads.entries
-  pub all : (y : List ℕ) (i : ℕ) → in_span span y ≡ true → IsLeft s t (Some x) through y i → IsIn y ahead ⊎ HasHead y heads.entries
+  pub all : (y : List ℕ) (i : ℕ) → in_span span y ≡ true → IsLeft s t (Some x) through y i → IsIn y ahead ⊎ (HasHead y heads.entries ⊎ AreBefore n heads.entries i y)
 
 -- y, whose chain is vs, is no longer among the keys ahead: its head is added, where it has one
 abbrev pub IsHeadAdded : List ℕ → List Version → ℕ → List ℕ → ℕ → BTreeMap Spot Found → BTreeMap Spot Found → Type 0
-IsHeadAdded y vs t x through heads heads' = (s : Stored) (span : Span) (ahead : List (List ℕ)) → chain_of s y ≡ vs → in_span span y ≡ true
-    → AreHeads s span t x through (y ∷ ahead) heads → AreHeads s span t x through ahead heads'
+IsHeadAdded y vs t x through heads heads' = (s : Stored) (span : Span) (n : ℕ) (ahead : List (List ℕ)) → chain_of s y ≡ vs → in_span span y ≡ true
+    → AreHeads s span t x through n (y ∷ ahead) heads → AreHeads s span t x through n ahead heads'
+
+-- the first n heads are still there
+abbrev pub IsCut : ℕ → BTreeMap Spot Found → BTreeMap Spot Found → Type 0
+IsCut n heads heads' = (s : Stored) (span : Span) (t : ℕ) (x : List ℕ) (through : ℕ) (ahead : List (List ℕ)) → AreHeads s span t x through n ahead heads → AreHeads s span t x through n ahead heads'

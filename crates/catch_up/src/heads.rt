@@ -2,7 +2,7 @@
 ghost use Rattle.std.specs.Prelude.{◌≡◌, ℕ, [], IfOk, MatchOption, OnOk, Some, nat_lt};
 ghost use Rattle.catch_up.specs.Left.{AreNextIn};
 ghost use Rattle.version_chain.specs.Following.{is_before};
-ghost use Rattle.catch_up.specs.Heads.{AreHeads, IsFirstDue, IsHeadAdded, IsNoneDue};
+ghost use Rattle.catch_up.specs.Heads.{AreHeads, IsCut, IsFirstDue, IsHeadAdded, IsNoneDue};
 
 use crate::rows::row_of;
 use spans::span::Span;
@@ -19,7 +19,7 @@ use version_chain::{Steps, Store};
 type Heads<'a> = BTreeMap<(u64, &'a Key), (&'a Version, &'a Chain)>;
 
 /// The first `n` committed rows of the span after `place` at `ts` and at or below `through`. The first
-/// head is told, and the next version of its key becomes one.
+/// head is told, and the next version of its key becomes one. So there are never more heads than at first.
 pub(crate) fn rows_of_keys(
     alloc: Global,
     store: &Store,
@@ -31,7 +31,7 @@ pub(crate) fn rows_of_keys(
 ) -> Result<Vec<Row>, AllocError>
     ensures { IfOk result (λ rows. AreNextIn store.now span.now ts (Some place.now) through n rows.items) }
 {
-    let mut heads = heads_after(alloc, store, span, ts, place, through)?;
+    let mut heads = heads_after(alloc, store, span, ts, place, through, n)?;
     let mut rows = Vec::new(alloc);
     for _ in 0..n {
         let Some(((_, key), (version, chain))) = heads.pop_first() else {
@@ -44,7 +44,8 @@ pub(crate) fn rows_of_keys(
     Ok(rows)
 }
 
-/// The heads of all keys of the span after `place` at `ts` and at or below `through`.
+/// The first `n` heads of the keys of the span after `place` at `ts` and at or below `through`. It keeps
+/// no more than `n` of them, and one more while it looks at a key.
 fn heads_after<'a>(
     alloc: Global,
     store: &'a Store,
@@ -52,14 +53,26 @@ fn heads_after<'a>(
     ts: Ts,
     place: &Key,
     through: u64,
+    n: u64,
 ) -> Result<Heads<'a>, AllocError>
-    ensures { IfOk result (λ heads. AreHeads store.now span.now ts place.now through [] heads) }
+    ensures { IfOk result (λ heads. AreHeads store.now span.now ts place.now through n [] heads) }
 {
     let mut heads = BTreeMap::new(alloc);
     for (key, chain) in store.in_span(span) {
         add_head(&mut heads, key, chain, ts, place, through)?;
+        cut(&mut heads, n);
     }
     Ok(heads)
+}
+
+/// Lets the last head go where there are more than `n`, since no row behind the first `n` is asked for.
+fn cut(heads: &mut Heads<'_>, n: u64)
+    ensures { IsCut n heads.old heads.new }
+{
+    if heads.len() as u64 <= n {
+        return;
+    }
+    heads.pop_last();
 }
 
 /// Adds the head of a key, where it has one: the key is no longer among those ahead.

@@ -1,8 +1,10 @@
 -- The replies to the commands of feeds.
 use Rattle.std.proofs.Common.{Bool, List, None, Option, Some, [], ap, cond, drop, false, length, refl, subst, sym, take, true, ℕ, ◌≡◌, ◌∙◌}
 use Rattle.std.specs.Prelude.{is_some, nat_lt, not, option_map, ◌&&◌, ◌==◌}
-use Rattle.std.proofs.lemmas.Bool.{eq-eqb}
+use Rattle.std.proofs.lemmas.Bool.{both_ways, eq-eqb, ltb-false}
+use Rattle.std.proofs.lemmas.List.{drop_all}
 use Rattle.timestamps.specs.declared.row.Row.{Row}
+use Rattle.spans.specs.Effects.{After}
 use Rattle.spans.specs.Kept.{Kept, Place}
 use Rattle.spans.specs.declared.calls.commands.Cmd.TheVariants.{Poll}
 use Rattle.spans.specs.declared.calls.messages.Message.{Message}
@@ -10,13 +12,12 @@ use Rattle.spans.specs.declared.calls.replies.Refusal.TheVariants.{NotOwner}
 use Rattle.spans.specs.declared.calls.replies.Reply.TheVariants.{Messages, Refused}
 use Rattle.kept.specs.Answered.{IsAnswered, IsReplyOf, IsWanting}
 use Rattle.kept.specs.Changes.{IsAlike, IsMovedBy}
-use Rattle.kept.specs.Places.{AreLeft, AreNext}
-use Rattle.kept.specs.Replies.{messages_left, poll_place, poll_reply}
+use Rattle.spans.proofs.Steps.{by_test}
+use Rattle.kept.specs.Places.{AreLeft, AreNext, moved}
+use Rattle.kept.specs.Replies.{feed_refusal, messages_left, poll_place, poll_reply}
 use Rattle.feed.specs.Live.{Live}
-use Rattle.feed.specs.Standing.{IsPut, Standing, behind_in, behind_or, is_behind, live_in, place_in, ring_of, ring_or, seat_in}
-use Rattle.feed.proofs.Serving.{ring_here}
-use Rattle.std.proofs.lemmas.List.{drop_all}
-use Rattle.std.proofs.lemmas.Bool.{ltb-false}
+use Rattle.version_chain.specs.Stores.{Stored, is_committed_in, version_in}
+use Rattle.feed.specs.Standing.{IsPolledBy, IsPut, Standing, behind_in, behind_or, is_behind, live_in, place_in, ring_of, ring_or, seat_in}
 
 -- the feed lives and is the seat's
 owned : (k : Kept) (seat f max : ℕ) (place : Place) (rows : List Row) → k.feed f ≡ Some place → place.seat ≡ seat → poll_reply k seat f max rows ≡ Messages (take max (messages_left k.closed place rows))
@@ -30,6 +31,23 @@ poll_is k seat f max place rows ms lives owner left told = (rows, (λ other is m
 
 pub poll_done : (k k' : Kept) (seat f max : ℕ) (place : Place) (rows : List Row) (ms : List Message) → k.feed f ≡ Some place → place.seat ≡ seat → AreLeft k.version k.committed place k.closed rows → ms ≡ take max (messages_left k.closed place rows) → IsMovedBy k k' f ms → IsAnswered k k' seat (Poll f max) (Messages ms)
 poll_done k k' seat f max place rows ms lives owner left told moved = record { right = poll_is k seat f max place rows ms lives owner left told; change = moved }
+
+-- there is no feed, or it isn't the seat's
+pub poll_none : (k k' : Kept) (seat f max : ℕ) → k.feed f ≡ None → IsAlike k k' → IsAnswered k k' seat (Poll f max) (Refused (feed_refusal k f))
+poll_none k k' seat f max none alike = record {
+  right = ([], (λ place is mine. (let no' : None ≡ Some place = sym none ∙ is in cc)), sym (ap (poll_place k seat f max []) none));
+  change = alike;
+}
+
+pub poll_foreign : (k k' : Kept) (seat f max : ℕ) (place : Place) → k.feed f ≡ Some place → (place.seat == seat) ≡ false → IsAlike k k' → IsAnswered k k' seat (Poll f max) (Refused NotOwner)
+poll_foreign k k' seat f max place lives foreign alike = record {
+  right = (
+    [],
+    (λ other is mine. (let same : place ≡ other = (let e : Some place ≡ Some other = sym lives ∙ is in cc) in absurd (both_ways _ foreign (eq-eqb place.seat seat (ap (λ p. p.seat) same ∙ mine))))),
+    sym (ap (poll_place k seat f max []) lives ∙ ap (λ b. cond (not b) (Refused NotOwner) (Messages (take max (messages_left k.closed place [])))) foreign),
+  );
+  change = alike;
+}
 
 pub poll_wanting : (k k' : Kept) (seat f max : ℕ) (place : Place) → k.feed f ≡ Some place → place.seat ≡ seat → IsAlike k k' → IsWanting k k' seat (Poll f max)
 poll_wanting k k' seat f max place lives owner alike = record { may = refl; accepting = (place, lives, owner); alike = alike }
@@ -45,22 +63,52 @@ lives_of s f seat is = by (live_in s f) refl
 pub place_of_live : (s : Standing) (f : ℕ) (l : Live) → live_in s f ≡ Some l → place_in s f ≡ Some l.place
 place_of_live s f l e = ap (option_map (λ (l : Live). l.place)) e
 
-pub behind_of_live : (s : Standing) (f : ℕ) (l : Live) (b : Bool) → live_in s f ≡ Some l → behind_in s f ≡ Some b → is_behind s f ≡ b
-behind_of_live s f l b e is = ap behind_or e ∙ (let same : Some l.behind ≡ Some b = sym (ap (option_map (λ (l : Live). l.behind)) e) ∙ is in cc)
-
 pub ring_of_live : (s : Standing) (f : ℕ) (l : Live) → live_in s f ≡ Some l → ring_of s f ≡ l.ring
 ring_of_live s f l e = ap ring_or e
 
--- a feed that stays behind has no ring to speak of, and one that leaves has told all that was left
-pub ahead_told : (s s' : Standing) (f max : ℕ) (l : Live) (rows : List Row) (p : Place) → IsPut s s' f (Some (record { place = p; behind = nat_lt max (length rows); ring = [] })) → is_behind s' f ≡ false → ring_of s' f ≡ drop max rows
-ahead_told s s' f max l rows p put isnt =
-    let here = ring_here s s' f (record { place = p; behind = nat_lt max (length rows); ring = [] }) put in
-    let few : nat_lt max (length rows) ≡ false = sym here.0 ∙ isnt in
-    here.1 ∙ sym (drop_all max rows (ltb-false max (length rows) few))
+-- what a poll told is the first of what was left, wherever the feed is served from
+pub record IsLeftTold (version : List ℕ → ℕ → Option After) (committed : List ℕ → ℕ → Bool) (s s' : Standing) (seat f closed max : ℕ) (ms : List Message) : Type 0 where
+  pub live : Live
+  pub lives : live_in s f ≡ Some live
+  pub owner : live.place.seat ≡ seat
+  pub rows : List Row
+  pub left : AreLeft version committed live.place closed rows
+  pub told : ms ≡ take max (messages_left closed live.place rows)
+  pub behind : Bool
+  pub ring : List Row
+  pub put : IsPut s s' f (Some (record { place = moved ms live.place; behind = behind; ring = ring }))
+  pub stays : behind ≡ (live.behind && nat_lt max (length rows))
+  pub rest : behind ≡ false → ring ≡ drop max rows
 
--- a feed that is put is behind as it is put: where it was, and the test holds
-pub behind_put : (s s' : Standing) (f : ℕ) (l : Live) (was b : Bool) → is_behind s f ≡ was → IsPut s s' f (Some l) → l.behind ≡ (was && b) → is_behind s' f ≡ (is_behind s f && b)
-behind_put s s' f l was b stood put is = (ring_here s s' f l put).0 ∙ is ∙ ap (λ w. w && b) (sym stood)
+pub left_told : (store : Stored) (s s' : Standing) (seat f closed max : ℕ) (ms : List Message) → IsPolledBy store s s' seat f closed max ms → ((l : Live) → live_in s f ≡ Some l → l.behind ≡ false → AreLeft (version_in store) (is_committed_in store) l.place closed l.ring)
+    → IsLeftTold (version_in store) (is_committed_in store) s s' seat f closed max ms
+left_told store s s' seat f closed max ms polled rings = by_test polled.live.behind
+    (λ on. let from = polled.stored on in record {
+      live = polled.live;
+      lives = polled.lives;
+      owner = polled.owner;
+      rows = from.rows;
+      left = from.left;
+      told = from.told;
+      behind = nat_lt max (length from.rows);
+      ring = [];
+      put = from.put;
+      stays = ap (λ b. b && nat_lt max (length from.rows)) (sym on);
+      rest = λ few. sym (drop_all max from.rows (ltb-false max (length from.rows) few));
+    })
+    (λ off. let of = polled.ring off in record {
+      live = polled.live;
+      lives = polled.lives;
+      owner = polled.owner;
+      rows = polled.live.ring;
+      left = rings polled.live polled.lives off;
+      told = of.told;
+      behind = false;
+      ring = drop max polled.live.ring;
+      put = of.put;
+      stays = ap (λ b. b && nat_lt max (length polled.live.ring)) (sym off);
+      rest = λ few. refl;
+    })
 
 -- a feed that isn't put is behind where it was
 pub others_stay : (s s' : Standing) (f : ℕ) (o : Option Live) → IsPut s s' f o → (g : ℕ) → (f == g) ≡ false → is_behind s' g ≡ is_behind s g

@@ -3,6 +3,7 @@ pub mod Taking
 pub mod Serving
 pub mod HoldingRows
 pub mod Histories
+pub mod OpeningReplies
 pub mod OtherReplies
 pub mod Replies
 pub mod Runs

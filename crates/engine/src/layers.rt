@@ -12,6 +12,7 @@ use feed::Feeds;
 use hold_back::HoldBack;
 use mvto_rules::Rules;
 use spans::calls::{Cmd, Reply};
+use spans::kind::Kind;
 use std::alloc::Global;
 
 /// Each layer holds its part of what is kept of a history.
@@ -90,11 +91,33 @@ impl Layers {
             Cmd::Protect { t } => self.protect(seat, *t),
             Cmd::Release { id } => self.release(seat, *id),
             Cmd::Collect { to } => self.collect(seat, *to),
-            Cmd::Open { span, cursor } => self.open(seat, span, *cursor),
-            Cmd::OpenInitial { span, cursor } => self.open_initial(seat, span, *cursor),
-            Cmd::OpenEvery { span, cursor, gap } => self.open_every(seat, span, *cursor, *gap),
+            Cmd::Open { span, cursor } => {
+                let kind = Kind {
+                    initial: false,
+                    gap: None,
+                };
+                self.open_feed(seat, kind, span, *cursor)
+            }
+            Cmd::OpenInitial { span, cursor } => {
+                let kind = Kind {
+                    initial: true,
+                    gap: None,
+                };
+                self.open_feed(seat, kind, span, *cursor)
+            }
+            Cmd::OpenEvery { span, cursor, gap } => {
+                let kind = Kind {
+                    initial: false,
+                    gap: Some(*gap),
+                };
+                self.open_feed(seat, kind, span, *cursor)
+            }
             Cmd::OpenInitialEvery { span, cursor, gap } => {
-                self.open_initial_every(seat, span, *cursor, *gap)
+                let kind = Kind {
+                    initial: true,
+                    gap: Some(*gap),
+                };
+                self.open_feed(seat, kind, span, *cursor)
             }
             Cmd::Poll { feed, max } => self.poll(seat, *feed, *max),
             Cmd::Cancel { feed } => self.cancel(seat, *feed),

@@ -1,8 +1,10 @@
 //! Opening feeds, of each kind.
-ghost use Rattle.std.specs.Prelude.{◌<◌};
-ghost use Rattle.spans.specs.declared.calls.commands.Cmd.TheVariants.{Open, OpenEvery, OpenInitial, OpenInitialEvery};
+ghost use Rattle.std.specs.Prelude.{◌<◌, ◌≡◌};
+ghost use Rattle.spans.specs.Answer.{first_refusal, is_gap};
+ghost use Rattle.spans.specs.Effects.{open_cmd};
 ghost use Rattle.feed.specs.Standing.{opened_in};
 ghost use Rattle.kept.specs.Answered.{IsStep};
+ghost use Rattle.kept.specs.Replies.{kept_opening_tests};
 
 use crate::layers::Layers;
 use spans::calls::{Refusal, Reply};
@@ -14,134 +16,50 @@ impl Layers {
     ghost use Rattle.engine.specs.Layers.{kept_of};
     ghost use Rattle.engine.specs.Served.{IsServed};
 
-    pub(crate) fn open(&mut self, seat: u8, span: &Span, cursor: u64) -> Reply
+    pub(crate) fn open_feed(&mut self, seat: u8, kind: Kind, span: &Span, cursor: u64) -> Reply
         requires { opened_in self.old.feeds < 18446744073709551615 }
-        ensures step { IsStep (kept_of self.old) (kept_of self.new) seat (Open span.now cursor) result }
-        ensures served { IsServed self.old self.new seat (Open span.now cursor) result }
+        ensures step { IsStep (kept_of self.old) (kept_of self.new) seat (open_cmd kind span.now cursor) result }
+        ensures served { IsServed self.old self.new seat (open_cmd kind span.now cursor) result }
     {
-        let horizon = self.horizon;
-        if cursor > MAX {
-            return Reply::Refused(Refusal::TsRange);
-        }
-        if cursor < horizon {
-            return Reply::Refused(Refusal::BelowHorizon { horizon });
+        if let Some(refusal) = self.opening_refusal(kind, cursor) {
+            return Reply::Refused(refusal);
         }
         let closed = self.closing.closed();
-        match self.feeds.open(
-            seat,
-            Kind {
-                initial: false,
-                gap: None,
-            },
-            span,
-            cursor,
-            closed,
-        ) {
+        match self.feeds.open(seat, kind, span, cursor, closed) {
             Ok(feed) => Reply::Opened { feed },
             Err(_) => Reply::Refused(Refusal::NoMemory),
         }
     }
 
-    pub(crate) fn open_initial(&mut self, seat: u8, span: &Span, cursor: u64) -> Reply
-        requires { opened_in self.old.feeds < 18446744073709551615 }
-        ensures step { IsStep (kept_of self.old) (kept_of self.new) seat (OpenInitial span.now cursor) result }
-        ensures served { IsServed self.old self.new seat (OpenInitial span.now cursor) result }
+    /// Why no feed of the kind opens at the cursor, if none does.
+    fn opening_refusal(&self, kind: Kind, cursor: u64) -> Option<Refusal>
+        ensures { result ≡ first_refusal (kept_opening_tests kind (kept_of self.now) cursor) }
     {
-        let horizon = self.horizon;
-        let closed = self.closing.closed();
         if cursor > MAX {
-            return Reply::Refused(Refusal::TsRange);
+            return Some(Refusal::TsRange);
         }
+        if !is_gap(kind.gap) {
+            return Some(Refusal::GapRange);
+        }
+        let horizon = self.horizon;
         if cursor < horizon {
-            return Reply::Refused(Refusal::BelowHorizon { horizon });
+            return Some(Refusal::BelowHorizon { horizon });
         }
-        // what the feed tells first is read at its cursor
-        if cursor > closed {
-            return Reply::Refused(Refusal::NotClosed { closed });
+        // what an initial feed tells first is read at its cursor
+        let closed = self.closing.closed();
+        if kind.initial && cursor > closed {
+            return Some(Refusal::NotClosed { closed });
         }
-        match self.feeds.open(
-            seat,
-            Kind {
-                initial: true,
-                gap: None,
-            },
-            span,
-            cursor,
-            closed,
-        ) {
-            Ok(feed) => Reply::Opened { feed },
-            Err(_) => Reply::Refused(Refusal::NoMemory),
-        }
+        None
     }
+}
 
-    pub(crate) fn open_every(&mut self, seat: u8, span: &Span, cursor: u64, gap: u64) -> Reply
-        requires { opened_in self.old.feeds < 18446744073709551615 }
-        ensures step { IsStep (kept_of self.old) (kept_of self.new) seat (OpenEvery span.now cursor gap) result }
-        ensures served { IsServed self.old self.new seat (OpenEvery span.now cursor gap) result }
-    {
-        let horizon = self.horizon;
-        if cursor > MAX {
-            return Reply::Refused(Refusal::TsRange);
-        }
-        if gap == 0 || gap > MAX {
-            return Reply::Refused(Refusal::GapRange);
-        }
-        if cursor < horizon {
-            return Reply::Refused(Refusal::BelowHorizon { horizon });
-        }
-        let closed = self.closing.closed();
-        match self.feeds.open(
-            seat,
-            Kind {
-                initial: false,
-                gap: Some(gap),
-            },
-            span,
-            cursor,
-            closed,
-        ) {
-            Ok(feed) => Reply::Opened { feed },
-            Err(_) => Reply::Refused(Refusal::NoMemory),
-        }
-    }
-
-    pub(crate) fn open_initial_every(
-        &mut self,
-        seat: u8,
-        span: &Span,
-        cursor: u64,
-        gap: u64,
-    ) -> Reply
-        requires { opened_in self.old.feeds < 18446744073709551615 }
-        ensures step { IsStep (kept_of self.old) (kept_of self.new) seat (OpenInitialEvery span.now cursor gap) result }
-        ensures served { IsServed self.old self.new seat (OpenInitialEvery span.now cursor gap) result }
-    {
-        let horizon = self.horizon;
-        let closed = self.closing.closed();
-        if cursor > MAX {
-            return Reply::Refused(Refusal::TsRange);
-        }
-        if gap == 0 || gap > MAX {
-            return Reply::Refused(Refusal::GapRange);
-        }
-        if cursor < horizon {
-            return Reply::Refused(Refusal::BelowHorizon { horizon });
-        }
-        if cursor > closed {
-            return Reply::Refused(Refusal::NotClosed { closed });
-        }
-        match self.feeds.open(
-            seat,
-            Kind {
-                initial: true,
-                gap: Some(gap),
-            },
-            span,
-            cursor,
-            closed,
-        ) {
-            Ok(feed) => Reply::Opened { feed },
-            Err(_) => Reply::Refused(Refusal::NoMemory),
-        }
+/// Whether a gap is in the range of timestamps, if there is one.
+fn is_gap(gap: Option<u64>) -> bool
+    ensures { result ≡ is_gap gap }
+{
+    match gap {
+        None => true,
+        Some(gap) => 0 < gap && gap <= MAX,
     }
 }

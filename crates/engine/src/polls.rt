@@ -1,13 +1,13 @@
 //! Polling feeds, and cancelling them.
-ghost use Rattle.std.specs.Prelude.{Some, true, false, ◌≡◌, ◌≤◌};
+ghost use Rattle.std.specs.Prelude.{◌≡◌, ◌≤◌};
 ghost use Rattle.timestamps.specs.declared.ts.TheConstants.{MAX};
 ghost use Rattle.spans.specs.declared.calls.commands.Cmd.TheVariants.{Cancel, Poll};
 ghost use Rattle.closing.specs.Standing.{closed_in};
-ghost use Rattle.feed.specs.Standing.{behind_in, seat_in};
 ghost use Rattle.kept.specs.Answered.{IsStep};
 ghost use Rattle.kept.specs.Replies.{feed_refusal};
 
 use crate::layers::Layers;
+use feed::PollError;
 use spans::calls::{Refusal, Reply};
 
 impl Layers {
@@ -19,50 +19,13 @@ impl Layers {
         ensures step { AreServing self.old → IsStep (kept_of self.old) (kept_of self.new) seat (Poll feed max) result }
         ensures served { AreServing self.old → IsServed self.old self.new seat (Poll feed max) result }
     {
-        let Some(owner) = self.feeds.seat(feed) else {
-            return Reply::Refused(self.feed_refusal(feed));
-        };
-        if owner != seat {
-            return Reply::Refused(Refusal::NotOwner);
-        }
-        if self.feeds.behind(feed) == Some(true) {
-            self.poll_store(seat, feed, max)
-        } else {
-            self.poll_ring(seat, feed, max)
-        }
-    }
-
-    /// Polls a feed of the seat that is served from the store.
-    fn poll_store(&mut self, seat: u8, feed: u64, max: u64) -> Reply
-        requires closed { closed_in self.old.closing ≤ MAX }
-        requires behind { behind_in self.old.feeds feed ≡ Some true }
-        requires owner { seat_in self.old.feeds feed ≡ Some seat }
-        ensures step { IsStep (kept_of self.old) (kept_of self.new) seat (Poll feed max) result }
-        ensures served { IsServed self.old self.new seat (Poll feed max) result }
-    {
         let closed = self.closing.closed();
         let versions = self.rules.versions();
-        match self
-            .feeds
-            .next_messages_in_store(versions, feed, closed, max)
-        {
+        match self.feeds.poll(versions, seat, feed, closed, max) {
             Ok(messages) => Reply::Messages(messages),
-            Err(_) => Reply::Refused(Refusal::NoMemory),
-        }
-    }
-
-    /// Polls a feed of the seat that is served from its ring.
-    fn poll_ring(&mut self, seat: u8, feed: u64, max: u64) -> Reply
-        requires closed { closed_in self.old.closing ≤ MAX }
-        requires ring { behind_in self.old.feeds feed ≡ Some false }
-        requires owner { seat_in self.old.feeds feed ≡ Some seat }
-        ensures step { AreServing self.old → IsStep (kept_of self.old) (kept_of self.new) seat (Poll feed max) result }
-        ensures served { AreServing self.old → IsServed self.old self.new seat (Poll feed max) result }
-    {
-        let closed = self.closing.closed();
-        match self.feeds.next_messages_in_ring(feed, closed, max) {
-            Ok(messages) => Reply::Messages(messages),
-            Err(_) => Reply::Refused(Refusal::NoMemory),
+            Err(PollError::NoFeed) => Reply::Refused(self.feed_refusal(feed)),
+            Err(PollError::NotOwner) => Reply::Refused(Refusal::NotOwner),
+            Err(PollError::NoMemory) => Reply::Refused(Refusal::NoMemory),
         }
     }
 

@@ -1,7 +1,7 @@
 -- A feed that is served from the store.
-use Rattle.std.proofs.Common.{Bool, List, None, Option, Some, [], ap, arith, drop, false, inl, inr, length, map, max, min, refl, subst, sym, take, true, zero, suc, ℕ, ◌+◌, ◌-◌, ◌<◌, ◌&&◌, ◌==◌, ◌≡◌, ◌≤◌, ◌++◌, ◌∷◌, ◌∙◌}
+use Rattle.std.proofs.Common.{Bool, List, None, Option, Some, [], ap, arith, false, inl, inr, length, map, max, min, refl, subst, sym, take, true, zero, suc, ℕ, ◌+◌, ◌-◌, ◌<◌, ◌&&◌, ◌==◌, ◌≡◌, ◌≤◌, ◌++◌, ◌∷◌, ◌∙◌}
 use Rattle.std.specs.Prelude.{IfOk, Result, Ok, Err, nat_lt}
-use Rattle.std.proofs.lemmas.Bool.{and_from, and_parts, both_ways, eq-eqb, lt-ltb, ltb-true, or_cases, or_left}
+use Rattle.std.proofs.lemmas.Bool.{and_from, and_parts, both_ways, lt-ltb, ltb-true, or_cases, or_left}
 use Rattle.std.proofs.lemmas.Bool.Decides.{nat_tests}
 use Rattle.timestamps.specs.declared.row.Row.{Row}
 use Rattle.spans.specs.KeyOrder.{key_lt}
@@ -16,14 +16,11 @@ use Rattle.catch_up.specs.Left.{AreNextIn}
 use Rattle.feed.specs.Firsts.{AreNextFirstsAt, AreNextStoredAt, IsLeftAt, IsNoneLeft, is_row_above, key_at}
 use Rattle.spans.specs.Collection.{VersionName}
 use Rattle.spans.specs.Consumer.{is_after_name, name_lt}
-use Rattle.spans.specs.Kept.{last_name}
-use Rattle.spans.specs.Feeds.{last_resolved}
 use Rattle.spans.specs.declared.calls.messages.Message.{Message}
 use Rattle.spans.specs.declared.calls.messages.Message.TheVariants as messages
-use Rattle.kept.specs.Places.{moved}
-use Rattle.feed.specs.Live.{Live, arrived_at, due_at, due_in, row_or, settled}
-use Rattle.feed.specs.Standing.{AreNextAt, IsPolledFrom, IsPut, Standing, live_in}
-use Rattle.feed.proofs.Telling.{last_name_is, take_again}
+use Rattle.feed.specs.Live.{Live}
+use Rattle.feed.specs.Standing.{AreNextAt}
+use Rattle.feed.specs.Telling.{AreRowsTold}
 use Rattle.std.proofs.lemmas.List.{length-take, take-map}
 
 and_true : (b : Bool) → (b && true) ≡ b
@@ -198,36 +195,11 @@ more_is n most got all is one small =
     (λ on. let g : most < length got = ltb-true most (length got) on in let l : most < length all = omega arith in absurd (both_ways _ off (lt-ltb most (length all) l)))
     (λ off'. off' ∙ sym off))
 
-at_itself : (f : ℕ) → (f == f) ≡ true
-at_itself f = eq-eqb f f refl
-
--- two changes of the same feed in turn
-put_twice : (s s' s'' : Standing) (f : ℕ) (o p : Option Live) → IsPut s s' f o → IsPut s' s'' f p → IsPut s s'' f p
-put_twice s s' s'' f o p first second g = second g ∙ by_test (f == g)
-    (λ here. rw here refl)
-    (λ there. rw there (first g ∙ rw there refl))
-
--- the poll of a feed that is served from the store
-pub polled_from : (store : Stored) (s m s' : Standing) (f closed most n : ℕ) (l : Live) (got : List Row) (first all : List Message) (due : Option ℕ) (after : ℕ) (row : Option VersionName) (more : Bool) → AreNextAt store l.place closed n got
-    → n ≡ min (most + 1) 18446744073709551615 → most < 18446744073709551616 → length got < 9223372036854775808 → first ≡ map messages.Row (take most got) → due_in l closed ≡ due_at due → all ≡ take most (first ++ due_at due)
-    → after ≡ last_resolved l.place.after all → row ≡ last_name None all → more ≡ nat_lt most (length got)
-    → IsPut s m f (Some (arrived_at after row l.behind (drop 0 l.ring) l)) → ((v : Live) → live_in m f ≡ Some v → IsPut m s' f (Some (settled more v))) → IsPolledFrom store s s' f closed most l all
-polled_from store s m s' f closed most n l got first all due after row more next one fits small rows is all_is after_is row_is more_so put settle = record {
+-- the rows of a feed that is served from the store
+pub told_of_store : (store : Stored) (l : Live) (closed most n : ℕ) (got : List Row) (ms : List Message) (more : Bool) → l.behind ≡ true → AreNextAt store l.place closed n got → n ≡ min (most + 1) 18446744073709551615 → most < 18446744073709551616 → length got < 9223372036854775808
+    → ms ≡ map messages.Row (take most got) → more ≡ nat_lt most (length got) → AreRowsTold store l closed most ms more
+told_of_store store l closed most n got ms more is next one fits small rows more_so = record {
   rows = next.all;
-  left = next.left;
-  told =
-      all_is
-      ∙ ap (λ ms. take most (ms ++ due_at due)) (rows ∙ ap (map messages.Row) (ap (take most) next.first ∙ take_less most n next.all (omega arith)) ∙ sym (take-map messages.Row most next.all))
-      ∙ take_again most (map messages.Row next.all) (due_at due)
-      ∙ ap (λ ms. take most (map messages.Row next.all ++ ms)) (sym is);
-  put = subst (λ (v : Live). IsPut s s' f (Some v)) there (put_twice s m s' f (Some arrived) (Some (settled more arrived)) put (settle arrived (put f ∙ rw (at_itself f) refl)));
+  left = record { ring = λ isnt. absurd (both_ways _ isnt is); stored = λ on. (next.left, more_so ∙ more_is n most got next.all next.first one small) };
+  first = rows ∙ ap (map messages.Row) (ap (take most) next.first ∙ take_less most n next.all (omega arith)) ∙ sym (take-map messages.Row most next.all);
 }
-  where
-    arrived : Live
-    arrived = arrived_at after row l.behind (drop 0 l.ring) l
-
-    there : settled more (arrived_at after row l.behind (drop 0 l.ring) l) ≡ record { place = moved all l.place; behind = nat_lt most (length next.all); ring = [] }
-    there =
-        ap (λ t. settled more (arrived_at t row l.behind (drop 0 l.ring) l)) after_is
-        ∙ ap (λ o. record { place = record { seat = l.place.seat; kind = l.place.kind; span = l.place.span; cursor = l.place.cursor; after = last_resolved l.place.after all; row = o }; behind = more; ring = [] }) (ap (λ o. row_or o l.place.row) row_is ∙ last_name_is l.place.row all)
-        ∙ ap (λ b. record { place = moved all l.place; behind = b; ring = [] }) (more_so ∙ more_is n most got next.all next.first one small)

@@ -1,5 +1,5 @@
 -- What the calls change is what the crate `kept` wants of an open, a poll and a cancel.
-use Rattle.std.proofs.Common.{Bool, List, None, Option, Some, ap, nat_lt, cond, false, refl, sym, true, suc, ℕ, ◌==◌, ◌≡◌, ◌≤◌, ◌∙◌, arith, []}
+use Rattle.std.proofs.Common.{Bool, List, None, Option, Some, ap, nat_lt, cond, false, refl, sym, true, suc, ℕ, ◌==◌, ◌≡◌, ◌≤◌, ◌∙◌, []}
 use Rattle.std.specs.Prelude.{option_map, if◌then◌else◌}
 use Rattle.std.proofs.lemmas.Bool.{eq-eqb, eqb-true, ltb-false, or_parts}
 use Rattle.timestamps.specs.declared.row.Row.{Row}
@@ -12,7 +12,6 @@ use Rattle.kept.specs.Places.{moved}
 use Rattle.kept.specs.Rings.{AreOthersSame}
 use Rattle.spans.specs.Feeds.{start_at}
 use Rattle.spans.specs.declared.kind.Kind.{Kind}
-use Rattle.std.proofs.lemmas.Bool.Decides.{nat_tests}
 use Rattle.feed.specs.Live.{Live, begins_behind, opened_at}
 use Rattle.feed.specs.Standing.{IsPut, Standing, behind_or, is_behind, live_in, place_in, ring_of, ring_or}
 

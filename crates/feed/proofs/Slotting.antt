@@ -7,7 +7,7 @@ use Rattle.std.proofs.lemmas.Bool.{and_from, and_parts, eq-eqb, eqb-true}
 use Rattle.spans.proofs.Steps.{by_test}
 use Rattle.feed.specs.declared.hulls.Hull.{Hull}
 use Rattle.feed.specs.declared.slots.Slot.{Slot}
-use Rattle.feed.specs.declared.slots.Source.{Source}
+use Rattle.feed.specs.declared.slots.ServedFrom.{ServedFrom}
 use Rattle.feed.specs.Slots.{HasEnded, IsKept, Slots, entry_holds, holds_at, slot_of, sourced}
 use Rattle.feed.specs.Hulls.{AreHulls, held_but, high_in, low_in, reaches_or}
 use Rattle.feed.proofs.Building.{same_hulls}
@@ -52,7 +52,7 @@ hulls_more k es es' e hulls place n more at h = subst (λ fs. AreHulls k fs (hel
     (reaches_kept es (es ++ e ∷ []) (λ i x. (low_more es e i x, high_more es e i x)))
     h)
 
-module _ (f : ℕ) (w : Source) where
+module _ (f : ℕ) (w : ServedFrom) where
   low_set : (es : Slots) (s : Slot) (i : ℕ) (x : List ℕ) → slot_of es f ≡ Some s → low_in (slice_get (set_value (nat_eq f) es (sourced w s)) i) x ≡ low_in (slice_get es i) x
   low_set [] s i x at = refl
   low_set (e ∷ es) s zero x at = by_test (nat_eq f e.0)
@@ -85,7 +85,7 @@ some_is true n place is = cc
 some_is false n place is = cc
 
 -- a slot that turned, but for what it holds
-pub hulls_set : (k f : ℕ) (w : Source) (es es' : Slots) (s : Slot) (hulls : List (Option Hull)) (place n : ℕ) → slot_of es f ≡ Some s → es' ≡ set_value (nat_eq f) es (sourced w s) → Some place ≡ position (nat_eq f) (keys_of es) → AreHulls k es (holds_at es) hulls 0 n
+pub hulls_set : (k f : ℕ) (w : ServedFrom) (es es' : Slots) (s : Slot) (hulls : List (Option Hull)) (place n : ℕ) → slot_of es f ≡ Some s → es' ≡ set_value (nat_eq f) es (sourced w s) → Some place ≡ position (nat_eq f) (keys_of es) → AreHulls k es (holds_at es) hulls 0 n
     → AreHulls k es' (held_but place (holds_at es')) hulls 0 n
 hulls_set k f w es es' s hulls place n stood put at h = subst (λ fs. AreHulls k fs (held_but place (holds_at fs)) hulls 0 n) (sym put)
     (same_hulls k es new (holds_at es) (held_but place (holds_at new)) hulls hulls 0 n (λ i low high. refl)
@@ -143,7 +143,7 @@ has_number es i x none is = by (slice_get es i) refl
     by None at = let no' : false ≡ true = sym (ap (λ o. entry_holds o x) at) ∙ is in cc
     by (Some e) at = let no' : None ≡ Some e.0 = none ∙ key_at es i ∙ ap (option_map (λ (e : ℕ × Slot). e.0)) at in cc
 
-pub hulls_turned : (k f : ℕ) (w : Source) (es es' : Slots) (hulls : List (Option Hull)) (place n : ℕ) → is_some (slot_of es f) ≡ true → ((s : Slot) → slot_of es f ≡ Some s → es' ≡ set_value (nat_eq f) es (sourced w s)) → Some place ≡ position (nat_eq f) (keys_of es) → AreHulls k es (holds_at es) hulls 0 n
+pub hulls_turned : (k f : ℕ) (w : ServedFrom) (es es' : Slots) (hulls : List (Option Hull)) (place n : ℕ) → is_some (slot_of es f) ≡ true → ((s : Slot) → slot_of es f ≡ Some s → es' ≡ set_value (nat_eq f) es (sourced w s)) → Some place ≡ position (nat_eq f) (keys_of es) → AreHulls k es (holds_at es) hulls 0 n
     → AreHulls k es' (held_but place (holds_at es')) hulls 0 n
 hulls_turned k f w es es' hulls place n there put at h = by (slot_of es f) refl
   where

@@ -4,14 +4,14 @@ use Rattle.std.specs.Prelude.{nat_eq}
 use Rattle.std.specs.BTreeMap.{is_at}
 use Rattle.std.specs.BTreeSet.{BTreeSet, contains}
 use Rattle.std.specs.Map.{lookup}
-use Rattle.std.proofs.lemmas.Bool.{eqb-true}
+use Rattle.std.proofs.lemmas.Bool.{and_parts, eqb-true}
 use Rattle.std.proofs.lemmas.Bool.Decides.{nat_tests}
 use Rattle.spans.specs.Feeds.{start_at}
 use Rattle.spans.specs.declared.kind.Kind.{Kind}
 use Rattle.spans.proofs.Steps.{by_test}
 use Rattle.kept.specs.Places.{place_floor}
 use Rattle.feed.specs.Live.{Live}
-use Rattle.feed.specs.Ties.{AreTied, is_floor, pair_cmp}
+use Rattle.feed.specs.Ties.{AreTied, IsFloorMoved, is_floor, pair_cmp}
 
 -- the set has just the floors of the feeds, each with its number
 abbrev pub AreAlike : (ℕ × ℕ → Bool) → (ℕ → Option Live) → Type 0
@@ -97,29 +97,40 @@ alike_again c c' c'' g t f free alike put taken s k = by_test (f == k)
     (λ there. taken_there c' c'' t f taken s k there ∙ put_there c c' t f put s k there ∙ alike s k))
     (λ other. taken_other c' c'' t f taken s k other ∙ put_other c c' t f put s k other ∙ alike s k)
 
--- a feed moves to another floor
-pub alike_moved : (c c' c'' : ℕ × ℕ → Bool) (g g' : ℕ → Option Live) (a b f : ℕ) (l l' : Live) → place_floor l.place ≡ b → place_floor l'.place ≡ a → g f ≡ Some l → (b == a) ≡ false → AreAlike c g
-    → ((q : ℕ × ℕ) → c' q ≡ cond (is_at (pair_cmp (a, f)) q) true (c q)) → ((q : ℕ × ℕ) → c'' q ≡ cond (is_at (pair_cmp (b, f)) q) false (c' q)) → IsSet g g' f (Some l') → AreAlike c'' g'
-alike_moved c c' c'' g g' a b f l l' floor floor' stood apart alike put taken set s k = by_test (f == k)
-    (λ same.
-    let now : is_floor (g' k) s ≡ (a == s) = ap (λ o. is_floor o s) (set_here g g' f k (Some l') set same) ∙ floor_is l' a s floor' in
-    by_test (b == s)
-    (λ here. let off : (a == s) ≡ false = grind (arith, nat_tests) in taken_here c' c'' b f taken s k here same ∙ sym (now ∙ off))
-    (λ there. by_test (a == s)
-    (λ here'. taken_there c' c'' b f taken s k there ∙ put_here c c' a f put s k here' same ∙ sym (now ∙ here'))
-    (λ there'. taken_there c' c'' b f taken s k there ∙ put_there c c' a f put s k there' ∙ alike s k ∙ ap (λ o. is_floor o s) (ap g (sym (eqb-true f k same)) ∙ stood) ∙ floor_is l b s floor ∙ there ∙ sym (now ∙ there'))))
-    (λ other. taken_other c' c'' b f taken s k other ∙ put_other c c' a f put s k other ∙ alike s k ∙ ap (λ o. is_floor o s) (sym (set_other g g' f k (Some l') set other)))
+-- ---- a feed moves
 
--- a feed moves, and its floor stays
-pub alike_stayed : (c c' : ℕ × ℕ → Bool) (g g' : ℕ → Option Live) (a f : ℕ) (l l' : Live) → place_floor l.place ≡ a → place_floor l'.place ≡ a → g f ≡ Some l → AreAlike c g
-    → ((q : ℕ × ℕ) → c' q ≡ cond (is_at (pair_cmp (a, f)) q) true (c q)) → IsSet g g' f (Some l') → AreAlike c' g'
-alike_stayed c c' g g' a f l l' floor floor' stood alike put set s k = by_test (f == k)
+pair_is : (q : ℕ × ℕ) (t f : ℕ) → q.0 ≡ t → q.1 ≡ f → q ≡ (t, f)
+pair_is q t f first second = λ i. (first i, second i)
+
+at_pair : (t f : ℕ) (q : ℕ × ℕ) → is_at (pair_cmp (t, f)) q ≡ true → (t ≡ q.0) × (f ≡ q.1)
+at_pair t f q here = let both = and_parts (t == q.0) (f == q.1) (sym (same_pair t f q.0 q.1) ∙ here) in (eqb-true t q.0 both.0, eqb-true f q.1 both.1)
+
+-- its floor stays
+pub floor_stays : (c : ℕ × ℕ → Bool) (t f : ℕ) → c (t, f) ≡ true → (q : ℕ × ℕ) → c q ≡ cond (is_at (pair_cmp (t, f)) q) true (cond (is_at (pair_cmp (t, f)) q) false (c q))
+floor_stays c t f has q = by_test (is_at (pair_cmp (t, f)) q)
+    (λ here. let at = at_pair t f q here in rw here (ap c (pair_is q t f (sym at.0) (sym at.1)) ∙ has))
+    (λ there. rw there refl)
+
+-- or is put in elsewhere, and taken out where it was
+pub floor_moves : (c c' c'' : ℕ × ℕ → Bool) (b a f : ℕ) → (b ≡ a → ⊥) → ((q : ℕ × ℕ) → c' q ≡ cond (is_at (pair_cmp (a, f)) q) true (c q)) → ((q : ℕ × ℕ) → c'' q ≡ cond (is_at (pair_cmp (b, f)) q) false (c' q))
+    → (q : ℕ × ℕ) → c'' q ≡ cond (is_at (pair_cmp (a, f)) q) true (cond (is_at (pair_cmp (b, f)) q) false (c q))
+floor_moves c c' c'' b a f apart put taken q = by_test (is_at (pair_cmp (b, f)) q)
+    (λ here. by_test (is_at (pair_cmp (a, f)) q)
+    (λ on. absurd (apart ((at_pair b f q here).0 ∙ sym (at_pair a f q on).0)))
+    (λ off. taken q ∙ rw (here, off) refl))
+    (λ there. taken q ∙ rw there (put q))
+
+alike_moved : (c c' : ℕ × ℕ → Bool) (g g' : ℕ → Option Live) (b a f : ℕ) (l l' : Live) → place_floor l.place ≡ b → place_floor l'.place ≡ a → g f ≡ Some l → AreAlike c g
+    → ((q : ℕ × ℕ) → c' q ≡ cond (is_at (pair_cmp (a, f)) q) true (cond (is_at (pair_cmp (b, f)) q) false (c q))) → IsSet g g' f (Some l') → AreAlike c' g'
+alike_moved c c' g g' b a f l l' floor floor' stood alike moved set s k = by_test (f == k)
     (λ same.
     let now : is_floor (g' k) s ≡ (a == s) = ap (λ o. is_floor o s) (set_here g g' f k (Some l') set same) ∙ floor_is l' a s floor' in
     by_test (a == s)
-    (λ here. put_here c c' a f put s k here same ∙ sym (now ∙ here))
-    (λ there. put_there c c' a f put s k there ∙ alike s k ∙ ap (λ o. is_floor o s) (ap g (sym (eqb-true f k same)) ∙ stood) ∙ floor_is l a s floor ∙ there ∙ sym (now ∙ there)))
-    (λ other. put_other c c' a f put s k other ∙ alike s k ∙ ap (λ o. is_floor o s) (sym (set_other g g' f k (Some l') set other)))
+    (λ here. moved (s, k) ∙ rw (same_pair a f s k, here, same) refl ∙ sym (now ∙ here))
+    (λ there. by_test (b == s)
+    (λ here'. moved (s, k) ∙ rw (same_pair a f s k, there, same_pair b f s k, here', same) refl ∙ sym (now ∙ there))
+    (λ there'. moved (s, k) ∙ rw (same_pair a f s k, there, same_pair b f s k, there') refl ∙ alike s k ∙ ap (λ o. is_floor o s) (ap g (sym (eqb-true f k same)) ∙ stood) ∙ floor_is l b s floor ∙ there' ∙ sym (now ∙ there))))
+    (λ other. moved (s, k) ∙ rw (same_pair a f s k, same_pair b f s k, other, and_false (a == s), and_false (b == s)) refl ∙ alike s k ∙ ap (λ o. is_floor o s) (sym (set_other g g' f k (Some l') set other)))
 
 -- numbers after a change of one feed
 pub numbered_set : (n m f : ℕ) (g g' : ℕ → Option Live) (o : Option Live) → n ≤ m → f ≤ m → AreNumbered n g → IsSet g g' f o → AreNumbered m g'
@@ -132,23 +143,12 @@ numbered_less n f g g' numbered set k l is = by_test (f == k)
     (λ same. let e : None ≡ Some l = sym (set_here g g' f k None set same) ∙ is in cc)
     (λ other. numbered k l (sym (set_other g g' f k None set other) ∙ is))
 
-unequal : (a b : ℕ) → (a ≡ b → ⊥) → (b == a) ≡ false
-unequal a b apart = grind (arith, nat_tests)
-
 -- a feed that moves, with its floors
-pub tied_moved : (opened a b f : ℕ) (es fs : List (ℕ × Live)) (floors floors' floors'' : BTreeSet (ℕ × ℕ)) (l l' : Live) → AreTied opened es floors → place_floor l.place ≡ b → place_floor l'.place ≡ a → lookup (nat_eq f) es ≡ Some l → (a ≡ b → ⊥)
-    → ((q : ℕ × ℕ) → contains pair_cmp floors' q ≡ cond (is_at (pair_cmp (a, f)) q) true (contains pair_cmp floors q)) → ((q : ℕ × ℕ) → contains pair_cmp floors'' q ≡ cond (is_at (pair_cmp (b, f)) q) false (contains pair_cmp floors' q))
-    → IsSet (λ k. lookup (nat_eq k) es) (λ k. lookup (nat_eq k) fs) f (Some l') → AreTied opened fs floors''
-tied_moved opened a b f es fs floors floors' floors'' l l' tied floor floor' stood apart put taken set = record {
+pub tied_moved : (opened b a f : ℕ) (es fs : List (ℕ × Live)) (floors floors' : BTreeSet (ℕ × ℕ)) (l l' : Live) → AreTied opened es floors → place_floor l.place ≡ b → place_floor l'.place ≡ a → lookup (nat_eq f) es ≡ Some l
+    → IsFloorMoved floors floors' f b a → IsSet (λ k. lookup (nat_eq k) es) (λ k. lookup (nat_eq k) fs) f (Some l') → AreTied opened fs floors'
+tied_moved opened b a f es fs floors floors' l l' tied floor floor' stood moved set = record {
   numbered = numbered_set opened opened f (λ k. lookup (nat_eq k) es) (λ k. lookup (nat_eq k) fs) (Some l') (omega arith) (tied.numbered f l stood) tied.numbered set;
-  each = alike_moved (contains pair_cmp floors) (contains pair_cmp floors') (contains pair_cmp floors'') (λ k. lookup (nat_eq k) es) (λ k. lookup (nat_eq k) fs) a b f l l' floor floor' stood (unequal a b apart) tied.each put taken set;
-}
-
-pub tied_stayed : (opened a b f : ℕ) (es fs : List (ℕ × Live)) (floors floors' : BTreeSet (ℕ × ℕ)) (l l' : Live) → AreTied opened es floors → place_floor l.place ≡ b → place_floor l'.place ≡ a → lookup (nat_eq f) es ≡ Some l → a ≡ b
-    → ((q : ℕ × ℕ) → contains pair_cmp floors' q ≡ cond (is_at (pair_cmp (a, f)) q) true (contains pair_cmp floors q)) → IsSet (λ k. lookup (nat_eq k) es) (λ k. lookup (nat_eq k) fs) f (Some l') → AreTied opened fs floors'
-tied_stayed opened a b f es fs floors floors' l l' tied floor floor' stood same put set = record {
-  numbered = numbered_set opened opened f (λ k. lookup (nat_eq k) es) (λ k. lookup (nat_eq k) fs) (Some l') (omega arith) (tied.numbered f l stood) tied.numbered set;
-  each = alike_stayed (contains pair_cmp floors) (contains pair_cmp floors') (λ k. lookup (nat_eq k) es) (λ k. lookup (nat_eq k) fs) a f l l' (floor ∙ sym same) floor' stood tied.each put set;
+  each = alike_moved (contains pair_cmp floors) (contains pair_cmp floors') (λ k. lookup (nat_eq k) es) (λ k. lookup (nat_eq k) fs) b a f l l' floor floor' stood tied.each moved set;
 }
 
 -- a feed starts at its cursor or below it

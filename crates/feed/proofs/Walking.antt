@@ -12,11 +12,11 @@ use Rattle.kept.specs.Places.{place_floor}
 use Rattle.kept.specs.Rings.{wanted}
 use Rattle.feed.specs.Changes.{AreAllListed, AreEach, IsChangedTo, IsStep, Lives}
 use Rattle.feed.specs.Live.{IsOffered, Live, wants}
-use Rattle.feed.specs.Slots.{AreListed, IsKept, IsListed, Slots, entry_holds, holds_at, is_ring, slot_of, source_of, sourced}
+use Rattle.feed.specs.Slots.{AreListed, IsKept, IsListed, IsSourced, Slots, entry_holds, holds_at, is_ring, slot_of, source_of, sourced}
 use Rattle.feed.specs.Standing.{IsBoth, IsSentBehind}
 use Rattle.feed.specs.Ties.{AreTied, is_floor}
 use Rattle.feed.specs.declared.slots.Slot.{Slot}
-use Rattle.feed.specs.declared.slots.Source.TheVariants.{Ended, Store}
+use Rattle.feed.specs.declared.slots.ServedFrom.TheVariants.{Ended, Store}
 
 apart_from : (f g : ℕ) → (f == g) ≡ false → f ≡ g → ⊥
 apart_from f g off same = both_ways _ off (eq-eqb f g same)
@@ -149,9 +149,9 @@ listed_put es es' os os' f listed live slots here g = by_test (f == g)
     (λ off. subst (λ o. IsListed o (slot_of os' g)) (sym (live g off)) (subst (IsListed (lookup (nat_eq g) es)) (sym (slots g off)) (listed g)))
 
 -- one that is behind, listed anew
-pub listed_behind : (l l' : Live) (o : Option Slot) → IsListed (Some l) o → l'.place ≡ l.place → (b : Bool) → l'.behind ≡ b → IsListed (Some l') (option_map (sourced (source_of b)) o)
+pub listed_behind : (l l' : Live) (o : Option Slot) → IsListed (Some l) o → l'.place.span ≡ l.place.span → (b : Bool) → l'.behind ≡ b → IsListed (Some l') (option_map (sourced (source_of b)) o)
 listed_behind l l' None listed same b is = absurd listed
-listed_behind l l' (Some s) listed same b is = (listed.0 ∙ ap (λ p. p.span) (sym same), ap source_of (sym is))
+listed_behind l l' (Some s) listed same b is = (listed.0 ∙ sym same, ap source_of (sym is))
 
 -- one that isn't behind, or as it was
 pub listed_same : (l l' : Live) (o : Option Slot) → IsListed (Some l) o → l'.place.span ≡ l.place.span → l'.behind ≡ l.behind → IsListed (Some l') o
@@ -304,7 +304,7 @@ module _ (R : Live → Live → Type 0) (es es' : Lives) (f : ℕ) (b : Bool) (c
           listed_put es es' os os' f listed (put_other es es' f (Some c.after) c.put) (slot_other os os' f (option_map (sourced Store) (slot_of os f)) put)
           (subst (λ o. IsListed o (slot_of os' f)) (sym (put_here es es' f (Some c.after) c.put))
           (subst (IsListed (Some c.after)) (sym (slot_here os os' f (option_map (sourced Store) (slot_of os f)) put))
-          (listed_behind l c.after (slot_of os f) (subst (λ o. IsListed o (slot_of os f)) was (listed f)) (same l c.after c.changed) true (sym c.behind ∙ on))))
+          (listed_behind l c.after (slot_of os f) (subst (λ o. IsListed o (slot_of os f)) was (listed f)) (ap (λ p. p.span) (same l c.after c.changed)) true (sym c.behind ∙ on))))
 
 pub sent_place : (l l' : Live) → IsSentBehind l l' → l'.place ≡ l.place
 sent_place l l' sent = ap (λ (v : Live). v.place) sent
@@ -321,13 +321,6 @@ all_put n f es es' os os' v w all live slots keys here = record {
       (subst (λ o. IsListed o (slot_of os' f)) (sym (put_here es es' f v live)) (subst (IsListed v) (sym (slot_here os os' f w slots)) here));
 }
 
--- one whose slot tells of it still
-pub all_same : (n f : ℕ) (es es' : Lives) (os : Slots) (v : Option Live) → AreAllListed n es os → ((g : ℕ) → lookup (nat_eq g) es' ≡ cond (f == g) v (lookup (nat_eq g) es)) → IsListed v (slot_of os f) → AreAllListed n es' os
-all_same n f es es' os v all live here = record {
-  known = all.known;
-  each = listed_put es es' os os f all.each (put_other es es' f v live) (λ g off. refl) (subst (λ o. IsListed o (slot_of os f)) (sym (put_here es es' f v live)) here);
-}
-
 pub all_kept : (n : ℕ) (es : Lives) (os os' : Slots) → AreAllListed n es os → ((f : ℕ) → IsKept (slot_of os f) (slot_of os' f)) → AreAllListed n es os'
 all_kept n es os os' all kept = record { known = known_kept n os os' all.known kept; each = kept_listed es os os' all.each kept }
 
@@ -340,19 +333,12 @@ all_more n f es es' os os' v w all next live slots span source = record {
       (subst (λ o. IsListed o (slot_of os' f)) (sym (put_here es es' f (Some v) live)) (subst (IsListed (Some v)) (sym (slot_here os os' f (Some w) slots)) (span, source)));
 }
 
--- a feed that is put at its place leaves the floors
-pub tied_put : (n f : ℕ) (es es' : Lives) (floors : BTreeSet (ℕ × ℕ)) (l l' : Live) → AreTied n es floors → lookup (nat_eq f) es ≡ Some l → ((g : ℕ) → lookup (nat_eq g) es' ≡ cond (f == g) (Some l') (lookup (nat_eq g) es)) → l'.place ≡ l.place → AreTied n es' floors
-tied_put n f es es' floors l l' tied stood put same = tied_each At (λ a b e. e) n es es' floors tied each
+-- a slot that says so already
+pub sourced_same : (os : Slots) (f : ℕ) (b : Bool) → ((s : Slot) → slot_of os f ≡ Some s → s.source ≡ source_of b) → IsSourced os os f (source_of b)
+sourced_same os f b listed g = by_test (f == g)
+    (λ here. rw here (ap (slot_of os) (sym (eqb-true f g here)) ∙ sym (stays (slot_of os f) refl)))
+    (λ there. rw there refl)
   where
-    At : Live → Live → Type 0
-    At a b = b.place ≡ a.place
-
-    itself : (o : Option Live) → IsBoth At o o
-    itself None = tt
-    itself (Some v) = refl
-
-    each : AreEach At es es'
-    each g = by_test (f == g)
-        (λ here. subst (λ k. IsBoth At (lookup (nat_eq k) es) (lookup (nat_eq k) es')) (eqb-true f g here)
-        (subst (λ o. IsBoth At o (lookup (nat_eq f) es')) (sym stood) (subst (IsBoth At (Some l)) (sym (put_here es es' f (Some l') put)) same)))
-        (λ off. subst (IsBoth At (lookup (nat_eq g) es)) (sym (put_other es es' f (Some l') put g off)) (itself (lookup (nat_eq g) es)))
+    stays : (o : Option Slot) → slot_of os f ≡ o → option_map (sourced (source_of b)) o ≡ o
+    stays None is = refl
+    stays (Some s) is = ap (λ v. Some (record { span = s.span; source = v })) (sym (listed s is))

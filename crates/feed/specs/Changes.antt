@@ -25,10 +25,6 @@ pub record IsChangedTo (R : Live → Live → Type 0) (es es' : Lives) (f : ℕ)
   pub behind : b ≡ after.behind
   pub put : (g : ℕ) → lookup (nat_eq g) es' ≡ (if f == g then Some after else lookup (nat_eq g) es)
 
--- f, where it lives, became g of it, and the others are as they were
-abbrev pub IsChangedIn : Lives → Lives → ℕ → (Live → Live) → Type 0
-IsChangedIn es es' f g = (l : Live) → lookup (nat_eq f) es ≡ Some l → (i : ℕ) → lookup (nat_eq i) es' ≡ (if f == i then Some (g l) else lookup (nat_eq i) es)
-
 -- each slot is that of a feed that was opened, and each feed is listed
 pub record AreAllListed (opened : ℕ) (live : Lives) (slots : Slots) : Type 0 where
   pub known : (f : ℕ) (s : Slot) → slot_of slots f ≡ Some s → f ≤ opened

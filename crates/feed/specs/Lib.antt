@@ -2,6 +2,7 @@ pub mod Live
 pub mod Firsts
 pub mod Rows
 pub mod Standing
+pub mod Telling
 pub mod Ties
 pub mod Changes
 pub mod OfferedAll

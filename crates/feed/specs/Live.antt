@@ -1,5 +1,5 @@
 -- A live feed, as it is seen: its place, whether it is served from the store, and the rows in its ring.
-use Rattle.std.specs.Prelude.{Bool, List, None, Option, Some, [], drop, false, if◌then◌else◌, nat_lt, not, true, ℕ, ◌&&◌, ◌||◌, ◌++◌, ◌∷◌, ◌≡◌, ◌⊎◌}
+use Rattle.std.specs.Prelude.{Bool, List, None, Option, Some, [], false, if◌then◌else◌, nat_lt, not, true, ℕ, ◌&&◌, ◌||◌, ◌++◌, ◌∷◌, ◌≡◌, ◌⊎◌}
 use Rattle.timestamps.specs.declared.row.Row.{Row}
 use Rattle.spans.specs.Collection.{VersionName}
 use Rattle.spans.specs.Feeds.{is_due, start_at}
@@ -48,14 +48,6 @@ row_or (Some n) o = Some n
 -- the place is behind messages; ring is what its ring has then
 abbrev pub arrived_at : ℕ → Option VersionName → Bool → List Row → Live → Live
 arrived_at after row behind ring l = record { place = record { seat = l.place.seat; kind = l.place.kind; span = l.place.span; cursor = l.place.cursor; after = after; row = row_or row l.place.row }; behind = behind; ring = ring }
-
--- the place is behind messages, of which so many were rows of its ring
-abbrev pub moved_on : ℕ → Option VersionName → ℕ → Live → Live
-moved_on after row told l = arrived_at after row l.behind (drop told l.ring) l
-
--- its ring is empty, and it may be served from the store
-abbrev pub settled : Bool → Live → Live
-settled behind l = record { place = l.place; behind = behind; ring = [] }
 
 -- the resolved message that is due
 abbrev pub due_in : Live → ℕ → List Message

@@ -4,14 +4,14 @@ use Rattle.std.specs.Map.{keys_of, lookup}
 use Rattle.std.specs.Prelude.{if◌then◌else◌, nat_eq, option_map, ◌==◌}
 use Rattle.spans.specs.Keys.{in_span}
 use Rattle.feed.specs.declared.slots.Slot.{Slot}
-use Rattle.feed.specs.declared.slots.Source.{Source}
-use Rattle.feed.specs.declared.slots.Source.TheVariants.{Ended, Ring, Store}
+use Rattle.feed.specs.declared.slots.ServedFrom.{ServedFrom}
+use Rattle.feed.specs.declared.slots.ServedFrom.TheVariants.{Ended, Ring, Store}
 use Rattle.feed.specs.Live.{Live}
 
 abbrev pub Slots : Type 0
 Slots = List (ℕ × Slot)
 
-abbrev pub is_ring : Source → Bool
+abbrev pub is_ring : ServedFrom → Bool
 is_ring Ring = true
 is_ring Store = false
 is_ring Ended = false
@@ -34,7 +34,7 @@ pub record IsNext (slots : Slots) (x : List ℕ) (n i f : ℕ) : Type 0 where
   pub number : slice_get (keys_of slots) i ≡ Some f
   pub first : (j : ℕ) → n ≤ j → j < i → holds_at slots j x ≡ false
 
-abbrev pub sourced : Source → Slot → Slot
+abbrev pub sourced : ServedFrom → Slot → Slot
 sourced source s = record { span = s.span; source = source }
 
 -- f has this slot, and the others are as they were
@@ -42,7 +42,7 @@ abbrev pub IsSlotPut : Slots → Slots → ℕ → Slot → Type 0
 IsSlotPut slots slots' f s = (g : ℕ) → slot_of slots' g ≡ (if f == g then Some s else slot_of slots g)
 
 -- the slot of f, if it has one, says where it is served from now, and the others are as they were
-abbrev pub IsSourced : Slots → Slots → ℕ → Source → Type 0
+abbrev pub IsSourced : Slots → Slots → ℕ → ServedFrom → Type 0
 IsSourced slots slots' f source = (g : ℕ) → slot_of slots' g ≡ (if f == g then option_map (sourced source) (slot_of slots f) else slot_of slots g)
 
 -- the slot is as it was, or it was that of a feed that has ended, and is gone
@@ -57,7 +57,7 @@ abbrev pub HasEnded : Option Slot → Type 0
 HasEnded None = ⊥
 HasEnded (Some s) = s.source ≡ Ended
 
-abbrev pub source_of : Bool → Source
+abbrev pub source_of : Bool → ServedFrom
 source_of true = Store
 source_of false = Ring
 

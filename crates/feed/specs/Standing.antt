@@ -1,5 +1,5 @@
 -- The feeds that live, and how many were opened.
-use Rattle.std.specs.Prelude.{Bool, List, None, Option, Some, [], false, drop, if◌then◌else◌, is_some, length, nat_eq, nat_lt, option_map, take, ℕ, ◌==◌, ◌≡◌}
+use Rattle.std.specs.Prelude.{Bool, List, None, Option, Some, [], false, drop, if◌then◌else◌, is_some, length, nat_eq, nat_lt, option_map, take, true, ℕ, ◌==◌, ◌≡◌}
 use Rattle.std.specs.Map.{lookup}
 use Rattle.timestamps.specs.declared.row.Row.{Row}
 use Rattle.spans.specs.Kept.{Place}
@@ -9,6 +9,8 @@ use Rattle.version_chain.specs.Stores.{Stored, is_committed_in, version_in}
 use Rattle.kept.specs.Places.{AreLeft, moved}
 use Rattle.kept.specs.Replies.{messages_left}
 use Rattle.feed.specs.Live.{Live, sent_behind}
+use Rattle.feed.specs.declared.poll_error.PollError.{PollError}
+use Rattle.feed.specs.declared.poll_error.PollError.TheVariants.{NoFeed, NoMemory, NotOwner}
 
 pub record Standing : Type 0 where
   pub opened : ℕ
@@ -81,6 +83,20 @@ pub record IsPolledFrom (store : Stored) (s s' : Standing) (f closed max : ℕ) 
   pub left : AreLeft (version_in store) (is_committed_in store) live.place closed rows
   pub told : ms ≡ take max (messages_left closed live.place rows)
   pub put : IsPut s s' f (Some (record { place = moved ms live.place; behind = nat_lt max (length rows); ring = [] }))
+
+-- f lives and is the seat's, and told what its ring has, or where it is behind what the store has
+pub record IsPolledBy (store : Stored) (s s' : Standing) (seat f closed max : ℕ) (ms : List Message) : Type 0 where
+  pub live : Live
+  pub lives : live_in s f ≡ Some live
+  pub owner : live.place.seat ≡ seat
+  pub ring : live.behind ≡ false → IsPolled s s' f closed max live ms
+  pub stored : live.behind ≡ true → IsPolledFrom store s s' f closed max live ms
+
+-- why f tells the seat nothing: it doesn't live, another seat opened it, or it is the seat's and memory was wanting
+abbrev pub IsUnpolled : Standing → ℕ → ℕ → PollError → Type 0
+IsUnpolled s seat f NoFeed = live_in s f ≡ None
+IsUnpolled s seat f NotOwner = (owner : ℕ) × (seat_in s f ≡ Some owner) × ((owner == seat) ≡ false)
+IsUnpolled s seat f NoMemory = seat_in s f ≡ Some seat
 
 -- these are the first n of the rows that are left at a place
 pub record AreNextAt (store : Stored) (place : Place) (through n : ℕ) (rows : List Row) : Type 0 where

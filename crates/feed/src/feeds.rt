@@ -1,21 +1,25 @@
 //! All live feeds.
-ghost use Rattle.std.specs.Prelude.{true, map, ◌≡◌, ◌<◌, ◌≤◌, ℕ, None, Some, false, is_some, length, suc, IfOk, OnOk, OnErr, take, ◌++◌, IfSome};
+ghost use Rattle.std.specs.Prelude.{true, ◌≡◌, ◌<◌, ◌≤◌, ℕ, None, Some, is_some, suc, IfErr, IfOk, OnOk, OnErr, IfSome};
+ghost use Rattle.std.specs.BTreeSet.{contains};
+ghost use Rattle.std.specs.Map.{keys_of};
 ghost use Rattle.timestamps.specs.declared.ts.TheConstants.{MAX};
 ghost use Rattle.kept.specs.Places.{IsLeastFloor};
 ghost use Rattle.kept.specs.Reports.{AreLive};
-ghost use Rattle.feed.specs.Live.{Live, IsOffered, begins_behind, opened_at, moved_on, settled, due_at};
-ghost use Rattle.feed.specs.Standing.{opened_in, live_in, place_in, seat_in, behind_in, IsPut, AreChanged, IsSentBehind, IsPolled, IsPolledFrom, IsCountOf};
-ghost use Rattle.feed.specs.Changes.{IsChangedIn};
-ghost use Rattle.feed.specs.Slots.{source_of};
+ghost use Rattle.feed.specs.Live.{IsOffered, begins_behind, opened_at};
+ghost use Rattle.feed.specs.Standing.{opened_in, live_in, place_in, seat_in, behind_in, IsPut, AreChanged, IsSentBehind, IsPolledBy, IsUnpolled, IsCountOf};
+ghost use Rattle.feed.specs.Slots.{IsSourced, slot_of, source_of};
+ghost use Rattle.feed.specs.Ties.{IsFloorMoved, pair_cmp};
+ghost use Rattle.feed.specs.declared.slots.Slot.{Slot};
 
 use crate::live::LiveFeed;
-use crate::place::{Arrival, place_behind};
+use crate::live::telling::Told;
+use crate::poll_error::PollError;
 use crate::report::feed_reports;
 use crate::rounds::{offer_each, send_each_behind};
-use crate::slots::Source;
+use crate::slots::ServedFrom;
 use crate::span_order::SpanOrder;
 use indexmap::IndexMap;
-use spans::calls::{Message, Messages};
+use spans::calls::Messages;
 use spans::kind::Kind;
 use spans::report::FeedReport;
 use spans::span::Span;
@@ -24,7 +28,6 @@ use std::collections::BTreeSet;
 use std::marker::Model;
 use std::sync::Arc;
 use timestamps::row::Row;
-use timestamps::ts::Ts;
 use version_chain::Store;
 
 /// The feeds that live, by number, and the order of their floors.
@@ -130,7 +133,7 @@ impl Feeds {
             return Err(AllocError);
         };
         let Ok(_) = self.live.insert(feed, live) else {
-            return Err(AllocError);
+            unreachable!()
         };
         self.opened = feed;
         Ok(feed)
@@ -154,89 +157,44 @@ impl Feeds {
         send_each_behind(&mut self.live, &mut self.order);
     }
 
-    /// The next messages of a feed that is served from its ring, at most `max`. Where memory is wanting,
+    /// The next messages of a feed for the seat that opened it, at most `max`: from its ring, or from the store where it
+    /// is behind. A feed for which the store then has no row left is served from its ring again. Where memory is wanting,
     /// nothing is told.
-    pub fn next_messages_in_ring(
-        &mut self,
-        feed: u64,
-        closed: u64,
-        max: u64,
-    ) -> Result<Messages, AllocError>
-        requires closed { closed ≤ MAX }
-        requires ring { behind_in self.old feed ≡ Some false }
-        ensures told { IfOk result (λ ms. (l : Live) → live_in self.old feed ≡ Some l → IsPolled self.old self.new feed closed max l ms) }
-        ensures opened { opened_in self.new ≡ opened_in self.old }
-        ensures err { OnErr result (self.new ≡ self.old) }
-    {
-        let Some(live) = self.live.get(&feed) else {
-            return Err(AllocError);
-        };
-        let messages = live.rows_of_ring(self.alloc, max)?;
-        let told = messages.len() as u64;
-        let messages = with_due(messages, live.due(closed), max)?;
-        let place = place_behind(live.after(), messages.as_slice())?;
-        self.move_to(feed, place, told)?;
-        Ok(Messages::from_vec(messages))
-    }
-
-    /// The next messages of a feed that is served from the store, at most `max`. A feed for which that leaves no
-    /// row is served from its ring again. Where memory is wanting, nothing is told.
-    pub fn next_messages_in_store(
+    pub fn poll(
         &mut self,
         store: &Store,
+        seat: u8,
         feed: u64,
         closed: u64,
         max: u64,
-    ) -> Result<Messages, AllocError>
+    ) -> Result<Messages, PollError>
         requires closed { closed ≤ MAX }
-        requires behind { behind_in self.old feed ≡ Some true }
-        ensures told { IfOk result (λ ms. (l : Live) → live_in self.old feed ≡ Some l → IsPolledFrom store.now self.old self.new feed closed max l ms) }
+        ensures told { IfOk result (λ ms. IsPolledBy store.now self.old self.new seat feed closed max ms) }
+        ensures refused { IfErr result (IsUnpolled self.old seat feed) }
         ensures opened { opened_in self.new ≡ opened_in self.old }
         ensures err { OnErr result (self.new ≡ self.old) }
     {
-        let Some(live) = self.live.get(&feed) else {
-            return Err(AllocError);
+        let Some(live) = self.live.get_mut(&feed) else {
+            return Err(PollError::NoFeed);
         };
-        // one more, which tells whether any is left
-        let rows = live.rows_of_store(self.alloc, store, closed, max.saturating_add(1))?;
-        let more = rows.len() as u64 > max;
-        let messages = row_messages(self.alloc, at_most(rows, max))?;
-        let messages = with_due(messages, live.due(closed), max)?;
-        let place = place_behind(live.after(), messages.as_slice())?;
-        self.move_to(feed, place, 0)?;
-        self.settle(feed, more);
-        Ok(Messages::from_vec(messages))
-    }
-
-    /// A feed, if it is there, has an empty ring, and is behind or isn't.
-    fn settle(&mut self, feed: u64, behind: bool)
-        ensures put { IsChangedIn self.old.live self.new.live feed (settled behind) }
-        ensures opened { opened_in self.new ≡ opened_in self.old }
-    {
-        let Some(_) = self.live.get(&feed) else {
-            return;
-        };
-        settle(&mut self.live, feed, behind);
-        self.order.set(feed, source_of(behind));
-    }
-
-    /// Moves a feed behind messages, of which so many were rows of its ring.
-    fn move_to(&mut self, feed: u64, place: Arrival, told: u64) -> Result<(), AllocError>
-        ensures put { OnOk result (IsChangedIn self.old.live self.new.live feed (moved_on place.after place.row told)) }
-        ensures opened { opened_in self.new ≡ opened_in self.old }
-        ensures err { OnErr result (self.new ≡ self.old) }
-    {
-        let Some(live) = self.live.get(&feed) else {
-            return Err(AllocError);
-        };
-        let before = live.floor();
-        let after = live.floor_at(&place);
-        self.floors.insert((after, feed))?;
-        arrive(&mut self.live, feed, place, told);
-        if after != before {
-            self.floors.remove(&(before, feed));
+        if live.seat() != seat {
+            return Err(PollError::NotOwner);
         }
-        Ok(())
+        let Ok(told) = live.next_messages(self.alloc, store, closed, max) else {
+            return Err(PollError::NoMemory);
+        };
+        let floor = live.floor_at(&told.place);
+        let Ok(()) = move_floor(&mut self.floors, feed, live.floor(), floor) else {
+            return Err(PollError::NoMemory);
+        };
+        let Told {
+            messages,
+            place,
+            behind,
+        } = told;
+        relist(&mut self.order, feed, live.is_behind(), behind);
+        live.arrive(place, max, behind);
+        Ok(Messages::from_vec(messages))
     }
 
     /// Ends a feed, and answers whether it lived. It takes no memory.
@@ -249,7 +207,7 @@ impl Feeds {
             return false;
         };
         self.floors.remove(&(live.floor(), feed));
-        self.order.set(feed, Source::Ended);
+        self.order.set(feed, ServedFrom::Ended);
         true
     }
 
@@ -278,32 +236,45 @@ fn begins_behind(kind: Kind, cursor: u64, closed: u64) -> bool
     kind.initial || cursor < closed
 }
 
-/// Moves a feed, if it is there, behind messages.
-fn arrive(live: &mut IndexMap<u64, LiveFeed>, feed: u64, place: Arrival, told: u64)
-    ensures { IsChangedIn live.old.entries live.new.entries feed (moved_on place.after place.row told) }
+/// Moves a feed in the order of floors. It takes no memory where the floor stays.
+fn move_floor(
+    floors: &mut BTreeSet<(u64, u64)>,
+    feed: u64,
+    from: u64,
+    to: u64,
+) -> Result<(), AllocError>
+    requires stands { contains pair_cmp floors.old (from, feed) ≡ true }
+    ensures ok { OnOk result (IsFloorMoved floors.old floors.new feed from to) }
+    ensures err { OnErr result (floors.new.keys ≡ floors.old.keys) }
 {
-    if let Some(live) = live.get_mut(&feed) {
-        live.arrive(place, told);
+    if from == to {
+        return Ok(());
     }
+    floors.insert((to, feed))?;
+    floors.remove(&(from, feed));
+    Ok(())
 }
 
-/// A feed, if it is there, has an empty ring, and is behind or isn't.
-fn settle(live: &mut IndexMap<u64, LiveFeed>, feed: u64, behind: bool)
-    ensures { IsChangedIn live.old.entries live.new.entries feed (settled behind) }
+/// Lists a feed anew, where it was behind and no longer is. It takes no memory.
+fn relist(order: &mut SpanOrder, feed: u64, was_behind: bool, behind: bool)
+    requires listed { (s : Slot) → slot_of order.old feed ≡ Some s → s.source ≡ source_of was_behind }
+    ensures places { keys_of order.new ≡ keys_of order.old }
+    ensures put { IsSourced order.old order.new feed (source_of behind) }
 {
-    if let Some(live) = live.get_mut(&feed) {
-        live.settle(behind);
+    if behind == was_behind {
+        return;
     }
+    order.set(feed, source_of(behind));
 }
 
 /// Where a feed is served from that is behind or isn't.
-fn source_of(behind: bool) -> Source
+fn source_of(behind: bool) -> ServedFrom
     ensures { result ≡ source_of behind }
 {
     if behind {
-        return Source::Store;
+        return ServedFrom::Store;
     }
-    Source::Ring
+    ServedFrom::Ring
 }
 
 /// A copy of the row for all rings. There is none where no ring is to have it, or where memory is wanting.
@@ -318,41 +289,4 @@ fn share(alloc: Global, order: &SpanOrder, row: &Row) -> Option<Arc<Row>>
         Ok(shared) => Some(shared),
         Err(_) => None,
     }
-}
-
-/// The messages and the resolved one, as far as `max`.
-fn with_due(messages: Vec<Message>, due: Option<Ts>, max: u64) -> Result<Vec<Message>, AllocError>
-    requires { length messages.items ≤ max }
-    ensures { IfOk result (λ ms. ms.items ≡ take max (messages.items ++ due_at due)) }
-{
-    let mut messages = messages;
-    let Some(ts) = due else {
-        return Ok(messages);
-    };
-    if (messages.len() as u64) < max {
-        messages.push(Message::Resolved(ts))?;
-    }
-    Ok(messages)
-}
-
-/// The first `max` rows.
-fn at_most(rows: Vec<Row>, max: u64) -> Vec<Row>
-    ensures { result.items ≡ take max rows.items }
-{
-    let mut rows = rows;
-    if rows.len() as u64 > max {
-        rows.truncate(max as usize);
-    }
-    rows
-}
-
-/// Rows as messages.
-fn row_messages(alloc: Global, rows: Vec<Row>) -> Result<Vec<Message>, AllocError>
-    ensures { IfOk result (λ ms. ms.items ≡ map Message.Row rows.items) }
-{
-    let mut messages = Vec::with_capacity(alloc, rows.len())?;
-    for row in rows {
-        messages.push(Message::Row(row))?;
-    }
-    Ok(messages)
 }

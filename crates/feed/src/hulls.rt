@@ -16,7 +16,7 @@ ghost use Rattle.spans.specs.KeyOrder.{below_high, from_low};
 ghost use Rattle.feed.specs.Slots.{holds_at};
 ghost use Rattle.feed.specs.Hulls.{AreHulls, AreSameOutside, IsCovering, IsFirstIn, IsFirstFrom, IsNoneFrom, IsNoneIn, held_but, high_in, hull_reaches, low_in, reaches};
 
-use crate::slots::{Slot, Source};
+use crate::slots::{ServedFrom, Slot};
 use indexmap::IndexMap;
 use spans::bound::{Bound, is_below, is_from};
 use std::cmp::Ordering;
@@ -125,9 +125,9 @@ pub(crate) fn is_holding(slots: &IndexMap<u64, Slot>, place: usize, key: &Key) -
         return false;
     };
     match slot.source {
-        Source::Ring => slot.span.contains(key),
-        Source::Store => false,
-        Source::Ended => false,
+        ServedFrom::Ring => slot.span.contains(key),
+        ServedFrom::Store => false,
+        ServedFrom::Ended => false,
     }
 }
 
@@ -139,12 +139,12 @@ fn own_hull(slots: &IndexMap<u64, Slot>, place: usize) -> Option<Hull>
         return None;
     };
     match slot.source {
-        Source::Ring => Some(Hull {
+        ServedFrom::Ring => Some(Hull {
             low: place,
             high: place,
         }),
-        Source::Store => None,
-        Source::Ended => None,
+        ServedFrom::Store => None,
+        ServedFrom::Ended => None,
     }
 }
 

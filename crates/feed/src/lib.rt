@@ -26,13 +26,12 @@
 //! - `count`, `opened`, `seat`, `behind`: O(1)
 //! - `open`, `cancel`, `least_floor`: O(log f), the first two taken over many
 //! - `offer`: O(log f), a copy of the row, and each feed whose span holds the key, but for those behind
-//! - `next_messages_in_ring`: O(log f) and the messages told
-//! - `next_messages_in_store`: O(log f), the messages told, and the searches of the store that `catch_up` makes
+//! - `poll`: O(log f) and the messages told, and for a feed that is behind the searches of the store that `catch_up` makes
 //! - `mark_behind`: O(f log f)
 //! - `report`: O(f log f) and the bytes of its answer
 //!
 //! An offer also looks at each slot that was added, or whose feed fell behind or came back, since the order was last
-//! made. Once offers have looked at more of these than there are slots, the order is made anew. `open`, `offer`, the polls
+//! made. Once offers have looked at more of these than there are slots, the order is made anew. `open`, `offer`, `poll`
 //! and `report` take memory. An offer never refuses: without memory for the row it sends the feeds behind that want it, and
 //! without memory for the new order it keeps the old one. The other calls take none.
 //!
@@ -43,9 +42,11 @@ mod feeds;
 mod hulls;
 mod live;
 mod place;
+mod poll_error;
 mod report;
 mod rounds;
 mod slots;
 mod span_order;
 
 pub use feeds::Feeds;
+pub use poll_error::PollError;

@@ -9,9 +9,10 @@ ghost use Rattle.spans.specs.Consumer.{is_after_name};
 ghost use Rattle.version_chain.specs.Following.{is_after_place};
 ghost use Rattle.feed.specs.Standing.{AreNextAt};
 ghost use Rattle.feed.specs.Firsts.{AreNextFirstsAt, AreNextStoredAt, IsLeftAt, IsNoneLeft, is_row_above, key_at};
-ghost use Rattle.feed.specs.Live.{wants, IsOffered, with_row, sent_behind, opened_at, arrived_at, settled, due_in, due_at, row_or};
+ghost use Rattle.feed.specs.Live.{wants, IsOffered, with_row, sent_behind, opened_at, arrived_at, due_in, due_at, row_or};
 
 mod report;
+pub(crate) mod telling;
 
 use crate::place::{Arrival, RowName};
 use catch_up::{next_rows, next_snapshot};
@@ -90,7 +91,8 @@ impl LiveFeed {
 
     /// Whether it is served from the store.
     pub(crate) fn is_behind(&self) -> bool
-        ensures { result ≡ self.now.behind }
+        ensures behind { result ≡ self.now.behind }
+        ensures empty { result ≡ true → self.now.ring ≡ [] }
     {
         self.behind
     }
@@ -190,13 +192,15 @@ impl LiveFeed {
         None
     }
 
-    /// Goes to a place behind messages, of which `told` were rows of its ring.
-    pub(crate) fn arrive(&mut self, place: Arrival, told: u64)
-        ensures { self.new ≡ arrived_at place.after place.row self.old.behind (drop told self.old.ring) self.old }
+    /// Goes to a place behind messages, of which `told` at most were rows of its ring. It stays behind only where it was.
+    pub(crate) fn arrive(&mut self, place: Arrival, told: u64, behind: bool)
+        requires stays { behind ≡ true → self.old.behind ≡ true }
+        ensures { self.new ≡ arrived_at place.after place.row behind (drop told self.old.ring) self.old }
     {
         let left = (self.ring.len() as u64).saturating_sub(told) as usize;
         self.ring.truncate_front(left);
         self.after = place.after;
+        self.behind = behind;
         self.pass_row(place.row);
     }
 
@@ -208,14 +212,6 @@ impl LiveFeed {
             return;
         };
         self.row = Some(row);
-    }
-
-    /// Has an empty ring, and is behind or isn't.
-    pub(crate) fn settle(&mut self, behind: bool)
-        ensures { self.new ≡ settled behind self.old }
-    {
-        self.ring.clear();
-        self.behind = behind;
     }
 
     /// The next rows from the store, at most `n`: what an initial feed has left of its snapshot, and as

@@ -8,7 +8,7 @@ ghost use Rattle.feed.specs.Slots.{AreListed};
 ghost use Rattle.feed.specs.Changes.{AreEach, IsChangedTo, IsStep};
 
 use crate::live::LiveFeed;
-use crate::slots::Source;
+use crate::slots::ServedFrom;
 use crate::span_order::SpanOrder;
 use indexmap::IndexMap;
 use std::sync::Arc;
@@ -51,7 +51,7 @@ fn offer_to(
     if !offer_at(live, feed, row, shared) {
         return;
     }
-    order.set(feed, Source::Store);
+    order.set(feed, ServedFrom::Store);
 }
 
 /// Offers a row to a feed, and answers whether that is behind then.
@@ -97,7 +97,7 @@ fn send_behind(live: &mut IndexMap<u64, LiveFeed>, order: &mut SpanOrder, feed: 
     if !send_behind_at(live, feed) {
         return;
     }
-    order.set(feed, Source::Store);
+    order.set(feed, ServedFrom::Store);
 }
 
 /// Sends a feed behind, and answers whether it is there.

@@ -1,13 +1,13 @@
 //! What is kept of a feed beside the feed, so that a row finds it.
 ghost use Rattle.std.specs.Prelude.{◌≡◌, true};
-ghost use Rattle.feed.specs.declared.slots.Source.TheVariants.{Ended};
+ghost use Rattle.feed.specs.declared.slots.ServedFrom.TheVariants.{Ended};
 
 use spans::span::Span;
 use std::cmp::Ordering;
 
 /// Where a feed is served from.
 #[derive(Drop)]
-pub(crate) enum Source {
+pub(crate) enum ServedFrom {
     Ring,
     Store,
     /// It was cancelled.
@@ -18,7 +18,7 @@ pub(crate) enum Source {
 #[derive(Drop)]
 pub(crate) struct Slot {
     pub(crate) span: Span,
-    pub(crate) source: Source,
+    pub(crate) source: ServedFrom,
 }
 
 /// By lower bound, and those of feeds that have ended last.
@@ -35,9 +35,9 @@ pub(crate) fn has_ended(slot: &Slot) -> bool
     ensures { result ≡ true → slot.now.source ≡ Ended }
 {
     match slot.source {
-        Source::Ended => true,
-        Source::Ring => false,
-        Source::Store => false,
+        ServedFrom::Ended => true,
+        ServedFrom::Ring => false,
+        ServedFrom::Store => false,
     }
 }
 

@@ -9,12 +9,12 @@ ghost use Rattle.std.specs.Prelude.{◌≡◌, ◌<◌, ℕ, None, Some, [], if�
 ghost use Rattle.std.specs.Map.{keys_of, lookup, set_value};
 ghost use Rattle.std.specs.List.{IsDistinct};
 ghost use Rattle.feed.specs.declared.slots.Slot.{Slot};
-ghost use Rattle.feed.specs.declared.slots.Source.TheVariants.{Ended};
+ghost use Rattle.feed.specs.declared.slots.ServedFrom.TheVariants.{Ended};
 ghost use Rattle.feed.specs.Slots.{HasEnded, IsKept, IsNext, IsSlotPut, IsSourced, holds_at, slot_of, sourced};
 ghost use Rattle.feed.specs.Hulls.{AreHulls, IsNoneFrom, IsFirstFrom};
 
 use crate::hulls::{Hull, build, first_from, first_in, is_holding, widen};
-use crate::slots::{Slot, Source, by_low, has_ended};
+use crate::slots::{ServedFrom, Slot, by_low, has_ended};
 use indexmap::IndexMap;
 use spans::span::Span;
 use std::alloc::{AllocError, Global};
@@ -77,7 +77,12 @@ impl SpanOrder {
     }
 
     /// Adds the slot of a feed that has none.
-    pub(crate) fn add(&mut self, feed: u64, span: &Span, source: Source) -> Result<(), AllocError>
+    pub(crate) fn add(
+        &mut self,
+        feed: u64,
+        span: &Span,
+        source: ServedFrom,
+    ) -> Result<(), AllocError>
         requires absent { slot_of self.old feed ≡ None }
         ensures added { OnOk result (IsSlotPut self.old self.new feed (record { span = span.now; source = source })) }
         ensures err { OnErr result (self.new ≡ self.old) }
@@ -97,7 +102,7 @@ impl SpanOrder {
     }
 
     /// Says where a feed is served from now. It takes no memory.
-    pub(crate) fn set(&mut self, feed: u64, source: Source)
+    pub(crate) fn set(&mut self, feed: u64, source: ServedFrom)
         ensures places { keys_of self.new ≡ keys_of self.old }
         ensures put { IsSourced self.old self.new feed source }
     {
@@ -181,19 +186,19 @@ impl SpanOrder {
 }
 
 /// 1 where the feed at a place was served from elsewhere, and else 0.
-fn turns(slots: &IndexMap<u64, Slot>, place: usize, source: &Source) -> usize {
+fn turns(slots: &IndexMap<u64, Slot>, place: usize, source: &ServedFrom) -> usize {
     let Some((_, slot)) = slots.get_index(place) else {
         return 0;
     };
     match (&slot.source, source) {
-        (Source::Ring, Source::Ring) => 0,
-        (Source::Store, Source::Store) => 0,
+        (ServedFrom::Ring, ServedFrom::Ring) => 0,
+        (ServedFrom::Store, ServedFrom::Store) => 0,
         _ => 1,
     }
 }
 
 /// Says where the feed is served from now, if it has a slot.
-fn put_source(slots: &mut IndexMap<u64, Slot>, feed: u64, source: Source)
+fn put_source(slots: &mut IndexMap<u64, Slot>, feed: u64, source: ServedFrom)
     ensures places { keys_of slots.new.entries ≡ keys_of slots.old.entries }
     ensures put { (s : Slot) → slot_of slots.old.entries feed ≡ Some s → slots.new.entries ≡ set_value (nat_eq feed) slots.old.entries (sourced source s) }
     ensures slots { IsSourced slots.old.entries slots.new.entries feed source }

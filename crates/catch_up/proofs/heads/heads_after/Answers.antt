@@ -5,14 +5,14 @@ use Rattle.catch_up.proofs.heads.heads_after.Goals as goal
 
 pub loop-key-init : goal.loop-key-init
 loop-key-init c = let found = c.in_span-key-items.ensures in
-    subst (λ (es : List Entry). IsHeading c.args.store.now c.args.span.now c.args.ts c.args.place.now c.args.through es c.new-heads.result) (sym c.into_iter-key-iterator.ensures.into_iter_gives)
-    (heads_begin c.args.store.now c.args.span.now c.args.ts c.args.place.now c.args.through c.in_span-key-items.result c.new-heads.result found.found found.rising c.new-heads.ensures.empty c.new-heads.ensures.ordered)
+    subst (λ (es : List Entry). IsHeading c.args.store.now c.args.span.now c.args.ts c.args.place.now c.args.through c.args.n es c.new-heads.result) (sym c.into_iter-key-iterator.ensures.into_iter_gives)
+    (heads_begin c.args.store.now c.args.span.now c.args.ts c.args.place.now c.args.through c.args.n c.in_span-key-items.result c.new-heads.result found.found found.rising c.new-heads.ensures.empty c.new-heads.ensures.ordered)
 
 pub loop-key-preserved : goal.loop-key-preserved
 loop-key-preserved c =
-    let so = subst (λ (es : List Entry). IsHeading c.args.store.now c.args.span.now c.args.ts c.args.place.now c.args.through es c.loop-key.heads) c.in-Some.ensures.steps c.loop-key.invariant in
-    heads_go_on c.args.store.now c.args.span.now c.args.ts c.args.place.now c.args.through (c.in-Some.key.now, c.in-Some.chain.now) c.next.new.self c.loop-key.heads c.add_head.new.heads so
-    (λ chain inside are. c.in_ok-add_head.ensures c.args.store.now c.args.span.now _ chain inside are)
+    let so = subst (λ (es : List Entry). IsHeading c.args.store.now c.args.span.now c.args.ts c.args.place.now c.args.through c.args.n es c.loop-key.heads) c.in-Some.ensures.steps c.loop-key.invariant in
+    heads_go_on c.args.store.now c.args.span.now c.args.ts c.args.place.now c.args.through c.args.n (c.in-Some.key.now, c.in-Some.chain.now) c.next.new.self c.loop-key.heads c.cut.new.heads so
+    (λ chain inside are. c.cut.ensures c.args.store.now c.args.span.now c.args.ts c.args.place.now c.args.through _ (c.in_ok-add_head.ensures c.args.store.now c.args.span.now c.args.n _ chain inside are))
 
 pub returns : goal.returns
-returns c = (subst (λ (es : List Entry). IsHeading c.args.store.now c.args.span.now c.args.ts c.args.place.now c.args.through es c.loop-key.heads) c.in-None.ensures.steps.0 c.loop-key.invariant).are
+returns c = (subst (λ (es : List Entry). IsHeading c.args.store.now c.args.span.now c.args.ts c.args.place.now c.args.through c.args.n es c.loop-key.heads) c.in-None.ensures.steps.0 c.loop-key.invariant).are

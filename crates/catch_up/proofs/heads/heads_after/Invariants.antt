@@ -3,4 +3,4 @@ use Rattle.catch_up.proofs.heads.heads_after.Given as goal
 
 -- the heads of the keys before it
 abbrev pub invariant-loop-key : goal.invariant-loop-key
-invariant-loop-key l = IsHeading l.store l.span l.ts l.place l.through l.key-iterator l.heads
+invariant-loop-key l = IsHeading l.store l.span l.ts l.place l.through l.n l.key-iterator l.heads

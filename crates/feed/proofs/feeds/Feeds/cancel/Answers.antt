@@ -4,7 +4,7 @@ use Rattle.std.specs.BTreeSet.{contains}
 use Rattle.indexmap.specs.IndexMap.{get}
 use Rattle.feed.specs.Slots.{slot_of, sourced}
 use Rattle.feed.specs.Ties.{pair_cmp}
-use Rattle.feed.specs.declared.slots.Source.TheVariants.{Ended}
+use Rattle.feed.specs.declared.slots.ServedFrom.TheVariants.{Ended}
 use Rattle.feed.proofs.Tying.{alike_taken, numbered_less}
 use Rattle.feed.proofs.Walking.{all_put, listed_ended}
 use Rattle.feed.proofs.feeds.Feeds.cancel.Goals as goal

@@ -1,0 +1,55 @@
+use Rattle.std.proofs.Common.{None, Some, ap, inl, inr, refl, subst, sym, ◌≡◌, ◌∙◌}
+use Rattle.spans.specs.Answer.{first_refusal}
+use Rattle.kept.specs.Changes.{IsAlike}
+use Rattle.kept.specs.Replies.{kept_opening_tests}
+use Rattle.closing.specs.Standing.{closed_in}
+use Rattle.feed.specs.Live.{begins_behind, opened_at}
+use Rattle.feed.specs.Standing.{IsPut, place_in}
+use Rattle.feed.proofs.Serving.{is_opened, opened_ahead, others_same, ring_here}
+use Rattle.engine.specs.Layers.{kept_of}
+use Rattle.engine.proofs.FeedReplies.{others_stay}
+use Rattle.engine.proofs.OpeningReplies.{open_done, open_refused, open_served, open_unserved, open_wanting, opens_low}
+use Rattle.engine.proofs.OtherReplies.{none_unless}
+use Rattle.engine.proofs.Replies.{alike_self}
+use Rattle.engine.proofs.layers.Layers.open_feed.Goals as goal
+
+pub returns-in-Some-clause-step : goal.returns-in-Some-clause-step
+returns-in-Some-clause-step c =
+    let k = kept_of c.args.self.now in
+    inl (open_refused k k c.args.seat c.args.span.now c.args.cursor c.args.kind c.in-Some.refusal (sym c.opening_refusal.ensures ∙ c.in-Some.is) (alike_self k))
+
+pub returns-in-Some-clause-served : goal.returns-in-Some-clause-served
+returns-in-Some-clause-served c = open_unserved c.args.self.now c.args.self.now c.args.seat c.args.span.now c.args.cursor c.args.kind c.in-Some.refusal (refl, refl)
+
+pub open-requires-clause-cursor : goal.open-requires-clause-cursor
+open-requires-clause-cursor c = opens_low c.args.kind (kept_of c.args.self.now) c.args.cursor (sym c.opening_refusal.ensures ∙ none_unless c.opening_refusal.result c.in_default.not-Some)
+
+pub returns-in-Ok-clause-step : goal.returns-in-Ok-clause-step
+returns-in-Ok-clause-step c =
+    let e = c.args.self.now in let k = kept_of e in let s' = c.open.new.self in let f = c.in-Ok.feed in
+    let none : first_refusal (kept_opening_tests c.args.kind k c.args.cursor) ≡ None = sym c.opening_refusal.ensures ∙ none_unless c.opening_refusal.result c.in_default.not-Some in
+    let change = is_opened k e.feeds s' f c.args.seat c.args.kind c.args.span.now c.args.cursor (begins_behind c.args.kind c.args.cursor c.closed-closed.result) (λ g. refl) c.in-Ok.ensures.put in
+    inl (open_done k (kept_of (record e { feeds = s' })) c.args.seat c.args.span.now c.args.cursor c.args.kind f none c.in-Ok.ensures.number
+    (record { feed = change.feed; rest = ap (λ n. record k { feed = place_in s'; feeds_opened = n }) (c.in-Ok.ensures.opened ∙ c.in-Ok.ensures.number) }))
+
+pub returns-in-Ok-clause-served : goal.returns-in-Ok-clause-served
+returns-in-Ok-clause-served c =
+    let e = c.args.self.now in let s' = c.open.new.self in let f = c.in-Ok.feed in
+    let put : IsPut e.feeds s' f (Some (opened_at c.args.seat c.args.kind c.args.span.now c.args.cursor (begins_behind c.args.kind c.args.cursor (closed_in e.closing)))) =
+    subst (λ n. IsPut e.feeds s' f (Some (opened_at c.args.seat c.args.kind c.args.span.now c.args.cursor (begins_behind c.args.kind c.args.cursor n)))) c.closed-closed.ensures c.in-Ok.ensures.put in
+    open_served e (record e { feeds = s' }) c.args.seat c.args.span.now c.args.cursor c.args.kind f (record {
+      begins = (ring_here e.feeds s' f _ put).0;
+      opened = opened_ahead e.feeds s' f c.args.seat c.args.kind c.args.span.now c.args.cursor (closed_in e.closing) put;
+      others = others_same e.feeds s' f _ put;
+      others_stay = others_stay e.feeds s' f _ put;
+      held = refl;
+    })
+
+pub returns-in-Err-clause-step : goal.returns-in-Err-clause-step
+returns-in-Err-clause-step c =
+    let e = c.args.self.now in let k = kept_of e in
+    let none : first_refusal (kept_opening_tests c.args.kind k c.args.cursor) ≡ None = sym c.opening_refusal.ensures ∙ none_unless c.opening_refusal.result c.in_default.not-Some in
+    inr (refl, open_wanting k (kept_of (record e { feeds = c.open.new.self })) c.args.seat c.args.span.now c.args.cursor c.args.kind none (subst (λ s. IsAlike k (kept_of (record e { feeds = s }))) (sym c.in-Err.ensures.err) (alike_self k)))
+
+pub returns-in-Err-clause-served : goal.returns-in-Err-clause-served
+returns-in-Err-clause-served c = open_unserved c.args.self.now (record c.args.self.now { feeds = c.open.new.self }) c.args.seat c.args.span.now c.args.cursor c.args.kind _ (c.in-Err.ensures.err, refl)
