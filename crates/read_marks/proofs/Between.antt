@@ -121,6 +121,16 @@ pub all_beyond : (xs : List ℕ) (t above : ℕ) (to : Option ℕ) (below beyond
     → (not beyond ≡ true) ↔ AreAllBetween (is_kept t xs) above to
 all_beyond xs t above to below beyond none low high = subst (λ b. ((not b && not beyond) ≡ true) ↔ AreAllBetween (is_kept t xs) above to) none (all_within xs t above to below beyond low high)
 
--- where there are none, all of them are anywhere
+-- one that is kept is above a number where one is above both that and what is forgotten
+pub between_is : (xs : List ℕ) (t above : ℕ) (to : Option ℕ) (b : Bool) → (b ≡ true) ↔ IsBetween (is_reader xs) (max above t) to → (b ≡ true) ↔ IsBetween (is_kept t xs) above to
+between_is xs t above to b is = (
+  λ on. let r = is.0 on in let h : max above t < r.reader = r.higher in record { reader = r.reader; mark = is-kept xs t r.reader (omega arith) r.mark; higher = omega arith; low = r.low },
+  λ r. let k = kept-turn t r.reader (nat_lt t r.reader) (is_reader xs r.reader) refl r.mark in let h : above < r.reader = r.higher in is.1 (record { reader = r.reader; mark = k.1; higher = omega (arith, k.0); low = r.low }),
+)
+
+-- where there are none, none is anywhere, and all of them are
+pub none_between : (xs : List ℕ) (t above : ℕ) (to : Option ℕ) → xs ≡ [] → IsBetween (is_kept t xs) above to → ⊥
+none_between xs t above to none r = let k = kept-turn t r.reader (nat_lt t r.reader) (is_reader xs r.reader) refl r.mark in (let no : is_reader xs r.reader ≡ false = rw none refl in let e : true ≡ false = sym k.1 ∙ no in cc)
+
 pub none_there : (xs : List ℕ) (t above : ℕ) (to : Option ℕ) → xs ≡ [] → AreAllBetween (is_kept t xs) above to
 none_there xs t above to none n h = let k = kept-turn t n (nat_lt t n) (is_reader xs n) refl h in (let no : is_reader xs n ≡ false = rw none refl in let e : true ≡ false = sym k.1 ∙ no in cc)

@@ -6,7 +6,8 @@ pub mod Steps
 pub mod Editing
 pub mod Picking
 pub mod Apart
-pub mod OneKey
 pub mod Keeping
 pub mod Holding
+pub mod OneKey
+pub mod Layering
 pub mod Pieces

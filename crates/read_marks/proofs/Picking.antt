@@ -89,7 +89,7 @@ picked-patch : (p : Patch) (x : List ℕ) (m : BTreeMap (List ℕ) (List ℕ)) �
 picked-patch p x m s ends = picked-bounds p.lo p.hi x m s ends.0 ends.1 p refl refl
 
 -- patches that pass alike edit alike
-edited_alike : (f g : Patch → Bool) (ts : ℕ) (ps : List Patch) (m m' : ℕ → Bool) → AllByRecursion (λ p. f p ≡ g p) ps → AreEdited f ts ps m m' → AreEdited g ts ps m m'
+pub edited_alike : (f g : Patch → Bool) (ts : ℕ) (ps : List Patch) (m m' : ℕ → Bool) → AllByRecursion (λ p. f p ≡ g p) ps → AreEdited f ts ps m m' → AreEdited g ts ps m m'
 edited_alike f g ts [] m m' same h = h
 edited_alike f g ts (p ∷ ps) m m' same h = (λ yes. h.0 (same.0 ∙ yes), λ no. edited_alike f g ts ps m m' same.1 (h.1 (same.0 ∙ no)))
 

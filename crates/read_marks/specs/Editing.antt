@@ -60,10 +60,6 @@ pub record IsSegment (m : BTreeMap (List ℕ) (List ℕ)) (p : Patch) : Type 0 w
 abbrev pub TellsSegment : {A : Type 0} → BTreeMap (List ℕ) (List ℕ) → Patch → Option A → Type 0
 TellsSegment m p found = MatchOption found (IsSegment m p → ⊥) (λ _. IsSegment m p)
 
--- the same where a segment starts at the patch's beginning
-abbrev pub TellsSegmentAt : {A : Type 0} → BTreeMap (List ℕ) (List ℕ) → Patch → Option A → Type 0
-TellsSegmentAt m p found = MatchOption found (IsSegment m p → ⊥) (λ _. IsStart m p.lo → IsSegment m p)
-
 -- for each entry, its start once more, and its readers merged, less those that are forgotten
 abbrev pub AreFresh : (forgotten above until ts : ℕ) → Entries → Entries → Type 0
 AreFresh forgotten above until ts [] [] = Unit {0}

@@ -44,6 +44,8 @@
 //! Tests: `layer_tests`.
 #![tactic(auto)]
 
+mod edits;
+mod layers;
 mod marks;
 mod patch;
 mod piece;

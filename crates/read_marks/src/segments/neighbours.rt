@@ -3,7 +3,7 @@ ghost use Rattle.std.specs.Prelude.{◌≡◌, IsTrue, Some};
 ghost use Rattle.std.specs.BTreeMap.{get};
 ghost use Rattle.timestamps.specs.Bytes.{key_cmp};
 ghost use Rattle.read_marks.specs.Segments.{KeepsReaders, readers_before};
-ghost use Rattle.read_marks.specs.Editing.{TellsSegment, TellsSegmentAt};
+ghost use Rattle.read_marks.specs.Editing.{TellsSegment};
 
 use super::Segments;
 use crate::patch::Patch;
@@ -26,28 +26,6 @@ fn latest_of(segment: Option<(&SmallBytes, &Readers)>) -> Option<u64> {
 }
 
 impl Segments {
-    // What stands beside a patch that is one segment if a segment starts where it begins. It is `None` where the
-    // patch isn't one segment.
-    //
-    // No start lies inside a key. So a segment of one key is known by its start and its end, and to find these
-    // costs a third of a range of starts. What is before it isn't asked then. A key that comes to have the
-    // readers of what is before it stays apart until the next sweep. Mostly it is read by itself again.
-    pub(super) fn neighbours(&self, patch: &Patch) -> Option<Neighbours>
-        ensures { TellsSegmentAt self.now.starts patch.now result }
-    {
-        match patch.end_of_key() {
-            None => self.beside(patch),
-            Some(hi) => {
-                self.see_order();
-                let end = self.starts.get(hi)?;
-                Some(Neighbours {
-                    before: None,
-                    after: end.latest(),
-                })
-            }
-        }
-    }
-
     // What stands beside a patch that is one segment, and `None` where it isn't one. The starts that tell are the
     // last ones up to its end, so that one search finds them all.
     pub(super) fn beside(&self, patch: &Patch) -> Option<Neighbours>

@@ -3,9 +3,8 @@ use Rattle.std.specs.BTreeMap.{BTreeMap, is_at}
 use Rattle.std.specs.Map.{lookup, set_value}
 use Rattle.timestamps.specs.Bytes.{key_cmp}
 use Rattle.read_marks.specs.Editing.{puts}
-use Rattle.read_marks.specs.declared.segments.Segments.{Segments}
-use Rattle.read_marks.proofs.segments.Segments.put.Goals as goal
-use Rattle.read_marks.proofs.segments.Segments.put.Goals.{in-Some-get_mut, in_default}
+use Rattle.read_marks.proofs.edits.put.Goals as goal
+use Rattle.read_marks.proofs.edits.put.Goals.{in-Some-get_mut, in_default}
 
 none-turn : {K X : Type 0} (test : K → Bool) (e : K × X) (es : List (K × X)) (w : X) (t : Bool) → cond t (Some e.1) (lookup test es) ≡ None → (lookup test es ≡ None → set_value test es w ≡ es) → cond t ((e.0, w) ∷ es) (e ∷ set_value test es w) ≡ e ∷ es
 none-turn test e es w true h ih = cc
@@ -16,15 +15,15 @@ set_value-none : {K X : Type 0} (test : K → Bool) (es : List (K × X)) (w : X)
 set_value-none test [] w h = refl
 set_value-none test (e ∷ es) w h = none-turn test e es w (test e.0) h (λ g. set_value-none test es w g)
 
--- the start has its new readers, or there is none
-settled : (c : goal.After-drop-start-inside) → c.match-get_mut.self.starts.entries ≡ set_value (is_at (key_cmp c.in-Some.start)) c.loop-start.self.starts.entries c.in-Some.readers
+-- the key has its new readers, or there is none
+settled : (c : goal.After-drop-key-inside) → c.match-get_mut.map.entries ≡ set_value (is_at (key_cmp c.in-Some.key)) c.loop-key.map.entries c.in-Some.readers
 settled c =
     elim c.match-get_mut.branch [
-      | in-Some-get_mut w ↦ ap (λ (s : Segments). s.starts.entries) w.self-is ∙ search rules
+      | in-Some-get_mut w ↦ ap (λ (m : BTreeMap (List ℕ) (List ℕ)). m.entries) w.map-is ∙ search rules
       | in_default w ↦
-          let absent : lookup (is_at (key_cmp c.in-Some.start)) c.loop-start.self.starts.entries ≡ None = sym w.in_default.ensures.value in
-          ap (λ (s : Segments). s.starts.entries) w.self-is ∙ ap (λ (m : BTreeMap (List ℕ) (List ℕ)). m.entries) c.get_mut.follows.holds-at-none ∙ sym (set_value-none _ _ c.in-Some.readers absent)
+          let absent : lookup (is_at (key_cmp c.in-Some.key)) c.loop-key.map.entries ≡ None = sym w.in_default.ensures.value in
+          ap (λ (m : BTreeMap (List ℕ) (List ℕ)). m.entries) w.map-is ∙ ap (λ (m : BTreeMap (List ℕ) (List ℕ)). m.entries) c.get_mut.follows.holds-at-none ∙ sym (set_value-none _ _ c.in-Some.readers absent)
     ]
 
-pub loop-start-preserved : goal.loop-start-preserved
-loop-start-preserved c = rw (settled c) (ap (puts c.loop-start.self.starts.entries) (sym c.in-Some.ensures.steps.0) ∙ c.loop-start.invariant)
+pub loop-key-preserved : goal.loop-key-preserved
+loop-key-preserved c = rw (settled c) (ap (puts c.loop-key.map.entries) (sym c.in-Some.ensures.steps.0) ∙ c.loop-key.invariant)
