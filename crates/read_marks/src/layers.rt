@@ -129,10 +129,10 @@ impl Layers {
     fn is_repeated(&self, key: &SmallBytes) -> bool
         ensures { IsTrue result → get key_cmp self.now.lone key.now ≡ Some (readers_at self.now.segments key.now) }
     {
-        match self.lone.get(key) {
-            None => false,
-            Some(readers) => self.segments.has(key, readers),
-        }
+        let Some(readers) = self.lone.get(key) else {
+            return false;
+        };
+        self.segments.has(key, readers)
     }
 
     // A lone key that has the readers of its segment goes.
