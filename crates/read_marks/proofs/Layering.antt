@@ -16,11 +16,15 @@ use Rattle.read_marks.specs.Readers.{is_kept}
 use Rattle.read_marks.specs.Patches.{AreEdited, IsOneKey, holds}
 use Rattle.read_marks.specs.Editing.{Entries, picks}
 use Rattle.read_marks.specs.Patch.{Patch}
-use Rattle.read_marks.proofs.Apart.{alike}
+use Rattle.std.proofs.lemmas.Map.Text.{is_eq-slice_cmp}
+use Rattle.std.proofs.lemmas.Slice.Eq.{bytes_eq-Decides}
 use Rattle.read_marks.proofs.Editing.{AreMade}
 use Rattle.read_marks.proofs.Holding.{holds_is_picks}
 use Rattle.read_marks.proofs.OneKey.{holds_key}
 use Rattle.read_marks.proofs.Picking.{edited_alike}
+
+same_key : (a b : List ℕ) → is_eq (key_cmp a b) ≡ true → b ≡ a
+same_key a b h = sym ((bytes_eq-Decides a b).0 (sym (is_eq-slice_cmp a b) ∙ h))
 
 for_each : {X : Type 0} {P : X → Type 0} → ((x : X) → P x) → (xs : List X) → AllByRecursion P xs
 for_each h [] = tt
@@ -31,7 +35,7 @@ made-turn : (forgotten ts : ℕ) (ps : List Patch) (x s t : List ℕ) (e f : Lis
     → AreEdited (λ p. holds p x) ts ps (is_kept forgotten (unwrap_or (cond (is_eq r) (Some e.1) (lookup (is_at (key_cmp x)) es)) s)) (is_kept forgotten (unwrap_or (cond (is_eq r) (Some f.1) (lookup (is_at (key_cmp x)) fs)) t))
 made-turn forgotten ts ps x s t e f es fs Less is here more = more
 made-turn forgotten ts ps x s t e f es fs Equal is here more =
-    edited_alike (λ p. picks p e.0) (λ p. holds p x) ts ps (is_kept forgotten e.1) (is_kept forgotten f.1) (for_each (λ p. ap (λ k. picks p k) (alike x e.0 is) ∙ sym (holds_is_picks p x)) ps) here
+    edited_alike (λ p. picks p e.0) (λ p. holds p x) ts ps (is_kept forgotten e.1) (is_kept forgotten f.1) (for_each (λ p. ap (λ k. picks p k) (same_key x e.0 (ap is_eq is)) ∙ sym (holds_is_picks p x)) ps) here
 made-turn forgotten ts ps x s t e f es fs Greater is here more = more
 
 -- where the lone keys are edited, and what lies under them is, the readers of each key are
@@ -42,14 +46,6 @@ made_in forgotten ts ps x s t [] (f ∷ fs) under h = absurd h
 made_in forgotten ts ps x s t (e ∷ es) [] under h = absurd h
 made_in forgotten ts ps x s t (e ∷ es) (f ∷ fs) under h = rw h.0 (made-turn forgotten ts ps x s t e f es fs (key_cmp x e.0) refl h.1 (made_in forgotten ts ps x s t es fs under h.2))
 
-tied : (r : Ordering) → is_eq r ≡ true → r ≡ Equal
-tied Less h = cc
-tied Equal h = refl
-tied Greater h = cc
-
-pub same_key : (a b : List ℕ) → is_eq (key_cmp a b) ≡ true → b ≡ a
-same_key a b h = alike a b (tied (key_cmp a b) h)
-
 -- new readers of one key
 key-turn : (forgotten ts : ℕ) (p : Patch) (lone fresh : BTreeMap (List ℕ) (List ℕ)) (seg : List ℕ → List ℕ) (w x : List ℕ) (b : Bool) → IsOneKey p → is_eq (key_cmp p.lo x) ≡ b
     → get key_cmp fresh x ≡ cond b (Some w) (get key_cmp lone x)
@@ -57,14 +53,12 @@ key-turn : (forgotten ts : ℕ) (p : Patch) (lone fresh : BTreeMap (List ℕ) (L
     → AreEdited (λ q. holds q x) ts (p ∷ []) (is_kept forgotten (unwrap_or (get key_cmp lone x) (seg x))) (is_kept forgotten (unwrap_or (get key_cmp fresh x) (seg x)))
 key-turn forgotten ts p lone fresh seg w x true key is put piece =
     let same : x ≡ p.lo = same_key p.lo x is in
-    let held : holds p x ≡ true = holds_key p key x ∙ is in
-    (
+    let held : holds p x ≡ true = holds_key p key x ∙ is in (
       λ _. rw put (subst (λ k. IsPiece (is_kept forgotten (unwrap_or (get key_cmp lone k) (seg k))) (is_kept forgotten w) ts p.above p.until) (sym same) piece),
       λ no. absurd (cc (held, no)),
     )
 key-turn forgotten ts p lone fresh seg w x false key is put piece =
-    let free : holds p x ≡ false = holds_key p key x ∙ is in
-    (
+    let free : holds p x ≡ false = holds_key p key x ∙ is in (
       λ yes. absurd (cc (free, yes)),
       λ _ j. ap (λ o. is_kept forgotten (unwrap_or o (seg x)) j) put,
     )
@@ -110,7 +104,7 @@ module _ {F : Type 0} (T : F → List ℕ → List ℕ → Bool → List ℕ →
   retained-turn x e es rest false w Less is value under later more = more
   retained-turn x e es rest false w Equal is value under later more =
       let none : lookup (is_at (key_cmp x)) es ≡ None = none-later x e.0 es is later in
-      more ∙ ap (λ o. unwrap_or (option_map g o) (seg x)) none ∙ ap seg (sym (alike x e.0 is)) ∙ under refl ∙ value
+      more ∙ ap (λ o. unwrap_or (option_map g o) (seg x)) none ∙ ap seg (sym (same_key x e.0 (ap is_eq is))) ∙ under refl ∙ value
   retained-turn x e es rest false w Greater is value under later more = more
 
   pub retained_in : (es kept : Entries) (x : List ℕ) → IsStrictlySortedBy key_cmp (keys_of es) → RetainsPairs T f es kept → unwrap_or (lookup (is_at (key_cmp x)) kept) (seg x) ≡ unwrap_or (option_map g (lookup (is_at (key_cmp x)) es)) (seg x)

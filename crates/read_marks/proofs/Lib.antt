@@ -5,7 +5,6 @@ pub mod Merging
 pub mod Steps
 pub mod Editing
 pub mod Picking
-pub mod Apart
 pub mod Keeping
 pub mod Holding
 pub mod OneKey

@@ -1,16 +1,15 @@
 //! The readers of keys: lone keys over segments.
-ghost use Rattle.std.specs.Prelude.{◌≡◌, ◌<◌, ◌≤◌, ℕ, List, [], ◌∷◌, IsTrue, OnOk, OnErr, Some, None, nat_lt};
+ghost use Rattle.std.specs.Prelude.{◌≡◌, ◌<◌, ◌≤◌, ℕ, List, [], ◌∷◌, OnOk, OnErr, None, nat_lt};
 ghost use Rattle.std.specs.List.{filter};
 ghost use Rattle.std.specs.BTreeMap.{get, IsOrdered};
 ghost use Rattle.timestamps.specs.Bytes.{key_cmp};
-ghost use Rattle.read_marks.specs.Segments.{readers_at};
 ghost use Rattle.read_marks.specs.Patches.{HaveGaps, IsOneKey};
 ghost use Rattle.read_marks.specs.Layers.{AreEditedIn, AreReadersIn, ForgetsLone, KeepsReadersIn, readers_in, span_count};
 
 use crate::edits::{Lists, edited_all, put_all};
 use crate::patch::Patch;
-use crate::segments::Segments;
 use crate::readers::Readers;
+use crate::segments::Segments;
 use std::alloc::{AllocError, Global};
 use std::collections::BTreeMap;
 use std::ops::Bound;
@@ -125,21 +124,14 @@ impl Layers {
         self.lone.len();
     }
 
-    // Whether a lone key has the readers of its segment.
-    fn is_repeated(&self, key: &SmallBytes) -> bool
-        ensures { IsTrue result → get key_cmp self.now.lone key.now ≡ Some (readers_at self.now.segments key.now) }
-    {
-        let Some(readers) = self.lone.get(key) else {
-            return false;
-        };
-        self.segments.has(key, readers)
-    }
-
     // A lone key that has the readers of its segment goes.
     fn join_at(&mut self, key: &SmallBytes)
         ensures { KeepsReadersIn self.old self.new }
     {
-        if self.is_repeated(key) {
+        let Some(readers) = self.lone.get(key) else {
+            return;
+        };
+        if self.segments.has(key, readers) {
             self.lone.remove(key);
         }
     }

@@ -35,9 +35,7 @@
 //! - `forget_through`: O(1)
 //! - `add` of a lone key: O(log n + log m), in place, by one search; the readers above the gap move
 //! - `add` of any other key: O(log n + m), which copies the readers of its segment
-//! - `add` of keys that are one segment: O(log n + log m), in place; the readers above the gap move, and a
-//!   neighbour with the same latest reader is compared whole
-//! - any `add`, `add_all`, `add_pieces` of spans: O(log n + m) for each other start and lone key that it touches
+//! - any `add`, `add_all`, `add_pieces` of spans: O(log n + m) for each start and lone key that it touches
 //! - a sweep: O(log n + m) for each lone key and start; it comes where they have doubled since the last one, or where
 //!   a reader comes that counts as forgotten
 //! - `spans`: O(n)

@@ -1,13 +1,13 @@
 //! A step function from keys to readers.
-ghost use Rattle.std.specs.Prelude.{◌≡◌, ◌<◌, ◌≤◌, ◌^◌, ℕ, List, [], ◌∷◌, IfOk, OnOk, OnErr, IfSome, IsTrue, IsSome, Some, MatchOption, false, nat_lt};
+ghost use Rattle.std.specs.Prelude.{◌≡◌, ◌<◌, ◌≤◌, ◌^◌, ℕ, List, [], IfOk, OnOk, OnErr, IsTrue, nat_lt};
 ghost use Rattle.std.specs.List.{filter};
-ghost use Rattle.std.specs.BTreeMap.{get, IsOrdered};
+ghost use Rattle.std.specs.BTreeMap.{IsOrdered};
 ghost use Rattle.timestamps.specs.Bytes.{key_cmp};
 ghost use Rattle.kept.specs.Marks.{IsPiece};
 ghost use Rattle.read_marks.specs.Readers.{is_kept};
 ghost use Rattle.read_marks.specs.Segments.{AreReadersOf, KeepsReaders, readers_at, segment_count};
 ghost use Rattle.read_marks.specs.Patches.{AreReadersEdited, HaveGaps};
-ghost use Rattle.read_marks.specs.Editing.{AreStarts, HasEnds, IsSegment, IsStart};
+ghost use Rattle.read_marks.specs.Editing.{AreStarts, HasEnds, IsStart};
 
 mod neighbours;
 
@@ -151,28 +151,6 @@ impl Segments {
         Ok(())
     }
 
-    // If a patch is one segment, its readers are edited in place. Then the segment is joined with those beside it.
-    // It tells whether the patch is one.
-    fn edit_segment(&mut self, patch: &Patch, ts: u64, forgotten: u64) -> Result<bool, AllocError>
-        requires late { forgotten < ts }
-        requires low { patch.now.above < ts }
-        requires high { ts ≤ patch.now.until }
-        ensures edited { IfOk result (λ is_one. IsTrue is_one → AreReadersEdited forgotten ts (patch.now ∷ []) self.old self.new) }
-        ensures other { IfOk result (λ is_one. is_one ≡ false → KeepsReaders self.old self.new × (IsSegment self.new.starts patch.now → ⊥)) }
-        ensures err { OnErr result (KeepsReaders self.old self.new) }
-    {
-        let Some(neighbours) = self.beside(patch) else {
-            return Ok(false);
-        };
-        let Some(readers) = self.starts.get_mut(patch.lo) else {
-            return Ok(false);
-        };
-        readers.edit(patch, ts, forgotten)?;
-        let latest = readers.latest();
-        self.join_beside(patch, neighbours, latest);
-        Ok(true)
-    }
-
     /// The readers of the patches' keys are edited, and neighbours with the same readers are joined.
     pub(crate) fn edit(
         &mut self,
@@ -186,10 +164,6 @@ impl Segments {
         ensures err { OnErr result (KeepsReaders self.old self.new) }
     {
         if let [patch] = patches {
-            let is_one = self.edit_segment(patch, ts, forgotten)?;
-            if is_one {
-                return Ok(());
-            }
             if !patch.runs_forward() {
                 return Ok(());
             }

@@ -1,4 +1,4 @@
-use Rattle.std.proofs.Common.{◌≡◌, ◌∙◌, List, None, OnOk, Some, cond, subst, sym, unwrap_or}
+use Rattle.std.proofs.Common.{◌≡◌, ◌∙◌, List, OnOk, Some, cond, subst, sym, unwrap_or}
 use Rattle.std.specs.BTreeMap.{get, is_at}
 use Rattle.timestamps.specs.Bytes.{key_cmp}
 use Rattle.kept.specs.Marks.{IsPiece}

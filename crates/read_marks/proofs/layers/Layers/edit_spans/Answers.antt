@@ -1,4 +1,3 @@
-use Rattle.std.proofs.Common.{ap}
 use Rattle.read_marks.specs.Segments.{readers_at}
 use Rattle.read_marks.specs.Editing.{puts_parts}
 use Rattle.read_marks.proofs.Editing.{parts_made}

@@ -1,4 +1,4 @@
-use Rattle.std.proofs.Common.{◌≡◌, None, Some, sym}
+use Rattle.std.proofs.Common.{◌≡◌, None, sym}
 use Rattle.std.specs.BTreeMap.{get}
 use Rattle.timestamps.specs.Bytes.{key_cmp}
 use Rattle.read_marks.proofs.layers.Layers.readers.Goals as goal
