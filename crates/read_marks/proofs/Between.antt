@@ -58,28 +58,6 @@ kept-turn : (t j : ℕ) (a b : Bool) → nat_lt t j ≡ a → (a && b) ≡ true 
 kept-turn t j true b is h = (ltb-true t j is, h)
 kept-turn t j false b is h = cc
 
-kept-between : (xs : List ℕ) (t j : ℕ) → is_kept t xs j ≡ true → IsBetween (is_reader xs) t (Some j)
-kept-between xs t j h =
-    let both = kept-turn t j (nat_lt t j) (is_reader xs j) refl h in
-    record { reader = j; mark = both.1; higher = both.0; low = omega arith }
-
-pub none_kept : (xs : List ℕ) (t at j : ℕ) → SplitsAt xs t at → at ≡ length xs → is_kept t xs j ≡ true → ⊥
-none_kept xs t at j p end h = none_above xs t at (Some j) p end (kept-between xs t j h)
-
-pub first_kept : (xs : List ℕ) (t at j x : ℕ) → IsNonDecreasing xs → SplitsAt xs t at → at < length xs → x ≡ get_or xs at x → is_kept t xs j ≡ true → x ≤ j
-first_kept xs t at j x up p lt is h = first_up_to xs t at j x up p lt is (kept-between xs t j h)
-
-pub last_kept : (xs : List ℕ) (t j k x : ℕ) → IsNonDecreasing xs → k ≡ length xs - 1 → x ≡ get_or xs k x → is_kept t xs j ≡ true → j ≤ x
-unfolding kept-between
-last_kept xs t j k x up end is h =
-    let b = kept-between xs t j h in
-    let c = (reader_is xs j).0 b.mark in
-    let lt : c.0 < length xs = c.1 in
-    let e : get_or xs c.0 j ≡ j = c.2 in
-    let u : get_or xs c.0 j ≤ get_or xs k j = up c.0 k j (omega arith) (omega arith) in
-    let s : get_or xs k j ≡ get_or xs k x = get_or_default xs k j x (omega arith) in
-    omega arith
-
 is-kept : (xs : List ℕ) (t j : ℕ) → t < j → is_reader xs j ≡ true → is_kept t xs j ≡ true
 is-kept xs t j above h = rw (lt-ltb t j above) h
 
@@ -121,6 +99,16 @@ pub all_beyond : (xs : List ℕ) (t above : ℕ) (to : Option ℕ) (below beyond
     → (not beyond ≡ true) ↔ AreAllBetween (is_kept t xs) above to
 all_beyond xs t above to below beyond none low high = subst (λ b. ((not b && not beyond) ≡ true) ↔ AreAllBetween (is_kept t xs) above to) none (all_within xs t above to below beyond low high)
 
--- where there are none, all of them are anywhere
+-- one that is kept is above a number where one is above both that and what is forgotten
+pub between_is : (xs : List ℕ) (t above : ℕ) (to : Option ℕ) (b : Bool) → (b ≡ true) ↔ IsBetween (is_reader xs) (max above t) to → (b ≡ true) ↔ IsBetween (is_kept t xs) above to
+between_is xs t above to b is = (
+  λ on. let r = is.0 on in let h : max above t < r.reader = r.higher in record { reader = r.reader; mark = is-kept xs t r.reader (omega arith) r.mark; higher = omega arith; low = r.low },
+  λ r. let k = kept-turn t r.reader (nat_lt t r.reader) (is_reader xs r.reader) refl r.mark in let h : above < r.reader = r.higher in is.1 (record { reader = r.reader; mark = k.1; higher = omega (arith, k.0); low = r.low }),
+)
+
+-- where there are none, none is anywhere, and all of them are
+pub none_between : (xs : List ℕ) (t above : ℕ) (to : Option ℕ) → xs ≡ [] → IsBetween (is_kept t xs) above to → ⊥
+none_between xs t above to none r = let k = kept-turn t r.reader (nat_lt t r.reader) (is_reader xs r.reader) refl r.mark in (let no : is_reader xs r.reader ≡ false = rw none refl in let e : true ≡ false = sym k.1 ∙ no in cc)
+
 pub none_there : (xs : List ℕ) (t above : ℕ) (to : Option ℕ) → xs ≡ [] → AreAllBetween (is_kept t xs) above to
 none_there xs t above to none n h = let k = kept-turn t n (nat_lt t n) (is_reader xs n) refl h in (let no : is_reader xs n ≡ false = rw none refl in let e : true ≡ false = sym k.1 ∙ no in cc)

@@ -1,5 +1,5 @@
 -- A patch is seen with the bounds that it borrows.
-use Rattle.std.proofs.Common.{ℕ, List, ◌≡◌, sym, ap, ◌∙◌, Some, None, Bor}
+use Rattle.std.proofs.Common.{ℕ, List, ◌≡◌, sym, ap, ◌∙◌, Some, Bor}
 use Rattle.std.specs.Option.{option_map}
 use Rattle.read_marks.specs.Patch.{Patch}
 use Rattle.read_marks.specs.Lent.{patch_in}
@@ -11,12 +11,3 @@ module _ (inside : Inside) (p : Patch) (view : patch_in inside ≡ p) where
 
   pub high_is : (hi : Bor (List ℕ)) → inside.hi ≡ Some hi → p.hi ≡ Some hi.now
   high_is hi is = ap (λ (q : Patch). q.hi) (sym view) ∙ ap (option_map (λ (b : Bor (List ℕ)). b.now)) is
-
-  pub no_high : inside.hi ≡ None → p.hi ≡ None
-  no_high is = ap (λ (q : Patch). q.hi) (sym view) ∙ ap (option_map (λ (b : Bor (List ℕ)). b.now)) is
-
-  pub above_is : inside.above ≡ p.above
-  above_is = ap (λ (q : Patch). q.above) view
-
-  pub until_is : inside.until ≡ p.until
-  until_is = ap (λ (q : Patch). q.until) view

@@ -5,8 +5,8 @@ pub mod Merging
 pub mod Steps
 pub mod Editing
 pub mod Picking
-pub mod Apart
-pub mod OneKey
 pub mod Keeping
 pub mod Holding
+pub mod OneKey
+pub mod Layering
 pub mod Pieces

@@ -1,5 +1,5 @@
 -- Step functions over entries that are sorted by an order.
-use Rattle.std.proofs.Common.{List, [], ◌∷◌, ◌++◌, Bool, true, false, cond, not, ◌≡◌, refl, sym, ap, ◌∙◌, Option, Some, None, IsSome}
+use Rattle.std.proofs.Common.{List, [], ◌∷◌, ◌++◌, Bool, true, false, cond, not, ◌≡◌, refl, sym, ap, ◌∙◌, Option, Some, None}
 use Rattle.std.specs.List.{filter, AllByRecursion}
 use Rattle.std.specs.List.Sorted.{IsStrictlySortedBy}
 use Rattle.std.specs.Map.{keys_of, lookup, remove_entry}
@@ -119,42 +119,6 @@ module _ {K V : Type 0} {R : K → K → Ordering} (o : IsTotalOrder R) where
   none-found b k [] less h = refl
   none-found b k (e ∷ es) less h = rw (o.trans b k e.0 less h.0) (none-found b k es less h.1)
 
-  some-none : (v : Option V) → v ≡ None → IsSome v → ⊥
-  some-none None h g = cc
-  some-none (Some v) h g = cc
-
-  -- up to a key that is there stands some
-  upto-turn : (b : K) (e : K × V) (es fs : List (K × V)) (r : Ordering) → R b e.0 ≡ r → AllByRecursion (λ y. R e.0 y ≡ Less) (keys_of es)
-      → IsSome (cond (is_eq r) (Some e.1) (lookup (is_at (R b)) es)) → cond (not (is_lt r)) (e ∷ fs) fs ≡ [] → ⊥
-  upto-turn b e es fs Less is later found h = some-none _ (none-found b e.0 es is later) found
-  upto-turn b e es fs Equal is later found h = cc
-  upto-turn b e es fs Greater is later found h = cc
-
-  pub some_last : (b : K) (es : List (K × V)) → IsStrictlySortedBy R (keys_of es) → IsSome (lookup (is_at (R b)) es) → filter (λ f. not (is_lt (R b f.0))) es ≡ [] → ⊥
-  unfolding IsStrictlySortedBy
-  some_last b [] s found h = cc
-  some_last b (e ∷ es) s found h = upto-turn b e es _ (R b e.0) refl s.0 found h
-
-  -- and it is the last of them
-  last-turn : (b : K) (e f : K × V) (es t : List (K × V)) (r : Ordering) → R b e.0 ≡ r → AllByRecursion (λ y. R e.0 y ≡ Less) (keys_of es) → IsStrictlySortedBy R (keys_of es)
-      → IsSome (cond (is_eq r) (Some e.1) (lookup (is_at (R b)) es))
-      → cond (not (is_lt r)) (e ∷ filter (λ g. not (is_lt (R b g.0))) es) (filter (λ g. not (is_lt (R b g.0))) es) ≡ t ++ f ∷ []
-      → ((s : List (K × V)) → IsSome (lookup (is_at (R b)) es) → filter (λ g. not (is_lt (R b g.0))) es ≡ s ++ f ∷ [] → R b f.0 ≡ Equal)
-      → R b f.0 ≡ Equal
-  last-turn b e f es t Less is later s found h ih = absurd (some-none _ (none-found b e.0 es is later) found)
-  last-turn b e f es [] Equal is later s found h ih = let same : e ≡ f = cc in rw (← same) is
-  last-turn b e f es (g ∷ t) Equal is later s found h ih =
-      let none = none-filter (λ k. not (is_lt (R b k))) es (none-reached b es (before-turn b e es Equal is refl later)) in
-      let rest : filter (λ g. not (is_lt (R b g.0))) es ≡ t ++ f ∷ [] = cc in
-      absurd (no-end t f (sym none ∙ rest))
-  last-turn b e f es [] Greater is later s found h ih = let none : filter (λ g. not (is_lt (R b g.0))) es ≡ [] = cc in absurd (some_last b es s found none)
-  last-turn b e f es (g ∷ t) Greater is later s found h ih = ih t found cc
-
-  pub last_is : (b : K) (f : K × V) (es t : List (K × V)) → IsStrictlySortedBy R (keys_of es) → IsSome (lookup (is_at (R b)) es) → filter (λ g. not (is_lt (R b g.0))) es ≡ t ++ f ∷ [] → R b f.0 ≡ Equal
-  unfolding IsStrictlySortedBy
-  last_is b f [] t s found h = cc
-  last_is b f (e ∷ es) t s found h = last-turn b e f es t (R b e.0) refl s.0 s.1 found h (λ u some g. last_is b f es u s.1 some g)
-
   abbrev step : K → V → List (K × V) → V
   step x d es = step_at (λ k. not (is_lt (R x k))) d es
 
@@ -189,18 +153,6 @@ module _ {K V : Type 0} {R : K → K → Ordering} (o : IsTotalOrder R) where
 
   none-some : (o : Option V) (v : V) → o ≡ None → o ≡ Some v → ⊥
   none-some o v h g = cc
-
-  -- the value at a start that is there
-  here-turn : (b : K) (d v : V) (e : K × V) (es : List (K × V)) (r : Ordering) → R b e.0 ≡ r → AllByRecursion (λ y. R e.0 y ≡ Less) (keys_of es)
-      → cond (is_eq r) (Some e.1) (lookup (is_at (R b)) es) ≡ Some v → (lookup (is_at (R b)) es ≡ Some v → step b e.1 es ≡ v) → cond (not (is_lt r)) (step b e.1 es) d ≡ v
-  here-turn b d v e es Less is later found ih = absurd (none-some _ v (none-found b e.0 es is later) found)
-  here-turn b d v e es Equal is later found ih = let same : e.1 ≡ v = cc in step-unreached b e.1 es (before-turn b e es Equal is refl later) ∙ same
-  here-turn b d v e es Greater is later found ih = ih found
-
-  pub step-here : (b : K) (d v : V) (es : List (K × V)) → IsStrictlySortedBy R (keys_of es) → lookup (is_at (R b)) es ≡ Some v → step b d es ≡ v
-  unfolding IsStrictlySortedBy
-  step-here b d v [] s found = cc
-  step-here b d v (e ∷ es) s found = here-turn b d v e es (R b e.0) refl s.0 found (λ h. step-here b e.1 v es s.1 h)
 
   remove-cases : (b : K) (v d : V) (x : K) (e : K × V) (es : List (K × V)) (r : Ordering) → R b e.0 ≡ r → AllByRecursion (λ y. R e.0 y ≡ Less) (keys_of es)
       → cond (is_eq r) (Some e.1) (lookup (is_at (R b)) es) ≡ Some v → v ≡ cond (not (is_le r)) (step_at (λ k. not (is_le (R b k))) e.1 es) d

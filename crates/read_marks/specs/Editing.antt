@@ -1,5 +1,5 @@
 -- The steps of an edit: starts at the bounds, new readers for the starts between them, and their putting in.
-use Rattle.std.specs.Prelude.{ℕ, List, [], ◌∷◌, Bool, ◌≡◌, Vec, IsSome, IfSome, Option, Some, None, MatchOption}
+use Rattle.std.specs.Prelude.{ℕ, List, [], ◌∷◌, Bool, ◌≡◌, Vec, IsSome, IfSome, Option, Some, None}
 use Rattle.std.specs.Global.{Global}
 use Rattle.std.specs.List.{AllByRecursion, filter}
 use Rattle.std.specs.Map.{set_value}
@@ -48,21 +48,6 @@ RunsForward p = IfSome p.hi (λ hi. IsLtBy key_cmp p.lo hi)
 -- the start lies in the patch
 abbrev pub picks : Patch → List ℕ → Bool
 picks p start = range_contains key_cmp (Included p.lo) (end_at p.hi) start
-
--- one segment is a patch: it starts where the patch begins, ends where the patch ends, and no other lies between
-pub record IsSegment (m : BTreeMap (List ℕ) (List ℕ)) (p : Patch) : Type 0 where
-  pub readers : List ℕ
-  pub start : get key_cmp m p.lo ≡ Some readers
-  pub end : IsEnd m p.hi
-  pub alone : filter (λ e. picks p e.0) m.entries ≡ (p.lo, readers) ∷ []
-
--- what is found if one segment is a patch, and only then
-abbrev pub TellsSegment : {A : Type 0} → BTreeMap (List ℕ) (List ℕ) → Patch → Option A → Type 0
-TellsSegment m p found = MatchOption found (IsSegment m p → ⊥) (λ _. IsSegment m p)
-
--- the same where a segment starts at the patch's beginning
-abbrev pub TellsSegmentAt : {A : Type 0} → BTreeMap (List ℕ) (List ℕ) → Patch → Option A → Type 0
-TellsSegmentAt m p found = MatchOption found (IsSegment m p → ⊥) (λ _. IsStart m p.lo → IsSegment m p)
 
 -- for each entry, its start once more, and its readers merged, less those that are forgotten
 abbrev pub AreFresh : (forgotten above until ts : ℕ) → Entries → Entries → Type 0

@@ -4,4 +4,5 @@ pub mod Readers
 pub mod Segments
 pub mod Patches
 pub mod Editing
+pub mod Layers
 pub mod Marks

@@ -5,7 +5,7 @@ use Rattle.spans.specs.Keys.{in_span}
 use Rattle.kept.specs.Marks.{IsPiece}
 use Rattle.spans.specs.declared.span.Span.{Span}
 use Rattle.read_marks.specs.Readers.{is_kept}
-use Rattle.read_marks.specs.Segments.{readers_at, segment_count}
+use Rattle.read_marks.specs.Layers.{readers_in, span_count}
 use Rattle.read_marks.specs.declared.marks.Marks.{Marks}
 use Rattle.read_marks.specs.Patch.{Patch}
 use Rattle.read_marks.specs.declared.piece.Piece.{Piece}
@@ -13,7 +13,7 @@ use Rattle.read_marks.specs.Patches.{AreEdited, holds}
 
 -- the key is marked by the reader
 abbrev pub is_marked_in : Marks → List ℕ → ℕ → Bool
-is_marked_in m x = is_kept m.forgotten (readers_at m.segments x)
+is_marked_in m x = is_kept m.forgotten (readers_in m.layers x)
 
 -- one of the spans has the key
 abbrev pub in_any : List Span → List ℕ → Bool
@@ -29,7 +29,7 @@ AreApart ps = (p q : Piece) → Contains ps p → Contains ps q → (x : List �
 
 -- how many spans with readers are kept
 abbrev pub marked_spans : Marks → ℕ
-marked_spans m = segment_count m.segments
+marked_spans m = span_count m.layers
 
 -- patches have made the new marks of the old ones
 abbrev pub AreMarksEdited : (ts : ℕ) → List Patch → (old new : Marks) → Type 0

@@ -9,9 +9,9 @@ ghost use Rattle.read_marks.specs.Marks.{AddsInside, AreApart, AreMarksEdited, H
 ghost use Rattle.read_marks.specs.Patches as patching;
 ghost use Rattle.read_marks.specs.Patches.{patch_of};
 
+use crate::layers::Layers;
 use crate::patch::{Patch, own_patches, patches_of};
 use crate::piece::Piece;
-use crate::segments::Segments;
 use spans::span::Span;
 use std::alloc::{AllocError, Global};
 use std::slice;
@@ -19,16 +19,16 @@ use timestamps::key::Key;
 use timestamps::small_bytes::SmallBytes;
 use timestamps::ts::Ts;
 
-// Fewer starts are never swept for their number.
-const LEAST_SWEEP: usize = 64;
+// Fewer lone keys and starts are never swept for their number.
+const LEAST_SWEEP: usize = 32;
 
-/// Pairs of a key and a reader. They are those of the segments, less the pairs whose reader is forgotten.
+/// Pairs of a key and a reader. They are those of the layers, less the pairs whose reader is forgotten.
 #[derive(Drop)]
 pub struct Marks {
     alloc: Global,
-    segments: Segments,
+    layers: Layers,
     forgotten: u64,
-    // at this many starts the segments are swept
+    // at so many lone keys and starts the layers are swept
     sweep_at: usize,
 }
 
@@ -39,7 +39,7 @@ impl Marks {
     {
         Marks {
             alloc,
-            segments: Segments::new(alloc),
+            layers: Layers::new(alloc),
             forgotten: 0,
             sweep_at: LEAST_SWEEP,
         }
@@ -50,7 +50,7 @@ impl Marks {
         ensures { IsTrue result ↔ IsBetween (is_marked_in self.now key.now) above to }
     {
         let above = above.max(self.forgotten);
-        match self.segments.readers(key.as_small_bytes()) {
+        match self.layers.readers(key.as_small_bytes()) {
             None => false,
             Some(readers) => readers.any_between(above, to),
         }
@@ -64,7 +64,7 @@ impl Marks {
         if above <= self.forgotten && to.is_none() {
             return true;
         }
-        match self.segments.readers(key.as_small_bytes()) {
+        match self.layers.readers(key.as_small_bytes()) {
             None => true,
             Some(readers) => readers.all_between(self.forgotten, above, to),
         }
@@ -136,7 +136,7 @@ impl Marks {
     pub fn spans(&self) -> u64
         ensures { result ≡ marked_spans self.now }
     {
-        self.segments.count()
+        self.layers.count()
     }
 
     // Where patches share keys, the first one decides.
@@ -147,10 +147,10 @@ impl Marks {
         ensures err { OnErr result ((x : List ℕ) (j : ℕ) → is_marked_in self.new x j ≡ is_marked_in self.old x j) }
     {
         self.make_room_for(ts);
-        self.segments.edit(patches, ts, self.forgotten)
+        self.layers.edit(patches, ts, self.forgotten)
     }
 
-    // What is forgotten really goes, in a walk over all segments, and `ts` counts as forgotten no more. Most marks
+    // What is forgotten really goes, in a walk over both layers, and `ts` counts as forgotten no more. Most marks
     // need no sweep. So that they are short, this is a call of its own.
     #[inline(never)]
     fn sweep(&mut self, ts: u64)
@@ -158,20 +158,20 @@ impl Marks {
         ensures marks { (x : List ℕ) (j : ℕ) → is_marked_in self.new x j ≡ is_marked_in self.old x j }
         ensures above { self.new.forgotten < ts }
     {
-        self.segments.forget_through(self.forgotten);
+        self.layers.forget_through(self.forgotten);
         self.forgotten = self.forgotten.min(ts - 1);
-        self.sweep_at = self.segments.len().saturating_mul(2).max(LEAST_SWEEP);
+        self.sweep_at = self.layers.len().saturating_mul(2).max(LEAST_SWEEP);
     }
 
     // A pair whose reader counts as forgotten can't be kept, and so a sweep comes first. A sweep comes too where
-    // the starts have doubled since the last one. Mostly these are two comparisons.
+    // lone keys and starts have doubled since the last one. Mostly these are two comparisons.
     #[inline(always)]
     fn make_room_for(&mut self, ts: u64)
         requires { 0 < ts }
         ensures marks { (x : List ℕ) (j : ℕ) → is_marked_in self.new x j ≡ is_marked_in self.old x j }
         ensures above { self.new.forgotten < ts }
     {
-        if ts <= self.forgotten || self.segments.len() >= self.sweep_at {
+        if ts <= self.forgotten || self.layers.len() >= self.sweep_at {
             self.sweep(ts);
         }
     }

@@ -1,8 +1,7 @@
 //! A piece whose bounds are lent as starts.
-ghost use Rattle.std.specs.Prelude.{◌≡◌, ◌<◌, IsTrue, IfOk, List, [], ℕ, MatchOption, Some, false, map, unwrap_or};
+ghost use Rattle.std.specs.Prelude.{◌≡◌, ◌<◌, ◌↔◌, IsTrue, IfOk, List, [], ℕ, false, map, unwrap_or};
 ghost use Rattle.std.specs.Range.Bound.{bound_map};
 ghost use Rattle.std.specs.declared.ops.Bound.TheVariants.{Included};
-ghost use Rattle.spans.specs.Successors.{successor};
 ghost use Rattle.read_marks.specs.Patches.{IsOneKey, patch_of, own_piece};
 ghost use Rattle.read_marks.specs.Editing.{RunsForward, end_at, end_in, picks};
 
@@ -106,13 +105,13 @@ impl<'a> Patch<'a> {
         }
     }
 
-    /// Its end, where it holds exactly one key.
-    pub(crate) fn end_of_key(&self) -> Option<&'a SmallBytes>
-        ensures { MatchOption result (IsOneKey self.now → ⊥) (λ hi. (self.now.hi ≡ Some hi.now) × (hi.now ≡ successor self.now.lo)) }
+    /// Whether it holds one key alone.
+    pub(crate) fn is_key(&self) -> bool
+        ensures { IsTrue result ↔ IsOneKey self.now }
     {
         match self.hi {
-            Some(hi) if hi.is_successor_of(self.lo) => Some(hi),
-            _ => None,
+            None => false,
+            Some(hi) => hi.is_successor_of(self.lo),
         }
     }
 

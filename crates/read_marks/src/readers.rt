@@ -56,13 +56,6 @@ impl Readers {
         self.list.is_empty()
     }
 
-    /// The latest reader.
-    pub(crate) fn latest(&self) -> Option<u64>
-        ensures { result ≡ slice_get self.now (length self.now - 1) }
-    {
-        self.list.last().copied()
-    }
-
     /// Whether both lists have the same readers.
     pub(crate) fn is_same(&self, other: &Readers) -> bool
         ensures { IsTrue result → self.now ≡ other.now }
@@ -173,7 +166,7 @@ impl Readers {
         Ok(())
     }
 
-    /// A copy of the readers as `ts` leaves them in a patch. None that is forgotten is in it.
+    /// A copy of the readers as `ts` leaves them in a patch.
     pub(crate) fn edited(
         &self,
         patch: &Patch,
@@ -186,8 +179,7 @@ impl Readers {
         ensures { IfOk result (λ r. IsPiece (is_kept forgotten self.now) (is_kept forgotten r) ts patch.now.above patch.now.until) }
     {
         let mut readers = self.copy_with_room()?;
-        readers.merge(patch.above, patch.until, ts)?;
-        readers.forget_through(forgotten);
+        readers.edit(patch, ts, forgotten)?;
         Ok(readers)
     }
 

@@ -1,31 +1,29 @@
 //! A step function from keys to readers.
-ghost use Rattle.std.specs.Prelude.{◌≡◌, ◌<◌, ◌≤◌, ℕ, List, [], ◌∷◌, IfOk, OnOk, OnErr, IfSome, IsTrue, IsSome, Some, MatchOption, false, nat_lt};
+ghost use Rattle.std.specs.Prelude.{◌≡◌, ◌<◌, ◌≤◌, ◌^◌, ℕ, List, [], IfOk, OnOk, OnErr, IsTrue, nat_lt};
 ghost use Rattle.std.specs.List.{filter};
-ghost use Rattle.std.specs.BTreeMap.{get, IsOrdered};
+ghost use Rattle.std.specs.BTreeMap.{IsOrdered};
 ghost use Rattle.timestamps.specs.Bytes.{key_cmp};
+ghost use Rattle.kept.specs.Marks.{IsPiece};
 ghost use Rattle.read_marks.specs.Readers.{is_kept};
 ghost use Rattle.read_marks.specs.Segments.{AreReadersOf, KeepsReaders, readers_at, segment_count};
 ghost use Rattle.read_marks.specs.Patches.{AreReadersEdited, HaveGaps};
-ghost use Rattle.read_marks.specs.Editing.{AreParts, AreStarts, HasEnds, IsPart, IsSegment, IsStart, TellsSegment, TellsSegmentAt, puts, puts_parts};
+ghost use Rattle.read_marks.specs.Editing.{AreStarts, HasEnds, IsStart};
 
 mod neighbours;
 
+use crate::edits::{Lists, edited_all, put_all};
 use crate::patch::Patch;
 use crate::readers::Readers;
-use neighbours::Neighbours;
 use std::alloc::{AllocError, Global};
 use std::collections::BTreeMap;
 use std::ops::Bound;
 use timestamps::small_bytes::SmallBytes;
 
-/// New readers for some starts.
-type Part = Vec<(SmallBytes, Readers)>;
-
 /// The readers of each key: those of the greatest start that is not above it.
 #[derive(Drop)]
 pub(crate) struct Segments {
     alloc: Global,
-    starts: BTreeMap<SmallBytes, Readers>,
+    starts: Lists,
 }
 
 impl Segments {
@@ -39,20 +37,8 @@ impl Segments {
         }
     }
 
-    /// The readers of the key. A key that was read by itself mostly starts a segment. To find that costs half of
-    /// what it costs to find the last start of a range.
+    /// The readers of the key, by the last start that is not above it.
     pub(crate) fn readers(&self, key: &SmallBytes) -> Option<&Readers>
-        ensures { AreReadersOf self.now key.now result }
-    {
-        self.see_order();
-        match self.starts.get(key) {
-            None => self.readers_below(key),
-            Some(readers) => Some(readers),
-        }
-    }
-
-    // The readers of the key, by the last start that is not above it.
-    fn readers_below(&self, key: &SmallBytes) -> Option<&Readers>
         ensures { AreReadersOf self.now key.now result }
     {
         let (_, readers) = self
@@ -62,11 +48,44 @@ impl Segments {
         Some(readers)
     }
 
-    // A copy of the readers of the key. No segment starts there when it is asked, and so none is looked for.
+    /// Whether they are the readers of the key.
+    pub(crate) fn has(&self, key: &SmallBytes, readers: &Readers) -> bool
+        ensures { IsTrue result → readers_at self.now key.now ≡ readers.now }
+    {
+        match self.readers(key) {
+            None => readers.is_empty(),
+            Some(own) => own.is_same(readers),
+        }
+    }
+
+    /// Whether a segment starts at the key.
+    pub(crate) fn starts_at(&self, key: &SmallBytes) -> bool {
+        self.starts.contains_key(key)
+    }
+
+    /// A copy of the key's readers as `ts` leaves them in a patch that begins there.
+    pub(crate) fn edited_at(
+        &self,
+        patch: &Patch,
+        ts: u64,
+        forgotten: u64,
+    ) -> Result<Readers, AllocError>
+        requires late { forgotten < ts }
+        requires low { patch.now.above < ts }
+        requires high { ts ≤ patch.now.until }
+        ensures { IfOk result (λ r. IsPiece (is_kept forgotten (readers_at self.now patch.now.lo)) (is_kept forgotten r) ts patch.now.above patch.now.until) }
+    {
+        match self.readers(patch.lo) {
+            None => Readers::new(self.alloc).edited(patch, ts, forgotten),
+            Some(readers) => readers.edited(patch, ts, forgotten),
+        }
+    }
+
+    // A copy of the readers of the key.
     fn copy_of(&self, key: &SmallBytes) -> Result<Readers, AllocError>
         ensures { IfOk result (λ r. r ≡ readers_at self.now key.now) }
     {
-        match self.readers_below(key) {
+        match self.readers(key) {
             None => Ok(Readers::new(self.alloc)),
             Some(readers) => readers.copy(),
         }
@@ -118,64 +137,6 @@ impl Segments {
         self.starts.len();
     }
 
-    // New readers for the starts that lie in a patch.
-    fn edited(&self, patch: &Patch, ts: u64, forgotten: u64) -> Result<Part, AllocError>
-        requires late { forgotten < ts }
-        requires low { patch.now.above < ts }
-        requires high { ts ≤ patch.now.until }
-        ensures { IfOk result (λ part. IsPart forgotten ts self.now.starts.entries patch.now part.items) }
-    {
-        let mut part = Vec::new(self.alloc);
-        if !patch.runs_forward() {
-            return Ok(part);
-        }
-        for (start, readers) in self.starts.range(patch.keys()) {
-            let readers = readers.edited(patch, ts, forgotten)?;
-            let start = start.copy()?;
-            part.push((start, readers))?;
-        }
-        Ok(part)
-    }
-
-    // New readers for the starts that lie in each patch.
-    fn edited_all(
-        &self,
-        patches: &[Patch],
-        ts: u64,
-        forgotten: u64,
-    ) -> Result<Vec<Part>, AllocError>
-        requires late { forgotten < ts }
-        requires gaps { HaveGaps ts patches.now }
-        ensures { IfOk result (λ parts. AreParts forgotten ts self.now.starts.entries patches.now parts.items) }
-    {
-        let mut parts = Vec::new(self.alloc);
-        for patch in patches {
-            let part = self.edited(patch, ts, forgotten)?;
-            parts.push(part)?;
-        }
-        Ok(parts)
-    }
-
-    // Gives some starts new readers.
-    fn put(&mut self, part: Part)
-        ensures { self.new.starts.entries ≡ puts self.old.starts.entries part.items }
-    {
-        for (start, readers) in part {
-            if let Some(place) = self.starts.get_mut(&start) {
-                *place = readers;
-            }
-        }
-    }
-
-    // Gives the starts of each part new readers, those of the last part first.
-    fn put_all(&mut self, mut parts: Vec<Part>)
-        ensures { self.new.starts.entries ≡ puts_parts self.old.starts.entries parts.items }
-    {
-        while let Some(part) = parts.pop() {
-            self.put(part);
-        }
-    }
-
     // The readers of the patches' keys are edited. A refusal may leave some segments split.
     fn edit_split(&mut self, patches: &[Patch], ts: u64, forgotten: u64) -> Result<(), AllocError>
         requires late { forgotten < ts }
@@ -185,61 +146,12 @@ impl Segments {
     {
         self.split_all(patches)?;
         self.see_order();
-        let parts = self.edited_all(patches, ts, forgotten)?;
-        self.put_all(parts);
+        let parts = edited_all(self.alloc, &self.starts, patches, ts, forgotten)?;
+        put_all(&mut self.starts, parts);
         Ok(())
     }
 
-    // What stands beside a patch that is one segment. A key that has no segment is split off before. A refusal
-    // may leave it split.
-    #[inline(always)]
-    fn find_segment(&mut self, patch: &Patch) -> Result<Option<Neighbours>, AllocError>
-        ensures readers { KeepsReaders self.old self.new }
-        ensures beside { IfOk result (TellsSegmentAt self.new.starts patch.now) }
-    {
-        let found = self.neighbours(patch);
-        if found.is_some() || patch.end_of_key().is_none() {
-            return Ok(found);
-        }
-        self.split_off(patch)
-    }
-
-    // Sees that segments start at both ends of a patch, and tells what stands beside it if it is one then. Most
-    // edits are of what is a segment already. So that they are short, this is a call of its own.
-    #[inline(never)]
-    fn split_off(&mut self, patch: &Patch) -> Result<Option<Neighbours>, AllocError>
-        ensures readers { KeepsReaders self.old self.new }
-        ensures ends { OnOk result (HasEnds self.new.starts patch.now) }
-        ensures beside { IfOk result (TellsSegment self.new.starts patch.now) }
-    {
-        self.split_ends(patch)?;
-        Ok(self.beside(patch))
-    }
-
-    // If a patch is one segment, or a key that can be split off, its readers are edited in place. Then the
-    // segment is joined with those beside it. It tells whether the patch is one.
-    fn edit_segment(&mut self, patch: &Patch, ts: u64, forgotten: u64) -> Result<bool, AllocError>
-        requires late { forgotten < ts }
-        requires low { patch.now.above < ts }
-        requires high { ts ≤ patch.now.until }
-        ensures edited { IfOk result (λ is_one. IsTrue is_one → AreReadersEdited forgotten ts (patch.now ∷ []) self.old self.new) }
-        ensures other { IfOk result (λ is_one. is_one ≡ false → KeepsReaders self.old self.new × (IsSegment self.new.starts patch.now → ⊥)) }
-        ensures err { OnErr result (KeepsReaders self.old self.new) }
-    {
-        let Some(neighbours) = self.find_segment(patch)? else {
-            return Ok(false);
-        };
-        let Some(readers) = self.starts.get_mut(patch.lo) else {
-            return Ok(false);
-        };
-        readers.edit(patch, ts, forgotten)?;
-        let latest = readers.latest();
-        self.join_beside(patch, neighbours, latest);
-        Ok(true)
-    }
-
-    /// The readers of the patches' keys are edited, and neighbours with the same readers are joined. A key with a
-    /// segment of its own is joined with what is before it only by a sweep.
+    /// The readers of the patches' keys are edited, and neighbours with the same readers are joined.
     pub(crate) fn edit(
         &mut self,
         patches: &[Patch],
@@ -252,14 +164,6 @@ impl Segments {
         ensures err { OnErr result (KeepsReaders self.old self.new) }
     {
         if let [patch] = patches {
-            match self.edit_segment(patch, ts, forgotten) {
-                Ok(true) => return Ok(()),
-                Ok(false) => {}
-                Err(refusal) => {
-                    self.join(patch);
-                    return Err(refusal);
-                }
-            }
             if !patch.runs_forward() {
                 return Ok(());
             }
@@ -295,7 +199,8 @@ impl Segments {
 
     /// How many segments have readers. It walks all of them.
     pub(crate) fn count(&self) -> u64
-        ensures { result ≡ segment_count self.now }
+        ensures counted { result ≡ segment_count self.now }
+        ensures few { result < 2 ^ 63 }
     {
         let mut count = 0;
         for readers in self.starts.values() {

@@ -120,12 +120,12 @@ spans=32
 each 7 1=
 spans=1
 ",
-    // a mark of a key alone doesn't ask what is before it: a sweep joins them, which a mark by what counts as
-    // forgotten makes
+    // a key at which a segment starts is marked there, and joined with the one before. A sweep, which a mark by what
+    // counts as forgotten makes, leaves both
     "add a b 20=
 add b b\0 10=
 piece b b\0 0 18446744073709551615 20=
-spans=2
+spans=1
 of a= 20
 of b= 20
 of c=

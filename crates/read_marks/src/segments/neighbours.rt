@@ -3,7 +3,6 @@ ghost use Rattle.std.specs.Prelude.{◌≡◌, IsTrue, Some};
 ghost use Rattle.std.specs.BTreeMap.{get};
 ghost use Rattle.timestamps.specs.Bytes.{key_cmp};
 ghost use Rattle.read_marks.specs.Segments.{KeepsReaders, readers_before};
-ghost use Rattle.read_marks.specs.Editing.{TellsSegment, TellsSegmentAt};
 
 use super::Segments;
 use crate::patch::Patch;
@@ -11,67 +10,7 @@ use crate::readers::Readers;
 use std::ops::Bound;
 use timestamps::small_bytes::SmallBytes;
 
-/// The latest reader of the segment before one, and of the segment after it. None stands for a segment without
-/// readers, for no segment, and for one that was not asked.
-#[derive(Clone, Copy)]
-pub(super) struct Neighbours {
-    before: Option<u64>,
-    after: Option<u64>,
-}
-
-// The latest reader of a segment, where there is one and it has any.
-fn latest_of(segment: Option<(&SmallBytes, &Readers)>) -> Option<u64> {
-    let (_, readers) = segment?;
-    readers.latest()
-}
-
 impl Segments {
-    // What stands beside a patch that is one segment if a segment starts where it begins. It is `None` where the
-    // patch isn't one segment.
-    //
-    // No start lies inside a key. So a segment of one key is known by its start and its end, and to find these
-    // costs a third of a range of starts. What is before it isn't asked then. A key that comes to have the
-    // readers of what is before it stays apart until the next sweep. Mostly it is read by itself again.
-    pub(super) fn neighbours(&self, patch: &Patch) -> Option<Neighbours>
-        ensures { TellsSegmentAt self.now.starts patch.now result }
-    {
-        match patch.end_of_key() {
-            None => self.beside(patch),
-            Some(hi) => {
-                self.see_order();
-                let end = self.starts.get(hi)?;
-                Some(Neighbours {
-                    before: None,
-                    after: end.latest(),
-                })
-            }
-        }
-    }
-
-    // What stands beside a patch that is one segment, and `None` where it isn't one. The starts that tell are the
-    // last ones up to its end, so that one search finds them all.
-    pub(super) fn beside(&self, patch: &Patch) -> Option<Neighbours>
-        ensures { TellsSegment self.now.starts patch.now result }
-    {
-        let mut back = self.starts.range((Bound::Unbounded, patch.up_to_end()));
-        let after = match patch.hi {
-            None => None,
-            Some(hi) => {
-                let (end, readers) = back.next_back()?;
-                if end != hi {
-                    return None;
-                }
-                readers.latest()
-            }
-        };
-        let (start, _) = back.next_back()?;
-        if start != patch.lo {
-            return None;
-        }
-        let before = latest_of(back.next_back());
-        Some(Neighbours { before, after })
-    }
-
     // Whether the readers of a start are those of the segment before it.
     fn is_repeated(&self, start: &SmallBytes) -> bool
         ensures { IsTrue result → get key_cmp self.now.starts start.now ≡ Some (readers_before self.now start.now) }
@@ -98,22 +37,6 @@ impl Segments {
         self.see_order();
         if self.is_repeated(start) {
             self.starts.remove(start);
-        }
-    }
-
-    // Joins a segment with those beside it, where their readers are the same. The latest readers are compared
-    // first, since they mostly differ. An edited segment has a reader, and so it is never joined with keys that
-    // have none.
-    pub(super) fn join_beside(&mut self, patch: &Patch, neighbours: Neighbours, latest: Option<u64>)
-        ensures { KeepsReaders self.old self.new }
-    {
-        if let Some(hi) = patch.hi {
-            if neighbours.after == latest {
-                self.join_at(hi);
-            }
-        }
-        if neighbours.before == latest {
-            self.join_at(patch.lo);
         }
     }
 

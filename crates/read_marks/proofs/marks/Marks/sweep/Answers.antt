@@ -1,7 +1,7 @@
 use Rattle.std.proofs.Common.{ℕ, Bool, List, false, refl, true, ◌&&◌, ◌≡◌, ◌≤◌, ◌∙◌, ap, arith, lt-ltb, ltb-true, nat_lt}
 use Rattle.std.specs.List.{filter}
 use Rattle.read_marks.specs.Readers.{is_kept, is_reader}
-use Rattle.read_marks.specs.Segments.{readers_at}
+use Rattle.read_marks.specs.Layers.{readers_in}
 use Rattle.read_marks.proofs.Splitting.{filtered_reader}
 use Rattle.read_marks.proofs.marks.Marks.sweep.Goals as goal
 
@@ -16,4 +16,4 @@ really-gone below forgotten xs ys j low is =
     ∙ absorbed (nat_lt below j) (nat_lt forgotten j) (is_reader xs j) (λ on. let l = ltb-true forgotten j on in lt-ltb below j (omega arith))
 
 pub returns-clause-marks : goal.returns-clause-marks
-returns-clause-marks c = λ x j. really-gone _ c.args.self.now.forgotten (readers_at c.args.self.now.segments x) _ j (omega arith) (c.forget_through.ensures x)
+returns-clause-marks c = λ x j. really-gone _ c.args.self.now.forgotten (readers_in c.args.self.now.layers x) _ j (omega arith) (c.forget_through.ensures x)
