@@ -7,4 +7,5 @@ pub mod Quotes
 pub mod Meanings
 pub mod Trees
 pub mod WrittenLines
+pub mod Ascii
 pub mod Readings

@@ -3,17 +3,13 @@ use Rattle.std.proofs.Common.{◌≡◌, ℕ, ◌^◌, ◌<◌, Bool, true, fals
 use Rattle.std.specs.Prelude.{decimal, ◌&&◌, ◌||◌, ◌==◌, not, nat_lt}
 use Rattle.std.specs.Str.{all_ascii_digits}
 use Rattle.std.specs.Str.Parse.{digits_value, digits_value_after}
-use Rattle.std.proofs.lemmas.Bool.{cases_lt, eq-eqb, ltb-true, lt-ltb, eqb-true, ne_eqb}
+use Rattle.std.proofs.lemmas.Bool.{and_parts, cases_lt, eq-eqb, ltb-true, lt-ltb, eqb-true, ne_eqb}
 use Rattle.std.proofs.lemmas.Str.Parse.{IsNumeralModel, numerals_by_fold}
 use Rattle.std.proofs.lemmas.Fmt.{digits_decimal, digits_value-decimal, decimal-digits_value, decimal_nonempty, first_decimal, decimal_digit}
 use Rattle.json_lines.specs.Numbers.{is_number_word, number_of}
 
 own : IsNumeralModel (λ ds. all_ascii_digits ds ≡ true) (digits_value 10)
 own = numerals_by_fold _ (search rules) (digits_value_after 10) (search rules)
-
-both : (a b : Bool) → (a && b) ≡ true → (a ≡ true) × (b ≡ true)
-both true b e = (refl, e)
-both false b e = absurd cc
 
 chosen : {A : Type 0} (b : Bool) (x y : A) → cond b (Some x) None ≡ Some y → (b ≡ true) × (x ≡ y)
 chosen true x y e = (refl, cc)
@@ -29,9 +25,9 @@ pub number_found : (word : List ℕ) (n : ℕ) → number_of word ≡ Some n →
 unfolding number_of
 number_found word n e =
     let h = chosen (is_number_word word && nat_lt (digits_value 10 word) (2 ^ 64)) (digits_value 10 word) n e in
-    let parts = both (is_number_word word) (nat_lt (digits_value 10 word) (2 ^ 64)) h.0 in
-    let front = both (nat_lt 0 (length word) && all_ascii_digits word) (length word == 1 || not (get_or word 0 0 == 48)) parts.0 in
-    let digits = both (nat_lt 0 (length word)) (all_ascii_digits word) front.0 in
+    let parts = and_parts (is_number_word word) (nat_lt (digits_value 10 word) (2 ^ 64)) h.0 in
+    let front = and_parts (nat_lt 0 (length word) && all_ascii_digits word) (length word == 1 || not (get_or word 0 0 == 48)) parts.0 in
+    let digits = and_parts (nat_lt 0 (length word)) (all_ascii_digits word) front.0 in
     let small : digits_value 10 word < 2 ^ 64 = ltb-true _ _ parts.1 in
     let zero : get_or word 0 0 ≡ 48 → length word ≡ 1 = λ z. eqb-true _ _ (first_zero (length word == 1) (get_or word 0 0 == 48) front.1 (eq-eqb _ _ z)) in
     let same = decimal-digits_value own word digits.1 (ltb-true _ _ digits.0) zero small in

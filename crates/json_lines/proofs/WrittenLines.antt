@@ -4,7 +4,7 @@ use Rattle.std.specs.Prelude.{codes, decimal, bytes_eq, option_map, not, ◌&&�
 use Rattle.std.specs.List.{list_all}
 use Rattle.std.specs.Str.{all_ascii_digits}
 use Rattle.std.specs.Char.{is_ascii_digit}
-use Rattle.std.proofs.lemmas.Bool.{ne_eqb}
+use Rattle.std.proofs.lemmas.Bool.{and_parts, ne_eqb}
 use Rattle.std.proofs.lemmas.Slice.Eq.{bytes_eq-Decides}
 use Rattle.base64.specs.Rfc4648.{encode_group}
 use Rattle.spans.specs.declared.calls.messages.Message.{Message}
@@ -122,14 +122,10 @@ not_quote_of : (b : Bool) → not b ≡ true → b ≡ false
 not_quote_of true e = absurd cc
 not_quote_of false e = refl
 
-both : (a b : Bool) → (a && b) ≡ true → (a ≡ true) × (b ≡ true)
-both true b e = (refl, e)
-both false b e = absurd cc
-
 no_quote_at : (table : List ℕ) (k : ℕ) → list_all (λ s. not (is_quote s)) table ≡ true → is_quote (get_or table k 0) ≡ false
 no_quote_at [] k all = refl
-no_quote_at (s ∷ table) zero all = not_quote_of (is_quote s) (both (not (is_quote s)) (list_all (λ s. not (is_quote s)) table) all).0
-no_quote_at (s ∷ table) (suc k) all = no_quote_at table k (both (not (is_quote s)) (list_all (λ s. not (is_quote s)) table) all).1
+no_quote_at (s ∷ table) zero all = not_quote_of (is_quote s) (and_parts (not (is_quote s)) (list_all (λ s. not (is_quote s)) table) all).0
+no_quote_at (s ∷ table) (suc k) all = no_quote_at table k (and_parts (not (is_quote s)) (list_all (λ s. not (is_quote s)) table) all).1
 
 symbol_no_quote : (k : ℕ) → is_quote (get_or symbols k 0) ≡ false
 symbol_no_quote k = no_quote_at symbols k refl
@@ -146,7 +142,7 @@ digit_no_quote c digit = ne_eqb c 34 (λ e. let h : is_ascii_digit 34 ≡ true =
 
 digits_no_quote : (digits : List ℕ) → all_ascii_digits digits ≡ true → HasNoQuote digits
 digits_no_quote [] all = tt
-digits_no_quote (d ∷ digits) all = let h = both (is_ascii_digit d) (all_ascii_digits digits) all in (digit_no_quote d h.0, digits_no_quote digits h.1)
+digits_no_quote (d ∷ digits) all = let h = and_parts (is_ascii_digit d) (all_ascii_digits digits) all in (digit_no_quote d h.0, digits_no_quote digits h.1)
 
 abbrev AfterHasNoQuote : Option (List ℕ) → Type 0
 AfterHasNoQuote None = Unit {0}

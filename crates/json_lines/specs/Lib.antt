@@ -7,3 +7,4 @@ pub mod TextsView
 pub mod Written
 pub mod Meaning
 pub mod Tests
+pub mod Memory

@@ -1,8 +1,9 @@
-//! All or nothing at the end of a buffer.
+//! All or nothing at the end of a buffer, and a text copied to its front.
 //!
 //! A function `put_..` writes at the end, and where memory runs out a part may stand there. What is
 //! offered to a caller of its own is called `write_..`, and then takes that part away again.
 ghost use Rattle.std.specs.Prelude.{◌≡◌, take, OnOk, OnErr};
+ghost use Rattle.json_lines.specs.Writing.{Copied};
 
 use std::alloc::AllocError;
 
@@ -20,4 +21,17 @@ pub fn or_undo(
         out.truncate(length_before);
     }
     written
+}
+
+/// Copies a text to the front as far as there is room, and tells its whole length.
+pub fn copy_front(text: &[u8], out: &mut [u8]) -> usize
+    ensures { Copied text.now out.old out.new result }
+{
+    let count = if text.len() < out.len() {
+        text.len()
+    } else {
+        out.len()
+    };
+    out[..count].copy_from_slice(&text[..count]);
+    text.len()
 }

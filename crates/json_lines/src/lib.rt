@@ -16,8 +16,8 @@
 //! ```
 //!
 //! A message's line is taken apart in place: `texts_written` lends the members' texts, and `message_of` copies their
-//! bytes. Only a line that isn't read so is handed to `serde_json`, to find its first fault. The tests of a line and
-//! their order stand in `specs/Tests.antt`.
+//! bytes. Only a line that isn't read so, and is UTF-8, is handed to `serde_json`, to find its first fault. The tests of
+//! a line and their order stand in `specs/Tests.antt`.
 //!
 //! Costs, where a line has b bytes:
 //!
@@ -27,10 +27,11 @@
 //! - `number_of`, `put_number`: O(b), each digit once
 //! - `put_base64`: O(b), each byte once
 //! - `or_undo`: O(1)
+//! - `copy_front`: O(bytes copied)
 //!
-//! `read_message` takes memory for a key and a value, at most twice each, and for the tree of a faulty line. The
-//! writers take it where the buffer has to grow, and leave that as it was where they find none. `number_of` and
-//! `or_undo` take none.
+//! `read_message` takes memory for a key and a value, at most twice each, and for the tree of a faulty line. It takes
+//! none for a resolved message, and tells no want of it where a line isn't UTF-8. The writers take it where the buffer
+//! has to grow, and leave that as it was where they find none. `number_of`, `or_undo` and `copy_front` take none.
 //!
 //! Tests: `text_tests`.
 #![tactic(auto)]

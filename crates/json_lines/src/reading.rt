@@ -4,6 +4,7 @@ ghost use Rattle.spans.specs.declared.calls.messages.Message.{Message};
 ghost use Rattle.json_lines.specs.declared.fault.MessageFault.TheVariants.{NoMemory};
 ghost use Rattle.json_lines.specs.Messages.{IsMessage, message_line};
 ghost use Rattle.json_lines.specs.Tests.{message_at};
+ghost use Rattle.json_lines.specs.Memory.{IsUnresolved, MayWantMemory};
 
 use crate::fault::MessageFault;
 use crate::texts::message_of;
@@ -21,11 +22,19 @@ pub fn read_message(alloc: Global, line: &[u8], format: Format) -> Result<Messag
     ensures whole { IfErr result (λ e. (m : Message) → IsMessage format m → line.now ≡ message_line m → e ≡ NoMemory) }
     // Another line doesn't pass one of the tests, and this is the first.
     ensures first { IfErr result (λ e. e ≢ NoMemory → message_at format line.now ≡ Err e) }
+    // Memory is wanted only for UTF-8, and never for a resolved message's line.
+    ensures memory { IfErr result (λ e. e ≡ NoMemory → MayWantMemory line.now) }
 {
-    match read_written(alloc, line, format) {
-        Ok(message) => Ok(message),
-        Err(MessageFault::NoMemory) => Err(MessageFault::NoMemory),
-        Err(_) => Err(first_fault(alloc, line, format)),
+    let fault = match read_written(alloc, line, format) {
+        Ok(message) => return Ok(message),
+        Err(fault) => fault,
+    };
+    let Ok(text) = std::str::from_utf8(line) else {
+        return Err(MessageFault::NotJson);
+    };
+    match fault {
+        MessageFault::NoMemory => Err(MessageFault::NoMemory),
+        _ => Err(first_fault(alloc, text, format)),
     }
 }
 
@@ -33,18 +42,21 @@ pub fn read_message(alloc: Global, line: &[u8], format: Format) -> Result<Messag
 fn read_written(alloc: Global, line: &[u8], format: Format) -> Result<Message, MessageFault>
     ensures found { IfOk result (λ m. (line.now ≡ message_line m) × IsMessage format m) }
     ensures whole { IfErr result (λ e. (m : Message) → IsMessage format m → line.now ≡ message_line m → e ≡ NoMemory) }
+    ensures memory { IfErr result (λ e. e ≡ NoMemory → IsUnresolved line.now) }
 {
-    let texts = texts_written(line)?;
+    let Ok(texts) = texts_written(line) else {
+        return Err(MessageFault::Shape);
+    };
     message_of(alloc, texts, format)
 }
 
-/// The first test that a line doesn't pass which no message has.
+/// The first test that a text doesn't pass which is no message's line.
 #[tactic(auto, unfolding(crate::specs::Tests::message_at))]
-fn first_fault(alloc: Global, line: &[u8], format: Format) -> MessageFault
-    requires { (m : Message) → IsMessage format m → line.now ≢ message_line m }
-    ensures { result ≢ NoMemory → message_at format line.now ≡ Err result }
+fn first_fault(alloc: Global, text: &str, format: Format) -> MessageFault
+    requires { (m : Message) → IsMessage format m → text.now ≢ message_line m }
+    ensures { result ≢ NoMemory → message_at format text.now ≡ Err result }
 {
-    match meant_by(alloc, line, format) {
+    match meant_by(alloc, text, format) {
         // it says what a message says, in another spelling
         Ok(_) => MessageFault::Shape,
         Err(fault) => fault,

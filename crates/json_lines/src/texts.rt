@@ -1,7 +1,9 @@
 //! The texts of a message's members, and the message that they mean.
-ghost use Rattle.std.specs.Prelude.{◌≡◌, ◌≤◌, length, decimal, option_map, IfSome, IfOk};
+ghost use Rattle.std.specs.Prelude.{◌≡◌, ◌≤◌, length, decimal, option_map, IfSome, IfOk, IfErr};
 ghost use Rattle.text_format.specs.Limits.{key_limit, value_limit};
 ghost use Rattle.json_lines.specs.Messages.{AreBytes, IsMessage, base64};
+ghost use Rattle.json_lines.specs.declared.fault.MessageFault.TheVariants.{NoMemory, Number};
+ghost use Rattle.json_lines.specs.Memory.{AreOfRow};
 ghost use Rattle.json_lines.specs.Texts.{row, texts_of};
 ghost use Rattle.json_lines.specs.TextsView.{texts_view};
 ghost use Rattle.json_lines.specs.Steps.{Gives, Reads};
@@ -43,6 +45,7 @@ pub(crate) fn message_of(
     ensures lawful { IfOk result (λ m. IsMessage format m) }
     // They are the texts of that message.
     ensures found { IfOk result (λ m. texts_view texts.entry ≡ texts_of m) }
+    ensures memory { IfErr result (λ e. e ≡ NoMemory → AreOfRow (texts_view texts.entry)) }
 {
     match texts {
         Texts::Resolved { resolved } => {
@@ -85,6 +88,7 @@ fn row_of(
 fn timestamp_of(text: &[u8]) -> Result<Ts, MessageFault>
     ensures exact { Reads (λ ts. ts) result (timestamp_of text.now) }
     ensures found { IfOk result (λ ts. text.now ≡ decimal ts) }
+    ensures fault { IfErr result (λ e. e ≡ Number) }
 {
     let Some(number) = number_of(text) else {
         return Err(MessageFault::Number);

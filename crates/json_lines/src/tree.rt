@@ -13,22 +13,22 @@ use spans::calls::Message;
 use std::alloc::Global;
 use text_format::Format;
 
-/// The message of a format that a line has, however it is written, or the first test that it doesn't pass.
+/// The message of a format that a text has, however it is written, or the first test that it doesn't pass.
 #[tactic(auto, unfolding(crate::specs::Tests::meant_by))]
-pub(crate) fn meant_by(alloc: Global, line: &[u8], format: Format) -> Result<Message, MessageFault>
-    ensures exact { Gives (λ m. m) result (meant_by format line.now) }
+pub(crate) fn meant_by(alloc: Global, text: &str, format: Format) -> Result<Message, MessageFault>
+    ensures exact { Gives (λ m. m) result (meant_by format text.now) }
     ensures lawful { IfOk result (λ m. IsMessage format m) }
 {
-    let tree = tree_of(alloc, line)?;
+    let tree = tree_of(alloc, text)?;
     let texts = texts_in(&tree)?;
     message_of(alloc, texts, format)
 }
 
 #[tactic(auto, unfolding(crate::specs::Tests::tree_of))]
-fn tree_of(alloc: Global, line: &[u8]) -> Result<Value, MessageFault>
-    ensures { Gives view result (tree_of line.now) }
+fn tree_of(alloc: Global, text: &str) -> Result<Value, MessageFault>
+    ensures { Gives view result (tree_of text.now) }
 {
-    match Value::from_slice(alloc, line) {
+    match Value::from_str(alloc, text) {
         Ok(tree) => Ok(tree),
         Err(error) => {
             if error.is_memory() {

@@ -1,15 +1,15 @@
-use Rattle.std.proofs.lemmas.Result.{err_from_is_err_and}
 use Rattle.json_lines.specs.TextsView.{texts_view}
-use Rattle.json_lines.proofs.Readings.{read_found, read_whole, unwritten}
+use Rattle.json_lines.proofs.Readings.{read_found, read_whole, read_unresolved, unwritten}
 use Rattle.json_lines.proofs.reading.read_written.Goals as goal
 
-pub returns-in_err-texts-clause-whole : goal.returns-in_err-texts-clause-whole
-returns-in_err-texts-clause-whole c =
-    let p = err_from_is_err_and c.from_residual.result c.from_residual.ensures.1 in
-    rw (p.1, p.2) (unwritten c.args.format c.args.line.now c.in_err-texts.field-0.0 c.in_err-texts.ensures)
+pub returns-in_default-clause-whole : goal.returns-in_default-clause-whole
+returns-in_default-clause-whole c = λ m lawful is. absurd (unwritten c.args.format c.args.line.now c.in_default.field-0 c.in_default.ensures m lawful is)
 
 pub returns-clause-found : goal.returns-clause-found
-returns-clause-found c = read_found c.args.format c.args.line.now (texts_view c.in_ok-texts.texts) c.message_of.result c.in_ok-texts.ensures c.message_of.ensures.lawful c.message_of.ensures.found
+returns-clause-found c = read_found c.args.format c.args.line.now (texts_view c.in-Ok.texts) c.message_of.result c.in-Ok.ensures c.message_of.ensures.lawful c.message_of.ensures.found
 
 pub returns-clause-whole : goal.returns-clause-whole
-returns-clause-whole c = read_whole c.args.format c.args.line.now (texts_view c.in_ok-texts.texts) c.message_of.result c.in_ok-texts.ensures c.message_of.ensures.exact
+returns-clause-whole c = read_whole c.args.format c.args.line.now (texts_view c.in-Ok.texts) c.message_of.result c.in-Ok.ensures c.message_of.ensures.exact
+
+pub returns-clause-memory : goal.returns-clause-memory
+returns-clause-memory c = read_unresolved c.args.format c.args.line.now (texts_view c.in-Ok.texts) c.message_of.result c.in-Ok.ensures c.message_of.ensures.memory
