@@ -13,7 +13,6 @@ use crate::segments::Segments;
 use std::alloc::{AllocError, Global};
 use std::collections::BTreeMap;
 use std::ops::Bound;
-use std::slice;
 use timestamps::small_bytes::SmallBytes;
 
 /// The readers of each key. A lone key has readers of its own, and any other key has those of its segment.
@@ -46,8 +45,7 @@ impl Layers {
         }
     }
 
-    /// The readers of the patches' keys are edited. A key that is edited by itself comes to be a lone key, unless a
-    /// segment starts there.
+    /// The readers of the patches' keys are edited. A key that is edited by itself comes to be a lone key.
     pub(crate) fn edit(
         &mut self,
         patches: &[Patch],
@@ -82,8 +80,7 @@ impl Layers {
         }
     }
 
-    // The readers of a key that is no lone key are edited.
-    #[inline(never)]
+    // A key that is no lone key comes to be one, with the readers of its segment edited.
     fn add_key(&mut self, patch: &Patch, ts: u64, forgotten: u64) -> Result<(), AllocError>
         requires key { IsOneKey patch.now }
         requires late { forgotten < ts }
@@ -93,9 +90,6 @@ impl Layers {
         ensures ok { OnOk result (AreEditedIn forgotten ts (patch.now ∷ []) self.old self.new) }
         ensures err { OnErr result (KeepsReadersIn self.old self.new) }
     {
-        if self.segments.starts_at(patch.lo) {
-            return self.edit_spans(slice::from_ref(patch), ts, forgotten);
-        }
         let readers = self.segments.edited_at(patch, ts, forgotten)?;
         let key = patch.lo.copy()?;
         self.lone.insert(key, readers)?;

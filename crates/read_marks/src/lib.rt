@@ -25,8 +25,8 @@
 //!
 //! A piece is what a read marks: a get marks its key, and a scan its span, cut into pieces. Of a key's readers above the
 //! version that was read and up to the next version, only the greatest can refuse a write, so that one stands for all.
-//! Neighbours with the same readers are joined. A lone key goes where a span leaves it the readers of its segment. A
-//! key at which a segment starts comes to be no lone key.
+//! Neighbours with the same readers are joined. A lone key goes where a span or a sweep leaves it the readers of its
+//! segment. It is never joined with what is before it.
 //!
 //! Costs, with n lone keys and starts, and m readers of one key:
 //!

@@ -58,11 +58,6 @@ impl Segments {
         }
     }
 
-    /// Whether a segment starts at the key.
-    pub(crate) fn starts_at(&self, key: &SmallBytes) -> bool {
-        self.starts.contains_key(key)
-    }
-
     /// A copy of the key's readers as `ts` leaves them in a patch that begins there.
     pub(crate) fn edited_at(
         &self,

@@ -8,7 +8,7 @@ use std::alloc::Global;
 
 /// Scripts, each of marks. `add` marks a span by a reader, `together` up to three spans by one, `each` keys of one byte
 /// each, and `piece` a span by the greatest reader above a timestamp and up to another. `of` has the readers of a key.
-pub(super) const SCRIPTS: [&str; 12] = [
+pub(super) const SCRIPTS: [&str; 13] = [
     // spans overlap; one whose end is not above its beginning holds no key, and leaves nothing
     "add b d 10=
 add c - 20=
@@ -120,18 +120,33 @@ spans=32
 each 7 1=
 spans=1
 ",
-    // a key at which a segment starts is marked there, and joined with the one before. A sweep, which a mark by what
-    // counts as forgotten makes, leaves both
+    // a key that was marked by itself is not joined with what is before it, nor by a sweep, which a mark by what counts
+    // as forgotten makes
     "add a b 20=
 add b b\0 10=
 piece b b\0 0 18446744073709551615 20=
-spans=1
+spans=2
 of a= 20
 of b= 20
 of c=
 forget 5=
 add x y 5=
+spans=3
+",
+    // keys that were marked by themselves are marked with a span too. One that has the readers of the span then is part
+    // of it: of the three only h, of which a reader is above the span's, stays apart
+    "each 5 ahz=
+piece h h\0 0 18446744073709551615 9=
+spans=3
+piece - - 0 7 6=
 spans=2
+of a= 6
+of b= 6
+of h= 6 9
+of z= 6
+piece c c\0 0 7 7=
+spans=3
+of c= 7
 ",
     // what is forgotten may be marked again
     "add - - 5=

@@ -1,24 +1,12 @@
-use Rattle.std.proofs.Common.{◌≡◌, ◌∙◌, List, OnOk, Some, cond, subst, sym, unwrap_or}
+use Rattle.std.proofs.Common.{◌≡◌, ◌∙◌, List, Some, cond, subst, sym, unwrap_or}
 use Rattle.std.specs.BTreeMap.{get, is_at}
 use Rattle.timestamps.specs.Bytes.{key_cmp}
 use Rattle.kept.specs.Marks.{IsPiece}
 use Rattle.read_marks.specs.Readers.{is_kept}
 use Rattle.read_marks.specs.Segments.{readers_at}
-use Rattle.read_marks.specs.Layers.{AreEditedIn}
-use Rattle.read_marks.specs.Patch.{Patch}
-use Rattle.read_marks.specs.Patches.{HaveGaps}
 use Rattle.read_marks.proofs.Layering.{key_edited}
 use Rattle.read_marks.proofs.Lent.{low_is}
 use Rattle.read_marks.proofs.layers.Layers.add_key.Goals as goal
-
-pub edit_spans-requires : goal.edit_spans-requires
-edit_spans-requires c = record {
-  late = c.requires.late;
-  gaps = subst (HaveGaps c.args.ts) (sym c.from_ref.ensures.value) ((c.requires.low, c.requires.high), tt);
-}
-
-pub returns-then-starts_at-clause-ok : goal.returns-then-starts_at-clause-ok
-returns-then-starts_at-clause-ok c = subst (λ (ps : List Patch). OnOk c.edit_spans.result (AreEditedIn c.args.forgotten c.args.ts ps c.args.self.now c.edit_spans.new.self)) c.from_ref.ensures.value c.edit_spans.ensures.ok
 
 pub returns-clause-ok : goal.returns-clause-ok
 returns-clause-ok c = λ x.
