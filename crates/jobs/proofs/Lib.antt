@@ -1,3 +1,10 @@
 pub mod Judging
 pub mod SpanWords
 pub mod States
+pub mod Told
+pub mod Tellings
+pub mod FollowTold
+pub mod MessagesRead
+pub mod FollowLines
+pub mod FollowSteps
+pub mod FollowEnds

@@ -35,11 +35,6 @@ start_of span (starts.Seed cursor rows) = seeded_start span cursor rows.items
 abbrev pub is_chosen : Bool → List ℕ → Bool
 is_chosen taking text = begins_message text && taking
 
--- the message of a line, where it is one to take
-abbrev pub HasMessage : Format → Bool → List ℕ → Option Message → Type 0
-HasMessage format chosen line None = chosen ≡ false
-HasMessage format chosen line (Some m) = (chosen ≡ true) × IsMessage format m × (line ≡ message_line m)
-
 -- the faults of lines, of messages and of replicas, as those of a follower
 abbrev pub error_of_line : LineFault → FollowError
 error_of_line line_faults.LineTooLong = errors.Fault faults.LineTooLong
@@ -58,35 +53,6 @@ error_of_replica replica_faults.NotAfter = errors.Fault faults.NotAfter
 error_of_replica replica_faults.OutsideSpan = errors.Fault faults.OutsideSpan
 error_of_replica replica_faults.ResolvedBack = errors.Fault faults.ResolvedBack
 error_of_replica replica_faults.NoMemory = errors.NoMemory
-
--- a line that is to be taken is no message of the format, and this is the first test that it doesn't pass
-pub record IsNoMessage (format : Format) (taking : Bool) (line : List ℕ) (e : FollowError) : Type 0 where
-  pub text : List ℕ
-  pub whole : text_at format line ≡ Ok text
-  pub chosen : is_chosen taking text ≡ true
-  pub fault : MessageFault
-  pub first : fault ≢ message.NoMemory → message_at format line ≡ Err fault
-  pub error : e ≡ error_of_message fault
-
--- why a line can't be read: its length or its end, or else what is wrong with it as a message
-abbrev pub IsMisread : Format → Bool → List ℕ → FollowError → Type 0
-IsMisread format taking line e =
-    ((fault : LineFault) × (text_at format line ≡ Err fault) × (e ≡ error_of_line fault))
-    ⊎ IsNoMessage format taking line e
-
--- the line is that of a message to take, and a replica that began so and took the messages before it is to refuse it
-pub record IsRefusedMessage (format : Format) (taking : Bool) (s : ReplicaStart) (before : List Message) (line : List ℕ) (e : FollowError) : Type 0 where
-  pub text : List ℕ
-  pub whole : text_at format line ≡ Ok text
-  pub message : Message
-  pub is : HasMessage format (is_chosen taking text) line (Some message)
-  pub fault : Fault
-  pub test : apply_fault s.span s.start before message ≡ test_of fault
-  pub error : e ≡ error_of_replica fault
-
--- why a line is not followed: it can't be read, or the replica refuses its message
-abbrev pub IsRefused : Format → Bool → ReplicaStart → List Message → List ℕ → FollowError → Type 0
-IsRefused format taking s before line e = IsMisread format taking line e ⊎ IsRefusedMessage format taking s before line e
 
 -- why a replica can't begin so: the rows don't rise, or they do and one lies outside the span; or memory was wanting
 abbrev pub IsUnbegun : Span → Start → FollowError → Type 0

@@ -6,6 +6,13 @@ pub mod Answers
 pub mod Races
 pub mod Followed
 pub mod Chosen
+pub mod Following
+pub mod FollowReports
+pub mod FollowEnds
+pub mod WorkedFollowing
 pub mod Taking
+pub mod Told
+pub mod Telling
+pub mod FollowSteps
 pub mod SpanWords
 pub mod Seeds

@@ -10,8 +10,12 @@
 //!
 //! 1. What a replica refuses ends it: what is told is never wrong.
 //! 2. A message is told of only once it was applied, and rows only where the replica is complete.
-ghost use Rattle.std.specs.Prelude.{ℕ};
+ghost use Rattle.std.specs.Prelude.{ℕ, Bool, List};
+ghost use Rattle.jobs.specs.declared.follow.FollowOptions.{FollowOptions};
+ghost use Rattle.jobs.specs.declared.follow.fault.FollowError.TheVariants.{Fault};
 ghost use Rattle.jobs.specs.Ends.{FailsAt};
+ghost use Rattle.jobs.specs.Followed.{IsUnbegun};
+ghost use Rattle.jobs.specs.FollowEnds.{IsFollowed};
 
 mod choice;
 mod fault;
@@ -95,6 +99,7 @@ pub fn follow_io<S: Source, K: Sink>(
     input: &mut S,
     output: &mut K,
 ) -> End
+    ensures followed { IsFollowed options (S.given input.old) (S.given input.new) (S.ended input.new) (K.taken output.old) (K.taken output.new) result }
     ensures failed { FailsAt result (S.failures input.old) (S.failures input.new) (K.failures output.old) (K.failures output.new) }
 {
     match Follower::begin(alloc, options) {
@@ -109,6 +114,8 @@ pub fn follow_io<S: Source, K: Sink>(
 
 /// Tells what is wrong with the rows to begin with, as the only line.
 fn unbegun<K: Sink>(alloc: Global, fault: FollowFault, output: &mut K) -> End
+    ensures followed { (o : FollowOptions) (given : List ℕ) (ended : Bool) → IsUnbegun o.span o.start (Fault fault)
+        → IsFollowed o given given ended (K.taken output.old) (K.taken output.new) result }
     ensures failed { (reads : ℕ) → FailsAt result reads reads (K.failures output.old) (K.failures output.new) }
 {
     let mut text = Vec::new(alloc);

@@ -40,10 +40,11 @@ pub record IsMoved (old new : Lines) : Type 0 where
   pub room : new.end ≤ line_limit old.format
   pub format : new.format ≡ old.format
 
--- one read: what it gave waits behind the rest, and the end is known where it was found
+-- one read: what it gave waits behind the rest, and the end is known where it was found; where it wasn't, a byte at least was given
 pub record IsRead (old new : Lines) (given given' : List ℕ) (ended' : Bool) : Type 0 where
   pub got : List ℕ
   pub gave : given' ≡ given ++ got
   pub waits : waiting new ≡ waiting old ++ got
   pub found : new.ended ≡ ended'
+  pub some : new.ended ≡ false → 0 < length got
   pub format : new.format ≡ old.format

@@ -1,9 +1,11 @@
 //! A follower: a replica, with the input that changes it and what is told of it.
 ghost use Rattle.std.specs.Prelude.{◌≡◌, ◌≤◌, ℕ, [], length, take, IfOk, IfErr, OnOk};
+ghost use Rattle.word_lines.specs.Events.{spent_line};
+ghost use Rattle.jobs.specs.declared.ending.End.TheVariants.{Spent, Unfollowed};
 ghost use Rattle.replica.specs.Replicas.{Follows};
 ghost use Rattle.jobs.specs.Ends.{FailsAt};
 ghost use Rattle.sessions.specs.Waiting.{format_of};
-ghost use Rattle.jobs.specs.Followed.{start_of, IsUnbegun};
+ghost use Rattle.jobs.specs.Followed.{start_of, fault_line, IsUnbegun};
 ghost use Rattle.sessions.specs.declared.lines.Next.TheVariants.{More};
 
 use crate::ending::End;
@@ -35,11 +37,14 @@ pub(crate) struct Follower {
 }
 
 impl Follower {
-    ghost use Rattle.sessions.specs.Waiting.{waiting, IsNext};
+    ghost use Rattle.sessions.specs.Waiting.{waiting, IsNext, IsLine};
     ghost use Rattle.jobs.specs.Taking.{HasRead, IsMisreadAt};
+    ghost use Rattle.jobs.specs.Telling.{waits};
+    ghost use Rattle.jobs.specs.declared.follow.FollowOptions.{FollowOptions};
+    ghost use Rattle.jobs.specs.FollowSteps.{IsFresh, IsStopped, GoesOn, Halts, TakesLine, StopsAtLine, TakesMessage, StopsAtMessage, StopsBy, EndsTold, FollowsAs, end_at};
 
     pub(crate) fn begin(alloc: Global, options: FollowOptions) -> Result<Follower, FollowError>
-        ensures format { IfOk result (λ follower. follower.format ≡ options.format) }
+        ensures fresh { IfOk result (IsFresh options) }
         ensures refused { IfErr result (IsUnbegun options.span options.start) }
     {
         let FollowOptions {
@@ -66,6 +71,8 @@ impl Follower {
 
     /// Takes all lines, or those before one that ends it.
     pub(crate) fn follow<S: Source, K: Sink>(&mut self, input: &mut S, output: &mut K) -> End
+        ensures stopped { (o : FollowOptions) → IsFresh o self.old
+            → IsStopped o (S.given input.old) (S.given input.new) (S.ended input.new) (K.taken output.old) (K.taken output.new) (waits self.new.telling) result }
         ensures failed { FailsAt result (S.failures input.old) (S.failures input.new) (K.failures output.old) (K.failures output.new) }
     {
         let mut number = 0;
@@ -90,7 +97,8 @@ impl Follower {
 
     /// How it ends where no line is left.
     fn done(&self) -> End
-        ensures { (reads writes : ℕ) → FailsAt result reads reads writes writes }
+        ensures end { result ≡ end_at self.now.started }
+        ensures failed { (reads writes : ℕ) → FailsAt result reads reads writes writes }
     {
         if self.started {
             End::Done
@@ -102,6 +110,8 @@ impl Follower {
     /// Writes what waits, and reads once.
     fn read_more<S: Source, K: Sink>(&mut self, input: &mut S, output: &mut K) -> Result<(), End>
         requires more { IsNext self.old.lines More }
+        ensures ok { OnOk result (GoesOn self.old self.new (S.given input.old, S.ended input.old, K.taken output.old) (S.given input.new, S.ended input.new, K.taken output.new)) }
+        ensures err { IfErr result (Halts self.old self.new (S.given input.old, S.ended input.old, K.taken output.old) (S.given input.new, S.ended input.new, K.taken output.new)) }
         ensures worked { OnOk result ((S.failures input.new ≡ S.failures input.old) × (K.failures output.new ≡ K.failures output.old)) }
         ensures failed { IfErr result (λ end. FailsAt end (S.failures input.old) (S.failures input.new) (K.failures output.old) (K.failures output.new)) }
     {
@@ -118,6 +128,9 @@ impl Follower {
     /// Takes one line, with its message if it is chosen.
     fn line<K: Sink>(&mut self, output: &mut K, number: u64, count: usize) -> Result<(), End>
         requires within { count ≤ length (waiting self.old.lines) }
+        requires line { IsLine self.old.lines count }
+        ensures ok { OnOk result (TakesLine self.old self.new number (K.taken output.old) (K.taken output.new)) }
+        ensures err { IfErr result (StopsAtLine self.old self.new number (K.taken output.old) (K.taken output.new)) }
         ensures worked { OnOk result (K.failures output.new ≡ K.failures output.old) }
         ensures failed { IfErr result (λ end. (reads : ℕ) → FailsAt end reads reads (K.failures output.old) (K.failures output.new)) }
     {
@@ -158,10 +171,12 @@ impl Follower {
 
     /// Takes a message, and tells what it shows before it and behind it.
     fn take<K: Sink>(&mut self, output: &mut K, number: u64, message: Message) -> Result<(), End>
+        ensures ok { OnOk result (TakesMessage self.old self.new number message (K.taken output.old) (K.taken output.new)) }
+        ensures err { IfErr result (StopsAtMessage self.old self.new number message (K.taken output.old) (K.taken output.new)) }
         ensures worked { OnOk result (K.failures output.new ≡ K.failures output.old) }
         ensures failed { IfErr result (λ end. (reads : ℕ) → FailsAt end reads reads (K.failures output.old) (K.failures output.new)) }
     {
-        match self.telling.before(&self.replica, &message, output) {
+        match self.telling.tell_before(&self.replica, &message, output) {
             Ok(()) => {}
             Err(end) => return Err(end),
         }
@@ -174,12 +189,13 @@ impl Follower {
             Err(fault) => return Err(self.stopped(number, of_replica(fault))),
         }
         self.started = true;
-        self.telling.behind(&self.replica, output)
+        self.telling.tell_behind(&self.replica, output)
     }
 
     /// Tells what is wrong with a line.
     fn stopped(&mut self, number: u64, error: FollowError) -> End
-        ensures { (reads writes : ℕ) → FailsAt result reads reads writes writes }
+        ensures end { StopsBy error number (waits self.old.telling) (waits self.new.telling) result }
+        ensures failed { (reads writes : ℕ) → FailsAt result reads reads writes writes }
     {
         match error {
             FollowError::NoMemory => End::Memory,
@@ -188,7 +204,8 @@ impl Follower {
     }
 
     fn faulty(&mut self, number: u64, fault: FollowFault) -> End
-        ensures { (reads writes : ℕ) → FailsAt result reads reads writes writes }
+        ensures end { EndsTold (Unfollowed number fault) (fault_line number fault) (waits self.old.telling) (waits self.new.telling) result }
+        ensures failed { (reads writes : ℕ) → FailsAt result reads reads writes writes }
     {
         match self.telling.tell_fault(number, fault) {
             Ok(()) => End::Unfollowed {
@@ -201,7 +218,8 @@ impl Follower {
 
     /// Tells that no further line can be counted.
     fn spent(&mut self, number: u64) -> End
-        ensures { (reads writes : ℕ) → FailsAt result reads reads writes writes }
+        ensures end { EndsTold Spent (spent_line number) (waits self.old.telling) (waits self.new.telling) result }
+        ensures failed { (reads writes : ℕ) → FailsAt result reads reads writes writes }
     {
         match self.telling.tell_spent(number) {
             Ok(()) => End::Spent,
@@ -211,6 +229,7 @@ impl Follower {
 
     /// Writes what is left, but where a write has failed: that is not tried again.
     pub(crate) fn finish<K: Sink>(mut self, end: End, output: &mut K) -> End
+        ensures followed { FollowsAs self end (K.taken output.old) (K.taken output.new) result }
         ensures failed { (r r' w : ℕ) → FailsAt end r r' w (K.failures output.old) → FailsAt result r r' w (K.failures output.new) }
     {
         if let End::Output = end {

@@ -94,6 +94,7 @@ impl Report {
     /// Writes all that waits.
     pub(crate) fn write_out<K: Sink>(&mut self, sink: &mut K) -> Result<(), WriteFailed>
         ensures ok { OnOk result (HasTaken (K.taken sink.old) (K.taken sink.new) (pending_of self.old.kept) (pending_of self.new.kept)) }
+        ensures none { OnOk result (pending_of self.new.kept ≡ []) }
         ensures err { OnErr result (HasBegun (K.taken sink.old) (K.taken sink.new) (pending_of self.old.kept)) }
         ensures worked { OnOk result (K.failures sink.new ≡ K.failures sink.old) }
         ensures failed { OnErr result (K.failures sink.new ≡ K.failures sink.old + 1) }

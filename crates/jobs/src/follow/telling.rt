@@ -8,8 +8,17 @@
 //! a deleted at 12                                     complete 11 2\n
 //! resolved 20            resolved 20 1\ngone a\n
 //! ```
-ghost use Rattle.std.specs.Prelude.{◌≡◌, ◌+◌, ℕ, OnOk, OnErr, IfErr};
+ghost use Rattle.std.specs.Prelude.{◌≡◌, ◌+◌, ◌++◌, ℕ, [], Some, IfOk, OnOk, OnErr, IfErr};
+ghost use Rattle.std.specs.List.{flat_map};
+ghost use Rattle.std.specs.Option.{option_copied};
+ghost use Rattle.word_lines.specs.Events.{spent_line};
+ghost use Rattle.word_lines.specs.Replies.{row_line};
+ghost use Rattle.replica.specs.Replicas.{view_in};
 ghost use Rattle.jobs.specs.Ends.{FailsAt};
+ghost use Rattle.jobs.specs.Followed.{fault_line};
+ghost use Rattle.jobs.specs.FollowReports.{change_line};
+ghost use Rattle.jobs.specs.Told.{HasTold, IsCut};
+ghost use Rattle.sessions.specs.Writing.{pending_of};
 
 use crate::ending::End;
 use crate::follow::Shown;
@@ -36,8 +45,14 @@ pub(crate) struct Telling {
 }
 
 impl Telling {
+    ghost use Rattle.sessions.specs.Writing.{HasTaken, HasBegun};
+    ghost use Rattle.jobs.specs.Telling.{waits, named_in, KeepsChoice, ShowsRows, ShowsPart, TellsAt, CutsAt, TellsBefore, CutsBefore, TellsBehind, CutsBehind, NamesKey};
+
     /// Nothing is told.
-    pub(crate) fn new(alloc: Global, shown: Shown, complete: bool) -> Result<Telling, AllocError> {
+    pub(crate) fn new(alloc: Global, shown: Shown, complete: bool) -> Result<Telling, AllocError>
+        ensures choice { IfOk result (λ telling. (telling.shown ≡ shown) × (telling.complete ≡ complete)) }
+        ensures silent { IfOk result (λ telling. (waits telling ≡ []) × (named_in telling ≡ [])) }
+    {
         let report = Report::new(alloc)?;
         Ok(Telling {
             alloc,
@@ -49,12 +64,15 @@ impl Telling {
     }
 
     /// Tells that the rows are complete, where that is asked for and a message that is to be taken next shows it.
-    pub(crate) fn before<K: Sink>(
+    pub(crate) fn tell_before<K: Sink>(
         &mut self,
         replica: &Replica,
         message: &Message,
         output: &mut K,
     ) -> Result<(), End>
+        ensures ok { OnOk result (TellsBefore self.old self.new replica.now message.now (K.taken output.old) (K.taken output.new)) }
+        ensures err { IfErr result (CutsBefore self.old self.new replica.now message.now (K.taken output.old) (K.taken output.new)) }
+        ensures choice { OnOk result (KeepsChoice self.old self.new) }
         ensures worked { OnOk result (K.failures output.new ≡ K.failures output.old) }
         ensures failed { IfErr result (λ end. (reads : ℕ) → FailsAt end reads reads (K.failures output.old) (K.failures output.new)) }
     {
@@ -68,7 +86,11 @@ impl Telling {
     }
 
     /// Remembers the key of a row whose change is to be told.
-    pub(crate) fn note(&mut self, message: &Message) -> Result<(), AllocError> {
+    pub(crate) fn note(&mut self, message: &Message) -> Result<(), AllocError>
+        ensures ok { OnOk result (NamesKey self.old self.new message.now) }
+        ensures choice { OnOk result (KeepsChoice self.old self.new) }
+        ensures waits { waits self.new ≡ waits self.old }
+    {
         match (message, self.shown) {
             (Message::Row(row), Shown::Changes) => {
                 let key = row.key.copy()?;
@@ -80,7 +102,10 @@ impl Telling {
     }
 
     /// Tells that the rows are complete, where the message that was taken last has resolved it.
-    pub(crate) fn behind<K: Sink>(&mut self, replica: &Replica, output: &mut K) -> Result<(), End>
+    pub(crate) fn tell_behind<K: Sink>(&mut self, replica: &Replica, output: &mut K) -> Result<(), End>
+        ensures ok { OnOk result (TellsBehind self.old self.new replica.now (K.taken output.old) (K.taken output.new)) }
+        ensures err { IfErr result (CutsBehind self.old self.new replica.now (K.taken output.old) (K.taken output.new)) }
+        ensures choice { OnOk result (KeepsChoice self.old self.new) }
         ensures worked { OnOk result (K.failures output.new ≡ K.failures output.old) }
         ensures failed { IfErr result (λ end. (reads : ℕ) → FailsAt end reads reads (K.failures output.old) (K.failures output.new)) }
     {
@@ -98,6 +123,9 @@ impl Telling {
         replica: &Replica,
         output: &mut K,
     ) -> Result<(), End>
+        ensures ok { OnOk result (TellsAt self.old self.new word.now (Some at) (view_in replica.now) (K.taken output.old) (K.taken output.new)) }
+        ensures err { IfErr result (CutsAt self.old self.new word.now (Some at) (view_in replica.now) (K.taken output.old) (K.taken output.new)) }
+        ensures choice { OnOk result (KeepsChoice self.old self.new) }
         ensures worked { OnOk result (K.failures output.new ≡ K.failures output.old) }
         ensures failed { IfErr result (λ end. (reads : ℕ) → FailsAt end reads reads (K.failures output.old) (K.failures output.new)) }
     {
@@ -105,27 +133,53 @@ impl Telling {
             Ok(()) => {}
             Err(_) => return Err(End::Memory),
         }
-        let shown = match self.shown {
+        match self.show(replica, output) {
+            Ok(()) => {
+                self.changed = BTreeSet::new(self.alloc);
+                Ok(())
+            }
+            Err(end) => Err(end),
+        }
+    }
+
+    /// Tells what is shown of the rows.
+    fn show<K: Sink>(&mut self, replica: &Replica, output: &mut K) -> Result<(), End>
+        ensures ok { OnOk result (ShowsRows self.old self.new (view_in replica.now) (K.taken output.old) (K.taken output.new)) }
+        ensures err { IfErr result (ShowsPart self.old self.new (view_in replica.now) (K.taken output.old) (K.taken output.new)) }
+        ensures choice { OnOk result (KeepsChoice self.old self.new) }
+        ensures worked { OnOk result (K.failures output.new ≡ K.failures output.old) }
+        ensures failed { IfErr result (λ end. (reads : ℕ) → FailsAt end reads reads (K.failures output.old) (K.failures output.new)) }
+    {
+        match self.shown {
             Shown::Count => full(&mut self.report, output),
             Shown::Rows => tell_rows(&mut self.report, replica.rows(), output),
             Shown::Changes => tell_changes(&mut self.report, &self.changed, replica, output),
-        };
-        self.changed = BTreeSet::new(self.alloc);
-        shown
+        }
     }
 
     /// Tells what is wrong with a line, as the last line.
-    pub(crate) fn tell_fault(&mut self, line: u64, fault: FollowFault) -> Result<(), AllocError> {
+    pub(crate) fn tell_fault(&mut self, line: u64, fault: FollowFault) -> Result<(), AllocError>
+        ensures ok { OnOk result (waits self.new ≡ waits self.old ++ fault_line line fault) }
+        ensures err { OnErr result (waits self.new ≡ waits self.old) }
+    {
         self.report.tell_fault(line, fault)
     }
 
     /// Tells that no more lines can be counted, as the last line.
-    pub(crate) fn tell_spent(&mut self, line: u64) -> Result<(), AllocError> {
+    pub(crate) fn tell_spent(&mut self, line: u64) -> Result<(), AllocError>
+        ensures ok { OnOk result (waits self.new ≡ waits self.old ++ spent_line line) }
+        ensures err { OnErr result (waits self.new ≡ waits self.old) }
+    {
         self.report.tell_spent(line)
     }
 
     /// Writes all that waits.
     pub(crate) fn write_out<K: Sink>(&mut self, sink: &mut K) -> Result<(), WriteFailed>
+        ensures ok { OnOk result (HasTaken (K.taken sink.old) (K.taken sink.new) (waits self.old) (waits self.new)) }
+        ensures none { OnOk result (waits self.new ≡ []) }
+        ensures err { OnErr result (HasBegun (K.taken sink.old) (K.taken sink.new) (waits self.old)) }
+        ensures choice { KeepsChoice self.old self.new }
+        ensures named { named_in self.new ≡ named_in self.old }
         ensures worked { OnOk result (K.failures sink.new ≡ K.failures sink.old) }
         ensures failed { OnErr result (K.failures sink.new ≡ K.failures sink.old + 1) }
     {
@@ -135,6 +189,8 @@ impl Telling {
 
 /// Writes what waits, where that is a block or more.
 fn full<K: Sink>(report: &mut Report, output: &mut K) -> Result<(), End>
+    ensures ok { OnOk result (HasTold (K.taken output.old) (K.taken output.new) (pending_of report.old.kept) (pending_of report.new.kept) []) }
+    ensures err { IfErr result (λ end. IsCut end (K.taken output.old) (K.taken output.new) (pending_of report.old.kept) (pending_of report.new.kept) []) }
     ensures worked { OnOk result (K.failures output.new ≡ K.failures output.old) }
     ensures failed { IfErr result (λ end. (reads : ℕ) → FailsAt end reads reads (K.failures output.old) (K.failures output.new)) }
 {
@@ -146,6 +202,8 @@ fn full<K: Sink>(report: &mut Report, output: &mut K) -> Result<(), End>
 
 /// Tells the rows, and writes each block of them that is full.
 fn tell_rows<K: Sink>(report: &mut Report, rows: Rows<'_>, output: &mut K) -> Result<(), End>
+    ensures ok { OnOk result (HasTold (K.taken output.old) (K.taken output.new) (pending_of report.old.kept) (pending_of report.new.kept) (flat_map row_line rows.entry)) }
+    ensures err { IfErr result (λ end. IsCut end (K.taken output.old) (K.taken output.new) (pending_of report.old.kept) (pending_of report.new.kept) (flat_map row_line rows.entry)) }
     ensures worked { OnOk result (K.failures output.new ≡ K.failures output.old) }
     ensures failed { IfErr result (λ end. (reads : ℕ) → FailsAt end reads reads (K.failures output.old) (K.failures output.new)) }
 {
@@ -169,6 +227,10 @@ fn tell_changes<K: Sink>(
     replica: &Replica,
     output: &mut K,
 ) -> Result<(), End>
+    ensures ok { OnOk result (HasTold (K.taken output.old) (K.taken output.new) (pending_of report.old.kept) (pending_of report.new.kept)
+        (flat_map (λ x. change_line x (view_in replica.now x)) changed.now.keys)) }
+    ensures err { IfErr result (λ end. IsCut end (K.taken output.old) (K.taken output.new) (pending_of report.old.kept) (pending_of report.new.kept)
+        (flat_map (λ x. change_line x (view_in replica.now x)) changed.now.keys)) }
     ensures worked { OnOk result (K.failures output.new ≡ K.failures output.old) }
     ensures failed { IfErr result (λ end. (reads : ℕ) → FailsAt end reads reads (K.failures output.old) (K.failures output.new)) }
 {
@@ -186,7 +248,10 @@ fn tell_changes<K: Sink>(
 }
 
 /// Tells what a key has.
-fn tell_change(report: &mut Report, key: &Key, value: Option<&Value>) -> Result<(), AllocError> {
+fn tell_change(report: &mut Report, key: &Key, value: Option<&Value>) -> Result<(), AllocError>
+    ensures ok { OnOk result (pending_of report.new.kept ≡ pending_of report.old.kept ++ change_line key.now (option_copied value.entry)) }
+    ensures err { OnErr result (pending_of report.new.kept ≡ pending_of report.old.kept) }
+{
     match value {
         Some(value) => report.tell_row(key, value),
         None => report.tell_gone(key),

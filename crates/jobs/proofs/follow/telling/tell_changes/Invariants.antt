@@ -1,5 +1,12 @@
 use Rattle.std.proofs.Common.{◌≡◌}
+use Rattle.sessions.specs.Writing.{pending_of}
+use Rattle.replica.specs.Replicas.{view_in}
+use Rattle.jobs.specs.FollowReports.{change_line}
+use Rattle.jobs.proofs.Told.{IsTelling}
 use Rattle.jobs.proofs.follow.telling.tell_changes.Given as goal
 
 abbrev pub invariant-loop-key : goal.invariant-loop-key
-invariant-loop-key g l = g.K.Sink.failures l.output ≡ g.K.Sink.failures l.initial.output
+invariant-loop-key g l =
+    let K = g.K.Sink in
+    (K.failures l.output ≡ K.failures l.initial.output)
+    × IsTelling (λ x. change_line x (view_in l.fn.replica x)) l.fn.changed.keys l.key-iterator (K.taken l.initial.output) (K.taken l.output) (pending_of l.initial.report.kept) (pending_of l.report.kept)

@@ -1,7 +1,14 @@
-use Rattle.std.proofs.Common.{◌≡◌, ◌∙◌, ◌≤◌, ◌-◌, ◌++◌, take, drop, length, sym, ap, rules, List, ℕ}
+use Rattle.std.proofs.Common.{◌≡◌, ◌∙◌, ◌<◌, ◌≤◌, ◌-◌, ◌++◌, false, take, drop, length, sym, ap, arith, rules, List, ℕ}
+use Rattle.std.specs.Prelude.{◌==◌}
+use Rattle.std.proofs.lemmas.Bool.{eqb-false}
+use Rattle.std.proofs.lemmas.List.{length-take-le}
 use Rattle.sessions.specs.Waiting.{waiting}
 use Rattle.sessions.proofs.Blocks.{grown}
 use Rattle.sessions.proofs.lines.Lines.read_more.Goals as goal
+
+-- a read that isn't the end gave a byte
+some_given : (n : ℕ) (bytes : List ℕ) → n ≤ length bytes → (n == 0) ≡ false → 0 < length (take n bytes)
+some_given n bytes few some = let other = eqb-false n 0 some in let size = length-take-le n bytes few in omega arith
 
 pub returns-in-Ok-clause-read : goal.returns-in-Ok-clause-read
 returns-in-Ok-clause-read g c = let l = c.move_to_front.new.self in let xs = c.deref_mut.result.now in let m = c.move_to_front.ensures in
@@ -14,5 +21,6 @@ returns-in-Ok-clause-read g c = let l = c.move_to_front.new.self in let xs = c.d
       gave = s.given;
       waits = grown l.start l.end n l.block.len xs c.read.new.block _ _ m.front within s.count (search rules) ∙ ap (λ (ys : List ℕ). ys ++ take n c.read.new.block) (same ∙ m.waits);
       found = sym s.ended;
+      some = some_given n c.read.new.block s.count;
       format = m.format;
     }

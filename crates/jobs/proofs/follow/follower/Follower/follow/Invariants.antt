@@ -1,4 +1,7 @@
-use Rattle.std.proofs.Common.{◌≡◌, ◌≤◌}
+use Rattle.std.proofs.Common.{◌≡◌, ◌≤◌, List}
+use Rattle.spans.specs.declared.calls.messages.Message.{Message}
+use Rattle.jobs.specs.declared.follow.FollowOptions.{FollowOptions}
+use Rattle.jobs.specs.FollowSteps.{IsFresh, IsGoing}
 use Rattle.jobs.proofs.follow.follower.Follower.follow.Given as goal
 
 abbrev pub invariant-loop-turn : goal.invariant-loop-turn
@@ -7,3 +10,4 @@ invariant-loop-turn g l =
     (l.number ≤ l._turn)
     × (S.failures l.input ≡ S.failures l.initial.input)
     × (K.failures l.output ≡ K.failures l.initial.output)
+    × ((o : FollowOptions) → IsFresh o l.initial.self → (ms : List Message) × IsGoing o (S.given l.initial.input) (S.given l.input) (S.ended l.input) (K.taken l.initial.output) (K.taken l.output) l.self l._turn l.number ms)
