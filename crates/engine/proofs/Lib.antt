@@ -3,6 +3,5 @@ pub mod Taking
 pub mod Serving
 pub mod HoldingRows
 pub mod Histories
-pub mod OtherReplies
 pub mod Replies
 pub mod Runs

@@ -19,14 +19,14 @@ impl Layers {
         ensures step { IsStep (kept_of self.old) (kept_of self.new) seat (Open span.now cursor) result }
         ensures served { IsServed self.old self.new seat (Open span.now cursor) result }
     {
-        let horizon = self.horizon;
+        let horizon = self.rules.horizon();
         if cursor > MAX {
             return Reply::Refused(Refusal::TsRange);
         }
         if cursor < horizon {
             return Reply::Refused(Refusal::BelowHorizon { horizon });
         }
-        let closed = self.closing.closed();
+        let closed = self.rules.closed();
         match self.feeds.open(
             seat,
             Kind {
@@ -47,8 +47,8 @@ impl Layers {
         ensures step { IsStep (kept_of self.old) (kept_of self.new) seat (OpenInitial span.now cursor) result }
         ensures served { IsServed self.old self.new seat (OpenInitial span.now cursor) result }
     {
-        let horizon = self.horizon;
-        let closed = self.closing.closed();
+        let horizon = self.rules.horizon();
+        let closed = self.rules.closed();
         if cursor > MAX {
             return Reply::Refused(Refusal::TsRange);
         }
@@ -79,7 +79,7 @@ impl Layers {
         ensures step { IsStep (kept_of self.old) (kept_of self.new) seat (OpenEvery span.now cursor gap) result }
         ensures served { IsServed self.old self.new seat (OpenEvery span.now cursor gap) result }
     {
-        let horizon = self.horizon;
+        let horizon = self.rules.horizon();
         if cursor > MAX {
             return Reply::Refused(Refusal::TsRange);
         }
@@ -89,7 +89,7 @@ impl Layers {
         if cursor < horizon {
             return Reply::Refused(Refusal::BelowHorizon { horizon });
         }
-        let closed = self.closing.closed();
+        let closed = self.rules.closed();
         match self.feeds.open(
             seat,
             Kind {
@@ -116,8 +116,8 @@ impl Layers {
         ensures step { IsStep (kept_of self.old) (kept_of self.new) seat (OpenInitialEvery span.now cursor gap) result }
         ensures served { IsServed self.old self.new seat (OpenInitialEvery span.now cursor gap) result }
     {
-        let horizon = self.horizon;
-        let closed = self.closing.closed();
+        let horizon = self.rules.horizon();
+        let closed = self.rules.closed();
         if cursor > MAX {
             return Reply::Refused(Refusal::TsRange);
         }

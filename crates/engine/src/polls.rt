@@ -3,6 +3,7 @@ ghost use Rattle.std.specs.Prelude.{Some, true, false, ◌≡◌, ◌≤◌};
 ghost use Rattle.timestamps.specs.declared.ts.TheConstants.{MAX};
 ghost use Rattle.spans.specs.declared.calls.commands.Cmd.TheVariants.{Cancel, Poll};
 ghost use Rattle.closing.specs.Standing.{closed_in};
+ghost use Rattle.mvto_rules.specs.Holding.{closing_of};
 ghost use Rattle.feed.specs.Standing.{behind_in, seat_in};
 ghost use Rattle.kept.specs.Answered.{IsStep};
 ghost use Rattle.kept.specs.Replies.{feed_refusal};
@@ -15,7 +16,7 @@ impl Layers {
     ghost use Rattle.engine.specs.Served.{AreServing, IsServed};
 
     pub(crate) fn poll(&mut self, seat: u8, feed: u64, max: u64) -> Reply
-        requires { closed_in self.old.closing ≤ MAX }
+        requires { closed_in (closing_of self.old.rules) ≤ MAX }
         ensures step { AreServing self.old → IsStep (kept_of self.old) (kept_of self.new) seat (Poll feed max) result }
         ensures served { AreServing self.old → IsServed self.old self.new seat (Poll feed max) result }
     {
@@ -34,13 +35,13 @@ impl Layers {
 
     /// Polls a feed of the seat that is served from the store.
     fn poll_store(&mut self, seat: u8, feed: u64, max: u64) -> Reply
-        requires closed { closed_in self.old.closing ≤ MAX }
+        requires closed { closed_in (closing_of self.old.rules) ≤ MAX }
         requires behind { behind_in self.old.feeds feed ≡ Some true }
         requires owner { seat_in self.old.feeds feed ≡ Some seat }
         ensures step { IsStep (kept_of self.old) (kept_of self.new) seat (Poll feed max) result }
         ensures served { IsServed self.old self.new seat (Poll feed max) result }
     {
-        let closed = self.closing.closed();
+        let closed = self.rules.closed();
         let versions = self.rules.versions();
         match self
             .feeds
@@ -53,13 +54,13 @@ impl Layers {
 
     /// Polls a feed of the seat that is served from its ring.
     fn poll_ring(&mut self, seat: u8, feed: u64, max: u64) -> Reply
-        requires closed { closed_in self.old.closing ≤ MAX }
+        requires closed { closed_in (closing_of self.old.rules) ≤ MAX }
         requires ring { behind_in self.old.feeds feed ≡ Some false }
         requires owner { seat_in self.old.feeds feed ≡ Some seat }
         ensures step { AreServing self.old → IsStep (kept_of self.old) (kept_of self.new) seat (Poll feed max) result }
         ensures served { AreServing self.old → IsServed self.old self.new seat (Poll feed max) result }
     {
-        let closed = self.closing.closed();
+        let closed = self.rules.closed();
         match self.feeds.next_messages_in_ring(feed, closed, max) {
             Ok(messages) => Reply::Messages(messages),
             Err(_) => Reply::Refused(Refusal::NoMemory),
