@@ -1,5 +1,5 @@
 //! The closed timestamp and the protections.
-ghost use Rattle.std.specs.Prelude.{◌≡◌, ◌==◌, ◌<◌, ◌≤◌, ◌∷◌, ℕ, List, [], IfOk, OnOk, OnErr, filter, map, max, not, reverse, suc};
+ghost use Rattle.std.specs.Prelude.{◌≡◌, ◌==◌, ◌<◌, ◌≤◌, ◌∷◌, ℕ, List, [], IfOk, OnOk, OnErr, false, filter, map, max, not, reverse, suc};
 ghost use Rattle.std.specs.List.{list_any};
 ghost use Rattle.spans.specs.Collection.{Protection};
 ghost use Rattle.spans.specs.Report.{protection_report};
@@ -98,6 +98,7 @@ impl Closing {
     pub fn protect(&mut self, t: u64) -> Result<u64, AllocError>
         requires room { made_in self.old < u64.MAX }
         ensures number { IfOk result (λ id. id ≡ suc (made_in self.old)) }
+        ensures fresh { IfOk result (λ id. list_any (λ (n : Protection). n.id == id) (protections_in self.old) ≡ false) }
         ensures protected { IfOk result (λ id. protections_in self.new ≡ protection id t ∷ protections_in self.old) }
         ensures made { OnOk result (made_in self.new ≡ suc (made_in self.old)) }
         ensures closed { closed_in self.new ≡ closed_in self.old }

@@ -7,10 +7,15 @@ use Rattle.timestamps.specs.declared.row.Row.{Row}
 use Rattle.spans.specs.Effects.{After}
 use Rattle.spans.specs.Feeds.{same_version}
 use Rattle.spans.specs.Kept.{Kept, Transaction}
+use Rattle.spans.specs.declared.calls.commands.Cmd.TheVariants.{Commit}
+use Rattle.spans.specs.declared.calls.replies.Refusal.TheVariants.{NoMemory}
+use Rattle.spans.specs.declared.calls.replies.Reply.{Reply}
+use Rattle.spans.specs.declared.calls.replies.Reply.TheVariants.{Committed, Refused}
 use Rattle.spans.specs.declared.state.State.TheVariants as states
 use Rattle.spans.proofs.Steps.{by_test, same_key}
 use Rattle.spans.proofs.StreamOrder.{IsRowIn, RisingRows, in_append}
 use Rattle.spans.proofs.WriteSets.{has}
+use Rattle.kept.specs.Answered.{IsStep}
 use Rattle.kept.specs.Changes.{IsCommittedBy}
 use Rattle.kept.specs.HeldBack.{IsHeldFor}
 use Rattle.kept.specs.Table.{keys_of}
@@ -128,3 +133,10 @@ committed_keys (Some n) = refl
 -- a commit leaves the keys that were noted
 pub keys_stay : (k k' : Kept) (t : ℕ) → IsCommittedBy k k' t → keys_of (k'.transaction t) ≡ keys_of (k.transaction t)
 keys_stay k k' t c = ap keys_of (c.transaction t) ∙ ap (λ b. keys_of (cond b (option_map (λ (n : Transaction). record n { state = states.Committed }) (k.transaction t)) (k.transaction t))) (eq-eqb t t refl) ∙ committed_keys (k.transaction t)
+
+-- a step that answers that it committed has committed
+pub committed_by : (k k' : Kept) (seat t n : ℕ) (r : Reply) → r ≡ Committed n → IsStep k k' seat (Commit t) r → IsCommittedBy k k' t
+committed_by k k' seat t n r is step = elim (subst (IsStep k k' seat (Commit t)) is step) [
+  | inl answered ↦ answered.change
+  | inr wanting ↦ (let no : Committed n ≡ Refused NoMemory = wanting.0 in cc)
+]

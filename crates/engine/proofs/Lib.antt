@@ -4,6 +4,5 @@ pub mod Serving
 pub mod HoldingRows
 pub mod Histories
 pub mod OpeningReplies
-pub mod OtherReplies
 pub mod Replies
 pub mod Runs

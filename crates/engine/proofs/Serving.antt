@@ -29,6 +29,7 @@ use Rattle.feed.proofs.Serving.{others_same}
 use Rattle.hold_back.specs.Held as holding
 use Rattle.hold_back.specs.Held.{lost_in, rows_in}
 use Rattle.hold_back.specs.Lost.{is_lost}
+use Rattle.mvto_rules.specs.Holding.{closing_of}
 use Rattle.engine.specs.Layers.{AreNoted, kept_of}
 use Rattle.engine.specs.Served.{AreServing, AreThrough, IsServed, IsServedBy, IsUnserved}
 use Rattle.engine.specs.declared.layers.Layers.{Layers}
@@ -66,7 +67,7 @@ still_rings : (e e' : Layers) (h : List Event) (v : Event) (d : Effect) → IsLe
 still_rings e e' h v d legal right is quiet same rings = subst (λ s. AreRingsIn s (effects_of (v ∷ h))) (sym same) (rings_others h v (ring_of e.feeds) (is_behind e.feeds) legal right (ap is_quiet is ∙ quiet) rings)
 
 -- the rows that a closing takes are the stream between
-released : (e : Layers) (h : List Event) (n : ℕ) → keeping.StandsFor (kept_of e) h → AreHeldIn e.held_back (effects_of h) → AreThrough e n (stream_of (effects_of h) whole (closed_in e.closing) n)
+released : (e : Layers) (h : List Event) (n : ℕ) → keeping.StandsFor (kept_of e) h → AreHeldIn e.held_back (effects_of h) → AreThrough e n (stream_of (effects_of h) whole (closed_in (closing_of e.rules)) n)
 released e h n s held whole' = held_released (kept_of e) h (is_lost (lost_in e.held_back)) (rows_in e.held_back) n s held whole'
 
 pub serving_stands : (e e' : Layers) (h : List Event) (v : Event) (d : Effect) → keeping.StandsFor (kept_of e) h → keeping.StandsFor (kept_of e') (v ∷ h) → AreNoted (kept_of e) → IsRightEvent (effects_of h) v → effect_of v ≡ d → IsServedBy e e' d → IsServing e h → IsServing e' (v ∷ h)
@@ -77,11 +78,11 @@ serving_stands e e' h v (Commits t) s s' noted right is c o =
           (c.1 o.1.rising noted (subst (λ n. n < t) (sym s.fits.closed_at) active.above) (unheld e.held_back (effects_of h) t o.1 active.uncommitted)),
     )
 serving_stands e e' h v (Closes n) s s' noted right is c o = (
-  rings_close (kept_of e) h v n (ring_of e.feeds) (ring_of e'.feeds) (is_behind e.feeds) (is_behind e'.feeds) s right is o.0 (c.offered (stream_of (effects_of h) whole (closed_in e.closing) n) (released e h n s o.1)),
+  rings_close (kept_of e) h v n (ring_of e.feeds) (ring_of e'.feeds) (is_behind e.feeds) (is_behind e'.feeds) s right is o.0 (c.offered (stream_of (effects_of h) whole (closed_in (closing_of e.rules)) n) (released e h n s o.1)),
   held_close h v n (is_lost (lost_in e.held_back)) (is_lost (lost_in e'.held_back)) (rows_in e.held_back) (rows_in e'.held_back) right is o.1 c.let_go,
 )
 serving_stands e e' h v (HardCloses to n) s s' noted right is c o = (
-  rings_hard_close (kept_of e) h v to n (ring_of e.feeds) (ring_of e'.feeds) (is_behind e.feeds) (is_behind e'.feeds) s right is o.0 (c.offered (stream_of (effects_of h) whole (closed_in e.closing) n) (released e h n s o.1)),
+  rings_hard_close (kept_of e) h v to n (ring_of e.feeds) (ring_of e'.feeds) (is_behind e.feeds) (is_behind e'.feeds) s right is o.0 (c.offered (stream_of (effects_of h) whole (closed_in (closing_of e.rules)) n) (released e h n s o.1)),
   held_hard_close h v to n (is_lost (lost_in e.held_back)) (is_lost (lost_in e'.held_back)) (rows_in e.held_back) (rows_in e'.held_back) right is o.1 c.let_go,
 )
 serving_stands e e' h v (Opens f seat kind span cursor) s s' noted right is c o = (

@@ -5,6 +5,7 @@ use Rattle.spans.specs.Effects.{effects_of}
 use Rattle.spans.specs.Transactions.{closed_of}
 use Rattle.closing.specs.Standing.{closed_in}
 use Rattle.feed.specs.Standing.{behind_in}
+use Rattle.mvto_rules.specs.Holding.{closing_of}
 use Rattle.engine.specs.Layers as layers
 use Rattle.engine.specs.declared.Engine.{Engine}
 
@@ -13,7 +14,7 @@ abbrev pub steps_of : Engine → ℕ
 steps_of e = e.steps
 
 abbrev pub closed_timestamp : Engine → ℕ
-closed_timestamp e = closed_in e.layers.closing
+closed_timestamp e = closed_in (closing_of e.layers.rules)
 
 -- whether a feed is served from the store, as the feeds themselves say it; none where it doesn't live
 abbrev pub behind_of : Engine → ℕ → Option Bool

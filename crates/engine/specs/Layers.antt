@@ -8,28 +8,19 @@ use Rattle.kept.specs.HeldBack.{AreHeldBack}
 use Rattle.kept.specs.Rings.{AreRings}
 use Rattle.kept.specs.StandsFor as keeping
 use Rattle.kept.specs.Table.{keys_of}
-use Rattle.closing.specs.Standing.{closed_in, made_in, protections_in}
-use Rattle.feed.specs.Standing.{is_behind, opened_in, place_in, ring_of}
+use Rattle.feed.specs.Standing.{Standing, is_behind, opened_in, place_in, ring_of}
 use Rattle.hold_back.specs.Held.{lost_in, rows_in}
 use Rattle.hold_back.specs.Lost.{is_lost}
-use Rattle.version_chain.specs.Stores.{is_committed_in, version_in}
-use Rattle.mvto_rules.specs.Holding.{marked_of, transactions_of, versions_of}
+use Rattle.mvto_rules.specs.Holding.{holding}
 use Rattle.engine.specs.declared.layers.Layers.{Layers}
+
+-- what the feeds are, and nothing else
+abbrev pub feeds_of : Standing → Kept
+feeds_of s = record keeping.nothing_kept { feed = place_in s; feeds_opened = opened_in s }
 
 -- each layer's part
 abbrev pub kept_of : Layers → Kept
-kept_of e = record {
-  closed = closed_in e.closing;
-  horizon = e.horizon;
-  version = version_in (versions_of e.rules);
-  committed = is_committed_in (versions_of e.rules);
-  marked = marked_of e.rules;
-  transaction = transactions_of e.rules;
-  protections = protections_in e.closing;
-  protections_made = made_in e.closing;
-  feed = place_in e.feeds;
-  feeds_opened = opened_in e.feeds;
-}
+kept_of e = holding (feeds_of e.feeds) e.rules
 
 -- above closed, each version is one of a key that its transaction noted
 abbrev pub AreNoted : Kept → Type 0

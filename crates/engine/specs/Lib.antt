@@ -4,4 +4,3 @@ pub mod Releasing
 pub mod Served
 pub mod Engine
 pub mod Runs
-pub mod Snapshots

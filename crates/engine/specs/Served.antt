@@ -17,7 +17,7 @@ use Rattle.kept.specs.HeldBack.{IsHeldFor}
 use Rattle.kept.specs.Places.{AreLeft}
 use Rattle.kept.specs.Rings.{AreOffered, AreOthersSame}
 use Rattle.version_chain.specs.Stores.{is_committed_in, version_in}
-use Rattle.mvto_rules.specs.Holding.{versions_of}
+use Rattle.mvto_rules.specs.Holding.{closing_of, versions_of}
 use Rattle.engine.specs.Layers.{AreNoted, kept_of}
 use Rattle.engine.specs.Releasing.{IsLetGo}
 use Rattle.engine.specs.declared.layers.Layers.{Layers}
@@ -28,12 +28,12 @@ IsUnserved e e' = (e'.feeds ≡ e.feeds) × (e'.held_back ≡ e.held_back)
 
 -- where t had no row yet, those of its versions are there, or some were lost
 abbrev pub IsHeldBackFor : Layers → Layers → ℕ → Type 0
-IsHeldBackFor e e' t = RisingRows (rows_in e.held_back) → AreNoted (kept_of e) → closed_in e.closing < t → (is_lost (lost_in e.held_back) t ≡ false → (q : Row) → IsRowIn q (rows_in e.held_back) → (q.ts == t) ≡ false)
+IsHeldBackFor e e' t = RisingRows (rows_in e.held_back) → AreNoted (kept_of e) → closed_in (closing_of e.rules) < t → (is_lost (lost_in e.held_back) t ≡ false → (q : Row) → IsRowIn q (rows_in e.held_back) → (q.ts == t) ≡ false)
     → IsHeldFor (kept_of e) t (is_lost (lost_in e.held_back)) (is_lost (lost_in e'.held_back)) (rows_in e.held_back) (rows_in e'.held_back)
 
 -- the rows through n, of which none was lost
 abbrev pub AreThrough : Layers → ℕ → List Row → Type 0
-AreThrough e n rows = ((j : ℕ) → closed_in e.closing < j → j ≤ n → is_lost (lost_in e.held_back) j ≡ false) → filter (λ (r : Row). nat_le r.ts n) (rows_in e.held_back) ≡ rows
+AreThrough e n rows = ((j : ℕ) → closed_in (closing_of e.rules) < j → j ≤ n → is_lost (lost_in e.held_back) j ≡ false) → filter (λ (r : Row). nat_le r.ts n) (rows_in e.held_back) ≡ rows
 
 -- the rows through n are offered to the rings, and let go
 pub record IsReleased (e e' : Layers) (n : ℕ) : Type 0 where
@@ -42,8 +42,8 @@ pub record IsReleased (e e' : Layers) (n : ℕ) : Type 0 where
 
 -- a feed that opens begins behind or at its ring, which is empty where it serves, and the others are as they were
 pub record IsOpenedIn (e e' : Layers) (f : ℕ) (kind : Kind) (cursor : ℕ) : Type 0 where
-  pub begins : is_behind e'.feeds f ≡ begins_behind kind cursor (closed_in e.closing)
-  pub opened : is_behind e'.feeds f ≡ false → (kind.initial ≡ false) × (closed_in e.closing ≤ cursor) × (ring_of e'.feeds f ≡ [])
+  pub begins : is_behind e'.feeds f ≡ begins_behind kind cursor (closed_in (closing_of e.rules))
+  pub opened : is_behind e'.feeds f ≡ false → (kind.initial ≡ false) × (closed_in (closing_of e.rules) ≤ cursor) × (ring_of e'.feeds f ≡ [])
   pub others : AreOthersSame f (ring_of e.feeds) (ring_of e'.feeds) (is_behind e.feeds) (is_behind e'.feeds)
   pub others_stay : (g : ℕ) → (f == g) ≡ false → is_behind e'.feeds g ≡ is_behind e.feeds g
   pub held : e'.held_back ≡ e.held_back
@@ -54,7 +54,7 @@ pub record IsPolledIn (e e' : Layers) (f max : ℕ) : Type 0 where
   pub place : Place
   pub lives : place_in e.feeds f ≡ Some place
   pub rows : List Row
-  pub left : AreLeft (version_in (versions_of e.rules)) (is_committed_in (versions_of e.rules)) place (closed_in e.closing) rows
+  pub left : AreLeft (version_in (versions_of e.rules)) (is_committed_in (versions_of e.rules)) place (closed_in (closing_of e.rules)) rows
   pub behind : is_behind e'.feeds f ≡ (is_behind e.feeds f && nat_lt max (length rows))
   pub told : is_behind e'.feeds f ≡ false → ring_of e'.feeds f ≡ drop max rows
   pub others : AreOthersSame f (ring_of e.feeds) (ring_of e'.feeds) (is_behind e.feeds) (is_behind e'.feeds)
@@ -86,4 +86,4 @@ IsServed e e' seat cmd reply = IsUnserved e e'
 
 -- the ring of each feed that isn't behind has the rows that are left for it
 abbrev pub AreServing : Layers → Type 0
-AreServing e = (f : ℕ) (place : Place) → place_in e.feeds f ≡ Some place → is_behind e.feeds f ≡ false → AreLeft (version_in (versions_of e.rules)) (is_committed_in (versions_of e.rules)) place (closed_in e.closing) (ring_of e.feeds f)
+AreServing e = (f : ℕ) (place : Place) → place_in e.feeds f ≡ Some place → is_behind e.feeds f ≡ false → AreLeft (version_in (versions_of e.rules)) (is_committed_in (versions_of e.rules)) place (closed_in (closing_of e.rules)) (ring_of e.feeds f)

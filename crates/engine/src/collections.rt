@@ -18,15 +18,11 @@ impl Layers {
         if to > MAX {
             return Reply::Refused(Refusal::TsRange);
         }
-        let store = self.rules.versions_mut();
-        let Collected { horizon, removed } = collect(
-            store,
-            &self.closing,
-            &self.feeds,
-            self.horizon,
-            to,
-        );
-        self.horizon = horizon;
+        let old = self.rules.horizon();
+        let mut versions = self.rules.take_versions();
+        let closing = self.rules.closing();
+        let Collected { horizon, removed } = collect(&mut versions, closing, &self.feeds, old, to);
+        self.rules.put_back(versions, horizon);
         Reply::Collected { horizon, removed }
     }
 }

@@ -1,13 +1,11 @@
 //! The layers that an engine stands on, and which of them answers a command.
-ghost use Rattle.std.specs.Prelude.{[], None, false, ◌≡◌, ◌<◌, ◌≤◌, ℕ};
-ghost use Rattle.timestamps.specs.declared.ts.TheConstants.{MAX};
+ghost use Rattle.std.specs.Prelude.{[], None, false, ◌≡◌, ◌<◌, ℕ};
 ghost use Rattle.kept.specs.StandsFor.{nothing_kept};
 ghost use Rattle.kept.specs.Changes.{IsAlike};
 ghost use Rattle.closing.specs.Standing.{closed_in};
-ghost use Rattle.mvto_rules.specs.Closings.{AreAllNoted};
+ghost use Rattle.mvto_rules.specs.Holding.{closing_of};
 ghost use Rattle.kept.specs.Answered.{IsStep};
 
-use closing::Closing;
 use feed::Feeds;
 use hold_back::HoldBack;
 use mvto_rules::Rules;
@@ -18,19 +16,15 @@ use std::alloc::Global;
 /// Each layer holds its part of what is kept of a history.
 #[derive(Drop)]
 pub(crate) struct Layers {
-    /// Versions, marks of readers, and transactions.
+    /// Versions, marks of readers, transactions, and what is closed and protected.
     pub(crate) rules: Rules,
-    /// The closed timestamp and the protections.
-    pub(crate) closing: Closing,
-    /// Below it, versions may be gone.
-    pub(crate) horizon: u64,
     pub(crate) feeds: Feeds,
     /// Committed rows that aren't closed yet.
     pub(crate) held_back: HoldBack,
 }
 
 impl Layers {
-    ghost use Rattle.engine.specs.Layers.{AreNoted, kept_of};
+    ghost use Rattle.engine.specs.Layers.{kept_of};
     ghost use Rattle.engine.specs.Served.{AreServing, IsServed};
     ghost use Rattle.feed.specs.Standing.{behind_in, live_in, opened_in};
     ghost use Rattle.hold_back.specs.Held.{lost_in, rows_in};
@@ -45,8 +39,6 @@ impl Layers {
     {
         Layers {
             rules: Rules::new(alloc),
-            closing: Closing::new(alloc),
-            horizon: 0,
             feeds: Feeds::new(alloc, ring as usize),
             held_back: HoldBack::new(alloc),
         }
@@ -54,9 +46,9 @@ impl Layers {
 
     /// The closed timestamp.
     pub(crate) fn closed(&self) -> u64
-        ensures { result ≡ closed_in self.now.closing }
+        ensures { result ≡ closed_in (closing_of self.now.rules) }
     {
-        self.closing.closed()
+        self.rules.closed()
     }
 
     /// Whether a feed is served from the store, if it lives.
@@ -68,28 +60,25 @@ impl Layers {
 
     /// Answers a seat's command.
     pub(crate) fn step(&mut self, seat: u8, cmd: &Cmd) -> Reply
-        requires noted { AreNoted (kept_of self.old) }
-        requires open { AreAllNoted self.old.rules }
         requires number { opened_in self.old.feeds < 18446744073709551615 }
-        requires low { closed_in self.old.closing ≤ MAX }
         requires room { (kept_of self.old).protections_made < 18446744073709551615 }
         ensures step { AreServing self.old → IsStep (kept_of self.old) (kept_of self.new) seat cmd.now result }
         ensures served { AreServing self.old → IsServed self.old self.new seat cmd.now result }
     {
         match cmd {
-            Cmd::Begin { ts } => self.begin(seat, *ts),
-            Cmd::Get { ts, key } => self.get(seat, *ts, key),
-            Cmd::Scan { ts, span } => self.scan(seat, *ts, span),
-            Cmd::Put { ts, key, value } => self.put(seat, *ts, key, value),
-            Cmd::Del { ts, key } => self.del(seat, *ts, key),
+            Cmd::Begin { ts } => self.rules.begin(seat, *ts),
+            Cmd::Get { ts, key } => self.rules.get(seat, *ts, key),
+            Cmd::Scan { ts, span } => self.rules.scan(seat, *ts, span),
+            Cmd::Put { ts, key, value } => self.rules.write(seat, *ts, key, Some(value)),
+            Cmd::Del { ts, key } => self.rules.write(seat, *ts, key, None),
             Cmd::Commit { ts } => self.commit(seat, *ts),
-            Cmd::Abort { ts } => self.abort(seat, *ts),
+            Cmd::Abort { ts } => self.rules.abort(seat, *ts),
             Cmd::Close { to } => self.close(seat, *to),
             Cmd::CloseHard { to } => self.close_hard(seat, *to),
-            Cmd::ReadAt { t, key } => self.read_at(seat, *t, key),
-            Cmd::ScanAt { t, span } => self.scan_at(seat, *t, span),
-            Cmd::Protect { t } => self.protect(seat, *t),
-            Cmd::Release { id } => self.release(seat, *id),
+            Cmd::ReadAt { t, key } => self.rules.read_at(*t, key),
+            Cmd::ScanAt { t, span } => self.rules.scan_at(*t, span),
+            Cmd::Protect { t } => self.rules.protect(*t),
+            Cmd::Release { id } => self.rules.release(*id),
             Cmd::Collect { to } => self.collect(seat, *to),
             Cmd::Open { span, cursor } => {
                 let kind = Kind {

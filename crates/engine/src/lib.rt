@@ -1,12 +1,12 @@
 //! The database on one thread: every command of every seat, one at a time.
 //!
-//! [`Engine::step`] answers a seat's command by the layers below: the rules over versions, marks of readers and
-//! transactions; the closed timestamp and the protections; the rows that are held back for feeds, and the feeds.
+//! [`Engine::step`] answers a seat's command by the layers below: the rules, which hold versions, marks of readers,
+//! transactions, closed and the protections; the rows that are held back for feeds, and the feeds. A command that is no
+//! feed's is answered by the rules alone, but a commit holds its rows back, and a closing releases those that it closed.
 //! `shared_db` calls it under its lock, and `embedded` without one. Its contract speaks of histories alone: an engine
 //! stands for a legal history, newest event first, and after a step for one event more.
 //!
-//! 1. The layers hold what is kept of some legal history of as many events as there were steps. Each layer's conditions
-//!    on its caller follow from that history. Nothing else ties the layers.
+//! 1. The layers hold what is kept of some legal history of as many events as there were steps. Nothing else ties them.
 //! 2. Rows that were committed above closed are held back, or the set that holds them knows where one was lost. Where
 //!    no feed lives at a commit, its rows count as lost: a feed that is opened later finds them in the store.
 //! 3. The ring of a feed that isn't behind has the rows at or below closed that it has still to tell.
@@ -62,7 +62,6 @@ mod polls;
 mod releasing;
 mod report;
 mod running;
-mod snapshots;
 mod statistics;
 mod transactions;
 

@@ -24,7 +24,7 @@ impl Layers {
         if let Some(refusal) = self.opening_refusal(kind, cursor) {
             return Reply::Refused(refusal);
         }
-        let closed = self.closing.closed();
+        let closed = self.rules.closed();
         match self.feeds.open(seat, kind, span, cursor, closed) {
             Ok(feed) => Reply::Opened { feed },
             Err(_) => Reply::Refused(Refusal::NoMemory),
@@ -41,12 +41,12 @@ impl Layers {
         if !is_gap(kind.gap) {
             return Some(Refusal::GapRange);
         }
-        let horizon = self.horizon;
+        let horizon = self.rules.horizon();
         if cursor < horizon {
             return Some(Refusal::BelowHorizon { horizon });
         }
         // what an initial feed tells first is read at its cursor
-        let closed = self.closing.closed();
+        let closed = self.rules.closed();
         if kind.initial && cursor > closed {
             return Some(Refusal::NotClosed { closed });
         }

@@ -3,6 +3,7 @@ ghost use Rattle.std.specs.Prelude.{◌≡◌, ◌≤◌};
 ghost use Rattle.timestamps.specs.declared.ts.TheConstants.{MAX};
 ghost use Rattle.spans.specs.declared.calls.commands.Cmd.TheVariants.{Cancel, Poll};
 ghost use Rattle.closing.specs.Standing.{closed_in};
+ghost use Rattle.mvto_rules.specs.Holding.{closing_of};
 ghost use Rattle.kept.specs.Answered.{IsStep};
 ghost use Rattle.kept.specs.Replies.{feed_refusal};
 
@@ -15,11 +16,11 @@ impl Layers {
     ghost use Rattle.engine.specs.Served.{AreServing, IsServed};
 
     pub(crate) fn poll(&mut self, seat: u8, feed: u64, max: u64) -> Reply
-        requires { closed_in self.old.closing ≤ MAX }
+        requires { closed_in (closing_of self.old.rules) ≤ MAX }
         ensures step { AreServing self.old → IsStep (kept_of self.old) (kept_of self.new) seat (Poll feed max) result }
         ensures served { AreServing self.old → IsServed self.old self.new seat (Poll feed max) result }
     {
-        let closed = self.closing.closed();
+        let closed = self.rules.closed();
         let versions = self.rules.versions();
         match self.feeds.poll(versions, seat, feed, closed, max) {
             Ok(messages) => Reply::Messages(messages),

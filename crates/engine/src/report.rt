@@ -13,12 +13,12 @@ impl Layers {
         ensures { IfOk result (IsKeptReport (kept_of self.now)) }
     {
         Ok(Report {
-            closed: self.closing.closed(),
-            horizon: self.horizon,
+            closed: self.rules.closed(),
+            horizon: self.rules.horizon(),
             versions: self.rules.version_count(),
             removable: None,
             transactions: self.rules.undecided_report()?,
-            protections: self.closing.protections()?,
+            protections: self.rules.closing().protections()?,
             feeds: self.feeds.report()?,
         })
     }

@@ -17,8 +17,8 @@ impl Layers {
             versions: self.rules.version_count(),
             undecided: self.rules.undecided_count(),
             feeds: self.feeds.count(),
-            closed: self.closing.closed(),
-            horizon: self.horizon,
+            closed: self.rules.closed(),
+            horizon: self.rules.horizon(),
         }
     }
 }

@@ -1,8 +1,9 @@
 -- The tests of a command of a transaction, from the table.
-use Rattle.std.proofs.Common.{Bool, List, None, Option, Some, [], ap, arith, cond, false, not, refl, sym, true, ℕ, ◌++◌, ◌||◌, ◌∙◌, ◌∷◌, ◌≡◌}
+use Rattle.std.proofs.Common.{Bool, List, None, Option, Some, [], ap, arith, cond, false, not, refl, sym, true, ℕ, ◌++◌, ◌||◌, ◌∙◌, ◌∷◌, ◌≡◌, ◌≤◌}
 use Rattle.std.proofs.lemmas.Bool.{leb-false, lt-ltb, or_parts}
 use Rattle.std.proofs.lemmas.Bool.Decides.{nat_tests}
 use Rattle.std.specs.Prelude.{is_some, nat_le, nat_lt, option_map}
+use Rattle.timestamps.specs.declared.ts.TheConstants.{MAX}
 use Rattle.spans.specs.Answer.{first_refusal, first_refusal_or, is_owner, transaction_tests}
 use Rattle.spans.specs.Effects.{Effect}
 use Rattle.spans.specs.Kept.{IsKeptOf, Kept, transaction_with}
@@ -10,7 +11,7 @@ use Rattle.spans.specs.declared.state.State.TheVariants as states
 use Rattle.spans.specs.Transactions.{closed_of, is_aborted, is_committed, owner_of}
 use Rattle.spans.specs.Versions.{write_set}
 use Rattle.spans.specs.declared.calls.replies.Refusal.{Refusal}
-use Rattle.spans.specs.declared.calls.replies.Refusal.TheVariants.{Ended, NoTxn, NotOwner}
+use Rattle.spans.specs.declared.calls.replies.Refusal.TheVariants.{Ended, NoTxn, NotOwner, TsRange}
 use Rattle.spans.specs.declared.calls.replies.Reply.{Reply}
 use Rattle.spans.specs.declared.calls.replies.Reply.TheVariants.{Refused}
 use Rattle.spans.proofs.Copies.{IsActive}
@@ -32,6 +33,10 @@ tests_met [] more reply r some = cc
 tests_met (test ∷ tests) more reply r some = by_test test.0
     (λ is. rw is (let e : Some test.1 ≡ Some r = rw is at some in let e' : test.1 ≡ r = cc in ap Refused e'))
     (λ isnt. rw isnt (tests_met tests more reply r (rw isnt at some)))
+
+-- a number that is in range passes its test
+pub within : (to : ℕ) (reply : Reply) → to ≤ MAX → first_refusal_or ((nat_lt MAX to, TsRange) ∷ []) reply ≡ reply
+within to reply low = let e : nat_lt MAX to ≡ false = grind (arith, nat_tests) in ap (λ b. cond b (Refused TsRange) reply) e
 
 -- where none of the tests applies the first does not
 test_past : (test : Bool × Refusal) (tests : List (Bool × Refusal)) → first_refusal (test ∷ tests) ≡ None → (test.0 ≡ false) × (first_refusal tests ≡ None)

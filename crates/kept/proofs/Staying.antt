@@ -119,6 +119,10 @@ other_committed k p fits d' same = record {
   opened = fits.opened;
 }
 
+-- what is kept is like itself
+pub alike_self : (k : Kept) → IsAlike k k
+alike_self k = record { closed = refl; horizon = refl; version = λ y i. refl; committed = λ y i b e. refl; marked = λ y n. refl; transaction = λ i. refl; protections = refl; protections_made = refl; feed = λ f. refl; feeds_opened = refl }
+
 -- what is alike is kept of the same
 pub alike_kept : (k k' : Kept) (p : List Effect) → IsKeptOf k p → IsAlike k k' → IsKeptOf k' p
 alike_kept k k' p fits c = record {

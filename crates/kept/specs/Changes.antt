@@ -73,9 +73,9 @@ pub record IsClosedAt (k k' : Kept) (n : ℕ) : Type 0 where
   pub transaction : (i : ℕ) → k'.transaction i ≡ (if nat_lt n i then k.transaction i else None)
   pub rest : k' ≡ record k { closed = n; marked = k'.marked; transaction = k'.transaction }
 
--- the same, and the versions of undecided transactions at or below to are gone
+-- the same, and of undecided transactions at or below to the versions of their write sets are gone
 pub record IsHardClosedAt (k k' : Kept) (to n : ℕ) : Type 0 where
-  pub version : (y : List ℕ) (i : ℕ) → k'.version y i ≡ (if nat_le i to && is_open (k.transaction i) then None else k.version y i)
+  pub version : (y : List ℕ) (i : ℕ) → k'.version y i ≡ (if (nat_le i to && is_open (k.transaction i)) && has y (keys_of (k.transaction i)) then None else k.version y i)
   pub committed : (y : List ℕ) (i : ℕ) (b : After) → k'.version y i ≡ Some b → k'.committed y i ≡ k.committed y i
   pub marked : (y : List ℕ) → IsForgotten (k.marked y) (k'.marked y) n
   pub transaction : (i : ℕ) → k'.transaction i ≡ (if nat_lt n i then k.transaction i else None)

@@ -9,7 +9,7 @@
 //! collections `collector`: horizons, held back by closed, protections and feeds, and the versions that went
 //! versions    `version_chain`: writes, commits, aborts, collections, and searches
 //! marks       `read_marks`: spans that overlap, neighbours that are joined, pieces, readers that are forgotten
-//! rules       `mvto_rules`: who is blocked, who comes too late, which spans are marked
+//! rules       `mvto_rules`: who is blocked, who comes too late, which spans are marked, what is closed and what it ended
 //! script      the reading of a script
 //! ```
 //!

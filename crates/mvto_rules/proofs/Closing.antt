@@ -1,19 +1,27 @@
--- Closing hard takes back what undecided transactions wrote, one after another.
-use Rattle.std.proofs.Common.{Bool, List, None, Option, Some, ap, cond, eqb-true, eq-eqb, false, inl, inr, refl, subst, sym, true, ℕ, ◌==◌, ◌&&◌, ◌||◌, ◌∷◌, ◌≡◌, ◌∙◌, []}
-use Rattle.std.specs.Prelude.{is_some, nat_le, not, ◌≤◌}
+-- Closings. A hard one takes back what undecided transactions wrote, one after another.
+use Rattle.std.proofs.Common.{Bool, List, None, Option, Some, ap, arith, cond, eqb-true, eq-eqb, false, inl, inr, length, refl, subst, sym, true, ℕ, ◌<◌, ◌==◌, ◌&&◌, ◌||◌, ◌∷◌, ◌≡◌, ◌∙◌, []}
+use Rattle.std.specs.Prelude.{is_some, max, nat_le, nat_lt, not, ◌≤◌}
 use Rattle.std.specs.List.{list_any}
 use Rattle.std.proofs.lemmas.Bool.{or_cases, or_left, or_right}
+use Rattle.std.proofs.lemmas.Bool.Decides.{nat_tests}
+use Rattle.spans.specs.Collection.{Protection}
 use Rattle.spans.specs.Effects.{After}
 use Rattle.spans.specs.Kept.{Kept, Transaction}
+use Rattle.spans.specs.declared.calls.commands.Cmd.TheVariants.{Close, CloseHard}
+use Rattle.spans.specs.declared.calls.replies.Refusal.TheVariants.{TsRange}
+use Rattle.spans.specs.declared.calls.replies.Reply.TheVariants.{Closed, Refused}
 use Rattle.spans.proofs.Members.{AreDistinct, Has}
 use Rattle.spans.proofs.Steps.{by_test}
 use Rattle.spans.proofs.WriteSets.{has}
+use Rattle.kept.specs.Answered.{IsStep}
 use Rattle.kept.specs.Changes.{IsClosedAt, IsHardClosedAt}
 use Rattle.kept.specs.Lists.{AreThose}
-use Rattle.kept.specs.Table.{is_open, keys_of}
+use Rattle.kept.specs.Table.{IsOldest, is_open, keys_of, reach}
+use Rattle.kept.proofs.Refusals.{within}
+use Rattle.kept.proofs.Staying.{alike_self}
 use Rattle.txn_table.specs.TransactionIn.{Table, transaction_in}
 use Rattle.version_chain.specs.Stores.{IsAbortedIn, Stored, version_in}
-use Rattle.mvto_rules.specs.Closings.{AreOpenNoted, AreTakenBack, is_taken_back}
+use Rattle.mvto_rules.specs.Closings.{AreTakenBack, is_taken_back}
 use Rattle.mvto_rules.specs.Tables.{AreInRange}
 use Rattle.timestamps.specs.declared.ts.TheConstants.{MAX}
 
@@ -31,13 +39,13 @@ has_among i (x ∷ xs) h = elim h [ inl here ↦ or_left (x == i) (is_among i xs
 
 -- the transactions that are left are still to be taken back
 pub record IsTakingBack (s s' : Stored) (table : Table) (to : ℕ) (rest : List ℕ) : Type 0 where
-  pub taken : AreTakenBack s s' (λ i. is_taken_back table to i && not (is_among i rest))
+  pub taken : AreTakenBack s s' table (λ i. is_taken_back table to i && not (is_among i rest))
   pub part : (t : ℕ) → Has t rest → is_taken_back table to t ≡ true
   pub distinct : AreDistinct rest
 
 pub taking_begins : (s : Stored) (table : Table) (to : ℕ) (all : List ℕ) → AreThose (is_taken_back table to) all → IsTakingBack s s table to all
 taking_begins s table to all those = record {
-  taken = record { version = λ y i. sym (ap (λ b. cond b None (version_in s y i)) (none i)); committed = λ y i b e. refl };
+  taken = record { version = λ y i. sym (ap (λ b. cond (b && has y (keys_of (transaction_in table i))) None (version_in s y i)) (none i)); committed = λ y i b e. refl };
   part = λ t i. (those.each t).0 i;
   distinct = those.distinct;
 }
@@ -65,43 +73,40 @@ some_open (Some n) e = refl
 pub taken_in_range : (table : Table) (to t : ℕ) → AreInRange table → is_taken_back table to t ≡ true → (1 ≤ t) × (t ≤ MAX)
 taken_in_range table to t range is = range t (some_open (transaction_in table t) (open_of_taken (nat_le t to) (is_open (transaction_in table t)) is))
 
-pub taking_goes_on : (s s1 s2 : Stored) (table : Table) (to x : ℕ) (rest : List ℕ) → AreOpenNoted s table → IsTakingBack s s1 table to (x ∷ rest) → IsAbortedIn s1 s2 x (keys_of (transaction_in table x)) → IsTakingBack s s2 table to rest
-taking_goes_on s s1 s2 table to x rest noted taking aborted = record {
+pub taking_goes_on : (s s1 s2 : Stored) (table : Table) (to x : ℕ) (rest : List ℕ) → IsTakingBack s s1 table to (x ∷ rest) → IsAbortedIn s1 s2 x (keys_of (transaction_in table x)) → IsTakingBack s s2 table to rest
+taking_goes_on s s1 s2 table to x rest taking aborted = record {
   taken = record {
     version = λ y i. by_test (x == i)
-        (λ same. subst (λ j. version_in s2 y j ≡ cond (is_taken_back table to j && not (is_among j rest)) None (version_in s y j)) (eqb-true x i same) (here y))
-        (λ other. aborted.version y i ∙ ap (λ b. cond (b && has y keys) None (version_in s1 y i)) other ∙ taking.taken.version y i ∙ ap (λ b. cond (is_taken_back table to i && not (b || is_among i rest)) None (version_in s y i)) other);
-    committed = λ y i b e. aborted.committed y i b e ∙ taking.taken.committed y i b (is_some_not (version_in s2 y i) (version_in s1 y i) ((x == i) && has y keys) (aborted.version y i) b e);
+        (λ same. subst (λ j. version_in s2 y j ≡ cond ((is_taken_back table to j && not (is_among j rest)) && has y (keys j)) None (version_in s y j)) (eqb-true x i same) (here y))
+        (λ other. aborted.version y i ∙ ap (λ b. cond (b && has y (keys x)) None (version_in s1 y i)) other ∙ taking.taken.version y i
+        ∙ ap (λ b. cond ((is_taken_back table to i && not (b || is_among i rest)) && has y (keys i)) None (version_in s y i)) other);
+    committed = λ y i b e. aborted.committed y i b e ∙ taking.taken.committed y i b (is_some_not (version_in s2 y i) (version_in s1 y i) ((x == i) && has y (keys x)) (aborted.version y i) b e);
   };
   part = λ t i. taking.part t (inr i);
   distinct = taking.distinct.1;
 }
   where
-    keys : List (List ℕ)
-    keys = keys_of (transaction_in table x)
+    keys : ℕ → List (List ℕ)
+    keys i = keys_of (transaction_in table i)
 
     itself : (x == x) ≡ true
     itself = eq-eqb x x refl
 
-    is : is_taken_back table to x ≡ true
-    is = taking.part x (inl refl)
-
     gone : (is_taken_back table to x && not (is_among x rest)) ≡ true
     gone = by_test (is_among x rest)
         (λ on. absurd (taking.distinct.0 (among_has x rest on)))
-        (λ off. ap (λ b. b && not (is_among x rest)) is ∙ ap not off)
+        (λ off. ap (λ b. b && not (is_among x rest)) (taking.part x (inl refl)) ∙ ap not off)
 
     left : (is_taken_back table to x && not (is_among x (x ∷ rest))) ≡ false
-    left = ap (λ b. b && not (is_among x (x ∷ rest))) is ∙ ap not (or_left (x == x) (is_among x rest) itself)
+    left = ap (λ b. b && not (is_among x (x ∷ rest))) (taking.part x (inl refl)) ∙ ap not (or_left (x == x) (is_among x rest) itself)
 
-    here : (y : List ℕ) → version_in s2 y x ≡ cond (is_taken_back table to x && not (is_among x rest)) None (version_in s y x)
-    here y = aborted.version y x ∙ ap (λ b. cond (b && has y keys) None (version_in s1 y x)) itself ∙ by_test (has y keys)
-        (λ on. ap (λ b. cond b None (version_in s1 y x)) on)
-        (λ off. ap (λ b. cond b None (version_in s1 y x)) off ∙ taking.taken.version y x ∙ ap (λ b. cond b None (version_in s y x)) left ∙ noted y x (open_of_taken (nat_le x to) (is_open (transaction_in table x)) is) off)
-        ∙ sym (ap (λ b. cond b None (version_in s y x)) gone)
+    here : (y : List ℕ) → version_in s2 y x ≡ cond ((is_taken_back table to x && not (is_among x rest)) && has y (keys x)) None (version_in s y x)
+    here y = aborted.version y x ∙ ap (λ b. cond (b && has y (keys x)) None (version_in s1 y x)) itself
+        ∙ ap (λ o. cond (has y (keys x)) None o) (taking.taken.version y x ∙ ap (λ b. cond (b && has y (keys x)) None (version_in s y x)) left)
+        ∙ sym (ap (λ b. cond (b && has y (keys x)) None (version_in s y x)) gone)
 
-pub taking_ends : (s s' : Stored) (table : Table) (to : ℕ) → IsTakingBack s s' table to [] → AreTakenBack s s' (is_taken_back table to)
-taking_ends s s' table to taking = record { version = λ y i. taking.taken.version y i ∙ ap (λ b. cond b None (version_in s y i)) (and_true (is_taken_back table to i)); committed = taking.taken.committed }
+pub taking_ends : (s s' : Stored) (table : Table) (to : ℕ) → IsTakingBack s s' table to [] → AreTakenBack s s' table (is_taken_back table to)
+taking_ends s s' table to taking = record { version = λ y i. taking.taken.version y i ∙ ap (λ b. cond (b && has y (keys_of (transaction_in table i))) None (version_in s y i)) (and_true (is_taken_back table to i)); committed = taking.taken.committed }
   where
     and_true : (b : Bool) → (b && true) ≡ b
     and_true true = refl
@@ -109,7 +114,7 @@ taking_ends s s' table to taking = record { version = λ y i. taking.taken.versi
 
 -- what was taken back and then closed was closed hard
 pub hard_closed : (k k' : Kept) (v : List ℕ → ℕ → Option After) (d : List ℕ → ℕ → Bool) (to n : ℕ)
-    → ((y : List ℕ) (i : ℕ) → v y i ≡ cond (nat_le i to && is_open (k.transaction i)) None (k.version y i)) → ((y : List ℕ) (i : ℕ) (b : After) → v y i ≡ Some b → d y i ≡ k.committed y i)
+    → ((y : List ℕ) (i : ℕ) → v y i ≡ cond ((nat_le i to && is_open (k.transaction i)) && has y (keys_of (k.transaction i))) None (k.version y i)) → ((y : List ℕ) (i : ℕ) (b : After) → v y i ≡ Some b → d y i ≡ k.committed y i)
     → IsClosedAt (record k { version = v; committed = d }) k' n → IsHardClosedAt k k' to n
 hard_closed k k' v d to n version committed closed =
     let sv : k'.version ≡ v = ap (λ (j : Kept). j.version) closed.rest in
@@ -121,3 +126,25 @@ hard_closed k k' v d to n version committed closed =
       transaction = closed.transaction;
       rest = closed.rest ∙ ap (λ f. record k { closed = n; version = f; committed = d; marked = k'.marked; transaction = k'.transaction }) (sym sv) ∙ ap (λ g. record k { closed = n; version = k'.version; committed = g; marked = k'.marked; transaction = k'.transaction }) (sym sd);
     }
+
+-- what the closing tells is as it says
+pub closed_so : (k k' : Kept) (was n m : ℕ) (ps qs : List Protection) (i j : ℕ) → n ≡ m → ps ≡ qs → i ≡ j → IsClosedAt (record k { closed = was; protections = ps; protections_made = i }) k' n → IsClosedAt (record k { closed = was; protections = qs; protections_made = j }) k' m
+closed_so k k' was n m ps qs i j e f g closed =
+    subst (λ u. IsClosedAt (record k { closed = was; protections = qs; protections_made = u }) k' m) g
+    (subst (λ u. IsClosedAt (record k { closed = was; protections = u; protections_made = i }) k' m) f
+    (subst (IsClosedAt (record k { closed = was; protections = ps; protections_made = i }) k') e closed))
+
+pub close_outside : (k : Kept) (seat to : ℕ) → MAX < to → IsStep k k seat (Close to) (Refused TsRange)
+close_outside k seat to high = let on : nat_lt MAX to ≡ true = grind (arith, nat_tests) in inl (record { right = (None, (λ low. absurd (omega arith)), rw on refl); change = alike_self k })
+
+pub close_done : (k k' : Kept) (seat to at : ℕ) (oldest : Option ℕ) → to ≤ MAX → IsOldest k.transaction oldest → at ≡ max k.closed (reach to oldest) → IsClosedAt k k' at → IsStep k k' seat (Close to) (Closed at 0)
+close_done k k' seat to at oldest low is at_is closed = inl (record { right = (oldest, (λ l. is), ap (λ n. Closed n 0) at_is ∙ sym (within to _ low)); change = closed })
+
+pub hard_outside : (k : Kept) (seat to : ℕ) → MAX < to → IsStep k k seat (CloseHard to) (Refused TsRange)
+hard_outside k seat to high = let on : nat_lt MAX to ≡ true = grind (arith, nat_tests) in inl (record { right = ([], (λ low. absurd (omega arith)), rw on refl); change = alike_self k })
+
+pub hard_done : (k k' : Kept) (seat to at count : ℕ) (cut : List ℕ) → to ≤ MAX → AreThose (λ t. nat_le t to && is_open (k.transaction t)) cut → length cut ≡ count → at ≡ max k.closed to → IsHardClosedAt k k' to at → IsStep k k' seat (CloseHard to) (Closed at count)
+hard_done k k' seat to at count cut low those counted at_is closed = inl (record {
+  right = (cut, (λ l. those), ap (λ n. Closed n count) at_is ∙ ap (Closed (max k.closed to)) (sym counted) ∙ sym (within to _ low));
+  change = closed;
+})

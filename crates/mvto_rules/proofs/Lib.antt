@@ -6,3 +6,6 @@ pub mod Walking
 pub mod Scanning
 pub mod Closing
 pub mod Listing
+pub mod Replies
+pub mod AtClosed
+pub mod Writing

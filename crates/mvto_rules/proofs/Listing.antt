@@ -1,6 +1,5 @@
 -- The rows of a span at a closed timestamp, one key after another.
-use Rattle.std.proofs.Common.{refl, List, None, Ok, Err, Option, Result, Some, ap, append_assoc, sym, true, ℕ, ◌++◌, ◌∷◌, ◌≡◌, ◌∙◌, []}
-use Rattle.std.specs.Prelude.{IfOk}
+use Rattle.std.proofs.Common.{refl, List, None, Option, Some, ap, append_assoc, sym, true, ℕ, ◌++◌, ◌∷◌, ◌≡◌, ◌∙◌, []}
 use Rattle.std.specs.List.{AllByRecursion}
 use Rattle.std.specs.Map.{keys_of}
 use Rattle.spans.specs.Effects.{After}
@@ -43,7 +42,3 @@ nothing_more (x ∷ xs) = ap (λ l. x ∷ l) (nothing_more xs)
 
 pub list_ends : (s : Stored) (t : ℕ) (span : Span) (rows : List (List ℕ × List ℕ)) → IsListing s t span [] rows → rows ≡ rows_in s t (keys_in s span)
 list_ends s t span rows list = sym (nothing_more rows) ∙ list.listed
-
-pub if_ok : {T E : Type 0} {P Q : T → Type 0} (r : Result T E) → ((x : T) → P x → Q x) → IfOk r P → IfOk r Q
-if_ok (Ok x) f p = f x p
-if_ok (Err e) f p = tt

@@ -18,6 +18,7 @@ use Rattle.spans.proofs.Keyed.{IsIn, RisingKeys}
 use Rattle.spans.proofs.Members.{Has}
 use Rattle.spans.proofs.Steps.{by_test}
 use Rattle.spans.proofs.WriteSets.{has, has_in}
+use Rattle.kept.specs.Answered.{IsScanReply}
 use Rattle.kept.specs.Changes.{IsScannedBy}
 use Rattle.kept.specs.Finding.{AreKeysOf}
 use Rattle.kept.specs.Marks.{IsPiece, until}
@@ -70,8 +71,12 @@ pub scan_accepted : (k : Kept) (r : Rules) (seat t : ℕ) (keys : List (List ℕ
 scan_accepted k r seat t keys free none = ap is_accepted (sym (through_reply k r seat t keys (rows_in r.store t keys) free none refl))
 
 -- a refusal by the transaction's tests asks for no keys
-pub refused_reply : (k : Kept) (r : Rules) (seat t : ℕ) (refused : Refusal) → refusal (holding k r) seat t ≡ Some refused → Refused refused ≡ scan_reply (holding k r) seat t []
-refused_reply k r seat t refused is = sym (ap (λ o. unless_refused o (first_refusal_or (map (λ x. (stops_in r.store t x, Blocked (newest_in r.store t x).ts)) []) (Rows []))) is)
+pub refused_reply : (k : Kept) (r : Rules) (seat t : ℕ) (span : Span) (refused : Refusal) → refusal (holding k r) seat t ≡ Some refused → IsScanReply (holding k r) seat t span (Refused refused)
+refused_reply k r seat t span refused is = (
+  [],
+  (λ free. (let no : None ≡ Some refused = sym free ∙ is in cc)),
+  sym (ap (λ o. unless_refused o (first_refusal_or (map (λ x. (stops_in r.store t x, Blocked (newest_in r.store t x).ts)) []) (Rows []))) is),
+)
 
 -- ---- the keys of the span
 

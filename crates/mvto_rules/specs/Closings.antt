@@ -1,6 +1,7 @@
 -- What closing does to what the rules hold.
-use Rattle.std.specs.Prelude.{Bool, List, None, Some, false, if◌then◌else◌, length, nat_le, true, ℕ, ◌&&◌, ◌≡◌}
+use Rattle.std.specs.Prelude.{Bool, List, None, Some, if◌then◌else◌, length, nat_le, ℕ, ◌&&◌, ◌≡◌}
 use Rattle.spans.specs.Effects.{After}
+use Rattle.spans.specs.Kept.{Kept}
 use Rattle.spans.proofs.WriteSets.{has}
 use Rattle.kept.specs.Lists.{AreThose}
 use Rattle.kept.specs.Marks.{IsForgotten}
@@ -10,21 +11,13 @@ use Rattle.version_chain.specs.Stores.{Stored, is_committed_in, version_in}
 use Rattle.mvto_rules.specs.Holding.{marked_of}
 use Rattle.mvto_rules.specs.declared.rules.Rules.{Rules}
 
--- a hard closing at to takes the transaction of t back: it is undecided, and at or below to
+-- a hard closing at to takes back what the transaction of t wrote: it is undecided, and at or below to
 abbrev pub is_taken_back : Table → ℕ → ℕ → Bool
 is_taken_back table to t = nat_le t to && is_open (transaction_in table t)
 
--- each version of an undecided transaction is one of a key that it noted
-abbrev pub AreOpenNoted : Stored → Table → Type 0
-AreOpenNoted s table = (y : List ℕ) (t : ℕ) → is_open (transaction_in table t) ≡ true → has y (keys_of (transaction_in table t)) ≡ false → version_in s y t ≡ None
-
--- the same of what the rules hold
-abbrev pub AreAllNoted : Rules → Type 0
-AreAllNoted r = AreOpenNoted r.store r.txns
-
--- the versions at these timestamps are gone
-pub record AreTakenBack (s s' : Stored) (among : ℕ → Bool) : Type 0 where
-  pub version : (y : List ℕ) (i : ℕ) → version_in s' y i ≡ (if among i then None else version_in s y i)
+-- what the transactions of these timestamps wrote is gone
+pub record AreTakenBack (s s' : Stored) (table : Table) (among : ℕ → Bool) : Type 0 where
+  pub version : (y : List ℕ) (i : ℕ) → version_in s' y i ≡ (if among i && has y (keys_of (transaction_in table i)) then None else version_in s y i)
   pub committed : (y : List ℕ) (i : ℕ) (b : After) → version_in s' y i ≡ Some b → is_committed_in s' y i ≡ is_committed_in s y i
 
 -- how many transactions a hard closing at to takes back
@@ -33,10 +26,10 @@ pub record IsCountTakenBack (table : Table) (to count : ℕ) : Type 0 where
   pub those : AreThose (is_taken_back table to) cut
   pub counted : length cut ≡ count
 
--- the same of what the rules hold
-abbrev pub TakesBack : Rules → ℕ → ℕ → Type 0
-TakesBack r to count = IsCountTakenBack r.txns to count
-
 -- of each key the marks through n are forgotten, and those above it stand
 abbrev pub AreMarksForgotten : Rules → Rules → ℕ → Type 0
 AreMarksForgotten r r' n = (x : List ℕ) → IsForgotten (marked_of r x) (marked_of r' x) n
+
+-- what is kept, with this closed
+abbrev pub with_closed : ℕ → Kept → Kept
+with_closed closed k = record k { closed = closed }

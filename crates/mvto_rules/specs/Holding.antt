@@ -1,13 +1,16 @@
--- What the rules hold, as a part of what an engine keeps.
-use Rattle.std.specs.Prelude.{Bool, List, None, Option, false, ℕ, ◌≡◌}
+-- What the rules hold, as a part of what an engine keeps: all of it but the feeds.
+use Rattle.std.specs.Prelude.{Bool, List, None, Option, Some, ℕ, ◌≡◌}
+use Rattle.spans.specs.Effects.{After}
 use Rattle.spans.specs.Kept.{Kept, Transaction}
+use Rattle.spans.specs.declared.calls.commands.Cmd.{Cmd}
+use Rattle.spans.specs.declared.calls.commands.Cmd.TheVariants.{Del, Put}
 use Rattle.spans.specs.declared.span.Span.{Span}
 use Rattle.spans.specs.declared.calls.replies.Refusal.{Refusal}
 use Rattle.spans.specs.declared.calls.replies.Reply.{Reply}
 use Rattle.spans.specs.declared.calls.replies.Reply.TheVariants.{Refused}
-use Rattle.spans.proofs.WriteSets.{has}
+use Rattle.kept.specs.Answered.{IsStep}
 use Rattle.kept.specs.Changes.{IsAlike}
-use Rattle.kept.specs.Table.{keys_of}
+use Rattle.closing.specs.Standing.{Standing, closed_in, made_in, protections_in}
 use Rattle.version_chain.specs.Stores.{Stored, is_committed_in, version_in}
 use Rattle.read_marks.specs.Marks.{is_marked_in}
 use Rattle.read_marks.specs.declared.piece.Piece.{Piece}
@@ -25,34 +28,50 @@ marked_of r = is_marked_in r.marks
 abbrev pub transactions_of : Rules → ℕ → Option Transaction
 transactions_of r = transaction_in r.txns
 
+abbrev pub closing_of : Rules → Standing
+closing_of r = r.closing
+
+abbrev pub horizon_of : Rules → ℕ
+horizon_of r = r.horizon
+
 -- the pieces mark all keys of the span for a read by t
 abbrev pub AreMadeFor : Rules → ℕ → Span → List Piece → Type 0
 AreMadeFor r t span pieces = AreAllMade (versions_of r) (marked_of r) t span pieces
 
--- k with what the rules hold in the place of its versions, its marks and its transactions
+-- k with what the rules hold in its place
 abbrev pub holding : Kept → Rules → Kept
-holding k r = record k { version = version_in (versions_of r); committed = is_committed_in (versions_of r); marked = marked_of r; transaction = transactions_of r }
+holding k r = record k {
+  closed = closed_in (closing_of r);
+  horizon = horizon_of r;
+  version = version_in (versions_of r);
+  committed = is_committed_in (versions_of r);
+  marked = marked_of r;
+  transaction = transactions_of r;
+  protections = protections_in (closing_of r);
+  protections_made = made_in (closing_of r);
+}
 
--- what the rules hold answers so, whatever else is kept beside it, where this is closed
-abbrev pub AtClosed : ℕ → Rules → (Kept → Type 0) → Type 0
-AtClosed closed r P = (k : Kept) → k.closed ≡ closed → P (holding k r)
+-- what the rules hold has it so, whatever else is kept beside it
+abbrev pub Holds : Rules → (Kept → Type 0) → Type 0
+Holds r P = (k : Kept) → P (holding k r)
 
 -- r became r', and with that what is kept changed so
 abbrev pub Changes : Rules → Rules → (Kept → Kept → Type 0) → Type 0
 Changes r r' R = (k : Kept) → R (holding k r) (holding k r')
 
--- what is kept, with this closed
-abbrev pub with_closed : ℕ → Kept → Kept
-with_closed closed k = record k { closed = closed }
-
 -- what is kept is as it was
 abbrev pub Stays : Rules → Rules → Type 0
-Stays r r' = (k : Kept) → IsAlike (holding k r) (holding k r')
+Stays r r' = Changes r r' IsAlike
 
 -- what is kept is as it was, where the reply is a refusal
 abbrev pub StaysIfRefused : Rules → Rules → Reply → Type 0
 StaysIfRefused r r' reply = (k : Kept) (why : Refusal) → reply ≡ Refused why → IsAlike (holding k r) (holding k r')
 
--- the transaction of t has noted x, or has no version of it
-abbrev pub IsNotedIn : Rules → ℕ → List ℕ → Type 0
-IsNotedIn r t x = has x (keys_of (transactions_of r t)) ≡ false → version_in (versions_of r) x t ≡ None
+-- r became r' by a seat's command, which is answered by this reply
+abbrev pub Steps : Rules → Rules → ℕ → Cmd → Reply → Type 0
+Steps r r' seat cmd reply = Changes r r' (λ k k'. IsStep k k' seat cmd reply)
+
+-- the command that leaves this of a key: a delete where there is no value
+abbrev pub write_of : ℕ → List ℕ → After → Cmd
+write_of t x None = Del t x
+write_of t x (Some v) = Put t x v

@@ -5,5 +5,6 @@ pub mod Scans
 pub mod Readings
 pub mod Holding
 pub mod Accepting
+pub mod Snapshots
 pub mod Closings
-pub mod Lending
+pub mod Collecting

@@ -1,24 +1,26 @@
 //! What the rules hold, to be read, and the versions, to be collected.
-ghost use Rattle.std.specs.Prelude.{◌≡◌, None, IfOk, IfSome, MatchOption};
-ghost use Rattle.std.specs.Borrow.{sem};
+ghost use Rattle.std.specs.Prelude.{◌≡◌, ◌≤◌, None, IfOk, IfSome, MatchOption};
+ghost use Rattle.timestamps.specs.declared.ts.TheConstants.{MAX};
 ghost use Rattle.spans.proofs.Keyed.{RisingKeys};
-ghost use Rattle.spans.proofs.WriteSets.{has};
 ghost use Rattle.kept.specs.Reports.{AreOpen};
-ghost use Rattle.kept.specs.Table.{IsOldest, is_open, keys_of};
+ghost use Rattle.kept.specs.Table.{is_open, keys_of};
+ghost use Rattle.closing.specs.Standing.{closed_in};
 ghost use Rattle.txn_table.specs.TransactionIn.{IsCountOf};
 ghost use Rattle.version_chain.specs.Stores as stores;
 
 use crate::rules::Rules;
+use closing::Closing;
 use read_marks::Marks;
 use spans::report::TransactionReport;
 use std::alloc::AllocError;
 use std::collections::btree_set::Range;
+use std::mem;
 use timestamps::key::Key;
 use version_chain::Store;
 
 impl Rules {
-    ghost use Rattle.mvto_rules.specs.Holding.{marked_of, transactions_of, versions_of};
-    ghost use Rattle.mvto_rules.specs.Lending.{LendsVersions};
+    ghost use Rattle.mvto_rules.specs.Holding.{closing_of, horizon_of, marked_of, transactions_of, versions_of};
+    ghost use Rattle.mvto_rules.specs.Collecting.{with_collected, with_versions};
     ghost use Rattle.read_marks.specs.Marks.{is_marked_in};
 
     /// The versions.
@@ -28,12 +30,42 @@ impl Rules {
         &self.store
     }
 
-    /// The versions, lent to a collection.
-    pub fn versions_mut(&mut self) -> &mut Store
-        ensures* lent { sem 𝓛 (LendsVersions self.entry result) }
-        ensures value { result.now ≡ versions_of self.old }
+    /// The versions, taken out for a collection, which puts them back.
+    pub fn take_versions(&mut self) -> Store
+        ensures taken { result ≡ versions_of self.old }
+        ensures rest { self.new ≡ with_versions self.old (versions_of self.new) }
     {
-        &mut self.store
+        mem::replace(&mut self.store, Store::new(self.alloc))
+    }
+
+    /// The versions that a collection left, and the horizon that it reached.
+    pub fn put_back(&mut self, versions: Store, horizon: u64)
+        ensures { self.new ≡ with_collected self.old versions horizon }
+    {
+        self.store = versions;
+        self.horizon = horizon;
+    }
+
+    /// The closed timestamp.
+    pub fn closed(&self) -> u64
+        ensures closed { result ≡ closed_in (closing_of self.now) }
+        ensures low { result ≤ MAX }
+    {
+        self.closing.closed()
+    }
+
+    /// The horizon: below it, versions may be gone.
+    pub fn horizon(&self) -> u64
+        ensures { result ≡ horizon_of self.now }
+    {
+        self.horizon
+    }
+
+    /// The closed timestamp and the protections.
+    pub fn closing(&self) -> &Closing
+        ensures { result.now ≡ closing_of self.now }
+    {
+        &self.closing
     }
 
     /// How many versions there are.
@@ -48,13 +80,6 @@ impl Rules {
         ensures { is_marked_in result.now ≡ marked_of self.now }
     {
         &self.marks
-    }
-
-    /// The least timestamp that is undecided.
-    pub fn oldest_undecided(&self) -> Option<u64>
-        ensures { IsOldest (transactions_of self.now) result }
-    {
-        self.txns.oldest_undecided()
     }
 
     /// How many transactions are undecided.
@@ -77,12 +102,5 @@ impl Rules {
         ensures rising { IfSome result RisingKeys }
     {
         self.txns.write_set(ts)
-    }
-
-    /// Whether the transaction of `ts` noted the key, as a write asks of a caller.
-    pub fn has_key(&self, ts: u64, key: &Key) -> bool
-        ensures { result ≡ has key.now (keys_of (transactions_of self.now ts)) }
-    {
-        self.txns.has_key(ts, key)
     }
 }

@@ -1,20 +1,26 @@
-//! The read and write rules of multiversion timestamp ordering, over versions, marks of readers and transactions.
-//! [`Rules`] holds the three and ties them. `engine` is the caller.
+//! The read and write rules of multiversion timestamp ordering, over versions, marks of readers, transactions, and what is
+//! closed. [`Rules`] holds them and ties them, and answers each command that is no feed's. `engine` is the caller.
 //!
 //! 1. A read sees the newest version at or below its timestamp, and marks its reader. Another's undecided one stops it.
 //! 2. A write is too late where a reader above it has read the version below it. Then its transaction is aborted.
-//! 3. Marks and transactions at or below closed are forgotten.
+//! 3. At or below closed all transactions have ended. They are forgotten, and so are the marks there.
+//! 4. A snapshot is read between horizon and closed, and marks nothing.
+//! 5. A call's reply, and what becomes of what is held, are those of its command. Want of memory changes nothing.
 //!
 //! ```text
-//!                          versions of "b"    readers of "b"       of "c"
-//! put 10 b, commit 10      10*
-//! scan 30 from a           10*                30                   30
-//! get 40 b -> of 10        10*                40                   30
-//! put 50 b, commit 50      10* 50*            40                   30
-//! get 60 b -> of 50        10* 50*            40 60                30
-//! put 45 b -> written      10* 45 50*         40 60                30     40 read below 45, and 60 above
-//! put 35 b -> too late     10* 45 50*         40 60                30     40 has read 10
-//! put 25 c -> too late     10* 45 50*         40 60                30     30 found that c has none
+//!                          versions of "b"    readers of "b"   of "c"   closed
+//! put 10 b, commit 10      10*                                          0
+//! scan 30 from a           10*                30               30       0
+//! get 40 b -> of 10        10*                40               30       0
+//! put 50 b, commit 50      10* 50*            40               30       0
+//! get 60 b -> of 50        10* 50*            40 60            30       0
+//! put 45 b -> written      10* 45 50*         40 60            30       0       40 read below 45, and 60 above
+//! put 35 b -> too late     10* 45 50*         40 60            30       0       40 has read 10
+//! put 25 c -> too late     10* 45 50*         40 60            30       0       30 found that c has none
+//! commit 30, commit 40     10* 45 50*         40 60            30       0
+//! close 48 -> 44           10* 45 50*         60                        44      45 is undecided
+//! close_hard 48 -> 48      10* 50*            60                        48      45 is aborted
+//! read_at 46 b -> of 10    10* 50*            60                        48
 //! ```
 //!
 //! Some marks stand for others:
@@ -24,7 +30,8 @@
 //! - Keys whose readers it joins alike are one piece, and so are all keys without a version. A key where the reader has
 //!   its own version is in none: that read marks nothing.
 //!
-//! Costs, where n transactions wrote w keys each, k keys have v versions each, and s spans have m readers each:
+//! Costs, where n transactions wrote w keys each, k keys have v versions each, s spans have m readers each, and p
+//! protections stand:
 //!
 //! - `begin`: O(log n)
 //! - `get`: O(log n + log k + log v + log s + log m), and the readers above its own move
@@ -32,17 +39,19 @@
 //! - `scan`: O(log n + log k), O(log v) for each key, O(log s + log m) more for one with a version above closed, and
 //!   O(m) for each span that it meets
 //! - `commit`, `abort`: O(log n), and O(log k + log v) for each key written
-//! - `forget_through`: O(log n) for each transaction that goes; `abort_through`: also an abort of each that it takes back
-//! - `versions_mut`: O(1)
+//! - `close`: O(log n) for each transaction that goes; `close_hard`: also an abort of each that it takes back
+//! - `protect`, `release`: O(log p)
 //! - `read_at`: O(log k + log v); `scan_at`: O(log k), and O(log v) for each key that it meets
+//! - `take_versions`, `put_back`, `closed`, `horizon`: O(1)
 //!
 //! A read copies readers that its key shares with others, and goes over all spans once these have doubled. Memory:
-//! `begin`, reads and writes take it, but for writes that are too late and reads that are blocked. The others take
-//! none.
+//! `begin`, reads, writes and `protect` take it, but for writes that are too late and reads that are blocked. The others
+//! take none. A write notes its key first; where its version finds no memory, a new key is taken out again.
 //!
 //! Tests: `layer_tests`.
 #![tactic(auto)]
 
+mod commands;
 mod cut;
 mod forgetting;
 mod holdings;

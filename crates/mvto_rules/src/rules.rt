@@ -1,22 +1,23 @@
-//! The versions, the marks of readers and the transactions, under the rules that tie them.
-ghost use Rattle.std.specs.Prelude.{◌≡◌, ◌<◌, ◌≤◌, ℕ, List, true, false, Some, None, IfOk, IfErr, OnOk, OnErr};
+//! The versions, the marks of readers, the transactions and what is closed, under the rules that tie them.
+ghost use Rattle.std.specs.Prelude.{◌≡◌, ◌<◌, ◌≤◌, length, true, Some, None, IfOk, IfErr, OnOk, OnErr};
 ghost use Rattle.std.specs.Option.{option_copied};
 ghost use Rattle.timestamps.specs.declared.ts.TheConstants.{MAX};
 ghost use Rattle.spans.specs.Effects.{After};
-ghost use Rattle.spans.specs.Kept.{Kept};
 ghost use Rattle.spans.specs.Legal.{is_accepted};
 ghost use Rattle.spans.specs.declared.span.Span.{Span};
 ghost use Rattle.spans.specs.declared.calls.replies.Refusal.{Refusal};
 ghost use Rattle.spans.specs.declared.calls.replies.Refusal.TheVariants.{TooLate};
-ghost use Rattle.spans.specs.declared.calls.replies.Reply.TheVariants.{Aborted, Committed, Found, Refused, Started, Written};
+ghost use Rattle.spans.specs.declared.calls.replies.Reply.TheVariants.{Found, Refused, Started, Written};
 ghost use Rattle.spans.specs.declared.calls.replies.Reply.TheVariants as replies;
 ghost use Rattle.kept.specs.Answered.{IsScanReply, IsWriteReply};
 ghost use Rattle.kept.specs.Leading.{Pairs};
 ghost use Rattle.kept.specs.Changes.{IsAbortedBy, IsAlike, IsBegun, IsCommittedBy, IsReadBy, IsScannedBy, IsWritten};
 ghost use Rattle.kept.specs.Finding.{IsNextAbove, seen};
 ghost use Rattle.kept.specs.Marks.{IsLate};
-ghost use Rattle.kept.specs.Replies.{abort_reply, begin_reply, commit_reply, get_reply};
-ghost use Rattle.kept.specs.Table.{refusal};
+ghost use Rattle.kept.specs.Replies.{begin_reply, get_reply};
+ghost use Rattle.kept.specs.StandsFor.{nothing_kept};
+ghost use Rattle.kept.specs.Table.{keys_of, refusal};
+ghost use Rattle.closing.specs.Standing.{closed_in};
 ghost use Rattle.version_chain.specs.Stores.{version_in};
 ghost use Rattle.mvto_rules.specs.Accepting.{IsScanAccepted, IsWriteAccepted};
 ghost use Rattle.mvto_rules.specs.Tables.{AreInRange};
@@ -25,6 +26,7 @@ use crate::reading::{Reading, read_span};
 use crate::sight::{Sight, value_of};
 use crate::spot::span_of;
 use crate::written::{abort_written, commit_written};
+use closing::Closing;
 use read_marks::{Marks, Piece};
 use spans::calls::{Refusal, Reply, Rows};
 use spans::span::Span;
@@ -36,47 +38,53 @@ use timestamps::value::Value;
 use txn_table::{Outcome, Txns};
 use version_chain::Store;
 
-/// The versions, the marks of readers, and the transactions, under the rules that tie them.
+/// The versions, the marks of readers, the transactions, the closed timestamp with the protections, and
+/// the horizon, under the rules that tie them.
 ///
-/// Each call takes the closed timestamp, the seat that asks, and the timestamp of its transaction as
-/// the command says it, which may be any number. A refused growth leaves all as it was.
+/// A call takes the seat that asks, where that matters, and the timestamp of its transaction as the
+/// command says it, which may be any number. A refused growth leaves all as it was.
 #[derive(Drop)]
 pub struct Rules {
     pub(crate) alloc: Global,
     pub(crate) store: Store,
     pub(crate) marks: Marks,
     pub(crate) txns: Txns,
+    pub(crate) closing: Closing,
+    /// Below it, versions may be gone.
+    pub(crate) horizon: u64,
     pub ghost in_range: { AreInRange txns },
+    pub ghost closed_low: { closed_in closing ≤ MAX },
 }
 
 impl Rules {
-    ghost use Rattle.mvto_rules.specs.Holding.{AreMadeFor, AtClosed, Changes, IsNotedIn, Stays, StaysIfRefused, holding, marked_of, transactions_of, versions_of};
+    ghost use Rattle.mvto_rules.specs.Holding.{AreMadeFor, Changes, Holds, Stays, StaysIfRefused, holding, versions_of};
 
-    /// No version, no mark and no transaction.
+    /// Nothing has happened.
     pub fn new(alloc: Global) -> Rules
-        ensures versions { (x : List ℕ) (t : ℕ) → version_in (versions_of result) x t ≡ None }
-        ensures marks { (x : List ℕ) (j : ℕ) → marked_of result x j ≡ false }
-        ensures transactions { (t : ℕ) → transactions_of result t ≡ None }
+        ensures { IsAlike nothing_kept (holding nothing_kept result) }
     {
         Rules {
             alloc,
             store: Store::new(alloc),
             marks: Marks::new(alloc),
             txns: Txns::new(alloc),
+            closing: Closing::new(alloc),
+            horizon: 0,
         }
     }
 
     /// Begins a transaction of a seat above what is closed, unless one of its timestamp began before.
-    pub fn begin(&mut self, closed: u64, seat: u8, ts: u64) -> Result<Reply, AllocError>
-        ensures reply { IfOk result (λ reply. AtClosed closed self.old (λ k. reply ≡ begin_reply k ts)) }
+    pub(crate) fn try_begin(&mut self, seat: u8, ts: u64) -> Result<Reply, AllocError>
+        ensures reply { IfOk result (λ reply. Holds self.old (λ k. reply ≡ begin_reply k ts)) }
         ensures begun { IfOk result (λ reply. Changes self.old self.new (λ k k'. reply ≡ Started → IsBegun k k' ts seat)) }
         ensures refused { IfOk result (StaysIfRefused self.old self.new) }
         ensures err { OnErr result (Stays self.old self.new) }
-        ensures accepted { OnErr result (AtClosed closed self.old (λ k. is_accepted (begin_reply k ts) ≡ true)) }
+        ensures accepted { OnErr result (Holds self.old (λ k. is_accepted (begin_reply k ts) ≡ true)) }
     {
         let Some(timestamp) = Ts::new(ts) else {
             return Ok(Reply::Refused(Refusal::TsRange));
         };
+        let closed = self.closing.closed();
         if closed >= ts {
             return Ok(Reply::Refused(Refusal::BelowClosed { closed }));
         }
@@ -88,14 +96,14 @@ impl Rules {
     }
 
     /// Reads a key, and marks the reader, unless the version is its own.
-    pub fn get(&mut self, closed: u64, seat: u8, ts: u64, key: &Key) -> Result<Reply, AllocError>
-        ensures reply { IfOk result (λ reply. AtClosed closed self.old (λ k. reply ≡ get_reply k seat ts key.now)) }
+    pub(crate) fn try_get(&mut self, seat: u8, ts: u64, key: &Key) -> Result<Reply, AllocError>
+        ensures reply { IfOk result (λ reply. Holds self.old (λ k. reply ≡ get_reply k seat ts key.now)) }
         ensures read { IfOk result (λ reply. Changes self.old self.new (λ k k'. (v : After) → reply ≡ Found v → IsReadBy k k' ts key.now)) }
         ensures refused { IfOk result (StaysIfRefused self.old self.new) }
         ensures err { OnErr result (Stays self.old self.new) }
-        ensures accepted { OnErr result (AtClosed closed self.old (λ k. is_accepted (get_reply k seat ts key.now) ≡ true)) }
+        ensures accepted { OnErr result (Holds self.old (λ k. is_accepted (get_reply k seat ts key.now) ≡ true)) }
     {
-        let ts = match self.undecided(closed, seat, ts) {
+        let ts = match self.undecided(seat, ts) {
             Err(refusal) => return Ok(Reply::Refused(refusal)),
             Ok(ts) => ts,
         };
@@ -129,25 +137,22 @@ impl Rules {
     }
 
     /// Writes a value, or a delete where there is none, unless a later reader has read the version
-    /// before it. Then the transaction is aborted, which takes no memory. Above what is closed a version
-    /// is one of a transaction that noted its key; below it the transaction may be forgotten.
-    pub fn write(
+    /// before it. Then the transaction is aborted, which takes no memory.
+    pub(crate) fn try_write(
         &mut self,
-        closed: u64,
         seat: u8,
         ts: u64,
         key: &Key,
         after: Option<&Value>,
     ) -> Result<Reply, AllocError>
-        requires noted { closed < ts → IsNotedIn self.old ts key.now }
-        ensures reply { IfOk result (λ reply. AtClosed closed self.old (λ k. IsWriteReply k seat ts key.now reply)) }
+        ensures reply { IfOk result (λ reply. Holds self.old (λ k. IsWriteReply k seat ts key.now reply)) }
         ensures written { IfOk result (λ reply. Changes self.old self.new (λ k k'. reply ≡ Written → IsWritten k k' ts key.now (option_copied after.entry))) }
         ensures too_late { IfOk result (λ reply. Changes self.old self.new (λ k k'. reply ≡ Refused TooLate → IsAbortedBy k k' ts)) }
         ensures refused { IfOk result (λ reply. Changes self.old self.new (λ k k'. (r : Refusal) → reply ≡ Refused r → (r ≡ TooLate → ⊥) → IsAlike k k')) }
         ensures err { OnErr result (Stays self.old self.new) }
-        ensures accepted { OnErr result (AtClosed closed self.old (λ k. IsWriteAccepted k seat ts key.now)) }
+        ensures accepted { OnErr result (Holds self.old (λ k. IsWriteAccepted k seat ts key.now)) }
     {
-        let ts = match self.undecided(closed, seat, ts) {
+        let ts = match self.undecided(seat, ts) {
             Err(refusal) => return Ok(Reply::Refused(refusal)),
             Ok(ts) => ts,
         };
@@ -162,36 +167,38 @@ impl Rules {
     /// Whether a write is too late: a reader above it has read the version below it. That reader is not
     /// above the next version.
     fn is_too_late(&self, key: &Key, ts: Ts) -> bool
-        ensures { (k : Kept) → IsLate (holding k self.now) key.now ts result }
+        ensures { Holds self.now (λ k. IsLate k key.now ts result) }
     {
         let next = self.store.next_above(key, ts.get());
         self.marks.any_between(key, ts.get(), next)
     }
 
-    /// Puts a version in, and notes its key. Where the note is refused, the version is taken out.
+    /// Notes a key, and puts its version in. Where that is refused, a new key is taken out again.
     fn store_version(&mut self, ts: Ts, key: &Key, after: Option<&Value>) -> Result<(), AllocError>
-        requires noted { IsNotedIn self.old ts key.now }
         ensures ok { OnOk result (Changes self.old self.new (λ k k'. IsWritten k k' ts key.now (option_copied after.entry))) }
         ensures err { OnErr result (Stays self.old self.new) }
     {
-        self.store.write(key, ts, after)?;
-        if self.txns.add_key(ts, key).is_err() {
-            self.store.remove(key, ts);
-            return Err(AllocError);
+        let new = self.txns.add_key(ts, key)?;
+        let Err(refused) = self.store.write(key, ts, after) else {
+            return Ok(());
+        };
+        if !new {
+            return Err(refused);
         }
-        Ok(())
+        self.txns.remove_key(ts, key);
+        Err(refused)
     }
 
     /// Reads the keys of a span, and marks the reader at all of them, those without a version too, but
     /// for keys where the version is its own. That something stops the reader is answered without memory.
-    pub fn scan(&mut self, closed: u64, seat: u8, ts: u64, span: &Span) -> Result<Reply, AllocError>
-        ensures reply { IfOk result (λ reply. AtClosed closed self.old (λ k. IsScanReply k seat ts span.now reply)) }
+    pub(crate) fn try_scan(&mut self, seat: u8, ts: u64, span: &Span) -> Result<Reply, AllocError>
+        ensures reply { IfOk result (λ reply. Holds self.old (λ k. IsScanReply k seat ts span.now reply)) }
         ensures read { IfOk result (λ reply. Changes self.old self.new (λ k k'. (rows : Pairs) → reply ≡ replies.Rows rows → IsScannedBy k k' ts span.now)) }
         ensures refused { IfOk result (StaysIfRefused self.old self.new) }
         ensures err { OnErr result (Stays self.old self.new) }
-        ensures accepted { OnErr result (AtClosed closed self.old (λ k. IsScanAccepted k seat ts span.now)) }
+        ensures accepted { OnErr result (Holds self.old (λ k. IsScanAccepted k seat ts span.now)) }
     {
-        let ts = match self.undecided(closed, seat, ts) {
+        let ts = match self.undecided(seat, ts) {
             Err(refusal) => return Ok(Reply::Refused(refusal)),
             Ok(ts) => ts,
         };
@@ -213,39 +220,18 @@ impl Rules {
         self.marks.add_pieces(pieces, ts)
     }
 
-    /// Commits a transaction with what it wrote. It takes no memory.
-    pub fn commit(&mut self, closed: u64, seat: u8, ts: u64) -> Reply
-        ensures reply { AtClosed closed self.old (λ k. result ≡ commit_reply k seat ts) }
-        ensures committed { Changes self.old self.new (λ k k'. (n : ℕ) → result ≡ Committed n → IsCommittedBy k k' ts) }
-        ensures refused { StaysIfRefused self.old self.new result }
+    /// Commits what a transaction wrote, notes that it has committed, and says how many keys it wrote.
+    pub(crate) fn commit_writes(&mut self, ts: Ts) -> u64
+        ensures committed { Changes self.old self.new (λ k k'. IsCommittedBy k k' ts) }
+        ensures count { Holds self.old (λ k. result ≡ length (keys_of (k.transaction ts))) }
     {
-        match self.undecided(closed, seat, ts) {
-            Err(refusal) => Reply::Refused(refusal),
-            Ok(ts) => {
-                let keys = commit_written(&mut self.store, &self.txns, ts);
-                self.txns.decide(ts, Outcome::Committed);
-                Reply::Committed { keys }
-            }
-        }
-    }
-
-    /// Aborts a transaction, and takes back what it wrote. It takes no memory.
-    pub fn abort(&mut self, closed: u64, seat: u8, ts: u64) -> Reply
-        ensures reply { AtClosed closed self.old (λ k. result ≡ abort_reply k seat ts) }
-        ensures aborted { Changes self.old self.new (λ k k'. result ≡ Aborted → IsAbortedBy k k' ts) }
-        ensures refused { StaysIfRefused self.old self.new result }
-    {
-        match self.undecided(closed, seat, ts) {
-            Err(refusal) => Reply::Refused(refusal),
-            Ok(ts) => {
-                self.take_back(ts);
-                Reply::Aborted
-            }
-        }
+        let keys = commit_written(&mut self.store, &self.txns, ts);
+        self.txns.decide(ts, Outcome::Committed);
+        keys
     }
 
     /// Takes back what a transaction wrote, and notes that it was aborted.
-    fn take_back(&mut self, ts: Ts)
+    pub(crate) fn take_back(&mut self, ts: Ts)
         ensures { Changes self.old self.new (λ k k'. IsAbortedBy k k' ts) }
     {
         abort_written(&mut self.store, &self.txns, ts);
@@ -253,15 +239,14 @@ impl Rules {
     }
 
     /// The timestamp of a transaction that the seat may still use, or why it may not.
-    fn undecided(&self, closed: u64, seat: u8, ts: u64) -> Result<Ts, Refusal>
+    pub(crate) fn undecided(&self, seat: u8, ts: u64) -> Result<Ts, Refusal>
         ensures ok { IfOk result (λ t. t ≡ ts) }
-        ensures none { OnOk result (AtClosed closed self.now (λ k. refusal k seat ts ≡ None)) }
-        ensures err { IfErr result (λ r. AtClosed closed self.now (λ k. refusal k seat ts ≡ Some r)) }
+        ensures none { OnOk result (Holds self.now (λ k. refusal k seat ts ≡ None)) }
+        ensures err { IfErr result (λ r. Holds self.now (λ k. refusal k seat ts ≡ Some r)) }
         ensures other { IfErr result (λ r. r ≡ TooLate → ⊥) }
         ensures in_range { OnOk result ((1 ≤ ts) × (ts ≤ MAX)) }
-        ensures above { OnOk result (closed < ts) }
     {
-        if ts <= closed {
+        if ts <= self.closing.closed() {
             return Err(Refusal::Ended);
         }
         let Some((owner, state)) = self.txns.standing(ts) else {

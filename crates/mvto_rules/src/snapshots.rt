@@ -1,42 +1,92 @@
-//! Reads at a closed timestamp, of what was committed there. They mark nothing.
-ghost use Rattle.std.specs.Prelude.{◌≡◌, ◌≤◌, IfOk, IfSome};
+//! Reads at a closed timestamp, of what was committed there, which mark nothing; and protections of it.
+ghost use Rattle.std.specs.Prelude.{ℕ, ◌≡◌, ◌<◌, ◌≤◌, IfOk, IfSome, OnErr};
 ghost use Rattle.std.specs.Option.{option_copied};
-ghost use Rattle.spans.specs.Kept.{Kept};
+ghost use Rattle.spans.specs.declared.calls.commands.Cmd.TheVariants.{Protect, ReadAt, ScanAt};
 ghost use Rattle.spans.proofs.Keyed.{RisingKeys};
-ghost use Rattle.kept.specs.Finding.{AreKeysOf, seen};
+ghost use Rattle.kept.specs.Answered.{IsAnswered, IsWanting};
+ghost use Rattle.closing.specs.Standing.{made_in};
 ghost use Rattle.version_chain.specs.Chains.{AreFilled};
 ghost use Rattle.mvto_rules.specs.Scans.{entries_of, keys_in, rows_in};
+ghost use Rattle.mvto_rules.specs.Snapshots.{horizon_refusal, snapshot_refusal};
 
 use crate::rules::Rules;
 use crate::sight::value_of;
 use crate::walk::add_row;
-use spans::calls::Rows;
+use spans::calls::{Refusal, Reply, Rows};
 use spans::span::Span;
 use std::alloc::{AllocError, Global};
 use timestamps::key::Key;
+use timestamps::ts::MAX;
 use timestamps::value::Value;
 use version_chain::chain::Version;
 use version_chain::{Steps, Store};
 
 impl Rules {
-    ghost use Rattle.mvto_rules.specs.Holding.{holding, versions_of};
+    ghost use Rattle.mvto_rules.specs.Holding.{Changes, Holds, closing_of};
+
+    /// That `t` is below the horizon, if it is: what was there may be gone.
+    pub fn horizon_refusal(&self, t: u64) -> Option<Refusal>
+        ensures { Holds self.now (λ k. result ≡ horizon_refusal k t) }
+    {
+        let horizon = self.horizon;
+        if t < horizon {
+            Some(Refusal::BelowHorizon { horizon })
+        } else {
+            None
+        }
+    }
+
+    /// Why nothing is read at `t`.
+    fn snapshot_refusal(&self, t: u64) -> Option<Refusal>
+        ensures { Holds self.now (λ k. result ≡ snapshot_refusal k t) }
+    {
+        let closed = self.closing.closed();
+        if t > closed {
+            return Some(Refusal::NotClosed { closed });
+        }
+        self.horizon_refusal(t)
+    }
 
     /// What the newest version of a key at or below `t` left.
-    pub fn read_at(&self, t: u64, key: &Key) -> Result<Option<Value>, AllocError>
-        ensures { IfOk result (λ after. (k : Kept) → after ≡ (seen (holding k self.now) key.now t).after) }
+    pub(crate) fn try_read_at(&self, t: u64, key: &Key) -> Result<Reply, AllocError>
+        ensures answered { IfOk result (λ reply. (seat : ℕ) → Holds self.now (λ k. IsAnswered k k seat (ReadAt t key.now) reply)) }
+        ensures wanting { OnErr result ((seat : ℕ) → Holds self.now (λ k. IsWanting k k seat (ReadAt t key.now))) }
     {
+        if let Some(refusal) = self.snapshot_refusal(t) {
+            return Ok(Reply::Refused(refusal));
+        }
         let newest = self.store.newest_at(key, t);
         is_named(newest);
-        value_of(newest)
+        let after = value_of(newest)?;
+        Ok(Reply::Found(after))
     }
 
     /// The keys of a span whose newest version at or below `t` has a value, with it.
-    pub fn scan_at(&self, t: u64, span: &Span) -> Result<Rows, AllocError>
-        ensures keys { (k : Kept) → AreKeysOf (holding k self.now) span.now (keys_in (versions_of self.now) span.now) }
-        ensures rows { IfOk result (λ rows. rows ≡ rows_in (versions_of self.now) t (keys_in (versions_of self.now) span.now)) }
+    pub(crate) fn try_scan_at(&self, t: u64, span: &Span) -> Result<Reply, AllocError>
+        ensures answered { IfOk result (λ reply. (seat : ℕ) → Holds self.now (λ k. IsAnswered k k seat (ScanAt t span.now) reply)) }
+        ensures wanting { OnErr result ((seat : ℕ) → Holds self.now (λ k. IsWanting k k seat (ScanAt t span.now))) }
     {
+        if let Some(refusal) = self.snapshot_refusal(t) {
+            return Ok(Reply::Refused(refusal));
+        }
         let rows = rows_at(self.alloc, &self.store, span, t)?;
-        Ok(Rows::from_vec(rows))
+        Ok(Reply::Rows(Rows::from_vec(rows)))
+    }
+
+    /// Protects `t`, and answers the protection's number.
+    pub(crate) fn try_protect(&mut self, t: u64) -> Result<Reply, AllocError>
+        requires room { made_in (closing_of self.old) < 18446744073709551615 }
+        ensures answered { IfOk result (λ reply. (seat : ℕ) → Changes self.old self.new (λ k k'. IsAnswered k k' seat (Protect t) reply)) }
+        ensures wanting { OnErr result ((seat : ℕ) → Changes self.old self.new (λ k k'. IsWanting k k' seat (Protect t))) }
+    {
+        if t > MAX {
+            return Ok(Reply::Refused(Refusal::TsRange));
+        }
+        if let Some(refusal) = self.horizon_refusal(t) {
+            return Ok(Reply::Refused(refusal));
+        }
+        let id = self.closing.protect(t)?;
+        Ok(Reply::Protected { id })
     }
 }
 

@@ -1,10 +1,11 @@
 -- The noted keys of a transaction as the set that keeps them.
-use Rattle.std.proofs.Common.{Bool, Err, List, Ok, OnErr, Result, ap, false, refl, subst, sym, true, ℕ, ◌||◌, ◌≡◌, ◌∷◌, ◌∙◌, [], inl, inr}
+use Rattle.std.proofs.Common.{Bool, Err, List, Ok, OnErr, Result, ap, cond, refl, subst, sym, true, ℕ, ◌||◌, ◌≡◌, ◌∷◌, ◌∙◌, [], inl, inr}
 use Rattle.std.specs.Prelude.{bytes_eq, filter}
 use Rattle.std.specs.List.{list_any}
 use Rattle.std.specs.BTreeMap.{is_at}
 use Rattle.std.specs.BTreeMap.Range.{range_contains}
 use Rattle.std.specs.BTreeSet as sets
+use Rattle.std.specs.Set.{remove_key}
 use Rattle.std.specs.Ordering.{match_ordering, ordering_reverse}
 use Rattle.std.specs.declared.cmp.Ordering.{Ordering}
 use Rattle.std.specs.declared.cmp.Ordering.TheVariants.{Equal, Greater, Less}
@@ -18,6 +19,7 @@ use Rattle.spans.specs.Keys.{insert_key, insert_where}
 use Rattle.spans.proofs.Keyed.{IsIn, RisingKeys}
 use Rattle.spans.proofs.Steps.{by_test, key_itself, same_key}
 use Rattle.spans.proofs.WriteSets.{has, has_in}
+use Rattle.txn_table.specs.States.{without_key}
 
 -- all keys of a set are its keys
 pub whole : (keys : List (List ℕ)) → filter (range_contains key_cmp Unbounded Unbounded) keys ≡ keys
@@ -65,9 +67,18 @@ noted_more n m x y keys is same put = ap (λ (ks : List (List ℕ)). record n { 
 pub noted_alone : (n m : Transaction) (x : List ℕ) → n ≡ m → RisingKeys n.keys → has x n.keys ≡ true → m ≡ record m { keys = insert_key x m.keys }
 noted_alone n m x is rising there = subst (λ (k : Transaction). k ≡ record k { keys = insert_key x k.keys }) is (ap (λ (ks : List (List ℕ)). record n { keys = ks }) (sym (noted_stays x n.keys rising there)))
 
--- what the set doesn't find isn't noted
-pub not_noted : (n m : Transaction) (x : List ℕ) (b : Bool) → n ≡ m → b ≡ list_any (is_at (key_cmp x)) n.keys → b ≡ false → has x m.keys ≡ false
-not_noted n m x b is found off = ap (λ (k : Transaction). has x k.keys) (sym is) ∙ sym (found_is x n.keys) ∙ sym found ∙ off
+-- what the set finds is noted, and nothing else
+pub has_noted : (n m : Transaction) (x : List ℕ) (b : Bool) → n ≡ m → b ≡ list_any (is_at (key_cmp x)) n.keys → has x m.keys ≡ b
+has_noted n m x b is found = ap (λ (k : Transaction). has x k.keys) (sym is) ∙ sym (found_is x n.keys) ∙ sym found
+
+-- the set takes out the key that is the same
+taken_is : (x : List ℕ) (keys : List (List ℕ)) → remove_key (is_at (key_cmp x)) keys ≡ remove_key (λ y. bytes_eq y x) keys
+taken_is x [] = refl
+taken_is x (y ∷ keys) = ap (λ b. cond b keys (y ∷ remove_key (is_at (key_cmp x)) keys)) (is_eq-slice_cmp x y ∙ either_way x y) ∙ ap (λ l. cond (bytes_eq y x) keys (y ∷ l)) (taken_is x keys)
+
+-- a transaction whose set took a key out
+pub noted_less : (n m : Transaction) (x : List ℕ) (keys : List (List ℕ)) → n ≡ m → keys ≡ remove_key (is_at (key_cmp x)) n.keys → record n { keys = keys } ≡ without_key x m
+noted_less n m x keys is taken = ap (λ (ks : List (List ℕ)). record n { keys = ks }) (taken ∙ taken_is x n.keys) ∙ ap (without_key x) is
 
 pub in_err : {A E : Type 0} (r : Result A E) {P : Type 0} → P → OnErr r P
 in_err (Ok x) p = tt

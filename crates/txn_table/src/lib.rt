@@ -1,7 +1,8 @@
 //! The table of transactions: of each that began and isn't forgotten, its owner, how it stands, and the keys that it
 //! wrote.
 //!
-//! `mvto_rules` is the caller: it begins, reads and ends transactions here, and notes each key that a write touches.
+//! `mvto_rules` is the caller: it begins, reads and ends transactions here, and notes each key that a write touches. Where
+//! a new key's version finds no memory, it takes the key out again.
 //!
 //! 1. The table is an ordered map by timestamp. Beside it an ordered set has exactly the timestamps that are undecided.
 //! 2. The keys of a transaction are an ordered set, and each is noted once.
@@ -12,6 +13,7 @@
 //! begin 10 (seat 0)        10 of 0                                 10
 //! begin 20 (seat 1)        10 of 0, 20 of 1                        10 20
 //! put 10 b, put 10 a       10 of 0 wrote a b, 20 of 1              10 20      the oldest is 10
+//! put 20 c, no memory      10 of 0 wrote a b, 20 of 1              10 20      c was added, and removed again
 //! decide 10: committed     10 of 0 committed a b, 20 of 1          20         the oldest is 20
 //! close 15: forget to 15   20 of 1                                 20
 //! ```
@@ -19,7 +21,7 @@
 //! Costs, where n transactions stand and one of them wrote w keys:
 //!
 //! - `begin`, `decide`, `standing`, `oldest_undecided`: O(log n)
-//! - `add_key`, `has_key`: O(log n + log w), whichever order the keys come in
+//! - `add_key`, `remove_key`: O(log n + log w), whichever order the keys come in
 //! - `write_set`: O(log n), and the keys that are read, in turn
 //! - `undecided_through`: O(log n), and the timestamps that are read, in turn
 //! - `undecided`: O(1)

@@ -1,10 +1,9 @@
 //! One transaction of the table.
-ghost use Rattle.std.specs.Prelude.{◌≡◌, ◌<◌, ◌^◌, length, OnOk, OnErr, false};
-ghost use Rattle.spans.specs.Keys.{insert_key};
+ghost use Rattle.std.specs.Prelude.{◌≡◌, ◌<◌, ◌^◌, length, IfOk, OnOk, OnErr, false, not};
 ghost use Rattle.spans.proofs.Keyed.{RisingKeys};
 ghost use Rattle.spans.proofs.WriteSets.{has};
 ghost use Rattle.kept.specs.Table.{new_transaction};
-ghost use Rattle.txn_table.specs.States.{decided};
+ghost use Rattle.txn_table.specs.States.{decided, with_key, without_key};
 ghost use Rattle.kept.specs.Reports.{transaction_report};
 
 use spans::report::TransactionReport;
@@ -82,25 +81,27 @@ impl Transaction {
         self.keys.range(..)
     }
 
-    /// Whether it wrote the key.
-    pub(crate) fn has_key(&self, key: &Key) -> bool
-        ensures { result ≡ has key.now self.now.keys }
-    {
-        self.keys.contains(key)
-    }
-
-    /// Notes that it wrote the key. A key that is noted is not copied once more.
-    pub(crate) fn add_key(&mut self, key: &Key) -> Result<(), AllocError>
-        ensures ok { OnOk result (self.new ≡ record self.old { keys = insert_key key.now self.old.keys }) }
+    /// Notes that it wrote the key, and answers whether that is new. A key that is noted is not copied once more.
+    pub(crate) fn add_key(&mut self, key: &Key) -> Result<bool, AllocError>
+        ensures new { IfOk result (λ new. new ≡ not (has key.now self.old.keys)) }
+        ensures ok { OnOk result (self.new ≡ with_key key.now self.old) }
+        ensures known { IfOk result (λ new. new ≡ false → self.new ≡ self.old) }
         ensures err { OnErr result (self.new ≡ self.old) }
         ensures absent { OnErr result (has key.now self.old.keys ≡ false) }
     {
         if self.keys.contains(key) {
-            return Ok(());
+            return Ok(false);
         }
         let key = key.copy()?;
         self.keys.insert(key)?;
-        Ok(())
+        Ok(true)
+    }
+
+    /// Takes a key that it wrote out again.
+    pub(crate) fn remove_key(&mut self, key: &Key)
+        ensures { self.new ≡ without_key key.now self.old }
+    {
+        self.keys.remove(key);
     }
 
     /// Ends it.

@@ -1,16 +1,16 @@
 //! The transactions that stand, by timestamp.
-ghost use Rattle.std.specs.Prelude.{◌≡◌, ◌&&◌, ℕ, List, [], Some, None, MatchOption, IfSome, IfOk, OnOk, OnErr, IsSome, false, nat_le, nat_lt, option_map, is_none, if◌then◌else◌, length, ◌<◌, ◌^◌};
+ghost use Rattle.std.specs.Prelude.{◌≡◌, ◌&&◌, ℕ, List, [], Some, None, MatchOption, IfSome, IfOk, OnOk, OnErr, IsSome, false, nat_le, nat_lt, not, option_map, is_none, if◌then◌else◌, length, ◌<◌, ◌^◌};
 ghost use Rattle.std.specs.List.Sorted.{IsStrictlyIncreasing};
 ghost use Rattle.spans.specs.Kept.{Transaction};
 ghost use Rattle.spans.proofs.Keyed.{RisingKeys};
 ghost use Rattle.spans.proofs.WriteSets.{has};
 ghost use Rattle.kept.specs.Lists.{AreThose};
 ghost use Rattle.kept.specs.Table.{IsOldest, is_open, keys_of};
-ghost use Rattle.txn_table.specs.States.{begun, decided, with_key};
+ghost use Rattle.txn_table.specs.States.{begun, decided, with_key, without_key};
 ghost use Rattle.kept.specs.Reports.{AreOpen};
 ghost use Rattle.txn_table.specs.TransactionIn.{transaction_in, IsCountOf, IsSetAt};
 
-use crate::changes::{add_key_at, decide_at, forget_transactions, forget_undecided};
+use crate::changes::{add_key_at, decide_at, forget_transactions, forget_undecided, remove_key_at};
 use crate::report::undecided_report;
 use crate::transaction::{Outcome, Transaction};
 use spans::report::TransactionReport;
@@ -96,24 +96,23 @@ impl Txns {
         }
     }
 
-    /// Whether the transaction of `ts` wrote the key.
-    pub fn has_key(&self, ts: u64, key: &Key) -> bool
-        ensures { result ≡ has key.now (keys_of (transaction_in self.now ts)) }
-    {
-        match self.table.get(&TsKey(ts)) {
-            None => false,
-            Some(transaction) => transaction.has_key(key),
-        }
-    }
-
-    /// Notes that the transaction of `ts` wrote the key. It takes no memory where the key is noted
-    /// already; where memory is wanting, nothing is noted.
-    pub fn add_key(&mut self, ts: Ts, key: &Key) -> Result<(), AllocError>
+    /// Notes that the transaction of `ts` wrote the key, and answers whether that is new. It takes no
+    /// memory where the key is noted already; where memory is wanting, nothing is noted.
+    pub fn add_key(&mut self, ts: Ts, key: &Key) -> Result<bool, AllocError>
+        ensures new { IfOk result (λ new. new ≡ not (has key.now (keys_of (transaction_in self.old ts)))) }
         ensures ok { OnOk result (IsSetAt self.old self.new ts (option_map (with_key key.now))) }
+        ensures known { IfOk result (λ new. new ≡ false → self.new ≡ self.old) }
         ensures err { OnErr result (self.new ≡ self.old) }
         ensures absent { OnErr result (has key.now (keys_of (transaction_in self.old ts)) ≡ false) }
     {
         add_key_at(&mut self.table, ts.get(), key)
+    }
+
+    /// Takes a key that the transaction of `ts` wrote out again, where there is one. It takes no memory.
+    pub fn remove_key(&mut self, ts: Ts, key: &Key)
+        ensures { IsSetAt self.old self.new ts (option_map (without_key key.now)) }
+    {
+        remove_key_at(&mut self.table, ts.get(), key);
     }
 
     /// Ends the transaction of `ts`, where there is one. It takes no memory.

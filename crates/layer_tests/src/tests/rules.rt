@@ -7,9 +7,11 @@ use std::alloc::Global;
 use timestamps::key::Key;
 use timestamps::value::Value;
 
-/// Scripts, each of rules whose transactions are of seat 0, where nothing is closed. `marks` counts the spans that have
-/// readers, and `readers` has those of a key. `transactions` are those that are not forgotten.
-pub(super) const SCRIPTS: [&str; 8] = [
+/// Scripts, each of rules whose transactions are of seat 0. `marks` counts the spans that have readers, and `readers` has
+/// those of a key. `transactions` are those that are not forgotten. `forget` closes and `hard` closes hard, each with where
+/// closed then stands and how many it aborted. `look` and `over` read at a closed timestamp, `keep` protects one, `end` ends
+/// a protection, and `jump` raises the horizon.
+pub(super) const SCRIPTS: [&str; 9] = [
     // an own read leaves no mark
     "begin 10=started
 begin 20=started
@@ -135,20 +137,65 @@ commit 30=committed 0
 readers a= 15 30
 readers b= 40
 transactions= 10 15 20 30 40
-forget 20=
+forget 20=closed 20 0
 readers a= 30
 readers b= 40
 transactions= 30 40
-forget 15=
+forget 15=closed 20 0
 readers a= 30
 transactions= 30 40
-forget 30=
+forget 30=closed 30 0
 readers a=
 readers b= 40
 transactions= 40
 undecided=1
 versions=1
-put 15 a 2=notxn
+put 15 a 2=ended
+put 50 a 2=notxn
+",
+    // a closing stops below the oldest undecided transaction, a hard one aborts it, and its versions go. What is closed
+    // is read between horizon and closed, and has ended
+    "begin 10=started
+begin 20=started
+begin 30=started
+put 10 a 1=written
+put 20 a 2=written
+put 30 b 3=written
+commit 10=committed 1
+forget 25=closed 19 0
+look 15 a=found 1
+look 9 a=none
+look 25 a=notclosed 19
+over 19 - -=rows a1
+over 20 - -=notclosed 19
+begin 19=belowclosed 19
+begin 20=used
+commit 10=ended
+keep 12=protected 1
+hard 25=closed 25 1
+look 25 a=found 1
+commit 20=ended
+undecided=1
+versions=2
+put 30 a 4=written
+versions=3
+marks=0
+keep 26=protected 2
+end 1=released
+end 1=noprotection
+jump 14=
+look 13 a=belowhorizon 14
+look 14 a=found 1
+over 13 - -=belowhorizon 14
+keep 13=belowhorizon 14
+keep 14=protected 3
+keep 18446744073709551615=range
+hard 18446744073709551615=range
+forget 18446744073709551615=range
+begin 0=range
+hard 30=closed 30 1
+over 30 - -=rows a1
+transactions=
 ",
     // a delete has no row
     "begin 10=started
@@ -173,8 +220,9 @@ impl Asked for Rules {
             Some(b'u') => put_number(alloc, out, self.undecided_count()),
             Some(b'v') => put_number(alloc, out, self.version_count()),
             Some(b't') => put_transactions(alloc, self, out),
-            Some(b'f') => {
-                self.forget_through(words.number());
+            Some(b'j') => {
+                let versions = self.take_versions();
+                self.put_back(versions, words.number());
                 Some(())
             }
             Some(letter) => {
@@ -189,17 +237,39 @@ impl Asked for Rules {
 fn reply_to(alloc: Global, rules: &mut Rules, letter: u8, words: &mut Words<'_>) -> Option<Reply> {
     let ts = words.number();
     match letter {
-        b'b' => rules.begin(0, 0, ts).ok(),
-        b'c' => Some(rules.commit(0, 0, ts)),
-        b'a' => Some(rules.abort(0, 0, ts)),
-        b's' => rules.scan(0, 0, ts, &words.span(alloc)?).ok(),
-        b'g' => rules.get(0, 0, ts, &words.key(alloc)?).ok(),
-        b'd' => write(rules, ts, &words.key(alloc)?, None),
-        _ => {
-            let key = words.key(alloc)?;
-            let value = Value::new(alloc, words.word()).ok()?;
-            write(rules, ts, &key, Some(&value))
-        }
+        b'b' => Some(rules.begin(0, ts)),
+        b'c' => Some(rules.commit(0, ts)),
+        b'a' => Some(rules.abort(0, ts)),
+        b's' => Some(rules.scan(0, ts, &words.span(alloc)?)),
+        b'g' => Some(rules.get(0, ts, &words.key(alloc)?)),
+        b'd' => Some(rules.write(0, ts, &words.key(alloc)?, None)),
+        b'p' => put(alloc, rules, ts, words),
+        _ => closed_reply_to(alloc, rules, letter, ts, words),
+    }
+}
+
+fn put(alloc: Global, rules: &mut Rules, ts: u64, words: &mut Words<'_>) -> Option<Reply> {
+    let key = words.key(alloc)?;
+    let value = Value::new(alloc, words.word()).ok()?;
+    Some(rules.write(0, ts, &key, Some(&value)))
+}
+
+/// The reply to a command that closes, or asks for what is closed.
+fn closed_reply_to(
+    alloc: Global,
+    rules: &mut Rules,
+    letter: u8,
+    t: u64,
+    words: &mut Words<'_>,
+) -> Option<Reply> {
+    match letter {
+        b'f' => Some(rules.close(t)),
+        b'h' => Some(rules.close_hard(t)),
+        b'l' => Some(rules.read_at(t, &words.key(alloc)?)),
+        b'o' => Some(rules.scan_at(t, &words.span(alloc)?)),
+        b'e' => Some(rules.release(t)),
+        b'k' if rules.closing().made() < u64::MAX => Some(rules.protect(t)),
+        _ => None,
     }
 }
 
@@ -214,39 +284,49 @@ fn put_transactions(alloc: Global, rules: &Rules, out: &mut Vec<u8>) -> Option<(
     Some(())
 }
 
-/// A write, unless a version stands there whose key isn't noted.
-fn write(rules: &mut Rules, ts: u64, key: &Key, after: Option<&Value>) -> Option<Reply> {
-    if let Some(version) = rules.versions().newest_at(key, ts) {
-        if version.ts.get() == ts && !rules.has_key(ts, key) {
-            return None;
-        }
-    }
-    rules.write(0, 0, ts, key, after).ok()
-}
-
 fn put_reply(alloc: Global, out: &mut Vec<u8>, reply: &Reply) -> Option<()> {
     match reply {
         Reply::Started => out.extend_from_slice(b"started").ok(),
         Reply::Written => out.extend_from_slice(b"written").ok(),
         Reply::Aborted => out.extend_from_slice(b"aborted").ok(),
         Reply::Found(None) => out.extend_from_slice(b"none").ok(),
-        Reply::Refused(Refusal::TooLate) => out.extend_from_slice(b"toolate").ok(),
-        Reply::Refused(Refusal::NoTxn) => out.extend_from_slice(b"notxn").ok(),
+        Reply::Released => out.extend_from_slice(b"released").ok(),
         Reply::Found(Some(value)) => {
             out.extend_from_slice(b"found ").ok()?;
             out.extend_from_slice(value.bytes()).ok()
         }
-        Reply::Committed { keys } => {
-            out.extend_from_slice(b"committed ").ok()?;
-            put_number(alloc, out, *keys)
-        }
-        Reply::Refused(Refusal::Blocked { by }) => {
-            out.extend_from_slice(b"blocked ").ok()?;
-            put_number(alloc, out, *by)
+        Reply::Committed { keys } => put_named(alloc, out, b"committed ", *keys),
+        Reply::Protected { id } => put_named(alloc, out, b"protected ", *id),
+        Reply::Closed { at, aborted } => {
+            put_named(alloc, out, b"closed ", *at)?;
+            put_named(alloc, out, b" ", *aborted)
         }
         Reply::Rows(rows) => put_rows(out, rows.as_slice()),
+        Reply::Refused(refusal) => put_refusal(alloc, out, refusal),
         _ => None,
     }
+}
+
+fn put_refusal(alloc: Global, out: &mut Vec<u8>, refusal: &Refusal) -> Option<()> {
+    match refusal {
+        Refusal::TooLate => out.extend_from_slice(b"toolate").ok(),
+        Refusal::NoTxn => out.extend_from_slice(b"notxn").ok(),
+        Refusal::Ended => out.extend_from_slice(b"ended").ok(),
+        Refusal::TsUsed => out.extend_from_slice(b"used").ok(),
+        Refusal::TsRange => out.extend_from_slice(b"range").ok(),
+        Refusal::NoProtection => out.extend_from_slice(b"noprotection").ok(),
+        Refusal::Blocked { by } => put_named(alloc, out, b"blocked ", *by),
+        Refusal::BelowClosed { closed } => put_named(alloc, out, b"belowclosed ", *closed),
+        Refusal::NotClosed { closed } => put_named(alloc, out, b"notclosed ", *closed),
+        Refusal::BelowHorizon { horizon } => put_named(alloc, out, b"belowhorizon ", *horizon),
+        _ => None,
+    }
+}
+
+/// Writes a word and a number.
+fn put_named(alloc: Global, out: &mut Vec<u8>, word: &[u8], number: u64) -> Option<()> {
+    out.extend_from_slice(word).ok()?;
+    put_number(alloc, out, number)
 }
 
 fn put_rows(out: &mut Vec<u8>, rows: &[(Key, Value)]) -> Option<()> {

@@ -1,17 +1,8 @@
-use Rattle.engine.proofs.Histories.{are_noted, closed_in_range, goes_on, has_number, has_room, history_step, open_noted}
+use Rattle.engine.proofs.Histories.{goes_on, has_number, has_room, history_step}
 use Rattle.engine.proofs.Engine.step.Goals as goal
-
-pub step-reply-requires-clause-noted : goal.step-reply-requires-clause-noted
-step-reply-requires-clause-noted c = are_noted c.args.self.now.layers c.args.self.now.steps c.args.self.now.stands
-
-pub step-reply-requires-clause-open : goal.step-reply-requires-clause-open
-step-reply-requires-clause-open c = open_noted c.args.self.now.layers c.args.self.now.steps c.args.self.now.stands
 
 pub step-reply-requires-clause-number : goal.step-reply-requires-clause-number
 step-reply-requires-clause-number c = has_number c.args.self.now.layers c.args.self.now.steps c.args.self.now.stands c.requires.room
-
-pub step-reply-requires-clause-low : goal.step-reply-requires-clause-low
-step-reply-requires-clause-low c = closed_in_range c.args.self.now.layers c.args.self.now.steps c.args.self.now.stands
 
 pub step-reply-requires-clause-room : goal.step-reply-requires-clause-room
 step-reply-requires-clause-room c = has_room c.args.self.now.layers c.args.self.now.steps c.args.self.now.stands c.requires.room

@@ -28,7 +28,7 @@ loop-ts-preserved c =
     let named : c.unwrap-ts.result ≡ c.in-Some.ts.now = subst (λ o. IfSome o (λ t. t ≡ c.ts.inside.0)) c.unwrap-ts.ensures c.new.ensures.number ∙ c.ts.view_is in
     let aborted = subst (λ n. IsAbortedIn c.loop-ts.store c.abort_written.new.store n (keys_of (transaction_in c.args.txns.now n))) named c.abort_written.ensures in
     record {
-      taking = taking_goes_on c.args.store.now c.loop-ts.store c.abort_written.new.store c.args.txns.now c.args.to c.in-Some.ts.now c.next.new.self c.requires.noted taking aborted;
+      taking = taking_goes_on c.args.store.now c.loop-ts.store c.abort_written.new.store c.args.txns.now c.args.to c.in-Some.ts.now c.next.new.self taking aborted;
       counted = omega (arith, c.loop-ts.invariant.counted, ap length c.in-Some.ensures.steps);
     }
 

@@ -1,25 +1,23 @@
-use Rattle.std.proofs.Common.{arith, inl, refl, rules, subst, sym, ◌≤◌, ◌∙◌}
-use Rattle.std.proofs.lemmas.Bool.Decides.{nat_tests}
-use Rattle.timestamps.specs.declared.ts.TheConstants.{MAX}
-use Rattle.closing.specs.Standing.{closed_in, made_in, protections_in}
-use Rattle.kept.specs.Changes.{IsClosedAt}
-use Rattle.mvto_rules.specs.Holding.{holding}
+use Rattle.std.proofs.Common.{refl}
+use Rattle.spans.specs.declared.calls.commands.Cmd.TheVariants.{Close}
+use Rattle.spans.specs.declared.calls.replies.Reply.TheVariants.{Closed}
 use Rattle.feed.proofs.Offering.{are_offered}
-use Rattle.feed.specs.Standing.{opened_in, place_in}
-use Rattle.engine.specs.Layers.{kept_of}
-use Rattle.engine.proofs.OtherReplies.{close_done}
-use Rattle.engine.proofs.Replies.{same_closing}
+use Rattle.engine.specs.Layers.{feeds_of, kept_of}
+use Rattle.engine.proofs.Replies.{rules_step, unclosed}
 use Rattle.engine.proofs.layers.Layers.close.Goals as goal
 
-pub returns-clause-step : goal.returns-clause-step
-returns-clause-step c =
-    let k = kept_of c.args.self.now in let now = c.close-at.new.self in let at = c.close-at.ensures in
-    let low : c.args.to ≤ MAX = first_of (omega arith, grind (arith, nat_tests), search rules) in
-    inl (close_done k (kept_of (record c.args.self.now { rules = c.forget_through.new.self; closing = now; feeds = c.release_through.new.feeds; held_back = c.release_through.new.held })) c.args.seat c.args.to c.close-at.result c.oldest_undecided-oldest.result low c.oldest_undecided-oldest.ensures (at.answer ∙ at.closed)
-    (subst (λ j. IsClosedAt k j c.close-at.result) (same_closing (holding k c.forget_through.new.self) c.close-at.result (closed_in now) k.protections (protections_in now) k.protections_made (made_in now) k.feed (place_in c.release_through.new.feeds) k.feeds_opened (opened_in c.release_through.new.feeds) at.answer (sym at.protections) (sym at.made) c.release_through.ensures.places c.release_through.ensures.opened) (c.forget_through.ensures.closed k)))
+pub returns-in-Closed-clause-step : goal.returns-in-Closed-clause-step
+returns-in-Closed-clause-step c = let e = c.args.self.now in let new = c.release_through.ensures in
+    rules_step e.rules c.close.new.self e.feeds c.release_through.new.feeds c.args.seat (Close c.args.to) c.close.result (Closed c.in-Closed.at c.in-Closed.aborted) new.places new.opened c.in-Closed.is (c.close.ensures.step c.args.seat)
 
-pub returns-clause-served : goal.returns-clause-served
-returns-clause-served c = let new = c.release_through.ensures in record {
+pub returns-in-Closed-clause-served : goal.returns-in-Closed-clause-served
+returns-in-Closed-clause-served c = let new = c.release_through.ensures in record {
   offered = λ rows through. are_offered (kept_of c.args.self.now) rows c.args.self.now.feeds c.release_through.new.feeds (λ f. refl) (new.offered rows (λ whole'. through (λ j high low. whole' j low)));
   let_go = new.let_go;
 }
+
+pub returns-in_default-clause-step : goal.returns-in_default-clause-step
+returns-in_default-clause-step c = c.close.ensures.step c.args.seat (feeds_of c.args.self.now.feeds)
+
+pub returns-in_default-clause-served : goal.returns-in_default-clause-served
+returns-in_default-clause-served c = unclosed c.args.self.now (record c.args.self.now { rules = c.close.new.self }) c.args.seat c.args.to c.close.result c.in_default.not-Closed (refl, refl)

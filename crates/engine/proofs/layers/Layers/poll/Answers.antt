@@ -10,7 +10,7 @@ use Rattle.closing.specs.Standing.{closed_in}
 use Rattle.feed.specs.Live.{Live}
 use Rattle.feed.specs.Standing.{IsPolledBy, Standing, behind_or, opened_in, place_in}
 use Rattle.feed.proofs.Serving.{is_moved, others_same, ring_here}
-use Rattle.mvto_rules.specs.Holding.{versions_of}
+use Rattle.mvto_rules.specs.Holding.{closing_of, versions_of}
 use Rattle.engine.specs.Layers.{kept_of}
 use Rattle.engine.specs.Served.{AreServing, IsPolledIn}
 use Rattle.engine.specs.declared.layers.Layers.{Layers}
@@ -18,13 +18,13 @@ use Rattle.engine.proofs.FeedReplies.{IsLeftTold, left_told, others_stay, place_
 use Rattle.engine.proofs.layers.Layers.poll.Goals as goal
 
 abbrev IsTold : Layers → Standing → ℕ → ℕ → ℕ → List Message → Type 0
-IsTold e s' seat f max ms = IsLeftTold (version_in (versions_of e.rules)) (is_committed_in (versions_of e.rules)) e.feeds s' seat f (closed_in e.closing) max ms
+IsTold e s' seat f max ms = IsLeftTold (version_in (versions_of e.rules)) (is_committed_in (versions_of e.rules)) e.feeds s' seat f (closed_in (closing_of e.rules)) max ms
 
-told : (e : Layers) (s' : Standing) (store : Stored) (seat f closed max : ℕ) (ms : List Message) → IsPolledBy store e.feeds s' seat f closed max ms → store ≡ versions_of e.rules → closed ≡ closed_in e.closing → AreServing e → IsTold e s' seat f max ms
+told : (e : Layers) (s' : Standing) (store : Stored) (seat f closed max : ℕ) (ms : List Message) → IsPolledBy store e.feeds s' seat f closed max ms → store ≡ versions_of e.rules → closed ≡ closed_in (closing_of e.rules) → AreServing e → IsTold e s' seat f max ms
 told e s' store seat f closed max ms polled stored at serving =
-    left_told (versions_of e.rules) e.feeds s' seat f (closed_in e.closing) max ms
+    left_told (versions_of e.rules) e.feeds s' seat f (closed_in (closing_of e.rules)) max ms
     (subst (λ n. IsPolledBy (versions_of e.rules) e.feeds s' seat f n max ms) at (subst (λ st. IsPolledBy st e.feeds s' seat f closed max ms) stored polled))
-    (λ l lives off. subst (AreLeft (version_in (versions_of e.rules)) (is_committed_in (versions_of e.rules)) l.place (closed_in e.closing)) (ring_of_live e.feeds f l lives) (serving f l.place (place_of_live e.feeds f l lives) (ap behind_or lives ∙ off)))
+    (λ l lives off. subst (AreLeft (version_in (versions_of e.rules)) (is_committed_in (versions_of e.rules)) l.place (closed_in (closing_of e.rules))) (ring_of_live e.feeds f l lives) (serving f l.place (place_of_live e.feeds f l lives) (ap behind_or lives ∙ off)))
 
 answered : (e : Layers) (s' : Standing) (seat f max : ℕ) (ms : List Message) → IsTold e s' seat f max ms → opened_in s' ≡ opened_in e.feeds → IsAnswered (kept_of e) (kept_of (record e { feeds = s' })) seat (Poll f max) (Messages ms)
 answered e s' seat f max ms is opened =

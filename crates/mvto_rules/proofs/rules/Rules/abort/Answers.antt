@@ -1,7 +1,9 @@
-use Rattle.std.proofs.Common.{subst}
-use Rattle.kept.specs.Changes.{IsAbortedBy}
 use Rattle.mvto_rules.specs.Holding.{holding}
+use Rattle.mvto_rules.proofs.Replies.{abort_done, abort_refused}
 use Rattle.mvto_rules.proofs.rules.Rules.abort.Goals as goal
 
-pub returns-in-Ok-clause-aborted : goal.returns-in-Ok-clause-aborted
-returns-in-Ok-clause-aborted c = λ k e. subst (λ t. IsAbortedBy (holding k c.args.self.now) (holding k c.take_back.new.self) t) c.in-Ok.ensures.ok (c.take_back.ensures k)
+pub returns-in-Err : goal.returns-in-Err
+returns-in-Err c = record { step = λ k. abort_refused (holding k c.args.self.now) c.args.seat c.args.ts c.in-Err.refusal (c.in-Err.ensures.err k) }
+
+pub returns-in-Ok : goal.returns-in-Ok
+returns-in-Ok c = record { step = λ k. abort_done (holding k c.args.self.now) (holding k c.take_back.new.self) c.args.seat c.args.ts c.in-Ok.ts c.in-Ok.ensures.ok (c.in-Ok.ensures.none k) (c.take_back.ensures k) }

@@ -1,8 +1,5 @@
-use Rattle.mvto_rules.proofs.Scanning.{keys_are}
+use Rattle.mvto_rules.proofs.Replies.{tried_so}
 use Rattle.mvto_rules.proofs.rules.Rules.scan_at.Goals as goal
 
-pub returns-clause-keys : goal.returns-clause-keys
-returns-clause-keys c = λ k. keys_are k c.args.self.now c.args.span.now c.rows_at.ensures.rising c.rows_at.ensures.filled
-
-pub returns-in_err-rows-clause-keys : goal.returns-in_err-rows-clause-keys
-returns-in_err-rows-clause-keys c = λ k. keys_are k c.args.self.now c.args.span.now c.rows_at.ensures.rising c.rows_at.ensures.filled
+pub returns : goal.returns
+returns c = record { step = tried_so c.args.self.now c.args.self.now _ c.try_scan_at.result c.or_no_memory.result c.or_no_memory.ensures.ok c.or_no_memory.ensures.err c.try_scan_at.ensures.answered c.try_scan_at.ensures.wanting }

@@ -1,23 +1,9 @@
-use Rattle.std.proofs.Common.{ap, false, subst}
 use Rattle.std.specs.Option.{option_copied}
-use Rattle.spans.specs.Legal.{is_accepted}
-use Rattle.spans.specs.declared.calls.replies.Reply.TheVariants.{Written}
-use Rattle.kept.specs.Changes.{IsAbortedBy, IsWritten}
-use Rattle.kept.specs.Marks.{IsLate}
-use Rattle.kept.specs.Replies.{unless_refused}
-use Rattle.mvto_rules.specs.Holding.{holding}
-use Rattle.mvto_rules.proofs.Noting.{any_err}
+use Rattle.mvto_rules.proofs.Replies.{write_steps}
 use Rattle.mvto_rules.proofs.rules.Rules.write.Goals as goal
 
-pub returns-then-is_too_late-clause-too_late : goal.returns-then-is_too_late-clause-too_late
-returns-then-is_too_late-clause-too_late c = λ k e. subst (λ t. IsAbortedBy (holding k c.args.self.now) (holding k c.take_back.new.self) t) c.in-Ok.ensures.ok (c.take_back.ensures k)
-
-pub returns-clause-written : goal.returns-clause-written
-returns-clause-written c = λ k e. subst (λ t. IsWritten (holding k c.args.self.now) (holding k c.store_version.new.self) t c.args.key.now (option_copied c.args.after)) c.in-Ok.ensures.ok (c.in_ok-store_version.ensures.ok k)
-
-pub returns-in_err-store_version-clause-accepted : goal.returns-in_err-store_version-clause-accepted
-returns-in_err-store_version-clause-accepted c = any_err c.from_residual.result (λ k at. (
-  false,
-  (λ free. subst (IsLate (holding k c.args.self.now) c.args.key.now c.args.ts) c.if-is_too_late.false (subst (λ t. IsLate (holding k c.args.self.now) c.args.key.now t c.is_too_late.result) c.in-Ok.ensures.ok (c.is_too_late.ensures k))),
-  ap (λ o. is_accepted (unless_refused o Written)) (c.in-Ok.ensures.none k at),
-))
+pub returns : goal.returns
+returns c = record {
+  step = write_steps c.args.self.now c.try_write.new.self c.args.seat c.args.ts c.args.key.now (option_copied c.args.after) c.try_write.result c.or_no_memory.result c.or_no_memory.ensures.ok c.or_no_memory.ensures.err
+      c.try_write.ensures.reply c.try_write.ensures.written c.try_write.ensures.too_late c.try_write.ensures.refused c.try_write.ensures.err c.try_write.ensures.accepted;
+}

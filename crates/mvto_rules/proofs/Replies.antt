@@ -1,0 +1,184 @@
+-- What the reply to each command of a transaction changes, by what was found for it.
+use Rattle.std.proofs.Common.{Bool, Err, List, None, Ok, Option, Result, Some, ap, cond, false, inl, inr, length, refl, subst, sym, true, ℕ, ◌⊎◌, ◌∷◌, ◌≡◌, ◌∙◌, []}
+use Rattle.std.specs.Prelude.{IfOk, OnErr, is_some, map, nat_le, not}
+use Rattle.spans.specs.Answer.{first_refusal_or, is_timestamp}
+use Rattle.spans.specs.Effects.{After, effect}
+use Rattle.spans.specs.Kept.{Kept}
+use Rattle.spans.specs.Keys.{pairs_of}
+use Rattle.spans.specs.Legal.{is_accepted}
+use Rattle.spans.specs.declared.calls.commands.Cmd.{Cmd}
+use Rattle.spans.specs.declared.calls.commands.Cmd.TheVariants.{Abort, Begin, Commit, Del, Get, Put, Scan}
+use Rattle.spans.specs.declared.calls.replies.Refusal.{Refusal}
+use Rattle.spans.specs.declared.calls.replies.Refusal.TheVariants.{BelowClosed, Blocked, NoMemory, TooLate, TsRange, TsUsed}
+use Rattle.spans.specs.declared.calls.replies.Reply.{Reply}
+use Rattle.spans.specs.declared.calls.replies.Reply.TheVariants.{Aborted, Committed, Found, Refused, Rows, Started, Written}
+use Rattle.spans.specs.declared.span.Span.{Span}
+use Rattle.spans.proofs.Steps.{by_test}
+use Rattle.kept.specs.Answered.{IsAnswered, IsChangedBy, IsScanReply, IsStep, IsWanting, IsWriteReply}
+use Rattle.kept.specs.Changes.{IsAbortedBy, IsAlike, IsBegun, IsCommittedBy, IsReadBy, IsScannedBy, IsWritten}
+use Rattle.kept.specs.Finding.{AreKeysOf, is_seen_blocked, seen}
+use Rattle.kept.specs.Leading.{Pairs}
+use Rattle.kept.specs.Marks.{IsLate}
+use Rattle.kept.specs.Replies.{begin_reply, get_reply, scan_reply, unless_refused, write_reply}
+use Rattle.kept.specs.Table.{keys_of, refusal}
+use Rattle.kept.proofs.Staying.{alike_self}
+use Rattle.mvto_rules.specs.Accepting.{IsScanAccepted, IsWriteAccepted}
+use Rattle.mvto_rules.specs.Holding.{Changes, Holds, Stays, StaysIfRefused, Steps, holding, write_of}
+use Rattle.mvto_rules.specs.declared.rules.Rules.{Rules}
+
+-- a refusal, or the other reply
+abbrev IsEither : Reply → Reply → Type 0
+IsEither r ok = ((q : Refusal) × (r ≡ Refused q)) ⊎ (r ≡ ok)
+
+either_tests : (tests : List (Bool × Refusal)) (reply : Reply) → IsEither (first_refusal_or tests reply) reply
+either_tests [] reply = inr refl
+either_tests (test ∷ tests) reply = by_test test.0
+    (λ on. inl (test.1, ap (λ b. cond b (Refused test.1) (first_refusal_or tests reply)) on))
+    (λ off. elim (either_tests tests reply) [
+      | inl m ↦ inl (m.0, ap (λ b. cond b (Refused test.1) (first_refusal_or tests reply)) off ∙ m.1)
+      | inr e ↦ inr (ap (λ b. cond b (Refused test.1) (first_refusal_or tests reply)) off ∙ e)
+    ])
+
+-- one after the other
+either_both : (o : Option Refusal) (reply ok : Reply) → IsEither reply ok → IsEither (unless_refused o reply) ok
+either_both None reply ok either = either
+either_both (Some q) reply ok either = inl (q, refl)
+
+from_either : (P : Reply → Type 0) (r r' ok : Reply) → r ≡ r' → IsEither r' ok → ((q : Refusal) → r ≡ Refused q → P (Refused q)) → (r ≡ ok → P ok) → P r
+from_either P r r' ok is either refused accepted = elim either [
+  | inl m ↦ subst P (sym (is ∙ m.1)) (refused m.0 (is ∙ m.1))
+  | inr e ↦ subst P (sym (is ∙ e)) (accepted (is ∙ e))
+]
+
+begin_answered : (k k' : Kept) (seat t : ℕ) (r : Reply) → r ≡ begin_reply k t → (r ≡ Started → IsBegun k k' t seat) → ((q : Refusal) → r ≡ Refused q → IsAlike k k') → IsAnswered k k' seat (Begin t) r
+begin_answered k k' seat t r is begun refused = record {
+  right = is;
+  change = from_either (λ r. IsChangedBy k k' (effect seat (Begin t) r)) r (begin_reply k t) Started is (either_tests ((not (is_timestamp t), TsRange) ∷ (nat_le t k.closed, BelowClosed k.closed) ∷ (is_some (k.transaction t), TsUsed) ∷ []) Started) refused begun;
+}
+
+get_answered : (k k' : Kept) (seat t : ℕ) (x : List ℕ) (r : Reply) → r ≡ get_reply k seat t x → ((v : After) → r ≡ Found v → IsReadBy k k' t x) → ((q : Refusal) → r ≡ Refused q → IsAlike k k') → IsAnswered k k' seat (Get t x) r
+get_answered k k' seat t x r is read refused = record {
+  right = is;
+  change = from_either (λ r. IsChangedBy k k' (effect seat (Get t x) r)) r (get_reply k seat t x) (Found (seen k x t).after) is (either_both (refusal k seat t) _ _ either) refused (read (seen k x t).after);
+}
+  where
+    either : IsEither (cond (is_seen_blocked k x t) (Refused (Blocked (seen k x t).ts)) (Found (seen k x t).after)) (Found (seen k x t).after)
+    either = by_test (is_seen_blocked k x t)
+        (λ on. inl (Blocked (seen k x t).ts, ap (λ b. cond b (Refused (Blocked (seen k x t).ts)) (Found (seen k x t).after)) on))
+        (λ off. inr (ap (λ b. cond b (Refused (Blocked (seen k x t).ts)) (Found (seen k x t).after)) off))
+
+scan_answered : (k k' : Kept) (seat t : ℕ) (span : Span) (keys : List (List ℕ)) (r : Reply) → (refusal k seat t ≡ None → AreKeysOf k span keys) → r ≡ scan_reply k seat t keys
+    → ((rows : List (List ℕ × List ℕ)) → r ≡ Rows rows → IsScannedBy k k' t span) → ((q : Refusal) → r ≡ Refused q → IsAlike k k') → IsAnswered k k' seat (Scan t span) r
+scan_answered k k' seat t span keys r are is read refused = record {
+  right = (keys, are, is);
+  change = from_either (λ r. IsChangedBy k k' (effect seat (Scan t span) r)) r (scan_reply k seat t keys) (Rows (pairs_of (λ x. (seen k x t).after) keys)) is
+      (either_both (refusal k seat t) _ _ (either_tests (map (λ x. (is_seen_blocked k x t, Blocked (seen k x t).ts)) keys) (Rows (pairs_of (λ x. (seen k x t).after) keys)))) refused (read (pairs_of (λ x. (seen k x t).after) keys));
+}
+
+write_either : (k : Kept) (seat t : ℕ) (late : Bool) → IsEither (write_reply k seat t late) Written
+write_either k seat t late = either_both (refusal k seat t) _ _ (either late)
+  where
+    either : (b : Bool) → IsEither (cond b (Refused TooLate) Written) Written
+    either true = inl (TooLate, refl)
+    either false = inr refl
+
+put_refused : (k k' : Kept) (seat t : ℕ) (x v : List ℕ) (q : Refusal) → (q ≡ TooLate → IsAbortedBy k k' t) → ((q ≡ TooLate → ⊥) → IsAlike k k') → IsChangedBy k k' (effect seat (Put t x v) (Refused q))
+put_refused k k' seat t x v TooLate late other = late refl
+put_refused k k' seat t x v (_) late other = other (λ e. cc)
+
+del_refused : (k k' : Kept) (seat t : ℕ) (x : List ℕ) (q : Refusal) → (q ≡ TooLate → IsAbortedBy k k' t) → ((q ≡ TooLate → ⊥) → IsAlike k k') → IsChangedBy k k' (effect seat (Del t x) (Refused q))
+del_refused k k' seat t x TooLate late other = late refl
+del_refused k k' seat t x (_) late other = other (λ e. cc)
+
+put_answered : (k k' : Kept) (seat t : ℕ) (x v : List ℕ) (r : Reply) → (late : Bool) × (refusal k seat t ≡ None → IsLate k x t late) × (r ≡ write_reply k seat t late)
+    → (r ≡ Written → IsWritten k k' t x (Some v)) → (r ≡ Refused TooLate → IsAbortedBy k k' t) → ((q : Refusal) → r ≡ Refused q → (q ≡ TooLate → ⊥) → IsAlike k k') → IsAnswered k k' seat (Put t x v) r
+put_answered k k' seat t x v r is written late refused = record {
+  right = is;
+  change = from_either (λ r. IsChangedBy k k' (effect seat (Put t x v) r)) r (write_reply k seat t is.0) Written is.2 (write_either k seat t is.0) (λ q e. put_refused k k' seat t x v q (λ s. late (e ∙ ap Refused s)) (refused q e)) written;
+}
+
+del_answered : (k k' : Kept) (seat t : ℕ) (x : List ℕ) (r : Reply) → (late : Bool) × (refusal k seat t ≡ None → IsLate k x t late) × (r ≡ write_reply k seat t late)
+    → (r ≡ Written → IsWritten k k' t x None) → (r ≡ Refused TooLate → IsAbortedBy k k' t) → ((q : Refusal) → r ≡ Refused q → (q ≡ TooLate → ⊥) → IsAlike k k') → IsAnswered k k' seat (Del t x) r
+del_answered k k' seat t x r is written late refused = record {
+  right = is;
+  change = from_either (λ r. IsChangedBy k k' (effect seat (Del t x) r)) r (write_reply k seat t is.0) Written is.2 (write_either k seat t is.0) (λ q e. del_refused k k' seat t x q (λ s. late (e ∙ ap Refused s)) (refused q e)) written;
+}
+
+-- what was tried is a step, where it is answered or memory was wanting
+pub tried_so : {E : Type 0} (r r' : Rules) (cmd : Cmd) (o : Result Reply E) (reply : Reply) → IfOk o (λ a. reply ≡ a) → OnErr o (reply ≡ Refused NoMemory)
+    → IfOk o (λ a. (seat : ℕ) → Changes r r' (λ k k'. IsAnswered k k' seat cmd a)) → OnErr o ((seat : ℕ) → Changes r r' (λ k k'. IsWanting k k' seat cmd)) → (seat : ℕ) → Steps r r' seat cmd reply
+tried_so r r' cmd (Ok a) reply same none answered wanting = λ seat k. inl (subst (IsAnswered (holding k r) (holding k r') seat cmd) (sym same) (answered seat k))
+tried_so r r' cmd (Err e) reply same none answered wanting = λ seat k. inr (none, (wanting seat k))
+
+-- what the tests of its transaction refuse
+
+pub get_refused : (k : Kept) (seat t : ℕ) (x : List ℕ) (q : Refusal) → refusal k seat t ≡ Some q → Refused q ≡ get_reply k seat t x
+get_refused k seat t x q is = sym (ap (λ o. unless_refused o (cond (is_seen_blocked k x t) (Refused (Blocked (seen k x t).ts)) (Found (seen k x t).after))) is)
+
+pub write_refused : (k : Kept) (seat t : ℕ) (x : List ℕ) (q : Refusal) → refusal k seat t ≡ Some q → IsWriteReply k seat t x (Refused q)
+write_refused k seat t x q is = (false, (λ free. (let no : None ≡ Some q = sym free ∙ is in cc)), sym (ap (λ o. unless_refused o Written) is))
+
+-- the test of the marks decides
+pub write_tested : (k : Kept) (seat t : ℕ) (x : List ℕ) (late : Bool) → refusal k seat t ≡ None → IsLate k x t late → IsWriteReply k seat t x (cond late (Refused TooLate) Written)
+write_tested k seat t x late free is = (late, (λ none. is), sym (ap (λ o. unless_refused o (cond late (Refused TooLate) Written)) free))
+
+pub begin_steps : {E : Type 0} (r r' : Rules) (seat t : ℕ) (o : Result Reply E) (reply : Reply) → IfOk o (λ a. reply ≡ a) → OnErr o (reply ≡ Refused NoMemory)
+    → IfOk o (λ a. Holds r (λ k. a ≡ begin_reply k t)) → IfOk o (λ a. Changes r r' (λ k k'. a ≡ Started → IsBegun k k' t seat)) → IfOk o (StaysIfRefused r r')
+    → OnErr o (Stays r r') → OnErr o (Holds r (λ k. is_accepted (begin_reply k t) ≡ true)) → Steps r r' seat (Begin t) reply
+begin_steps r r' seat t (Ok a) reply same none right begun refused alike accepted = λ k.
+    inl (subst (IsAnswered (holding k r) (holding k r') seat (Begin t)) (sym same) (begin_answered (holding k r) (holding k r') seat t a (right k) (begun k) (refused k)))
+begin_steps r r' seat t (Err e) reply same none right begun refused alike accepted = λ k.
+    inr (none, (record { may = refl; accepting = (begin_reply (holding k r) t, refl, accepted k); alike = alike k }))
+
+pub get_steps : {E : Type 0} (r r' : Rules) (seat t : ℕ) (x : List ℕ) (o : Result Reply E) (reply : Reply) → IfOk o (λ a. reply ≡ a) → OnErr o (reply ≡ Refused NoMemory)
+    → IfOk o (λ a. Holds r (λ k. a ≡ get_reply k seat t x)) → IfOk o (λ a. Changes r r' (λ k k'. (v : After) → a ≡ Found v → IsReadBy k k' t x)) → IfOk o (StaysIfRefused r r')
+    → OnErr o (Stays r r') → OnErr o (Holds r (λ k. is_accepted (get_reply k seat t x) ≡ true)) → Steps r r' seat (Get t x) reply
+get_steps r r' seat t x (Ok a) reply same none right read refused alike accepted = λ k.
+    inl (subst (IsAnswered (holding k r) (holding k r') seat (Get t x)) (sym same) (get_answered (holding k r) (holding k r') seat t x a (right k) (read k) (refused k)))
+get_steps r r' seat t x (Err e) reply same none right read refused alike accepted = λ k.
+    inr (none, (record { may = refl; accepting = (get_reply (holding k r) seat t x, refl, accepted k); alike = alike k }))
+
+pub scan_steps : {E : Type 0} (r r' : Rules) (seat t : ℕ) (span : Span) (o : Result Reply E) (reply : Reply) → IfOk o (λ a. reply ≡ a) → OnErr o (reply ≡ Refused NoMemory)
+    → IfOk o (λ a. Holds r (λ k. IsScanReply k seat t span a)) → IfOk o (λ a. Changes r r' (λ k k'. (rows : Pairs) → a ≡ Rows rows → IsScannedBy k k' t span)) → IfOk o (StaysIfRefused r r')
+    → OnErr o (Stays r r') → OnErr o (Holds r (λ k. IsScanAccepted k seat t span)) → Steps r r' seat (Scan t span) reply
+scan_steps r r' seat t span (Ok a) reply same none right read refused alike accepted = λ k.
+    let found = right k in
+    inl (subst (IsAnswered (holding k r) (holding k r') seat (Scan t span)) (sym same) (scan_answered (holding k r) (holding k r') seat t span found.0 a found.1 found.2 (read k) (refused k)))
+scan_steps r r' seat t span (Err e) reply same none right read refused alike accepted = λ k.
+    let found = accepted k in
+    inr (none, (record { may = refl; accepting = (scan_reply (holding k r) seat t found.0, (found.0, found.1, refl), found.2); alike = alike k }))
+
+write_answered : (k k' : Kept) (seat t : ℕ) (x : List ℕ) (a : After) (r : Reply) → IsWriteReply k seat t x r
+    → (r ≡ Written → IsWritten k k' t x a) → (r ≡ Refused TooLate → IsAbortedBy k k' t) → ((q : Refusal) → r ≡ Refused q → (q ≡ TooLate → ⊥) → IsAlike k k') → IsAnswered k k' seat (write_of t x a) r
+write_answered k k' seat t x None r is written late refused = del_answered k k' seat t x r is written late refused
+write_answered k k' seat t x (Some v) r is written late refused = put_answered k k' seat t x v r is written late refused
+
+write_wanting : (k k' : Kept) (seat t : ℕ) (x : List ℕ) (a : After) → IsWriteAccepted k seat t x → IsAlike k k' → IsWanting k k' seat (write_of t x a)
+write_wanting k k' seat t x None is alike = record { may = refl; accepting = (write_reply k seat t is.0, (is.0, is.1, refl), is.2); alike = alike }
+write_wanting k k' seat t x (Some v) is alike = record { may = refl; accepting = (write_reply k seat t is.0, (is.0, is.1, refl), is.2); alike = alike }
+
+pub write_steps : {E : Type 0} (r r' : Rules) (seat t : ℕ) (x : List ℕ) (a : After) (o : Result Reply E) (reply : Reply) → IfOk o (λ b. reply ≡ b) → OnErr o (reply ≡ Refused NoMemory)
+    → IfOk o (λ b. Holds r (λ k. IsWriteReply k seat t x b)) → IfOk o (λ b. Changes r r' (λ k k'. b ≡ Written → IsWritten k k' t x a)) → IfOk o (λ b. Changes r r' (λ k k'. b ≡ Refused TooLate → IsAbortedBy k k' t))
+    → IfOk o (λ b. Changes r r' (λ k k'. (q : Refusal) → b ≡ Refused q → (q ≡ TooLate → ⊥) → IsAlike k k'))
+    → OnErr o (Stays r r') → OnErr o (Holds r (λ k. IsWriteAccepted k seat t x)) → Steps r r' seat (write_of t x a) reply
+write_steps r r' seat t x a (Ok b) reply same none right written late refused alike accepted = λ k.
+    inl (subst (IsAnswered (holding k r) (holding k r') seat (write_of t x a)) (sym same) (write_answered (holding k r) (holding k r') seat t x a b (right k) (written k) (late k) (refused k)))
+write_steps r r' seat t x a (Err e) reply same none right written late refused alike accepted = λ k.
+    inr (none, (write_wanting (holding k r) (holding k r') seat t x a (accepted k) (alike k)))
+
+-- ---- the end of a transaction
+
+pub commit_refused : (k : Kept) (seat t : ℕ) (q : Refusal) → refusal k seat t ≡ Some q → IsStep k k seat (Commit t) (Refused q)
+commit_refused k seat t q is = inl (record { right = sym (ap (λ o. unless_refused o (Committed (length (keys_of (k.transaction t))))) is); change = alike_self k })
+
+pub commit_done : (k k' : Kept) (seat t s keys : ℕ) → s ≡ t → refusal k seat t ≡ None → keys ≡ length (keys_of (k.transaction s)) → IsCommittedBy k k' s → IsStep k k' seat (Commit t) (Committed keys)
+commit_done k k' seat t s keys same free counted done = inl (record {
+  right = ap Committed (counted ∙ ap (λ n. length (keys_of (k.transaction n))) same) ∙ sym (ap (λ o. unless_refused o (Committed (length (keys_of (k.transaction t))))) free);
+  change = subst (IsCommittedBy k k') same done;
+})
+
+pub abort_refused : (k : Kept) (seat t : ℕ) (q : Refusal) → refusal k seat t ≡ Some q → IsStep k k seat (Abort t) (Refused q)
+abort_refused k seat t q is = inl (record { right = sym (ap (λ o. unless_refused o Aborted) is); change = alike_self k })
+
+pub abort_done : (k k' : Kept) (seat t s : ℕ) → s ≡ t → refusal k seat t ≡ None → IsAbortedBy k k' s → IsStep k k' seat (Abort t) Aborted
+abort_done k k' seat t s same free done = inl (record { right = sym (ap (λ o. unless_refused o Aborted) free); change = subst (IsAbortedBy k k') same done })
