@@ -12,8 +12,8 @@ ghost use Rattle.shared_db.specs.declared.db.Db.{Db};
 ghost use Rattle.shared_db.specs.Calls.{IsAnswered};
 ghost use Rattle.shared_db.specs.Whole.{IsWhole};
 
-/// What a seat has seen after a call is lawful, and so is the whole history once all seats are back: whatever
-/// `spans::law::law_of_histories` says of a legal history holds of them.
+/// What a seat has seen after a call is lawful, and so is the whole history once all seats are back: each clause of
+/// `spans::law::law_of_histories` holds of both.
 ///
 /// It does nothing. Its contract is the theorem.
 pub fn law_of_seats()
