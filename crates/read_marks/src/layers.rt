@@ -62,6 +62,10 @@ impl Layers {
                 return self.edit_key(patch, ts, forgotten);
             }
         }
+        // where keys are read by scans alone, there is one layer
+        if self.lone.is_empty() {
+            return self.segments.edit(patches, ts, forgotten);
+        }
         self.edit_spans(patches, ts, forgotten)
     }
 

@@ -41,6 +41,10 @@ impl Segments {
     pub(crate) fn readers(&self, key: &SmallBytes) -> Option<&Readers>
         ensures { AreReadersOf self.now key.now result }
     {
+        // where keys are read by gets alone, there is none
+        if self.starts.is_empty() {
+            return None;
+        }
         let (_, readers) = self
             .starts
             .range((Bound::Unbounded, Bound::Included(key)))
