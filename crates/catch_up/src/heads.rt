@@ -1,5 +1,5 @@
 //! The rows after a place, read off the chains of a span's keys.
-ghost use Rattle.std.specs.Prelude.{◌≡◌, ℕ, [], IfOk, MatchOption, OnOk, Some, nat_lt};
+ghost use Rattle.std.specs.Prelude.{◌≡◌, ◌≤◌, ◌+◌, ℕ, [], IfOk, MatchOption, OnOk, Some, length, nat_lt};
 ghost use Rattle.catch_up.specs.Left.{AreNextIn};
 ghost use Rattle.version_chain.specs.Following.{is_before};
 ghost use Rattle.catch_up.specs.Heads.{AreHeads, IsCut, IsFirstDue, IsHeadAdded, IsNoneDue};
@@ -55,7 +55,8 @@ fn heads_after<'a>(
     through: u64,
     n: u64,
 ) -> Result<Heads<'a>, AllocError>
-    ensures { IfOk result (λ heads. AreHeads store.now span.now ts place.now through n [] heads) }
+    ensures heads { IfOk result (λ heads. AreHeads store.now span.now ts place.now through n [] heads) }
+    ensures few { IfOk result (λ heads. length heads.entries ≤ n) }
 {
     let mut heads = BTreeMap::new(alloc);
     for (key, chain) in store.in_span(span) {
@@ -67,7 +68,8 @@ fn heads_after<'a>(
 
 /// Lets the last head go where there are more than `n`, since no row behind the first `n` is asked for.
 fn cut(heads: &mut Heads<'_>, n: u64)
-    ensures { IsCut n heads.old heads.new }
+    ensures cut { IsCut n heads.old heads.new }
+    ensures few { length heads.old.entries ≤ n + 1 → length heads.new.entries ≤ n }
 {
     if heads.len() as u64 <= n {
         return;
@@ -84,7 +86,8 @@ fn add_head<'a>(
     place: &Key,
     through: u64,
 ) -> Result<(), AllocError>
-    ensures { OnOk result (IsHeadAdded key.now chain.now ts place.now through heads.old heads.new) }
+    ensures added { OnOk result (IsHeadAdded key.now chain.now ts place.now through heads.old heads.new) }
+    ensures one { OnOk result (length heads.new.entries ≤ length heads.old.entries + 1) }
 {
     let after = last_passed(key, ts, place);
     if let Some(version) = committed_above(chain, after, through) {
