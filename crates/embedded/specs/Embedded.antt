@@ -1,5 +1,5 @@
 -- What an embedded database holds, and what a call of a line does to it (this project's own).
-use Rattle.std.specs.Prelude.{ℕ, List, [], ◌∷◌, ◌++◌, ◌≡◌, ◌⊎◌, length, take, drop, reverse, Option, Some, None, Result, Ok, Err}
+use Rattle.std.specs.Prelude.{ℕ, List, [], ◌∷◌, ◌≡◌, ◌⊎◌, length, reverse, Option, Some, None, Result, Ok, Err}
 use Rattle.spans.specs.declared.calls.commands.Cmd.{Cmd}
 use Rattle.spans.specs.declared.calls.events.Event.{Event}
 use Rattle.spans.specs.Legal.{IsLegal, IsGapless}
@@ -80,7 +80,3 @@ pub record HasStepped (h : List Event) (by : ℕ) (cmd : Cmd) (new : Database) :
   pub seat : event.seat ≡ by
   pub command : event.cmd ≡ cmd
   pub text : IsUnwritten new
-
--- the text stands at the front of the bytes, as far as there is room, the other bytes are as they were, and its whole length is told
-abbrev pub Copied : List ℕ → (old new : List ℕ) → ℕ → Type 0
-Copied text old new told = (told ≡ length text) × (new ≡ take (length old) text ++ drop (length text) old)

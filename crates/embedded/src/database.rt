@@ -6,10 +6,11 @@ ghost use Rattle.text_format.specs.declared.Format.TheVariants.{Two};
 ghost use Rattle.word_lines.specs.Memory.{WantsMemory, verb_at};
 ghost use Rattle.word_lines.specs.Table.{table};
 ghost use Rattle.embedded.specs.declared.database.CallError.TheVariants.{NoMemory};
-ghost use Rattle.embedded.specs.Embedded.{StandsFor, HasLast, HasStepped, IsWritten, IsUnwritten, Called, Copied, last_of, kept_text, steps_in};
+ghost use Rattle.embedded.specs.Embedded.{StandsFor, HasLast, HasStepped, IsWritten, IsUnwritten, Called, last_of, kept_text, steps_in};
+ghost use Rattle.json_lines.specs.Writing.{Copied};
 
-use crate::copy::copy_front;
 use engine::Engine;
+use json_lines::buffer::copy_front;
 use spans::calls::{Cmd, Event};
 use std::alloc::{AllocError, Global};
 use text_format::Format;

@@ -33,9 +33,7 @@
 //! Tests: `embed/test`, `embed/random`, outside the gate.
 #![tactic(auto)]
 
-mod copy;
 mod database;
 mod state;
 
-pub use copy::copy_front;
 pub use database::{CallError, Database};

@@ -1,5 +1,5 @@
 -- What a consumer that is called by text holds, and what each call does to it (this project's own).
-use Rattle.std.specs.Prelude.{ℕ, List, [], Bool, true, false, ◌≡◌, ◌≢◌, ◌⊎◌, ◌<◌, nat_le, length, take, drop, ◌++◌, flat_map, if◌then◌else◌, Option, Some, None, option_and_then, Ok, Err}
+use Rattle.std.specs.Prelude.{ℕ, List, [], Bool, true, false, ◌≡◌, ◌≢◌, ◌⊎◌, ◌<◌, ◌≤◌, nat_le, length, flat_map, if◌then◌else◌, Option, Some, None, option_and_then, Ok, Err}
 use Rattle.timestamps.specs.declared.ts.TheConstants.{MAX}
 use Rattle.timestamps.specs.declared.key.TheConstants.{MAX_KEY_BYTES}
 use Rattle.timestamps.specs.declared.key.KeyError.{KeyError}
@@ -11,8 +11,10 @@ use Rattle.spans.specs.declared.calls.messages.Message.{Message}
 use Rattle.text_format.specs.declared.Format.TheVariants.{Two}
 use Rattle.json_lines.specs.declared.fault.MessageFault.{MessageFault}
 use Rattle.json_lines.specs.declared.fault.MessageFault.TheVariants as lines
+use Rattle.json_lines.specs.Memory.{MayWantMemory}
 use Rattle.json_lines.specs.Messages.{IsMessage, message_line}
 use Rattle.json_lines.specs.Tests.{message_at}
+use Rattle.json_lines.specs.Writing.{Copied}
 use Rattle.word_lines.specs.Memory.{WantsMemory, verb_at}
 use Rattle.word_lines.specs.Reading.{command_at}
 use Rattle.word_lines.specs.Replies.{row_line}
@@ -95,9 +97,9 @@ pub record HasRefused (line : List ℕ) (old : Replica) (fault : Fault) : Type 0
   pub test : IsFaultAt old message (test_of fault)
   pub memory : fault ≡ faults.NoMemory → AddsValue message
 
--- the line is no message's, by the first test that it doesn't pass, or memory is wanting
+-- the line is no message's, by the first test that it doesn't pass, or memory is wanting to a line that may want it
 abbrev pub IsNoMessage : List ℕ → MessageFault → Type 0
-IsNoMessage line fault = fault ≢ lines.NoMemory → message_at Two line ≡ Err fault
+IsNoMessage line fault = (fault ≢ lines.NoMemory → message_at Two line ≡ Err fault) × (fault ≡ lines.NoMemory → MayWantMemory line)
 
 -- the timestamp at which the rows are the map, where the line's message shows it
 pub record IsReady (line : List ℕ) (r : Replica) (at : Option ℕ) : Type 0 where
@@ -110,22 +112,23 @@ abbrev pub IsRefused : List ℕ → Replica → TakeError → Type 0
 IsRefused line old (takes.Line fault) = IsNoMessage line fault
 IsRefused line old (takes.Message fault) = HasRefused line old fault
 
--- the bytes are too few or too many for a key, or memory is wanting
+-- the bytes are a key: 1 to 256 of them
+abbrev pub AreKey : List ℕ → Type 0
+AreKey bytes = (1 ≤ length bytes) × (length bytes ≤ MAX_KEY_BYTES)
+
+-- the bytes are too few or too many for a key, or memory is wanting to a key of more than 24
 abbrev pub IsNoKey : List ℕ → KeyError → Type 0
-IsNoKey key KeyLength = (length key ≡ 0) ⊎ (MAX_KEY_BYTES < length key)
-IsNoKey key NoMemory = Unit {0}
+IsNoKey bytes KeyLength = (length bytes ≡ 0) ⊎ (MAX_KEY_BYTES < length bytes)
+IsNoKey bytes NoMemory = (24 < length bytes) × AreKey bytes
 
--- the text stands at the front of the bytes, as far as there is room, the other bytes are as they were, and its whole length is told
-abbrev pub IsShown : List ℕ → (before after : List ℕ) → ℕ → Type 0
-IsShown text before after told = (told ≡ length text) × (after ≡ take (length before) text ++ drop (length text) before)
-
--- the value that the replica has at the key is shown, as far as there is room, or there is none, and nothing is
+-- the value that the replica has at the key is shown, as far as there is room, or there is none at these bytes, which are a key,
+-- and nothing is shown
 abbrev pub Shows : Replica → List ℕ → (before after : List ℕ) → Option ℕ → Type 0
-Shows r key before after None = (view_in r key ≡ None) × (after ≡ before)
-Shows r key before after (Some n) = (value : List ℕ) × (view_in r key ≡ Some value) × IsShown value before after n
+Shows r key before after None = AreKey key × (view_in r key ≡ None) × (after ≡ before)
+Shows r key before after (Some n) = (value : List ℕ) × (view_in r key ≡ Some value) × Copied value before after n
 
 -- the lines of all rows are shown, as far as there is room, keys rising
 pub record ShowsRows (r : Replica) (before after : List ℕ) (n : ℕ) : Type 0 where
   pub rows : List (List ℕ × List ℕ)
   pub all : AreRowsOf (view_in r) rows
-  pub shown : IsShown (flat_map row_line rows) before after n
+  pub shown : Copied (flat_map row_line rows) before after n

@@ -4,7 +4,8 @@ ghost use Rattle.replica.specs.Replicas.{through_in, complete_in, Follows};
 ghost use Rattle.replica.specs.Starts.{seeded_start};
 ghost use Rattle.embedded_replica.specs.Consumers.{replica_of, opening_of, OpensFeed, Begins, BeginsBy, IsUnopened, HasTaken, IsRefused, IsReady, IsNoMessage, IsNoKey, Shows, ShowsRows};
 
-use crate::showing::{show, text_of};
+use crate::showing::text_of;
+use json_lines::buffer::copy_front;
 use json_lines::{MessageFault, read_message};
 use replica::{Fault, Replica};
 use spans::calls::{Cmd, Message};
@@ -112,7 +113,7 @@ impl Consumer {
         let key = Key::new(self.alloc, key)?;
         match self.replica.get(&key) {
             None => Ok(None),
-            Some(value) => Ok(Some(show(value.bytes(), out))),
+            Some(value) => Ok(Some(copy_front(value.bytes(), out))),
         }
     }
 
@@ -122,7 +123,7 @@ impl Consumer {
         ensures err { OnErr result (out.new ≡ out.old) }
     {
         let text = text_of(self.alloc, self.replica.rows())?;
-        Ok(show(text.as_slice(), out))
+        Ok(copy_front(text.as_slice(), out))
     }
 }
 
@@ -196,9 +197,8 @@ fn empty(alloc: Global, span: Span, cursor: u64) -> Result<Replica, AllocError>
 {
     match Replica::new(alloc, span, cursor, Vec::new(alloc)) {
         Ok(replica) => Ok(replica),
+        Err(Fault::NoMemory) => Err(AllocError),
         // no rows are no fault
-        Err(Fault::NoMemory | Fault::NotAfter | Fault::OutsideSpan | Fault::ResolvedBack) => {
-            Err(AllocError)
-        }
+        Err(Fault::NotAfter | Fault::OutsideSpan | Fault::ResolvedBack) => unreachable!(),
     }
 }

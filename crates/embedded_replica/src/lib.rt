@@ -25,8 +25,9 @@
 //! - `rows`: the text of all rows
 //! - `complete_through`, `at_resolved`: O(1)
 //!
-//! `open`, `take` and `ready` take memory for what their line has, `take` for a row with a value once more, `get` for
-//! its key, and `rows` for its text, which is given back at once.
+//! `open`, `take` and `ready` take memory for what their line has, and none for a resolved message. `take` takes it for
+//! a row with a value once more, `get` for a key of more than 24 bytes, and `rows` for its text, which is given back at
+//! once.
 //!
 //! Tests: those of the wrappers in `embed`, by the built library.
 #![tactic(auto)]

@@ -1,6 +1,5 @@
-//! Texts that are shown to a program.
+//! The rows of a replica as text.
 ghost use Rattle.std.specs.Prelude.{◌≡◌, ◌++◌, OnOk, flat_map, IfOk};
-ghost use Rattle.embedded_replica.specs.Consumers.{IsShown};
 ghost use Rattle.word_lines.specs.Replies.{row_line};
 
 use replica::Rows;
@@ -8,19 +7,6 @@ use std::alloc::{AllocError, Global};
 use timestamps::key::Key;
 use timestamps::value::Value;
 use word_lines::spelling::put_spelling;
-
-/// Copies a text as far as there is room, and tells its whole length.
-pub(crate) fn show(text: &[u8], out: &mut [u8]) -> usize
-    ensures { IsShown text.now out.old out.new result }
-{
-    let count = if text.len() < out.len() {
-        text.len()
-    } else {
-        out.len()
-    };
-    out[..count].copy_from_slice(&text[..count]);
-    text.len()
-}
 
 /// The lines of rows.
 pub(crate) fn text_of(alloc: Global, rows: Rows<'_>) -> Result<Vec<u8>, AllocError>
