@@ -38,21 +38,13 @@ module _ (format : Format) where
   pub line_misread : (taking : Bool) (line : List ℕ) (f : LineFault) → text_at format line ≡ Err f → line_at format taking line ≡ Err (error_of_line f)
   line_misread taking line f e = ap (said_by format taking line) e
 
-  -- it is none to take
-  pub line_passed : (taking : Bool) (line text : List ℕ) → text_at format line ≡ Ok text → is_chosen taking text ≡ false → line_at format taking line ≡ Ok None
-  line_passed taking line text e off = ap (said_by format taking line) e ∙ ap (λ (b : Bool). cond b (chosen_at (message_at format line)) (Ok None)) off
-
+  -- it is one to take
   line_chosen : (taking : Bool) (line text : List ℕ) → text_at format line ≡ Ok text → is_chosen taking text ≡ true → line_at format taking line ≡ chosen_at (message_at format line)
   line_chosen taking line text e on = ap (said_by format taking line) e ∙ ap (λ (b : Bool). cond b (chosen_at (message_at format line)) (Ok None)) on
 
   -- it is a message's
   pub line_message : (taking : Bool) (line text : List ℕ) (m : Message) → text_at format line ≡ Ok text → is_chosen taking text ≡ true → (line ≡ message_line m) × IsMessage format m → line_at format taking line ≡ Ok (Some m)
   line_message taking line text m e on is = line_chosen taking line text e on ∙ ap chosen_at (ap (message_at format) is.0 ∙ line_is_message format m is.1)
-
-  -- it is none, or memory was wanted
-  pub line_refused : (taking : Bool) (line text : List ℕ) (f : MessageFault) → text_at format line ≡ Ok text → is_chosen taking text ≡ true → (f ≢ message.NoMemory → message_at format line ≡ Err f) → error_of_message f ≢ errors.NoMemory
-      → line_at format taking line ≡ Err (error_of_message f)
-  line_refused taking line text f e on first some = line_chosen taking line text e on ∙ ap chosen_at (first (λ none. some (ap error_of_message none)))
 
 -- ---- the first line of what waits
 
@@ -63,11 +55,10 @@ known_first xs more none some = by_place (position is_newline more) refl
     by_place None lacks = (more, lines_of [], lines_alone (xs ++ more) (let l = length-append xs more in omega arith) (newline_lacks xs more none lacks))
     by_place (Some at) is =
         let cut = lines_first (xs ++ more) (length xs + at) (newline_comes xs more at none is) in
-        let n : length xs + at + 1 ≡ length xs + (at + 1) = omega arith in
-        (
+        let n : length xs + at + 1 ≡ length xs + (at + 1) = omega arith in (
           take (at + 1) more,
           lines_of (drop (length xs + at + 1) (xs ++ more)),
-          cut ∙ ap (λ (l : List ℕ). l ∷ lines_of (drop (length xs + at + 1) (xs ++ more))) (ap (λ (k : ℕ). take k (xs ++ more)) n ∙ take-append-add xs more (at + 1))
+          cut ∙ ap (λ (l : List ℕ). l ∷ lines_of (drop (length xs + at + 1) (xs ++ more))) (ap (λ (k : ℕ). take k (xs ++ more)) n ∙ take-append-add xs more (at + 1)),
         )
 
 newline_none : (xs : List ℕ) → None ≡ position is_newline xs → length xs ≤ position_or_len is_newline xs
@@ -152,12 +143,14 @@ module _ (format : Format) where
   line_ahead n l text within (inl h) e =
       let ws = waiting l in
       let size : length (take n ws) ≡ n = length-take-le n ws within in
-      let next : h.0 + 1 ≡ length (take n ws) = sym h.2 ∙ sym size in
-      ((let q = h.2 in omega arith), λ more.
-      let cut = lines_first (take n ws ++ more) h.0 (newline_stays (take n ws) more h.0 (front_at n h.0 ws within h.1 h.2)) in
-      let front : take (h.0 + 1) (take n ws ++ more) ≡ take n ws = ap (λ (k : ℕ). take k (take n ws ++ more)) next ∙ take-append_seam (take n ws) more in
-      let back : drop (h.0 + 1) (take n ws ++ more) ≡ more = ap (λ (k : ℕ). drop k (take n ws ++ more)) next ∙ drop-append_seam (take n ws) more in
-      cut ∙ λ i. front i ∷ lines_of (back i))
+      let next : h.0 + 1 ≡ length (take n ws) = sym h.2 ∙ sym size in (
+        (let q = h.2 in omega arith),
+        λ more.
+            let cut = lines_first (take n ws ++ more) h.0 (newline_stays (take n ws) more h.0 (front_at n h.0 ws within h.1 h.2)) in
+            let front : take (h.0 + 1) (take n ws ++ more) ≡ take n ws = ap (λ (k : ℕ). take k (take n ws ++ more)) next ∙ take-append_seam (take n ws) more in
+            let back : drop (h.0 + 1) (take n ws ++ more) ≡ more = ap (λ (k : ℕ). drop k (take n ws ++ more)) next ∙ drop-append_seam (take n ws) more in
+            cut ∙ λ i. front i ∷ lines_of (back i),
+      )
   line_ahead n l text within (inr h) e =
       let ws = waiting l in
       let some : 0 < length ws = let q = h.1 in let r = h.2 in omega arith in

@@ -185,10 +185,9 @@ pub stop_input : (o : FollowOptions) (given given' given'' : List ℕ) (ended en
 stop_input o given given' given'' ended ended' taken taken' taken'' kept f turns lines ms none same w u =
     let next = lines_ahead o f ms lines in
     stops_with o next given given' ended taken taken' f turns ms u given'' taken'' kept (u.out ++ w.part) ended' ends.Input ms same
-    (w.took ∙ (ap (λ (xs : List ℕ). xs ++ w.part) u.wrote ∙ append_assoc taken u.out w.part)) (begins_so o next given given' ended taken taken' f turns ms u ended')
-    (
+    (w.took ∙ (ap (λ (xs : List ℕ). xs ++ w.part) u.wrote ∙ append_assoc taken u.out w.part)) (begins_so o next given given' ended taken taken' f turns ms u ended') (
       record { lines = u.front; rest = waiting f.lines; parts = refl; read = all_followed o given given' ended taken taken' f turns lines ms u; unended = none },
-      (u.told, u.report, append_assoc u.out w.part kept ∙ (ap (λ (xs : List ℕ). u.out ++ xs) (sym w.left) ∙ (u.keeps ∙ sym (append-nil u.told))))
+      (u.told, u.report, append_assoc u.out w.part kept ∙ (ap (λ (xs : List ℕ). u.out ++ xs) (sym w.left) ∙ (u.keeps ∙ sym (append-nil u.told)))),
     )
 
 counted_read : (turns a w w' g : ℕ) (b b' : Bool) → b ≡ false → (b' ≡ false → 0 < g) → w' ≡ w + g → turns ≤ a + (a + w) + from_bool b → turns + 1 ≤ a + (a + w') + from_bool b'
@@ -335,10 +334,9 @@ module _ (o : FollowOptions) (given given' : List ℕ) (ended : Bool) (taken tak
   begins_more : (u : IsHolding o given given' ended taken taken' f turns number ms m) → apply_fault o.span (start_of o.span o.start).start ms m ≡ None → BeginWith o (u.front ++ waiting f.lines) ended (ms ++ m ∷ [])
   begins_more u passes = λ whole may.
       let below = followed_lines o f.choice.taking (ms ++ m ∷ []) (number + 1) (lines_of (waiting f.lines ++ may.rest)) in
-      let all = followed_whole o (message_ahead o f ms number m) given given' ended taken taken' f turns ms u whole ended may in
-      (
+      let all = followed_whole o (message_ahead o f ms number m) given given' ended taken taken' f turns ms u whole ended may in (
         below.messages,
-        ap (λ (x : Followed). x.messages) all ∙ (ap (λ (t : Option ApplyFault). ms ++ (onto_followed number t m below).messages) passes ∙ sym (append_assoc ms (m ∷ []) below.messages))
+        ap (λ (x : Followed). x.messages) all ∙ (ap (λ (t : Option ApplyFault). ms ++ (onto_followed number t m below).messages) passes ∙ sym (append_assoc ms (m ∷ []) below.messages)),
       )
 
   has_shown : (u : IsHolding o given given' ended taken taken' f turns number ms m) (t : Telling) (taken'' kept : List ℕ) → TellsBefore f.telling t f.replica m taken' taken'' → kept ≡ waits t → HasShown o ms m u.told taken taken'' kept
@@ -365,8 +363,7 @@ module _ (o : FollowOptions) (given given' : List ℕ) (ended : Bool) (taken tak
         subst (IsFollowReport o ms) (sym (ap (λ (xs : List ℕ). u.told ++ xs) told ∙ append-nil u.told)) u.report,
       )
       by_time (Some at) shows told =
-          let row = shown_row o ms m at shows in
-          (
+          let row = shown_row o ms m at shows in (
             ms ++ m ∷ [],
             begins_more u row.0,
             told_more o [] [] ms m u.told text u.report (record {
@@ -384,7 +381,7 @@ module _ (o : FollowOptions) (given given' : List ℕ) (ended : Bool) (taken tak
       let next = message_ahead o f ms number m in
       let cut = cuts (start_of o.span o.start) ms u.follows in
       let is = subst (λ (at : Option ℕ). IsToldAt o.shown (codes "complete") at (view_of (start_of o.span o.start).rows ms) (named_through o [] [] ms) cut.text) (shown_so u.by)
-          (told_by f.telling.shown o.shown (codes "complete") (ready_told f.telling.complete (start_of o.span o.start) ms m) (view_of (start_of o.span o.start).rows ms) (named_in f.telling) (named_through o [] [] ms) cut.text u.by.shown u.named cut.is) in
+      (told_by f.telling.shown o.shown (codes "complete") (ready_told f.telling.complete (start_of o.span o.start) ms m) (view_of (start_of o.span o.start).rows ms) (named_in f.telling) (named_through o [] [] ms) cut.text u.by.shown u.named cut.is) in
       let part = shown_part u cut.text is in
       stop_cut o next given given' ended taken taken' f turns ms u e part.0 taken'' (waits t) (u.told ++ cut.text) part.1 part.2
       (cut_behind e taken taken' taken'' [] (waits f.telling) (waits t) u.told cut.text (told_so_far o next given given' ended taken taken' f turns ms u) cut.cut)

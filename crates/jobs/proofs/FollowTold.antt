@@ -57,15 +57,14 @@ pub told_more : (o : FollowOptions) (before : List Message) (named : List (List 
     → AreTold o before named ms text → IsMessageTold o (before ++ ms) (named_through o before named ms) m more → AreTold o before named (ms ++ m ∷ []) (text ++ more)
 told_more o before named [] m text more none told =
     (more, [], subst (λ (xs : List Message). IsMessageTold o xs named m more) (append-nil before) told, refl, ap (λ (xs : List ℕ). xs ++ more) none ∙ sym (append-nil more))
-told_more o before named (x ∷ ms) m text more h told =
-    (
-      h.0,
-      h.1 ++ more,
-      h.2,
-      told_more o (before ++ x ∷ []) (named_after o before named x) ms m h.1 more h.3
+told_more o before named (x ∷ ms) m text more h told = (
+  h.0,
+  h.1 ++ more,
+  h.2,
+  told_more o (before ++ x ∷ []) (named_after o before named x) ms m h.1 more h.3
       (subst (λ (xs : List Message). IsMessageTold o xs (named_through o (before ++ x ∷ []) (named_after o before named x) ms) m more) (sym (append_assoc before (x ∷ []) ms)) told),
-      ap (λ (xs : List ℕ). xs ++ more) h.4 ∙ append_assoc h.0 h.1 more
-    )
+  ap (λ (xs : List ℕ). xs ++ more) h.4 ∙ append_assoc h.0 h.1 more,
+)
 
 pub named_more : (o : FollowOptions) (before : List Message) (named : List (List ℕ)) (ms : List Message) (m : Message) → named_through o before named (ms ++ m ∷ []) ≡ named_after o (before ++ ms) (named_through o before named ms) m
 named_more o before named [] m = ap (λ (xs : List Message). named_after o xs named m) (sym (append-nil before))

@@ -84,17 +84,6 @@ module _ (t t' t'' : Telling) (word : List ℕ) (at n : ℕ) (m : Map) (taken ta
         (subst (IsCut e taken taken' (waits t') (waits t'')) (shown_same c.rows how named) (part c.rows c.all));
   }
 
-  -- all was told, and nothing is named any more
-  pub tell_shown : IsCountOf m n → t'.shown ≡ t.shown → named_in t' ≡ named_in t → waits t' ≡ waits t ++ count_line word at n → ShowsRows t' t'' m taken taken' → (u : Telling) → waits u ≡ waits t'' → named_in u ≡ [] → TellsAt t u word (Some at) m taken taken'
-  tell_shown c how named keeps shows u same none = record {
-    text = count_line word at n ++ shown_lines t.shown m c.rows (named_in t);
-    is = told_rows c.rows c.all c.count;
-    told = subst (λ (k : List ℕ). HasTold taken taken' (waits t) k (count_line word at n ++ shown_lines t.shown m c.rows (named_in t))) (sym same)
-        (told_behind taken taken taken' (waits t) (waits t') (waits t'') (count_line word at n) (shown_lines t.shown m c.rows (named_in t)) (told_kept taken (waits t) (waits t') (count_line word at n) keeps)
-        (subst (HasTold taken taken' (waits t') (waits t'')) (shown_same c.rows how named) (shows c.rows c.all)));
-    named = none;
-  }
-
 -- ---- before and behind a message
 
 module _ (t t' : Telling) (r : Replica) (m : Message) (at : ℕ) (taken taken' : List ℕ) where

@@ -11,10 +11,6 @@ use Rattle.jobs.specs.Told.{HasTold, kept_at, IsCutEnd, IsCut}
 pub told_nothing : (taken waits waits' : List ℕ) → waits' ≡ waits → HasTold taken taken waits waits' []
 told_nothing taken waits waits' same = record { part = []; took = sym (append-nil taken); left = append-nil waits ∙ sym same }
 
--- what waits was written, or a part of it
-pub told_written : (taken taken' waits waits' : List ℕ) → HasTaken taken taken' waits waits' → HasTold taken taken' waits waits' []
-told_written taken taken' waits waits' w = record { part = w.part; took = w.took; left = append-nil waits ∙ w.left }
-
 -- a line came behind what was told, and perhaps some of it was written
 pub told_line : (taken taken' taken'' waits waits' kept waits'' text line : List ℕ) → HasTold taken taken' waits waits' text → kept ≡ waits' ++ line → HasTaken taken' taken'' kept waits'' → HasTold taken taken'' waits waits'' (text ++ line)
 told_line taken taken' taken'' waits waits' kept waits'' text line h keeps w = record {
@@ -56,10 +52,10 @@ cut_behind e taken taken' taken'' waits waits' waits'' text more h c = record {
   begins = (
     c.begins.0,
     sym (append_assoc waits text more)
-    ∙ (ap (λ (xs : List ℕ). xs ++ more) h.left
-    ∙ (append_assoc h.part waits' more
-    ∙ (ap (λ (xs : List ℕ). h.part ++ xs) c.begins.1
-    ∙ (sym (append_assoc h.part (kept_at e c.part waits'') c.begins.0) ∙ ap (λ (xs : List ℕ). xs ++ c.begins.0) (sym (kept_front e h.part c.part waits''))))))
+        ∙ (ap (λ (xs : List ℕ). xs ++ more) h.left
+        ∙ (append_assoc h.part waits' more
+        ∙ (ap (λ (xs : List ℕ). h.part ++ xs) c.begins.1
+        ∙ (sym (append_assoc h.part (kept_at e c.part waits'') c.begins.0) ∙ ap (λ (xs : List ℕ). xs ++ c.begins.0) (sym (kept_front e h.part c.part waits'')))))),
   );
 }
 
@@ -71,7 +67,7 @@ cut_longer e taken taken' waits waits' text more c = record {
   took = c.took;
   begins = (
     c.begins.0 ++ more,
-    sym (append_assoc waits text more) ∙ (ap (λ (xs : List ℕ). xs ++ more) c.begins.1 ∙ append_assoc (kept_at e c.part waits') c.begins.0 more)
+    sym (append_assoc waits text more) ∙ (ap (λ (xs : List ℕ). xs ++ more) c.begins.1 ∙ append_assoc (kept_at e c.part waits') c.begins.0 more),
   );
 }
 

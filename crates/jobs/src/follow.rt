@@ -8,8 +8,10 @@
 //! {"resolved":"9"}                                  fault 4 23 resolvedback
 //! ```
 //!
-//! 1. What a replica refuses ends it: what is told is never wrong.
-//! 2. A message is told of only once it was applied, and rows only where the replica is complete.
+//! 1. What a replica refuses ends it: what is told is never wrong. `followed_at` in `specs/Following.antt` says which
+//!    messages are taken of an input, and at which line that ends.
+//! 2. A message is told of only once it was applied, and rows only where the replica is complete. `IsFollowReport` in
+//!    `specs/FollowReports.antt` says what is told of the messages, byte for byte.
 ghost use Rattle.std.specs.Prelude.{ℕ, Bool, List};
 ghost use Rattle.jobs.specs.declared.follow.FollowOptions.{FollowOptions};
 ghost use Rattle.jobs.specs.declared.follow.fault.FollowError.TheVariants.{Fault};
@@ -93,6 +95,8 @@ pub enum Start {
 /// A line that doesn't begin with `{` is passed over. A faulty line, and a message that the replica refuses,
 /// ends the output with its fault; what was told before it stands. The output is written in large blocks, at
 /// the end, and before each read, since a read may wait.
+///
+/// `IsFollowed` in `specs/FollowEnds.antt` says how each end comes, from the bytes read to the bytes written.
 pub fn follow_io<S: Source, K: Sink>(
     alloc: Global,
     options: FollowOptions,

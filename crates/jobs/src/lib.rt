@@ -6,8 +6,8 @@
 //! output. Another program that has bytes from elsewhere calls them in the same way, and [`verdict`] or [`state_text`]
 //! where it has the text already. Each ends with an [`End`].
 //!
-//! 1. The bytes read, the bytes written and the end say together how the job went: the contracts of the first four go
-//!    from bytes to bytes.
+//! 1. The bytes read, the bytes written and the end say together how the job went: each contract goes from bytes to
+//!    bytes. Of a follower `IsFollowed` says it, in `specs/FollowEnds.antt`.
 //! 2. A run and a follower answer line by line. A race, a check and a state answer once they have read everything, and
 //!    write nothing before that.
 //! 3. A read that failed is the end `Input`, and a write that failed is the end `Output`. No other end comes of a

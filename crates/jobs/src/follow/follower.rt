@@ -1,4 +1,5 @@
-//! A follower: a replica, with the input that changes it and what is told of it.
+//! A follower: a replica, with the input that changes it and what is told of it. `IsUnderway` in
+//! `specs/FollowSteps.antt` says what holds between two lines.
 ghost use Rattle.std.specs.Prelude.{◌≡◌, ◌≤◌, ℕ, [], length, take, IfOk, IfErr, OnOk};
 ghost use Rattle.word_lines.specs.Events.{spent_line};
 ghost use Rattle.jobs.specs.declared.ending.End.TheVariants.{Spent, Unfollowed};

@@ -1,4 +1,5 @@
-//! What is told of a feed's rows: how many there are, and the rows or what changed of them.
+//! What is told of a feed's rows: how many there are, and the rows or what changed of them. `IsMessageTold` in
+//! `specs/FollowReports.antt` says what is told of each message.
 //!
 //! ```text
 //! message                resolved, changes shown      with `complete` told too
@@ -102,7 +103,11 @@ impl Telling {
     }
 
     /// Tells that the rows are complete, where the message that was taken last has resolved it.
-    pub(crate) fn tell_behind<K: Sink>(&mut self, replica: &Replica, output: &mut K) -> Result<(), End>
+    pub(crate) fn tell_behind<K: Sink>(
+        &mut self,
+        replica: &Replica,
+        output: &mut K,
+    ) -> Result<(), End>
         ensures ok { OnOk result (TellsBehind self.old self.new replica.now (K.taken output.old) (K.taken output.new)) }
         ensures err { IfErr result (CutsBehind self.old self.new replica.now (K.taken output.old) (K.taken output.new)) }
         ensures choice { OnOk result (KeepsChoice self.old self.new) }

@@ -21,11 +21,10 @@ returns-in-Err-clause-err g c = let K = g.K.Sink in let l = c.loop-key in let li
 
 pub loop-key-preserved : goal.loop-key-preserved
 loop-key-preserved g c = let K = g.K.Sink in let l = c.loop-key in let line = λ (x : List ℕ). change_line x (view_in c.args.replica.now x) in
-    let keeps : pending_of c.tell_change.new.report.kept ≡ pending_of l.report.kept ++ line c.in-Some.key.now = c.in-Ok.ensures.ok ∙ ap (λ (o : Option (List ℕ)). pending_of l.report.kept ++ change_line c.in-Some.key.now o) c.get.ensures in
-    (
+    let keeps : pending_of c.tell_change.new.report.kept ≡ pending_of l.report.kept ++ line c.in-Some.key.now = c.in-Ok.ensures.ok ∙ ap (λ (o : Option (List ℕ)). pending_of l.report.kept ++ change_line c.in-Some.key.now o) c.get.ensures in (
       c.in-Ok-write_full.ensures.worked ∙ l.invariant.0,
       telling_more line c.args.changed.now.keys l.key-iterator c.next.new.self c.in-Some.key.now (K.taken c.args.output.now) (K.taken l.output) (K.taken c.write_full.new.sink) (pending_of c.args.report.now.kept) (pending_of l.report.kept)
-      (pending_of c.tell_change.new.report.kept) (pending_of c.write_full.new.self.kept) l.invariant.1 c.in-Some.ensures.steps keeps c.in-Ok-write_full.ensures.ok
+          (pending_of c.tell_change.new.report.kept) (pending_of c.write_full.new.self.kept) l.invariant.1 c.in-Some.ensures.steps keeps c.in-Ok-write_full.ensures.ok,
     )
 
 -- a key can't be written

@@ -17,12 +17,11 @@ returns-in-Err-clause-err g c = let K = g.K.Sink in let l = c.loop-key in
     (cut_memory (K.taken l.output) (pending_of l.report.kept) (pending_of c.tell_row.new.self.kept) (flat_map row_line l.key-iterator) c.in-Err.ensures.err)
 
 pub loop-key-preserved : goal.loop-key-preserved
-loop-key-preserved g c = let K = g.K.Sink in let l = c.loop-key in
-    (
-      c.in-Ok-write_full.ensures.worked ∙ l.invariant.0,
-      telling_more row_line c.args.rows l.key-iterator c.next.new.self (c.in-Some.key.now, c.in-Some.value.now) (K.taken c.args.output.now) (K.taken l.output) (K.taken c.write_full.new.sink) (pending_of c.args.report.now.kept) (pending_of l.report.kept)
-      (pending_of c.tell_row.new.self.kept) (pending_of c.write_full.new.self.kept) l.invariant.1 c.in-Some.ensures.steps c.in-Ok.ensures.ok c.in-Ok-write_full.ensures.ok
-    )
+loop-key-preserved g c = let K = g.K.Sink in let l = c.loop-key in (
+  c.in-Ok-write_full.ensures.worked ∙ l.invariant.0,
+  telling_more row_line c.args.rows l.key-iterator c.next.new.self (c.in-Some.key.now, c.in-Some.value.now) (K.taken c.args.output.now) (K.taken l.output) (K.taken c.write_full.new.sink) (pending_of c.args.report.now.kept) (pending_of l.report.kept)
+      (pending_of c.tell_row.new.self.kept) (pending_of c.write_full.new.self.kept) l.invariant.1 c.in-Some.ensures.steps c.in-Ok.ensures.ok c.in-Ok-write_full.ensures.ok,
+)
 
 -- a row can't be written
 pub returns-in-Err-write_full-clause-err : goal.returns-in-Err-write_full-clause-err
