@@ -30,7 +30,7 @@ impl Rules {
         &self.store
     }
 
-    /// The versions, taken out for a collection, which puts them back.
+    /// The versions, taken out for a collection. Until it puts them back there are none.
     pub fn take_versions(&mut self) -> Store
         ensures taken { result ≡ versions_of self.old }
         ensures rest { self.new ≡ with_versions self.old (versions_of self.new) }
