@@ -170,7 +170,7 @@ typedef struct {
 uint8_t ripsawbean_replica_open(ripsawbean_replica *replica, const uint8_t *line, size_t line_length);
 
 // Takes the line of a message, with its newline, as a poll's text has it. RIPSAWBEAN_OK, or nothing changed:
-// RIPSAWBEAN_NOMESSAGE, _NOTAFTER, _OUTSIDESPAN, _RESOLVEDBACK, _NOMEMORY, _CLOSED.
+// RIPSAWBEAN_NOMESSAGE, _NOTAFTER, _OUTSIDESPAN, _RESOLVEDBACK, _NOMEMORY, _CLOSED. A resolved message wants no memory.
 uint8_t ripsawbean_replica_take(ripsawbean_replica *replica, const uint8_t *line, size_t line_length);
 
 // Asked before a message is taken: *at is the timestamp at which the rows are the map as they stand, where the message

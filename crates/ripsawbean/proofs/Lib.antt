@@ -1,4 +1,4 @@
 mod Heap
 mod LooseValues
 mod HandleValues
-mod ReplicaValues
+mod HandleSends

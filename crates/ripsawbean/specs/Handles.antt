@@ -1,20 +1,19 @@
 -- What a handle owns (this project's own).
 use Rattle.std.specs.Prelude.{Bool, true, false, Option, Some, None}
 use base.Fml.{Fml, ftrue, ffalse}
+use denote.RattleType.{RattleType}
 use denote.RawPtr.{Ptr}
 use Rattle.std.specs.Box.Ownership.{box_owns}
 use Rattle.std.specs.Coded.{Coded, coded_option}
-use Rattle.embedded.specs.declared.database.Database.{Database}
-use Rattle.embedded.specs.contracts.database.Database.{the_row}
 use Rattle.ripsawbean.specs.Heap.{token}
 
--- an open one owns the database behind its pointer, and the right to free it; a closed one owns nothing
-abbrev pub keeps : Ptr → Bool → Option Database → Fml
-keeps at true (Some d) = box_owns token the_row at d
-keeps at true None = ffalse
-keeps at false (Some d) = ffalse
-keeps at false None = ftrue
+-- an open one owns the value behind its pointer, and the right to free it; a closed one owns nothing
+abbrev pub keeps : (R : RattleType) → Ptr → Bool → Option R.Denot → Fml
+keeps R at true (Some x) = box_owns token R at x
+keeps R at true None = ffalse
+keeps R at false (Some x) = ffalse
+keeps R at false None = ftrue
 
--- how the logic stores which database it is, if any
-abbrev pub database_code : Coded (Option Database)
-database_code = coded_option the_row.coded
+-- how the logic stores which value it is, if any
+abbrev pub held_code : (R : RattleType) → Coded (Option R.Denot)
+held_code R = coded_option R.coded

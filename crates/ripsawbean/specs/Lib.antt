@@ -1,6 +1,5 @@
 pub mod Heap
 pub mod Handles
 pub mod Exports
-pub mod ReplicaHandles
 pub mod ReplicaExports
 pub mod States

@@ -4,6 +4,7 @@ use Rattle.timestamps.specs.declared.key.KeyError.{KeyError}
 use Rattle.timestamps.specs.declared.key.KeyError.TheVariants as keys
 use Rattle.json_lines.specs.declared.fault.MessageFault.{MessageFault}
 use Rattle.json_lines.specs.declared.fault.MessageFault.TheVariants as lines
+use Rattle.json_lines.specs.Writing.{Copied}
 use Rattle.word_lines.specs.Faults.{code_of}
 use Rattle.replica.specs.declared.fault.Fault.{Fault}
 use Rattle.replica.specs.declared.fault.Fault.TheVariants as faults
@@ -13,7 +14,7 @@ use Rattle.embedded_replica.specs.declared.consumer.OpenError.{OpenError}
 use Rattle.embedded_replica.specs.declared.consumer.OpenError.TheVariants as opening
 use Rattle.embedded_replica.specs.declared.consumer.TakeError.{TakeError}
 use Rattle.embedded_replica.specs.declared.consumer.TakeError.TheVariants as taking
-use Rattle.embedded_replica.specs.Consumers.{replica_of, Begins, IsUnopened, HasTaken, IsRefused, IsReady, IsNoMessage, IsNoKey, IsShown, ShowsRows}
+use Rattle.embedded_replica.specs.Consumers.{replica_of, Begins, IsUnopened, HasTaken, IsRefused, IsReady, IsNoMessage, AreKey, IsNoKey, ShowsRows}
 
 -- a timestamp as a number; where there is none, a number that is no timestamp
 abbrev pub number_or_none : Option ℕ → ℕ
@@ -89,10 +90,10 @@ ReadyBy line at c (suc n) = (fault : MessageFault) × IsNoMessage line fault × 
 abbrev pub CompleteBy : (through at : ℕ) → Consumer → ℕ → Type 0
 CompleteBy through at c number = (number ≡ 0) × (through ≡ number_or_none (through_in (replica_of c))) × (at ≡ number_or_none (complete_in (replica_of c)))
 
--- the value of the key is shown, or there is none
+-- the value of the key is shown, or there is none at these bytes, which are a key
 abbrev pub GotBy : List ℕ → (before after : List ℕ) → ℕ → Consumer → ℕ → Type 0
-GotBy key before after length c zero = (value : List ℕ) × (view_in (replica_of c) key ≡ Some value) × IsShown value before after length
-GotBy key before after length c (suc n) = ((suc n ≡ 23) × (view_in (replica_of c) key ≡ None)) ⊎ ((error : KeyError) × IsNoKey key error × (suc n ≡ key_number error))
+GotBy key before after length c zero = (value : List ℕ) × (view_in (replica_of c) key ≡ Some value) × Copied value before after length
+GotBy key before after length c (suc n) = ((suc n ≡ 23) × AreKey key × (view_in (replica_of c) key ≡ None)) ⊎ ((error : KeyError) × IsNoKey key error × (suc n ≡ key_number error))
 
 -- the lines of all rows are shown, or there is no memory for them
 abbrev pub RowsBy : (before after : List ℕ) → ℕ → Consumer → ℕ → Type 0

@@ -2,7 +2,8 @@
 
 ghost use Rattle.std.specs.Prelude.{◌≡◌, Option, Some, None, true, is_some, option_map};
 ghost use Rattle.embedded.specs.declared.database.Database.{Database};
-ghost use Rattle.ripsawbean.specs.Handles.{keeps, database_code};
+ghost use Rattle.embedded.specs.contracts.database.Database.{the_row};
+ghost use Rattle.ripsawbean.specs.Handles.{keeps, held_code};
 
 use crate::loose::Loose;
 use embedded::Database;
@@ -17,11 +18,11 @@ use std::ptr::null_mut;
 pub struct Handle {
     at: *mut u8,
     is_open: bool,
-    pub ghost database: { Option Database } by { database_code },
+    pub ghost database: { Option Database } by { held_code the_row },
 }
 
 impl Model for Handle {
-    ghost also_owns = { λ h. keeps h.at h.is_open h.database };
+    ghost also_owns = { λ h. keeps the_row h.at h.is_open h.database };
 }
 
 // A program may hand it to another thread between two calls.

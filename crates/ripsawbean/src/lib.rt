@@ -46,6 +46,10 @@
 #![tactic(auto)]
 
 ghost use Rattle.std.specs.Prelude.{◌≡◌, None, IfSome, IfNone};
+ghost use Rattle.text_format.specs.declared.Format.TheVariants.{Two};
+ghost use Rattle.word_lines.specs.Memory.{WantsMemory, verb_at};
+ghost use Rattle.word_lines.specs.Table.{table};
+ghost use Rattle.embedded.specs.declared.database.CallError.TheVariants.{NoMemory};
 ghost use Rattle.ripsawbean.specs.Exports.{refusal_of, Opened, Numbered, Called, Asked, Rewritten, Told, ToldOf, number_of};
 
 mod handle;
@@ -109,6 +113,8 @@ pub extern "C" fn ripsawbean_call(
     length: &mut usize,
 ) -> u8
     ensures called { Called line.now handle.old.database result handle.new.database }
+    // 12 is told only of the name of a command with a key, a value or a span.
+    ensures memory { result ≡ 12 → WantsMemory (verb_at Two table 64 line.now) }
     ensures text { Told result handle.old.database handle.new.database out.old out.new length.new }
 {
     match handle.take(alloc) {
@@ -167,6 +173,7 @@ pub extern "C" fn ripsawbean_close(alloc: Global, handle: &mut Handle)
 /// A call of a line, with the number that tells of it.
 fn call(database: &mut Database, line: &[u8], out: &mut [u8], length: &mut usize) -> u8
     ensures called { Numbered line.now database.old result database.new }
+    ensures memory { result ≡ 12 → WantsMemory (verb_at Two table 64 line.now) }
     ensures text { ToldOf result database.old database.new out.old out.new length.new }
 {
     match database.call(line) {
@@ -200,7 +207,8 @@ fn text(database: &mut Database, out: &mut [u8], length: &mut usize) -> u8
 
 /// The number of a call that shows no text.
 fn number(error: CallError) -> u8
-    ensures { result ≡ number_of error }
+    ensures number { result ≡ number_of error }
+    ensures memory { result ≡ 12 → error ≡ NoMemory }
 {
     match error {
         CallError::Fault(fault) => fault.code(),

@@ -2,7 +2,8 @@
 
 ghost use Rattle.std.specs.Prelude.{◌≡◌, Option, Some, None, true, is_some, option_map};
 ghost use Rattle.embedded_replica.specs.declared.consumer.Consumer.{Consumer};
-ghost use Rattle.ripsawbean.specs.ReplicaHandles.{keeps, consumer_code};
+ghost use Rattle.embedded_replica.specs.contracts.consumer.Consumer.{the_row};
+ghost use Rattle.ripsawbean.specs.Handles.{keeps, held_code};
 
 use crate::loose::Loose;
 use embedded_replica::Consumer;
@@ -17,11 +18,11 @@ use std::ptr::null_mut;
 pub struct ReplicaHandle {
     at: *mut u8,
     is_open: bool,
-    pub ghost consumer: { Option Consumer } by { consumer_code },
+    pub ghost consumer: { Option Consumer } by { held_code the_row },
 }
 
 impl Model for ReplicaHandle {
-    ghost also_owns = { λ h. keeps h.at h.is_open h.consumer };
+    ghost also_owns = { λ h. keeps the_row h.at h.is_open h.consumer };
 }
 
 // A program may hand it to another thread between two calls.

@@ -93,7 +93,7 @@ pub extern "C" fn ripsawbean_replica_open(
 ///
 /// 0: it was taken. Else nothing changed. 18: the line is no message's. 19: its row comes at or before what was taken.
 /// 20: its row lies outside the span. 21: its resolved timestamp comes at or before what was taken. 12: there is no
-/// memory. 16: the handle is closed.
+/// memory, which a resolved message never wants. 16: the handle is closed.
 #[unsafe(no_mangle)]
 pub extern "C" fn ripsawbean_replica_take(
     alloc: Global,
@@ -117,7 +117,7 @@ pub extern "C" fn ripsawbean_replica_take(
 /// next.
 ///
 /// 0: `at` is that timestamp, or 18446744073709551615 where there is none, as at every other number. 18: the line is no
-/// message's. 12: there is no memory. 16: the handle is closed.
+/// message's. 12: there is no memory, which a resolved message never wants. 16: the handle is closed.
 #[unsafe(no_mangle)]
 pub extern "C" fn ripsawbean_replica_ready(
     alloc: Global,
@@ -176,7 +176,7 @@ pub extern "C" fn ripsawbean_replica_complete(
 ///
 /// 0: `out` begins with as much of the value as there is room for, and `length` is the whole value's. At every other
 /// number `out` is as it was and `length` is 0. 23: the key has no value. 4: there is no byte, or more than 256. 12:
-/// there is no memory for the key. 16: the handle is closed.
+/// there is no memory for a key of more than 24 bytes. 16: the handle is closed.
 #[unsafe(no_mangle)]
 pub extern "C" fn ripsawbean_replica_get(
     alloc: Global,

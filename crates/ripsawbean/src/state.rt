@@ -5,7 +5,8 @@ ghost use Rattle.ripsawbean.specs.States.{IsStateNumber, ToldState};
 
 use crate::handle::Handle;
 use crate::{CLOSED, UNWRITTEN};
-use embedded::{Database, copy_front};
+use embedded::Database;
+use json_lines::buffer::copy_front;
 use std::alloc::Global;
 
 /// Shows the text of what an operator may ask of the database now, as often as it is asked for. No call is made, and the

@@ -45,7 +45,7 @@ into_loose_spec 𝓤 𝓛 𝓜 𝓡 wired =
     qed 𝓛 ((‵ ftrue ⊛ ‵ (owns (types_at f.ended.signature.params z.0.0) z.0.3 z.0.4)) ∷ raw (fact 𝓤 (is_some v.database ≡ true)) ∷ []) ∵ move ! (1 ∷ []) $ heard ! (is_some v.database ≡ true) (λ some. split ! $ move ! (1 ∷ []) $ fsplit ! $
     peeks ! handle.the_row (Is handle.the_row) (shows 𝓛 handle.the_row) v z.0.4.0 (λ is. fsplit ! $ move ! (1 ∷ []) $
     -- [what it keeps; its fields]
-    agrees ! v.at v.is_open v.database (λ agree. let flag = agree ∙ some in rewrite ! 0 (λ (is_open : Bool). ‵ (keeps v.at is_open v.database)) flag refl $ opened ! v.at v.database (λ d is_d.
+    agrees R ! v.at v.is_open v.database (λ agree. let flag = agree ∙ some in rewrite ! 0 (λ (is_open : Bool). ‵ (keeps R v.at is_open v.database)) flag refl $ opened R ! v.at v.database (λ d is_d.
     in_a_block ! v.at (λ at. box_owns token R at d) (fst∗ 𝓤 (never 𝓤) (sem 𝓛 (token (bare (lone R.mir)) null_ptr))) (λ b o e.
     let w : Val = words (block_ptr b o) true in let is_w : z.0.4.0 ≡ w ∷ [] = lowers.val_is v z.0.4.0 is ∙ (ap (λ (at : Ptr). words at v.is_open ∷ []) e ∙ ap (λ (is_open : Bool). words (block_ptr b o) is_open ∷ []) flag) in
     suffices ! (Run (w ∷ [])) (subst (λ (us : List Val). ent 𝓤 (Run (w ∷ [])) (Run us)) (sym (λ i. is_w i ++ [])) (id⊢ 𝓤 (Run (w ∷ [])))) $

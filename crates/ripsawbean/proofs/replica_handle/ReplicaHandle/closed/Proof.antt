@@ -10,7 +10,7 @@ use denote.Steps.{nothing}
 use denote.Triple.Entry.{on_entry}
 use denote.Triple.Walked.{walk_of, says, ends_at}
 use Rattle.std.proofs.raw_atomic.Walks.{proved}
-use Rattle.ripsawbean.proofs.ReplicaValues.{words, handle_in}
+use Rattle.ripsawbean.proofs.HandleValues.{words, replica_in}
 use Rattle.ripsawbean.specs.contracts.replica_handle.ReplicaHandle.closed as f
 use Rattle.ripsawbean.proofs.replica_handle.ReplicaHandle.closed.Statement.{statement}
 use Rattle.ripsawbean.proofs.replica_handle.ReplicaHandle.closed.Code as code
@@ -25,4 +25,4 @@ closed_spec 𝓤 𝓛 𝓜 𝓡 wired =
     sets ! (agg ! (and_then ! (lit ! tt) (and_then ! (false_lit !) (no_more !)))) refl (tt, (record { fits = lit< tt }, (tt, tt))) $
     returns ! (look_at ! 0 refl) $ free_all ! refl $
     suffices ! _ (ends_at 𝓛 f.ended tt c y (words null_ptr false) (record { at = null_ptr; is_open = false; consumer = None }) tt tt) $ says ! refl $
-    nothing ! $ handle_in ! null_ptr false None $ nothing ! $ nothing ! $ done !))
+    nothing ! $ replica_in ! null_ptr false None $ nothing ! $ nothing ! $ done !))

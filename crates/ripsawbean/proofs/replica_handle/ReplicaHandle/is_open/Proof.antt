@@ -17,7 +17,8 @@ use denote.Signature.{plain}
 use denote.Steps.{nothing, opens, closes, peeks, owned}
 use denote.Triple.Walked.{Stays, walk_of, says, stay_ref, Goes-ref, ends_at}
 use Rattle.std.proofs.raw_atomic.Walks.{proved}
-use Rattle.ripsawbean.proofs.ReplicaValues.{agrees}
+use Rattle.embedded_replica.specs.contracts.consumer.Consumer.{the_row as held}
+use Rattle.ripsawbean.proofs.HandleValues.{agrees}
 use Rattle.ripsawbean.proofs.replica_handle.ReplicaHandle.TheLaws.{lowers}
 use Rattle.ripsawbean.specs.contracts.replica_handle.ReplicaHandle.{the_row as R}
 use Rattle.ripsawbean.specs.contracts.replica_handle.ReplicaHandle.is_open as f
@@ -39,7 +40,7 @@ is_open_spec 𝓤 𝓛 𝓜 𝓡 wired =
     enter ! _ _ _ _ _ $ alloc_all ! (λ l. pass_all ! refl ((tt, tt), tt) $
     fsplit3 ! $ move ! (1 ∷ 2 ∷ 3 ∷ []) $ opens ! tt R b o (λ us.
     -- the handle's value stands in its cell: its flag agrees with its consumer
-    move ! (1 ∷ []) $ peeks ! R _ (shows 𝓛 R) h us (λ is. fsplit ! $ move ! (1 ∷ []) $ agrees ! h.at h.is_open h.consumer (λ agree. move ! (1 ∷ []) $ fjoin ! $ move ! (1 ∷ []) $
+    move ! (1 ∷ []) $ peeks ! R _ (shows 𝓛 R) h us (λ is. fsplit ! $ move ! (1 ∷ []) $ agrees held ! h.at h.is_open h.consumer (λ agree. move ! (1 ∷ []) $ fjoin ! $ move ! (1 ∷ []) $
     rewrite ! 0 Cell (lowers.val_is h us is) refl $
     sets ! (of_opd ! (load ! (through ! refl (fld ! refl (stop !))) (look_in ! 0 (sub ! 1 refl (whole !))))) refl (tt, tt) $
     rewrite ! 0 Cell (sym (lowers.val_is h us is)) refl $ closes ! tt R h us b o $

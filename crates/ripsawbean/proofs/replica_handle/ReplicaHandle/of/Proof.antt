@@ -25,7 +25,7 @@ use Rattle.embedded_replica.specs.contracts.consumer.Consumer.{the_row as R}
 use Rattle.embedded_replica.proofs.consumer.Consumer.TheLaws.{the_row_laws}
 use Rattle.ripsawbean.specs.Heap.{token}
 use Rattle.ripsawbean.proofs.LooseValues.{pointer, loose_out}
-use Rattle.ripsawbean.proofs.ReplicaValues.{words, handle_in}
+use Rattle.ripsawbean.proofs.HandleValues.{words, replica_in}
 use Rattle.ripsawbean.specs.contracts.loose.Loose as loose
 use Rattle.ripsawbean.specs.contracts.replica_handle.ReplicaHandle.of as f
 use Rattle.ripsawbean.proofs.replica_handle.ReplicaHandle.of.Statement.{statement}
@@ -52,4 +52,4 @@ of_spec 𝓤 𝓛 𝓜 𝓡 wired =
     sets ! (agg ! (and_then ! (get ! refl) (and_then ! (true_lit !) (no_more !)))) refl (tt, (tt, (tt, tt))) $
     returns ! (look_at ! 0 refl) $ free_all ! refl $ keep ! (0 ∷ []) $
     suffices ! _ (ends_at 𝓛 f.ended stayed c z (words (block_ptr b o) true) (record { at = block_ptr b o; is_open = true; consumer = Some v.value }) (tt, tt) (tt, tt)) $ says ! refl $
-    handle_in ! (block_ptr b o) true (Some v.value) $ nothing ! $ nothing ! $ join ! $ nothing ! $ done !))))
+    replica_in ! (block_ptr b o) true (Some v.value) $ nothing ! $ nothing ! $ join ! $ nothing ! $ done !))))
