@@ -12,7 +12,7 @@ use Rattle.jobs.specs.declared.follow.fault.FollowError.TheVariants as errors
 use Rattle.jobs.specs.Followed.{IsUnbegun, fault_line}
 use Rattle.jobs.specs.Following.{followed_at}
 use Rattle.jobs.specs.FollowReports.{IsFollowReport}
-use Rattle.jobs.specs.FollowEnds.{IsReportWith, IsPart, IsFaultAt, EndsBy, IsFollowed}
+use Rattle.jobs.specs.FollowEnds.{IsPart, EndsBy, IsFollowed}
 use Rattle.jobs.specs.Told.{kept_at}
 use Rattle.jobs.specs.FollowSteps.{IsStopped}
 

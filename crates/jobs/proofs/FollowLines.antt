@@ -1,6 +1,6 @@
 -- What is followed of an input, line by line.
-use Rattle.std.proofs.Common.{◌≡◌, ◌≢◌, ℕ, suc, zero, ◌+◌, ◌-◌, ◌<◌, ◌≤◌, ◌⊎◌, ⊎_elim, Bool, true, false, cond, List, [], ◌∷◌, ◌++◌, length, take, drop, Option, Some, None, Result, Ok, Err, refl, sym, ap, subst, ◌∙◌, arith, append-nil, append_assoc, length-append, inl, inr}
-use Rattle.std.specs.Prelude.{not, position, is_none, ◌&&◌}
+use Rattle.std.proofs.Common.{◌≡◌, ℕ, suc, ◌+◌, ◌-◌, ◌<◌, ◌≤◌, ◌⊎◌, ⊎_elim, Bool, true, false, cond, List, [], ◌∷◌, ◌++◌, length, take, drop, Option, Some, None, Result, Ok, Err, refl, sym, ap, subst, ◌∙◌, arith, append-nil, length-append, inl, inr}
+use Rattle.std.specs.Prelude.{not, position}
 use Rattle.std.specs.List.{position_or_len}
 use Rattle.std.proofs.lemmas.Bool.{lt-ltb}
 use Rattle.std.proofs.lemmas.List.{length-take, length-take-le, take-append-drop, take-append-le}
@@ -9,9 +9,7 @@ use Rattle.std.proofs.Math.Seq.{take-length, take-append_seam, drop-append_seam,
 use Rattle.text_format.specs.declared.Format.{Format}
 use Rattle.text_format.specs.Limits.{line_limit}
 use Rattle.spans.specs.declared.calls.messages.Message.{Message}
-use Rattle.spans.specs.Consumer.{ApplyFault, apply_fault}
-use Rattle.json_lines.specs.declared.fault.MessageFault.{MessageFault}
-use Rattle.json_lines.specs.declared.fault.MessageFault.TheVariants as message
+use Rattle.spans.specs.Consumer.{apply_fault}
 use Rattle.json_lines.specs.Messages.{IsMessage, message_line}
 use Rattle.json_lines.specs.Tests.{message_at}
 use Rattle.word_lines.specs.declared.fault.LineFault.{LineFault}
@@ -22,13 +20,12 @@ use Rattle.script.specs.Lines.{is_newline, lines_of}
 use Rattle.script.proofs.CutLines.{lines_alone, lines_first}
 use Rattle.sessions.specs.declared.lines.Lines.{Lines}
 use Rattle.sessions.specs.Waiting.{waiting, IsLine}
-use Rattle.sessions.proofs.Finding.{newline_stays, newline_comes, newline_lacks, newline_within}
+use Rattle.sessions.proofs.Finding.{newline_stays, newline_comes, newline_lacks}
 use Rattle.jobs.specs.declared.follow.FollowOptions.{FollowOptions}
 use Rattle.jobs.specs.declared.follow.fault.FollowError.{FollowError}
-use Rattle.jobs.specs.declared.follow.fault.FollowError.TheVariants as errors
 use Rattle.jobs.specs.Chosen.{is_taking_after}
-use Rattle.jobs.specs.Followed.{start_of, is_chosen, error_of_line, error_of_message}
-use Rattle.jobs.specs.Following.{Followed, chosen_at, said_by, line_at, taking_behind, error_of_test, stopped_at, followed_through, onto_followed, followed_step, followed_lines}
+use Rattle.jobs.specs.Followed.{start_of, is_chosen, error_of_line}
+use Rattle.jobs.specs.Following.{chosen_at, said_by, line_at, taking_behind, stopped_at, followed_through, onto_followed, followed_step, followed_lines}
 use Rattle.jobs.proofs.MessagesRead.{line_is_message}
 
 -- ---- what a line says

@@ -1,6 +1,6 @@
 -- The steps of a follower.
-use Rattle.std.proofs.Common.{◌≡◌, ◌≢◌, ℕ, ◌+◌, ◌<◌, ◌≤◌, ◌⊎◌, Bool, true, false, cond, List, [], ◌∷◌, ◌++◌, length, take, drop, Option, Some, None, Result, Ok, Err, refl, sym, ap, ◌∙◌, subst, arith, append-nil, append_assoc, length-append, inl, inr}
-use Rattle.std.specs.Prelude.{codes, is_none, position}
+use Rattle.std.proofs.Common.{◌≡◌, ℕ, ◌+◌, ◌<◌, ◌≤◌, Bool, true, false, cond, List, [], ◌∷◌, ◌++◌, length, take, Option, Some, None, Ok, Err, refl, sym, ap, ◌∙◌, subst, arith, append-nil, append_assoc, length-append, inl, inr}
+use Rattle.std.specs.Prelude.{codes, position}
 use Rattle.std.specs.Int.{from_bool}
 use Rattle.std.proofs.lemmas.List.{length-take-le, take-append-drop}
 use Rattle.text_format.specs.declared.Format.{Format}
@@ -17,7 +17,7 @@ use Rattle.replica.specs.declared.fault.Fault.{Fault}
 use Rattle.replica.specs.declared.fault.Fault.TheVariants as replica_faults
 use Rattle.replica.specs.declared.replica.Replica.{Replica}
 use Rattle.replica.specs.Replicas.{Follows, Takes, IsFaultAt, test_of}
-use Rattle.replica.specs.Starts.{Start as ReplicaStart, resolved_at}
+use Rattle.replica.specs.Starts.{resolved_at}
 use Rattle.sessions.specs.declared.lines.Lines.{Lines}
 use Rattle.sessions.specs.Runs.{MayHold}
 use Rattle.sessions.specs.Waiting.{waiting, has_ended, IsLine, IsRead}
@@ -31,7 +31,6 @@ use Rattle.jobs.specs.declared.follow.Start.TheVariants as starts
 use Rattle.jobs.specs.declared.follow.Shown.TheVariants as shown
 use Rattle.jobs.specs.declared.follow.choice.Choice.{Choice}
 use Rattle.jobs.specs.declared.follow.fault.FollowFault.{FollowFault}
-use Rattle.jobs.specs.declared.follow.fault.FollowFault.TheVariants as faults
 use Rattle.jobs.specs.declared.follow.fault.FollowError.{FollowError}
 use Rattle.jobs.specs.declared.follow.fault.FollowError.TheVariants as errors
 use Rattle.jobs.specs.declared.follow.follower.Follower.{Follower}
@@ -39,13 +38,13 @@ use Rattle.jobs.specs.declared.follow.telling.Telling.{Telling}
 use Rattle.jobs.specs.Chosen.{is_taking_after}
 use Rattle.jobs.specs.Followed.{start_of, fault_line, error_of_replica}
 use Rattle.jobs.specs.Following.{Followed, line_at, error_of_test, followed_at, followed_lines, followed_through, onto_followed, stopped_at}
-use Rattle.jobs.specs.FollowReports.{IsToldAt, IsMessageTold, IsFollowReport, shown_before, resolved_by, named_with, unless_told}
-use Rattle.jobs.specs.FollowEnds.{BeginWith, StopAt, AreMessages, IsEndless, IsPart, EndsBy}
+use Rattle.jobs.specs.FollowReports.{IsToldAt, IsFollowReport, shown_before, resolved_by, named_with, unless_told}
+use Rattle.jobs.specs.FollowEnds.{BeginWith, StopAt, IsEndless, IsPart, EndsBy}
 use Rattle.jobs.specs.Taking.{HasRead, IsMisreadAt}
 use Rattle.jobs.specs.Told.{HasTold, kept_at, IsCutEnd, IsCut}
-use Rattle.jobs.specs.Telling.{waits, named_in, KeepsChoice, TellsAt, CutsAt, ready_told, TellsBefore, CutsBefore, TellsBehind, CutsBehind, NamesKey}
+use Rattle.jobs.specs.Telling.{waits, named_in, KeepsChoice, ready_told, TellsBefore, CutsBefore, TellsBehind, CutsBehind, NamesKey}
 use Rattle.jobs.specs.FollowSteps.{onto_taken, named_through, are_some, GoesBy, IsUnderway, lines_ahead, message_ahead, IsGoing, IsHolding, IsStopped, IsFresh, end_at, EndsTold, StopsBy}
-use Rattle.jobs.proofs.Told.{told_nothing, told_behind, told_kept, cut_behind, cut_longer, cut_memory, cut_output}
+use Rattle.jobs.proofs.Told.{told_behind, cut_behind, cut_memory, cut_output}
 use Rattle.jobs.proofs.FollowTold.{told_more, named_more, told_by, resolved_last, shown_row}
 use Rattle.jobs.proofs.FollowLines.{line_comes, line_ahead, followed_none, followed_misread, followed_passed, followed_message}
 

@@ -1,13 +1,13 @@
 -- What is told of messages, one behind the other.
-use Rattle.std.proofs.Common.{◌≡◌, ℕ, Bool, true, false, cond, ◌⊎◌, inl, inr, List, [], ◌∷◌, ◌++◌, Option, Some, None, refl, sym, ap, ◌∙◌, subst, append-nil, append_assoc}
-use Rattle.std.specs.Prelude.{is_none, ◌&&◌, ◌-◌, codes, ◌↔◌}
+use Rattle.std.proofs.Common.{◌≡◌, ℕ, Bool, true, false, cond, inl, inr, List, [], ◌∷◌, ◌++◌, Option, Some, None, refl, sym, ap, ◌∙◌, subst, append-nil, append_assoc}
+use Rattle.std.specs.Prelude.{is_none, ◌&&◌, ◌-◌, ◌↔◌}
 use Rattle.std.specs.declared.cmp.Ordering.TheVariants.{Less}
 use Rattle.timestamps.specs.Bytes.{key_cmp}
 use Rattle.spans.specs.declared.calls.messages.Message.{Message}
 use Rattle.spans.specs.declared.calls.messages.Message.TheVariants as messages
 use Rattle.spans.specs.declared.span.Span.{Span}
 use Rattle.spans.specs.Completeness.{ready_after, is_new}
-use Rattle.spans.specs.Consumer.{ApplyFault, apply_fault, view_of}
+use Rattle.spans.specs.Consumer.{ApplyFault, apply_fault}
 use Rattle.spans.specs.Keys.{IsPairIn, KeysRise}
 use Rattle.spans.specs.Serial.{Map}
 use Rattle.spans.proofs.Keyed.{key_clash}
@@ -17,7 +17,7 @@ use Rattle.jobs.specs.declared.follow.FollowOptions.{FollowOptions}
 use Rattle.jobs.specs.declared.follow.Shown.{Shown}
 use Rattle.jobs.specs.declared.follow.Shown.TheVariants as shown
 use Rattle.jobs.specs.Followed.{start_of}
-use Rattle.jobs.specs.FollowReports.{IsTold, IsToldAt, IsMessageTold, AreTold, shown_lines, shown_before, named_after, named_with, unless_told, resolved_by}
+use Rattle.jobs.specs.FollowReports.{IsTold, IsToldAt, IsMessageTold, AreTold, shown_before, named_after, resolved_by}
 use Rattle.jobs.specs.FollowSteps.{named_through}
 
 -- ---- rows that rise are determined by the map

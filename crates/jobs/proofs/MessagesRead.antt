@@ -1,5 +1,5 @@
 -- The line of a message passes the tests of lines, and has that message.
-use Rattle.std.proofs.Common.{◌≡◌, ℕ, zero, suc, ◌+◌, ◌*◌, ◌/◌, ◌%◌, ◌^◌, ◌<◌, ◌≤◌, Bool, true, false, cond, List, [], ◌∷◌, ◌++◌, length, get_or, Option, Some, None, Result, Ok, Err, refl, sym, ap, ◌∙◌, subst, append_assoc, arith}
+use Rattle.std.proofs.Common.{◌≡◌, ℕ, zero, suc, ◌+◌, ◌*◌, ◌/◌, ◌%◌, ◌^◌, ◌<◌, Bool, true, cond, List, [], ◌∷◌, ◌++◌, length, get_or, Option, Some, None, Result, Ok, Err, refl, sym, ap, ◌∙◌, subst, append_assoc, arith}
 use Rattle.std.specs.Prelude.{◌&&◌, ◌==◌, not, nat_le, nat_lt, bytes_eq, codes, decimal, option_map, option_and_then}
 use Rattle.std.specs.Str.{IsUtf8}
 use Rattle.std.specs.List.{list_all}
@@ -26,11 +26,11 @@ use Rattle.json_lines.specs.Messages.{base64, symbols, AreBytes, IsMessage, IsAf
 use Rattle.json_lines.specs.Meaning.{message_of}
 use Rattle.json_lines.specs.Steps.{◌>>=◌}
 use Rattle.json_lines.specs.Tests.{text_at, after_at, resolved_in, row_in, texts_in, tree_of, meant_by, message_at}
-use Rattle.json_lines.specs.Texts.{Texts, resolved, row, texts_of}
+use Rattle.json_lines.specs.Texts.{Texts, resolved, row}
 use Rattle.json_lines.proofs.Base64.{base64_none, base64_one, base64_two, base64_three}
 use Rattle.json_lines.proofs.Meanings.{message_again}
 use Rattle.json_lines.proofs.Trees.{tree_good}
-use Rattle.json_lines.proofs.WrittenLines.{after_line, texts_line, line_of_texts}
+use Rattle.json_lines.proofs.WrittenLines.{texts_line, line_of_texts}
 use Rattle.word_lines.proofs.JoinedParts.{decimal_all}
 use Rattle.word_lines.proofs.Spellings.{both}
 

@@ -1,5 +1,5 @@
 -- What is told at a timestamp, and before and behind a message.
-use Rattle.std.proofs.Common.{◌≡◌, ◌≢◌, ℕ, Bool, true, false, cond, List, [], ◌∷◌, ◌++◌, length, Option, Some, None, Result, Ok, Err, OnOk, refl, sym, ap, ◌∙◌, subst, append-nil}
+use Rattle.std.proofs.Common.{◌≡◌, ℕ, true, cond, List, [], ◌∷◌, ◌++◌, length, Option, Some, None, Result, Ok, Err, OnOk, refl, sym, ap, ◌∙◌, subst}
 use Rattle.std.specs.Prelude.{IfErr, codes}
 use Rattle.std.specs.List.{flat_map}
 use Rattle.std.specs.BTreeSet as sets
@@ -9,7 +9,6 @@ use Rattle.std.specs.declared.cmp.Ordering.TheVariants.{Equal, Greater, Less}
 use Rattle.timestamps.specs.Bytes.{key_cmp}
 use Rattle.spans.specs.declared.calls.messages.Message.{Message}
 use Rattle.spans.specs.Completeness.{ready_after}
-use Rattle.spans.specs.Consumer.{view_of}
 use Rattle.spans.specs.Keys.{insert_key, insert_where}
 use Rattle.spans.specs.Serial.{Map}
 use Rattle.word_lines.specs.Replies.{row_line}
@@ -23,11 +22,11 @@ use Rattle.jobs.specs.declared.follow.Shown.{Shown}
 use Rattle.jobs.specs.declared.follow.Shown.TheVariants as shown
 use Rattle.jobs.specs.declared.follow.telling.Telling.{Telling}
 use Rattle.jobs.specs.Followed.{count_line}
-use Rattle.jobs.specs.FollowReports.{IsTold, IsToldAt, shown_lines}
+use Rattle.jobs.specs.FollowReports.{IsToldAt, shown_lines}
 use Rattle.jobs.specs.Told.{HasTold, IsCut}
-use Rattle.jobs.specs.Telling.{waits, named_in, KeepsChoice, ShowsRows, ShowsPart, TellsAt, CutsAt, TellsBefore, CutsBefore, TellsBehind, CutsBehind}
+use Rattle.jobs.specs.Telling.{waits, named_in, ShowsRows, ShowsPart, TellsAt, CutsAt, TellsBefore, CutsBefore, TellsBehind, CutsBehind}
 use Rattle.jobs.proofs.FollowTold.{only_rows}
-use Rattle.jobs.proofs.Told.{told_behind, told_kept, cut_behind, cut_memory}
+use Rattle.jobs.proofs.Told.{told_kept, cut_behind, cut_memory}
 
 -- ---- of results
 
@@ -64,25 +63,28 @@ module _ (t t' : Telling) (m : Map) (listed : List (List ℕ × List ℕ)) (take
 
 -- ---- at a timestamp
 
-module _ (t t' t'' : Telling) (word : List ℕ) (at n : ℕ) (m : Map) (taken taken' : List ℕ) (e : End) where
+module _ (t : Telling) (word : List ℕ) (at n : ℕ) (m : Map) where
   told_rows : (rows : List (List ℕ × List ℕ)) → AreRowsOf m rows → n ≡ length rows → IsToldAt t.shown word (Some at) m (named_in t) (count_line word at n ++ shown_lines t.shown m rows (named_in t))
   told_rows rows all count = record { rows = rows; all = all; text_is = ap (λ (k : ℕ). count_line word at k ++ shown_lines t.shown m rows (named_in t)) count }
 
   -- memory is wanted for the first line
-  pub cut_untold : IsCountOf m n → waits t' ≡ waits t → CutsAt t t' word (Some at) m taken taken ends.Memory
-  cut_untold c same = record { text = count_line word at n ++ shown_lines t.shown m c.rows (named_in t); is = told_rows c.rows c.all c.count; cut = cut_memory taken (waits t) (waits t') (count_line word at n ++ shown_lines t.shown m c.rows (named_in t)) same }
-
-  shown_same : (rows : List (List ℕ × List ℕ)) → t'.shown ≡ t.shown → named_in t' ≡ named_in t → shown_lines t'.shown m rows (named_in t') ≡ shown_lines t.shown m rows (named_in t)
-  shown_same rows how named = λ i. shown_lines (how i) m rows (named i)
-
-  -- what is shown can't be told
-  pub cut_shown : IsCountOf m n → t'.shown ≡ t.shown → named_in t' ≡ named_in t → waits t' ≡ waits t ++ count_line word at n → ShowsPart t' t'' m taken taken' e → CutsAt t t'' word (Some at) m taken taken' e
-  cut_shown c how named keeps part = record {
+  pub cut_untold : (t' : Telling) (taken : List ℕ) → IsCountOf m n → waits t' ≡ waits t → CutsAt t t' word (Some at) m taken taken ends.Memory
+  cut_untold t' taken c same = record {
     text = count_line word at n ++ shown_lines t.shown m c.rows (named_in t);
     is = told_rows c.rows c.all c.count;
-    cut = cut_behind e taken taken taken' (waits t) (waits t') (waits t'') (count_line word at n) (shown_lines t.shown m c.rows (named_in t)) (told_kept taken (waits t) (waits t') (count_line word at n) keeps)
-        (subst (IsCut e taken taken' (waits t') (waits t'')) (shown_same c.rows how named) (part c.rows c.all));
+    cut = cut_memory taken (waits t) (waits t') (count_line word at n ++ shown_lines t.shown m c.rows (named_in t)) same;
   }
+
+  -- what is shown can't be told
+  pub cut_shown : (t' t'' : Telling) (taken taken' : List ℕ) (e : End) → IsCountOf m n → t'.shown ≡ t.shown → named_in t' ≡ named_in t → waits t' ≡ waits t ++ count_line word at n → ShowsPart t' t'' m taken taken' e → CutsAt t t'' word (Some at) m taken taken' e
+  cut_shown t' t'' taken taken' e c how named keeps part =
+      let same : shown_lines t'.shown m c.rows (named_in t') ≡ shown_lines t.shown m c.rows (named_in t) = λ i. shown_lines (how i) m c.rows (named i) in
+      record {
+        text = count_line word at n ++ shown_lines t.shown m c.rows (named_in t);
+        is = told_rows c.rows c.all c.count;
+        cut = cut_behind e taken taken taken' (waits t) (waits t') (waits t'') (count_line word at n) (shown_lines t.shown m c.rows (named_in t)) (told_kept taken (waits t) (waits t') (count_line word at n) keeps)
+            (subst (IsCut e taken taken' (waits t') (waits t'')) same (part c.rows c.all));
+      }
 
 -- ---- before and behind a message
 

@@ -1,11 +1,10 @@
 -- What was told, piece by piece.
-use Rattle.std.proofs.Common.{◌≡◌, ℕ, List, [], ◌∷◌, ◌++◌, Option, Some, None, refl, sym, ap, ◌∙◌, subst, append-nil, append_assoc, inl, inr}
+use Rattle.std.proofs.Common.{◌≡◌, ℕ, List, [], ◌∷◌, ◌++◌, refl, sym, ap, ◌∙◌, subst, append-nil, append_assoc, inl, inr}
 use Rattle.std.specs.List.{flat_map}
-use Rattle.ticket_lock.specs.Lists.{StartsWith}
 use Rattle.sessions.specs.Writing.{HasTaken, HasBegun}
 use Rattle.jobs.specs.declared.ending.End.{End}
 use Rattle.jobs.specs.declared.ending.End.TheVariants as ends
-use Rattle.jobs.specs.Told.{HasTold, kept_at, IsCutEnd, IsCut}
+use Rattle.jobs.specs.Told.{HasTold, kept_at, IsCut}
 
 -- nothing was told
 pub told_nothing : (taken waits waits' : List ℕ) → waits' ≡ waits → HasTold taken taken waits waits' []

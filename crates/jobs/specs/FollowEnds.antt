@@ -1,5 +1,5 @@
 -- How following a feed ends: what was taken of the input, and what was told of it (this project).
-use Rattle.std.specs.Prelude.{ℕ, ◌≡◌, ◌≢◌, ◌≤◌, ◌⊎◌, Bool, true, List, [], ◌∷◌, ◌++◌, length, position, Option, Some, None}
+use Rattle.std.specs.Prelude.{ℕ, ◌≡◌, ◌≢◌, ◌≤◌, ◌⊎◌, Bool, true, List, [], ◌++◌, length, position, Some, None}
 use Rattle.spans.specs.declared.calls.messages.Message.{Message}
 use Rattle.word_lines.specs.Events.{spent_line}
 use Rattle.script.specs.Lines.{is_newline}

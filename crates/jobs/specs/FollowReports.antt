@@ -1,5 +1,5 @@
 -- What a follower tells of the messages that it took (this project).
-use Rattle.std.specs.Prelude.{ℕ, ◌≡◌, Bool, if◌then◌else◌, List, [], ◌∷◌, ◌++◌, length, codes, Option, Some, None, is_some}
+use Rattle.std.specs.Prelude.{ℕ, ◌≡◌, if◌then◌else◌, List, [], ◌∷◌, ◌++◌, length, codes, Option, Some, None, is_some}
 use Rattle.std.specs.List.{flat_map}
 use Rattle.spans.specs.declared.calls.messages.Message.{Message}
 use Rattle.spans.specs.declared.calls.messages.Message.TheVariants as messages
@@ -8,7 +8,6 @@ use Rattle.spans.specs.Consumer.{view_of}
 use Rattle.spans.specs.Keys.{insert_key}
 use Rattle.spans.specs.Serial.{Map}
 use Rattle.replica.specs.Rows.{AreRowsOf}
-use Rattle.replica.specs.Starts.{Start as ReplicaStart}
 use Rattle.word_lines.specs.Replies.{row_line}
 use Rattle.jobs.specs.declared.follow.FollowOptions.{FollowOptions}
 use Rattle.jobs.specs.declared.follow.Shown.{Shown}

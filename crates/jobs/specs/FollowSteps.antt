@@ -3,7 +3,6 @@ use Rattle.std.specs.Prelude.{◌≡◌, ◌⊎◌, ℕ, ◌+◌, ◌≤◌, Boo
 use Rattle.std.specs.Int.{from_bool}
 use Rattle.spans.specs.declared.calls.messages.Message.{Message}
 use Rattle.spans.specs.Consumer.{apply_fault}
-use Rattle.word_lines.specs.Events.{spent_line}
 use Rattle.script.specs.Lines.{lines_of}
 use Rattle.sessions.specs.Waiting.{waiting, has_ended}
 use Rattle.replica.specs.Replicas.{Follows}

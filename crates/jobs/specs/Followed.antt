@@ -1,22 +1,15 @@
 -- What a follower takes, and what is told of a feed that is followed.
-use Rattle.std.specs.Prelude.{◌≡◌, ◌≢◌, ◌⊎◌, ℕ, ◌&&◌, Bool, true, false, List, [], ◌∷◌, ◌++◌, Option, Some, None, Ok, Err, codes, decimal}
-use Rattle.text_format.specs.declared.Format.{Format}
-use Rattle.spans.specs.declared.calls.messages.Message.{Message}
+use Rattle.std.specs.Prelude.{◌≡◌, ℕ, ◌&&◌, Bool, List, [], ◌∷◌, ◌++◌, codes, decimal}
 use Rattle.spans.specs.declared.span.Span.{Span}
 use Rattle.json_lines.specs.declared.fault.MessageFault.{MessageFault}
 use Rattle.json_lines.specs.declared.fault.MessageFault.TheVariants as message
-use Rattle.json_lines.specs.Messages.{IsMessage, message_line}
-use Rattle.json_lines.specs.Tests.{message_at}
 use Rattle.word_lines.specs.declared.fault.LineFault.{LineFault}
 use Rattle.word_lines.specs.declared.fault.LineFault.TheVariants as line_faults
 use Rattle.word_lines.specs.Commands.{joined}
 use Rattle.word_lines.specs.Spelling.{spelling}
-use Rattle.word_lines.specs.Words.{text_at}
 use Rattle.replica.specs.declared.fault.Fault.{Fault}
 use Rattle.replica.specs.declared.fault.Fault.TheVariants as replica_faults
-use Rattle.replica.specs.Replicas.{test_of}
 use Rattle.replica.specs.Starts.{Start as ReplicaStart, seeded_start, initial_start, IsSeedFault}
-use Rattle.spans.specs.Consumer.{apply_fault}
 use Rattle.jobs.specs.declared.follow.Start.{Start}
 use Rattle.jobs.specs.declared.follow.Start.TheVariants as starts
 use Rattle.jobs.specs.Chosen.{begins_message}

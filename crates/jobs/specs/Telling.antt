@@ -1,5 +1,5 @@
 -- What telling adds to what waits, and which keys are named after it.
-use Rattle.std.specs.Prelude.{◌≡◌, ℕ, Bool, if◌then◌else◌, List, [], Option, None, codes}
+use Rattle.std.specs.Prelude.{◌≡◌, ℕ, Bool, if◌then◌else◌, List, Option, None, codes}
 use Rattle.spans.specs.declared.calls.messages.Message.{Message}
 use Rattle.spans.specs.Completeness.{ready_after}
 use Rattle.spans.specs.Consumer.{view_of}

@@ -1,5 +1,5 @@
 -- A worked example of what a follower tells.
-use Rattle.std.specs.Prelude.{◌≡◌, ◌⊎◌, ◌↔◌, ℕ, Bool, true, false, cond, if◌then◌else◌, List, [], ◌∷◌, Option, Some, None, refl, codes, bytes_eq}
+use Rattle.std.specs.Prelude.{◌≡◌, ◌↔◌, ℕ, Bool, true, false, cond, List, [], ◌∷◌, Option, Some, None, refl, codes, bytes_eq}
 use Rattle.std.specs.Fmt.{digits}
 use Rattle.std.proofs.Common.{sym, ap, subst, ◌∙◌, inl, inr}
 use Rattle.spans.specs.declared.calls.messages.Message.{Message}
@@ -11,9 +11,9 @@ use Rattle.jobs.specs.declared.follow.Shown.{Shown}
 use Rattle.jobs.specs.declared.follow.Shown.TheVariants as shown
 use Rattle.jobs.specs.declared.follow.Start.TheVariants as starts
 use Rattle.jobs.specs.FollowReports.{IsFollowReport}
-use Rattle.spans.specs.Keys.{IsPairIn, KeysRise}
-use Rattle.spans.specs.Serial.{Map, put}
-use Rattle.spans.proofs.Steps.{by_test, same_key, key_itself}
+use Rattle.spans.specs.Keys.{IsPairIn}
+use Rattle.spans.specs.Serial.{put}
+use Rattle.spans.proofs.Steps.{same_key, key_itself}
 use Rattle.replica.specs.Rows.{AreRowsOf}
 
 -- all keys, from cursor 0 on
