@@ -28,9 +28,9 @@
 //! - `next_snapshot`: one for the first key, and one of a chain for each key from there to the last that is told
 //! - a version that isn't committed: one more, where it is passed
 //!
-//! Both calls take memory for the rows told. Where `next_rows` turns to the chains, it takes it also for places in them,
-//! of which it keeps no more than rows are asked for, and one more. `next_snapshot` takes it also for a copy of the span.
-//! They change nothing, so a refusal leaves no trace.
+//! Both calls take memory for the rows told. Where `next_rows` turns to the chains, it also takes memory for places in
+//! them: for as many as it still wants rows, and for one more. `next_snapshot` also takes it for a copy of the span. They
+//! change nothing, so a refusal leaves no trace.
 //!
 //! Tests: `engine_tests`, `job_tests`.
 #![tactic(auto)]
