@@ -1,5 +1,5 @@
 -- A follower that stopped, once what waited is written.
-use Rattle.std.proofs.Common.{◌≡◌, ◌≢◌, ℕ, Bool, List, [], ◌∷◌, ◌++◌, refl, sym, ap, ◌∙◌, subst, append-nil, append_assoc, inl, inr}
+use Rattle.std.proofs.Common.{◌≡◌, ◌≢◌, ℕ, zero, suc, Bool, List, [], ◌∷◌, ◌++◌, refl, sym, ap, ◌∙◌, subst, append-nil, append_assoc, inl, inr}
 use Rattle.spans.specs.declared.calls.messages.Message.{Message}
 use Rattle.word_lines.specs.Events.{spent_line}
 use Rattle.ticket_lock.specs.Lists.{StartsWith}
@@ -9,10 +9,10 @@ use Rattle.jobs.specs.declared.ending.End.TheVariants as ends
 use Rattle.jobs.specs.declared.follow.FollowOptions.{FollowOptions}
 use Rattle.jobs.specs.declared.follow.fault.FollowFault.{FollowFault}
 use Rattle.jobs.specs.declared.follow.fault.FollowError.TheVariants as errors
-use Rattle.jobs.specs.Followed.{IsUnbegun, fault_line}
+use Rattle.jobs.specs.Followed.{IsUnbegun, MayStart, fault_line}
 use Rattle.jobs.specs.Following.{followed_at}
 use Rattle.jobs.specs.FollowReports.{IsFollowReport}
-use Rattle.jobs.specs.FollowEnds.{IsPart, EndsBy, IsFollowed}
+use Rattle.jobs.specs.FollowEnds.{IsPart, EndsBy, IsFollowed, CouldBegin}
 use Rattle.jobs.specs.Told.{kept_at}
 use Rattle.jobs.specs.FollowSteps.{IsStopped}
 
@@ -94,3 +94,18 @@ module _ (o : FollowOptions) (given taken : List ℕ) (ended : Bool) where
   followed_fault_part taken' fault text why told w =
       followed_nothing ends.Output taken' w.1.part w.1.took
       (record { last = fault_line 0 fault; is_last = inr (inl (0, fault, inl (refl, refl, refl, why), refl)); whole = fault_line 0 fault; report = ([], refl, refl); begins = (w.0, sym told ∙ w.1.left) })
+
+-- where a replica may begin, it could, whatever the end
+pub could_begin : (o : FollowOptions) (given given' : List ℕ) (e : End) → MayStart o.span o.start → CouldBegin o given given' e
+could_begin o given given' ends.Done may = may
+could_begin o given given' ends.NoMessages may = may
+could_begin o given given' (ends.Faulty line fault) may = may
+could_begin o given given' (ends.Unfollowed zero fault) may = tt
+could_begin o given given' (ends.Unfollowed (suc line) fault) may = may
+could_begin o given given' (ends.No position) may = may
+could_begin o given given' ends.Spent may = may
+could_begin o given given' (ends.Open reason) may = may
+could_begin o given given' ends.Input may = may
+could_begin o given given' ends.Output may = inr may
+could_begin o given given' ends.Memory may = inr may
+could_begin o given given' ends.Thread may = may

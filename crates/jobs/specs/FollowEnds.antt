@@ -1,5 +1,5 @@
 -- How following a feed ends: what was taken of the input, and what was told of it (this project).
-use Rattle.std.specs.Prelude.{ℕ, ◌≡◌, ◌≢◌, ◌≤◌, ◌⊎◌, Bool, true, List, [], ◌++◌, length, position, Some, None}
+use Rattle.std.specs.Prelude.{ℕ, zero, ◌≡◌, ◌≢◌, ◌≤◌, ◌⊎◌, Bool, true, List, [], ◌++◌, length, position, Some, None}
 use Rattle.spans.specs.declared.calls.messages.Message.{Message}
 use Rattle.word_lines.specs.Events.{spent_line}
 use Rattle.script.specs.Lines.{is_newline}
@@ -10,7 +10,7 @@ use Rattle.jobs.specs.declared.ending.End.TheVariants as ends
 use Rattle.jobs.specs.declared.follow.FollowOptions.{FollowOptions}
 use Rattle.jobs.specs.declared.follow.fault.FollowFault.{FollowFault}
 use Rattle.jobs.specs.declared.follow.fault.FollowError.TheVariants as errors
-use Rattle.jobs.specs.Followed.{IsUnbegun, fault_line}
+use Rattle.jobs.specs.Followed.{IsUnbegun, MayStart, fault_line}
 use Rattle.jobs.specs.Following.{followed_at, followed_through}
 use Rattle.jobs.specs.FollowReports.{IsFollowReport}
 
@@ -80,3 +80,10 @@ pub record IsFollowed (o : FollowOptions) (given given' : List ℕ) (ended : Boo
   -- they are the first of the input's
   pub begins : BeginWith o input ended messages
   pub ends : EndsBy o input ended messages output e
+
+-- a replica could begin, unless the fault says otherwise, which names line 0, or nothing was read before memory or the output failed
+abbrev pub CouldBegin : FollowOptions → (given given' : List ℕ) → End → Type 0
+CouldBegin o given given' (ends.Unfollowed zero fault) = Unit {0}
+CouldBegin o given given' ends.Output = (given' ≡ given) ⊎ MayStart o.span o.start
+CouldBegin o given given' ends.Memory = (given' ≡ given) ⊎ MayStart o.span o.start
+CouldBegin o given given' e = MayStart o.span o.start

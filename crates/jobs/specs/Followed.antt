@@ -9,7 +9,7 @@ use Rattle.word_lines.specs.Commands.{joined}
 use Rattle.word_lines.specs.Spelling.{spelling}
 use Rattle.replica.specs.declared.fault.Fault.{Fault}
 use Rattle.replica.specs.declared.fault.Fault.TheVariants as replica_faults
-use Rattle.replica.specs.Starts.{Start as ReplicaStart, seeded_start, initial_start, IsSeedFault}
+use Rattle.replica.specs.Starts.{MayBegin, Start as ReplicaStart, seeded_start, initial_start, IsSeedFault}
 use Rattle.jobs.specs.declared.follow.Start.{Start}
 use Rattle.jobs.specs.declared.follow.Start.TheVariants as starts
 use Rattle.jobs.specs.Chosen.{begins_message}
@@ -52,6 +52,11 @@ abbrev pub IsUnbegun : Span → Start → FollowError → Type 0
 IsUnbegun span start errors.NoMemory = Unit {0}
 IsUnbegun span (starts.Seed cursor rows) (errors.Fault f) = (fault : Fault) × IsSeedFault span rows.items fault × (errors.Fault f ≡ error_of_replica fault)
 IsUnbegun span start (errors.Fault f) = ⊥
+
+-- a replica may begin so: rows to begin with rise, and lie in the span
+abbrev pub MayStart : Span → Start → Type 0
+MayStart span (starts.Seed cursor rows) = MayBegin span rows.items
+MayStart span start = Unit {0}
 
 -- by a word, that the rows are complete at a timestamp, and how many there are
 abbrev pub count_line : List ℕ → ℕ → ℕ → List ℕ

@@ -17,7 +17,7 @@ ghost use Rattle.jobs.specs.declared.follow.FollowOptions.{FollowOptions};
 ghost use Rattle.jobs.specs.declared.follow.fault.FollowError.TheVariants.{Fault};
 ghost use Rattle.jobs.specs.Ends.{FailsAt};
 ghost use Rattle.jobs.specs.Followed.{IsUnbegun};
-ghost use Rattle.jobs.specs.FollowEnds.{IsFollowed};
+ghost use Rattle.jobs.specs.FollowEnds.{CouldBegin, IsFollowed};
 
 mod choice;
 mod fault;
@@ -96,7 +96,8 @@ pub enum Start {
 /// ends the output with its fault; what was told before it stands. The output is written in large blocks, at
 /// the end, and before each read, since a read may wait.
 ///
-/// `IsFollowed` in `specs/FollowEnds.antt` says how each end comes, from the bytes read to the bytes written.
+/// `IsFollowed` in `specs/FollowEnds.antt` says how each end comes, from the bytes read to the bytes written, and
+/// `CouldBegin` that rows which a replica can't begin with are a fault.
 pub fn follow_io<S: Source, K: Sink>(
     alloc: Global,
     options: FollowOptions,
@@ -104,6 +105,7 @@ pub fn follow_io<S: Source, K: Sink>(
     output: &mut K,
 ) -> End
     ensures followed { IsFollowed options (S.given input.old) (S.given input.new) (S.ended input.new) (K.taken output.old) (K.taken output.new) result }
+    ensures begun { CouldBegin options (S.given input.old) (S.given input.new) result }
     ensures failed { FailsAt result (S.failures input.old) (S.failures input.new) (K.failures output.old) (K.failures output.new) }
 {
     match Follower::begin(alloc, options) {
@@ -120,6 +122,7 @@ pub fn follow_io<S: Source, K: Sink>(
 fn unbegun<K: Sink>(alloc: Global, fault: FollowFault, output: &mut K) -> End
     ensures followed { (o : FollowOptions) (given : List ℕ) (ended : Bool) → IsUnbegun o.span o.start (Fault fault)
         → IsFollowed o given given ended (K.taken output.old) (K.taken output.new) result }
+    ensures begun { (o : FollowOptions) (given : List ℕ) → CouldBegin o given given result }
     ensures failed { (reads : ℕ) → FailsAt result reads reads (K.failures output.old) (K.failures output.new) }
 {
     let mut text = Vec::new(alloc);

@@ -1,5 +1,6 @@
 //! The five jobs of the program `mvfeed`, over any source and any sink: it runs a script, has a script's sessions race,
-//! checks a transcript, tells the state after it, and follows a feed. Each job is one function, from the first byte read to the last one written.
+//! checks a transcript, tells the state after it, and follows a feed. Each job is one function, from the first byte read
+//! to the last one written.
 //! The loop of a run, line by line, stands in `sessions`, and the threads of a race in `races`.
 //!
 //! `mvfeed` calls [`run_io`], [`race_io`], [`check_io`], [`state_io`] and [`follow_io`] with its standard input and
@@ -8,8 +9,8 @@
 //!
 //! 1. The bytes read, the bytes written and the end say together how the job went: each contract goes from bytes to
 //!    bytes. Of a follower `IsFollowed` says it, in `specs/FollowEnds.antt`.
-//! 2. A run and a follower answer line by line. A race, a check and a state answer once they have read everything, and
-//!    write nothing before that.
+//! 2. A run and a follower write what they have before each read, since a read may wait; tests say so, and no clause can.
+//!    A race, a check and a state answer once they have read everything, and write nothing before that.
 //! 3. A read that failed is the end `Input`, and a write that failed is the end `Output`. No other end comes of a
 //!    failed read or write.
 //!

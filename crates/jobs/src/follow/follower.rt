@@ -6,7 +6,7 @@ ghost use Rattle.jobs.specs.declared.ending.End.TheVariants.{Spent, Unfollowed};
 ghost use Rattle.replica.specs.Replicas.{Follows};
 ghost use Rattle.jobs.specs.Ends.{FailsAt};
 ghost use Rattle.sessions.specs.Waiting.{format_of};
-ghost use Rattle.jobs.specs.Followed.{start_of, fault_line, IsUnbegun};
+ghost use Rattle.jobs.specs.Followed.{start_of, fault_line, IsUnbegun, MayStart};
 ghost use Rattle.sessions.specs.declared.lines.Next.TheVariants.{More};
 
 use crate::ending::End;
@@ -46,6 +46,7 @@ impl Follower {
 
     pub(crate) fn begin(alloc: Global, options: FollowOptions) -> Result<Follower, FollowError>
         ensures fresh { IfOk result (IsFresh options) }
+        ensures may { OnOk result (MayStart options.span options.start) }
         ensures refused { IfErr result (IsUnbegun options.span options.start) }
     {
         let FollowOptions {
@@ -246,6 +247,7 @@ impl Follower {
 /// The replica that a feed's consumer begins with.
 fn begun(alloc: Global, span: Span, start: Start) -> Result<Replica, FollowError>
     ensures ok { IfOk result (λ replica. Follows replica (start_of span start) []) }
+    ensures may { OnOk result (MayStart span start) }
     ensures refused { IfErr result (IsUnbegun span start) }
 {
     let (cursor, rows) = match start {
