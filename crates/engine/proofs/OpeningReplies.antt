@@ -17,13 +17,7 @@ use Rattle.kept.specs.Changes.{IsAlike, IsOpenedAt}
 use Rattle.kept.specs.Replies.{kept_opening_tests, open_reply}
 use Rattle.engine.specs.Served.{IsOpenedIn, IsServed, IsUnserved}
 use Rattle.engine.specs.declared.layers.Layers.{Layers}
-use Rattle.engine.proofs.Replies.{tests_none}
-
-tests_some : (tests : List (Bool × Refusal)) (q : Refusal) (reply : Reply) → first_refusal tests ≡ Some q → first_refusal_or tests reply ≡ Refused q
-tests_some [] q reply some = (let no' : None ≡ Some q = some in cc)
-tests_some (test ∷ tests) q reply some = by_test test.0
-    (λ on. ap (λ b. cond b (Refused test.1) (first_refusal_or tests reply)) on ∙ (let same : Some test.1 ≡ Some q = sym (ap (λ b. cond b (Some test.1) (first_refusal tests)) on) ∙ some in let is : test.1 ≡ q = cc in ap Refused is))
-    (λ off. ap (λ b. cond b (Refused test.1) (first_refusal_or tests reply)) off ∙ tests_some tests q reply (sym (ap (λ b. cond b (Some test.1) (first_refusal tests)) off) ∙ some))
+use Rattle.mvto_rules.proofs.AtClosed.{tests_none, tests_some}
 
 abbrev AreOff : List (Bool × Refusal) → Type 0
 AreOff [] = Unit {0}
@@ -59,7 +53,7 @@ module _ (k k' : Kept) (seat : ℕ) (span : Span) (cursor : ℕ) where
   wanting_as true (Some gap) f right alike = record { may = refl; accepting = (Opened f, right, refl); alike = alike }
 
   pub open_refused : (kind : Kind) (q : Refusal) → first_refusal (kept_opening_tests kind k cursor) ≡ Some q → IsAlike k k' → IsAnswered k k' seat (open_cmd kind span cursor) (Refused q)
-  open_refused kind q some alike = refused_as kind.initial kind.gap q (sym (tests_some (kept_opening_tests kind k cursor) q (Opened (suc k.feeds_opened)) some)) alike
+  open_refused kind q some alike = refused_as kind.initial kind.gap q (sym (tests_some (kept_opening_tests kind k cursor) (Opened (suc k.feeds_opened)) q some)) alike
 
   pub open_done : (kind : Kind) (f : ℕ) → first_refusal (kept_opening_tests kind k cursor) ≡ None → f ≡ suc k.feeds_opened → IsOpenedAt k k' f seat kind span cursor → IsAnswered k k' seat (open_cmd kind span cursor) (Opened f)
   open_done kind f none next change = done_as kind.initial kind.gap f (ap Opened next ∙ sym (tests_none (kept_opening_tests kind k cursor) (Opened (suc k.feeds_opened)) none)) change

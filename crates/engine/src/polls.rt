@@ -1,9 +1,6 @@
 //! Polling feeds, and cancelling them.
-ghost use Rattle.std.specs.Prelude.{◌≡◌, ◌≤◌};
-ghost use Rattle.timestamps.specs.declared.ts.TheConstants.{MAX};
+ghost use Rattle.std.specs.Prelude.{◌≡◌};
 ghost use Rattle.spans.specs.declared.calls.commands.Cmd.TheVariants.{Cancel, Poll};
-ghost use Rattle.closing.specs.Standing.{closed_in};
-ghost use Rattle.mvto_rules.specs.Holding.{closing_of};
 ghost use Rattle.kept.specs.Answered.{IsStep};
 ghost use Rattle.kept.specs.Replies.{feed_refusal};
 
@@ -16,7 +13,6 @@ impl Layers {
     ghost use Rattle.engine.specs.Served.{AreServing, IsServed};
 
     pub(crate) fn poll(&mut self, seat: u8, feed: u64, max: u64) -> Reply
-        requires { closed_in (closing_of self.old.rules) ≤ MAX }
         ensures step { AreServing self.old → IsStep (kept_of self.old) (kept_of self.new) seat (Poll feed max) result }
         ensures served { AreServing self.old → IsServed self.old self.new seat (Poll feed max) result }
     {

@@ -26,13 +26,13 @@ use Rattle.mvto_rules.specs.Snapshots.{horizon_refusal, snapshot_refusal, tests_
 -- ---- tests
 
 -- the first test that applies decides
-tests_none : (tests : List (Bool × Refusal)) (reply : Reply) → first_refusal tests ≡ None → first_refusal_or tests reply ≡ reply
+pub tests_none : (tests : List (Bool × Refusal)) (reply : Reply) → first_refusal tests ≡ None → first_refusal_or tests reply ≡ reply
 tests_none [] reply none = refl
 tests_none (test ∷ tests) reply none = by_test test.0
     (λ on. (let no : Some test.1 ≡ None = sym (ap (λ b. cond b (Some test.1) (first_refusal tests)) on) ∙ none in cc))
     (λ off. ap (λ b. cond b (Refused test.1) (first_refusal_or tests reply)) off ∙ tests_none tests reply (sym (ap (λ b. cond b (Some test.1) (first_refusal tests)) off) ∙ none))
 
-tests_some : (tests : List (Bool × Refusal)) (reply : Reply) (q : Refusal) → first_refusal tests ≡ Some q → first_refusal_or tests reply ≡ Refused q
+pub tests_some : (tests : List (Bool × Refusal)) (reply : Reply) (q : Refusal) → first_refusal tests ≡ Some q → first_refusal_or tests reply ≡ Refused q
 tests_some [] reply q some = cc
 tests_some (test ∷ tests) reply q some = by_test test.0
     (λ on. (let e : Some test.1 ≡ Some q = sym (ap (λ b. cond b (Some test.1) (first_refusal tests)) on) ∙ some in

@@ -1,5 +1,5 @@
 //! What the rules hold, to be read, and the versions, to be collected.
-ghost use Rattle.std.specs.Prelude.{◌≡◌, ◌≤◌, None, IfOk, IfSome, MatchOption};
+ghost use Rattle.std.specs.Prelude.{ℕ, List, ◌≡◌, ◌≤◌, None, IfOk, IfSome, MatchOption};
 ghost use Rattle.timestamps.specs.declared.ts.TheConstants.{MAX};
 ghost use Rattle.spans.proofs.Keyed.{RisingKeys};
 ghost use Rattle.kept.specs.Reports.{AreOpen};
@@ -7,6 +7,7 @@ ghost use Rattle.kept.specs.Table.{is_open, keys_of};
 ghost use Rattle.closing.specs.Standing.{closed_in};
 ghost use Rattle.txn_table.specs.TransactionIn.{IsCountOf};
 ghost use Rattle.version_chain.specs.Stores as stores;
+ghost use Rattle.version_chain.specs.Stores.{version_in};
 
 use crate::rules::Rules;
 use closing::Closing;
@@ -33,6 +34,7 @@ impl Rules {
     /// The versions, taken out for a collection. Until it puts them back there are none.
     pub fn take_versions(&mut self) -> Store
         ensures taken { result ≡ versions_of self.old }
+        ensures none { (x : List ℕ) (t : ℕ) → version_in (versions_of self.new) x t ≡ None }
         ensures rest { self.new ≡ with_versions self.old (versions_of self.new) }
     {
         mem::replace(&mut self.store, Store::new(self.alloc))

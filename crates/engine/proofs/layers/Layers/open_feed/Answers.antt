@@ -2,6 +2,7 @@ use Rattle.std.proofs.Common.{None, Some, ap, inl, inr, refl, subst, sym, ◌≡
 use Rattle.spans.specs.Answer.{first_refusal}
 use Rattle.kept.specs.Changes.{IsAlike}
 use Rattle.kept.specs.Replies.{kept_opening_tests}
+use Rattle.kept.proofs.Staying.{alike_self}
 use Rattle.closing.specs.Standing.{closed_in}
 use Rattle.mvto_rules.specs.Holding.{closing_of}
 use Rattle.mvto_rules.proofs.AtClosed.{none_unless}
@@ -11,7 +12,6 @@ use Rattle.feed.proofs.Serving.{is_opened, opened_ahead, others_same, ring_here}
 use Rattle.engine.specs.Layers.{kept_of}
 use Rattle.engine.proofs.FeedReplies.{others_stay}
 use Rattle.engine.proofs.OpeningReplies.{open_done, open_refused, open_served, open_unserved, open_wanting, opens_low}
-use Rattle.engine.proofs.Replies.{alike_self}
 use Rattle.engine.proofs.layers.Layers.open_feed.Goals as goal
 
 pub returns-in-Some-clause-step : goal.returns-in-Some-clause-step
@@ -37,7 +37,7 @@ pub returns-in-Ok-clause-served : goal.returns-in-Ok-clause-served
 returns-in-Ok-clause-served c =
     let e = c.args.self.now in let s' = c.open.new.self in let f = c.in-Ok.feed in
     let put : IsPut e.feeds s' f (Some (opened_at c.args.seat c.args.kind c.args.span.now c.args.cursor (begins_behind c.args.kind c.args.cursor (closed_in (closing_of e.rules))))) =
-    subst (λ n. IsPut e.feeds s' f (Some (opened_at c.args.seat c.args.kind c.args.span.now c.args.cursor (begins_behind c.args.kind c.args.cursor n)))) c.closed-closed.ensures c.in-Ok.ensures.put in
+    subst (λ n. IsPut e.feeds s' f (Some (opened_at c.args.seat c.args.kind c.args.span.now c.args.cursor (begins_behind c.args.kind c.args.cursor n)))) c.closed-closed.ensures.closed c.in-Ok.ensures.put in
     open_served e (record e { feeds = s' }) c.args.seat c.args.span.now c.args.cursor c.args.kind f (record {
       begins = (ring_here e.feeds s' f _ put).0;
       opened = opened_ahead e.feeds s' f c.args.seat c.args.kind c.args.span.now c.args.cursor (closed_in (closing_of e.rules)) put;

@@ -51,9 +51,9 @@ polled e s' seat f max ms is =
 pub returns-in-Ok-clause-step : goal.returns-in-Ok-clause-step
 returns-in-Ok-clause-step c = λ serving.
     let e = c.args.self.now in let s' = c.poll.new.self in
-    inl (answered e s' c.args.seat c.args.feed c.args.max c.in-Ok.messages (told e s' c.versions-versions.result.now c.args.seat c.args.feed c.closed-closed.result c.args.max c.in-Ok.messages c.in-Ok.ensures.told c.versions-versions.ensures c.closed-closed.ensures serving) c.in-Ok.ensures.opened)
+    inl (answered e s' c.args.seat c.args.feed c.args.max c.in-Ok.messages (told e s' c.versions-versions.result.now c.args.seat c.args.feed c.closed-closed.result c.args.max c.in-Ok.messages c.in-Ok.ensures.told c.versions-versions.ensures c.closed-closed.ensures.closed serving) c.in-Ok.ensures.opened)
 
 pub returns-in-Ok-clause-served : goal.returns-in-Ok-clause-served
 returns-in-Ok-clause-served c = λ serving.
     let e = c.args.self.now in let s' = c.poll.new.self in
-    polled e s' c.args.seat c.args.feed c.args.max c.in-Ok.messages (told e s' c.versions-versions.result.now c.args.seat c.args.feed c.closed-closed.result c.args.max c.in-Ok.messages c.in-Ok.ensures.told c.versions-versions.ensures c.closed-closed.ensures serving)
+    polled e s' c.args.seat c.args.feed c.args.max c.in-Ok.messages (told e s' c.versions-versions.result.now c.args.seat c.args.feed c.closed-closed.result c.args.max c.in-Ok.messages c.in-Ok.ensures.told c.versions-versions.ensures c.closed-closed.ensures.closed serving)
