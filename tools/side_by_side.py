@@ -4,7 +4,7 @@
 `rt lib` makes the libraries below a crate one after another, and keeps every other `rt` out of their folders
 meanwhile. So each crate is proved in a room of its own: a folder with its files, the files of the crates below, and
 their finished libraries, which are laid in by links. What a room made moves into the checkout at once, and any later
-`rt` finds it there.
+`rt` finds it there, also one in another checkout on the machine.
 
 Crates that don't wait for one another are proved at the same time, those with the longest chain behind them first. A
 crate gets a second processor, or up to four, where no other crate waits for one. Memory is shared out too.
@@ -190,6 +190,11 @@ def link_or_copy(one, other):
         shutil.copy2(one, other)
 
 
+def kept_copy(one, other):
+    """A copy of a file of kept work: a link to what was proved, because a check replaces that and never changes it."""
+    return link_or_copy(one, other) if one.endswith(".oantt") else shutil.copy2(one, other)
+
+
 def furnish(top, room, name, lower):
     """Makes a crate's room from the checkout. What an earlier run left of the crate's own work stays, or moves in."""
     crates = os.path.join(room, "crates")
@@ -235,6 +240,17 @@ def clear(top, room, name):
     shutil.rmtree(room)
 
 
+def lay_out(top, room, name):
+    """Lays what the room's proof kept into the checkout, and takes away the library that stood there."""
+    made, to = [os.path.join(it, "crates", name, "out") for it in (room, top)]
+    with locked(os.path.dirname(to)):
+        for it in ("incremental", "rlib"):
+            shutil.rmtree(os.path.join(to, it), ignore_errors=True)
+        kept = os.path.join(made, "incremental")
+        if os.path.isdir(kept):
+            shutil.copytree(kept, os.path.join(to, "incremental"), copy_function=kept_copy)
+
+
 class Build:
     """One run: the crates that wait, those that are made, and those that are being proved."""
 
@@ -259,11 +275,22 @@ class Build:
             return crate, 130, 0, ""
         verb = ["rt", "run" if crate.is_program else "lib", "--jobs", str(jobs)]
         verb += ["--", *self.words] if crate.is_program else []
-        began, log = time.monotonic(), tempfile.TemporaryFile("w+", errors="replace")
-        with log:
+        began, folder = time.monotonic(), os.path.join(room, "crates", crate.name)
+        status, told = self.ran(verb, folder)
+        seconds = time.monotonic() - began
+        if not self.is_ending:
+            is_library = os.path.isdir(os.path.join(folder, "out", "rlib")) and not crate.is_program
+            if is_library and not status and is_new(told):
+                self.hand_over(crate, room)
+            clear(self.top, room, crate.name)
+        return crate, status, seconds, told
+
+    def ran(self, words, folder):
+        """What a command came to: its status, and what it told."""
+        with tempfile.TemporaryFile("w+", errors="replace") as log:
             ran = subprocess.Popen(
-                verb,
-                cwd=os.path.join(room, "crates", crate.name),
+                words,
+                cwd=folder,
                 stdin=subprocess.DEVNULL,
                 stdout=log,
                 stderr=subprocess.STDOUT,
@@ -272,10 +299,13 @@ class Build:
             self.children.append(ran)
             status = ran.wait()
             log.seek(0)
-            told = log.read()
-        if not self.is_ending:
-            clear(self.top, room, crate.name)
-        return crate, status, time.monotonic() - began, told
+            return status, log.read()
+
+    def hand_over(self, crate, room):
+        """Has the kit take the library from the room. Other checkouts begin with what was kept where the kit made or
+        took a library, and the room goes. A kit that takes none makes it over what was kept, in a short pass."""
+        lay_out(self.top, room, crate.name)
+        self.ran(["rt", "lib", "--jobs", "1"], os.path.join(self.top, "crates", crate.name))
 
     def end(self, *_):
         """Ends what was begun. The rooms stay for the next run."""
@@ -317,14 +347,18 @@ class Build:
             self.say("%s failed, so nothing above it is made" % crate.name)
             return False
         self.made.add(crate.name)
-        is_new = "logic=proved" in told
-        if is_new:
+        if is_new(told):
             self.planned += crate.seconds
             self.spent += seconds
         count = len(self.crates) - len(self.made)
         rest = "%d left, about %d minutes" % (count, self.minutes_left()) if count else "none left"
-        self.say("%s %s, %s" % (crate.name, "is proved" if is_new else "was proved before", rest))
+        self.say("%s %s, %s" % (crate.name, "is proved" if is_new(told) else "was proved before", rest))
         return True
+
+
+def is_new(told):
+    """Whether this is what a proof told, and not a look at what was proved before."""
+    return "logic=proved" in told
 
 
 def is_made_since(top, name, moment):

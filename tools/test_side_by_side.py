@@ -16,10 +16,15 @@ sys.path.insert(0, HERE)
 import side_by_side  # noqa: E402
 from side_by_side import Crate  # noqa: E402
 
-# It makes a library only where those below are made, and notes when it began and ended. A crate `slow` takes long the
-# first time, and one that is `brief` some seconds.
+# It makes a library only where those below are made, and notes when it began and ended. It takes one that was made of
+# the same text in the last folder that it knows of. A crate `slow` takes long the first time, and one that is `brief`
+# some seconds.
 PLAYER = """#!/bin/sh
 name=$(basename "$PWD")
+known=$(cat "$NOTES.$name" 2>/dev/null)
+if [ ! -f out/rlib/made ] && [ -n "$known" ] && cmp -s "$known/out/rlib/made" src/*.rt; then
+    mkdir -p out/rlib && cp "$known/out/rlib/made" out/rlib && pwd >"$NOTES.$name" && exit 0
+fi
 echo "$name begins $*" >>"$NOTES"
 for below in $(sed -n "s/^$name://p" ../../crates.txt); do
     [ -f "../$below/out/rlib/made" ] || { echo "$below is not made"; exit 1; }
@@ -31,6 +36,7 @@ grep -q wrong src/*.rt && { echo "$name is not proved"; exit 1; }
 if grep -q slow src/*.rt && [ "$(wc -l <out/incremental/work)" = 1 ]; then sleep 60; fi
 if grep -q brief src/*.rt; then sleep 3; fi
 cp src/*.rt out/rlib/made
+pwd >"$NOTES.$name"
 [ ! -f src/main.rt ] || cp src/main.rt "out/$name"
 echo "logic=proved functions=1"
 echo "$name ends" >>"$NOTES"
@@ -137,6 +143,18 @@ class Builds(unittest.TestCase):
         self.assertEqual(self.build()[2], [])
         self.write("crates/right/src/lib.rt", "as right, anew\n")
         self.assertEqual(self.build()[2], ["right"])
+
+    def test_the_kit_knows_where_the_work_is_kept_at_last(self):
+        self.build()
+        for name in ("low", "left", "right"):
+            with open(self.notes + "." + name, encoding="utf-8") as it:
+                self.assertEqual(os.path.realpath(it.read().strip()), os.path.realpath(self.top + "/crates/" + name))
+            self.assertEqual(sorted(os.listdir(self.top + "/crates/" + name + "/out")), ["incremental", "rlib"])
+
+    def test_a_kit_that_takes_no_library_makes_it_once_more(self):
+        self.write("../bin/rt", PLAYER.replace("known=", "known=; : "))
+        self.assertEqual(self.build()[0], 0)
+        self.assertEqual(self.build()[2], [])
 
     def test_a_crate_that_is_not_proved_ends_the_build(self):
         self.write("crates/left/src/lib.rt", "wrong\n")
