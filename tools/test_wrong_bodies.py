@@ -1,34 +1,93 @@
 #!/usr/bin/env python3
-"""Tests of the script `wrong-bodies` by an `rt` that only notes which edits it was given, and refuses none that is
-named `let-through`."""
+"""Tests of the script `wrong-bodies`: what of a source an edit changes, what a check's lines show, and whole runs by an
+`rt` that only plays one."""
 
 import os
 import shutil
 import subprocess
+import sys
 import tempfile
 import unittest
 
-TOP = os.path.dirname(os.path.dirname(os.path.abspath(__file__)))
-PLAYER = """#!/bin/sh
-shift
-for crate; do
-    for edit in crates/$crate/must-fail/*.edit; do echo "$crate/$(basename "$edit" .edit)" >>"$NOTES"; done
-    [ ! -f "crates/$crate/must-fail/let-through.edit" ] || exit 1
-done
+HERE = os.path.dirname(os.path.abspath(__file__))
+sys.dont_write_bytecode = True
+sys.path.insert(0, HERE)
+import body_edits  # noqa: E402
+
+# Its check refuses each function whose body says `wrong`, and shows no proof where it says `silent`. It can't read a
+# source that says `unread`. Of edits that are tried alone, it lets those through that say `fine`. It notes what it
+# tried.
+PLAYER = r"""#!/usr/bin/env python3
+import glob, os, re, sys
+verb, *names = sys.argv[1:]
+crate, status, notes = os.path.basename(os.getcwd()), 0, open(os.environ["NOTES"], "a")
+if verb in ("lib", "check"):
+    os.makedirs("out/incremental", exist_ok=True)
+    turned = []
+    for path in sorted(glob.glob("src/*.rt")):
+        text = open(path).read()
+        if "unread" in text:
+            print(path + ":1:1: error: no word")
+        module = [it for it in [os.path.basename(path)[:-3]] if it != "lib"]
+        for name, body in re.findall(r"(?ms)^fn (\w+).*?^    (\w+ is .*?)$.*?^}$", text):
+            at = [*module, name]
+            turned += [] if "well" in body else ["/".join(at)]
+            is_refused = "wrong" in body or "silent" in body
+            status = status or int(is_refused or "unread" in text)
+            print("fn %s: %s" % ("::".join([crate, *at]), "not proved" if is_refused else "proved"))
+            if "wrong" in body:
+                print("./proofs/%s/Answers.antt:1:1: error: `returns`: they differ" % "/".join(at))
+    if turned:
+        notes.write(" ".join([crate, *turned]) + "\n")
+    if "open" in open("src/lib.rt").read():
+        status = 1
+    print("logic=not-proved" if status else "logic=proved")
+for name in names if verb == "must-fail" else ():
+    for path in sorted(glob.glob("crates/%s/must-fail/*.edit" % name)):
+        edit, is_fine = "%s/%s" % (name, os.path.basename(path)), "fine" in open(path).read()
+        notes.write("singly %s\n" % edit[:-5])
+        status = status or int(is_fine)
+        said = "NOT REFUSED: fine" if is_fine else "refused, as it must be: they differ"
+        print("rt: must-fail %s: %s" % (edit, said))
+sys.exit(status)
 """
-FILES = {
-    "crates.txt": "low:\nmiddle: low\ntop: middle\nother: low\n",
-    "crates/low/src/lib.rt": "low\n",
-    "crates/low/must-fail/gate.edit": "of the gate\n",
-    "crates/low/wrong-bodies/one.edit": "one\n",
-    "crates/low/wrong-bodies/two.edit": "two\n",
-    "crates/middle/src/lib.rt": "middle\n",
-    "crates/top/wrong-bodies/three.edit": "three\n",
-    "crates/other/wrong-bodies/four.edit": "four\n",
+LOW = """
+fn one()
+    ensures { first }
+
+    // Why.
+    ensures { second }
+{
+    one is well
 }
 
+fn two() -> bool {
+    two is well
+}
+"""
 
-class WrongBodies(unittest.TestCase):
+
+def edit(old, new, path="src/lib.rt"):
+    return "file: %s\nold: %s\nnew: %s\n" % (path, old, new)
+
+
+FILES = {
+    "crates.txt": "low:\nmiddle: low\ntop: middle\nother: low\n",
+    "crates/low/src/lib.rt": LOW,
+    "crates/low/src/far.rt": "fn one() {\n    far is well\n}\n",
+    "crates/low/must-fail/gate.edit": "of the gate\n",
+    "crates/low/wrong-bodies/one.edit": edit("one is well", "one is wrong"),
+    "crates/low/wrong-bodies/two.edit": edit("two is well", "two is wrong"),
+    "crates/middle/src/lib.rt": "middle\n",
+    "crates/top/src/lib.rt": "fn three() {\n    three is well\n}\n",
+    "crates/top/wrong-bodies/three.edit": edit("three is well", "three is wrong"),
+    "crates/other/src/lib.rt": "of other\n",
+    "crates/other/wrong-bodies/four.edit": edit("of other", "of another"),
+}
+ALL = ["low one two", "singly other/four", "top three"]
+
+
+class Runs(unittest.TestCase):
     def setUp(self):
         self.room = tempfile.TemporaryDirectory()
         self.top = os.path.join(self.room.name, "house")
@@ -37,7 +96,9 @@ class WrongBodies(unittest.TestCase):
             self.write(path, text)
         self.write("../bin/rt", PLAYER)
         os.chmod(os.path.join(self.room.name, "bin/rt"), 0o755)
-        shutil.copy2(os.path.join(TOP, "wrong-bodies"), self.top)
+        os.mkdir(os.path.join(self.top, "tools"))
+        for path in ("wrong-bodies", *("tools/%s.py" % it for it in ("wrong_bodies", "body_edits", "side_by_side"))):
+            shutil.copy2(os.path.join(os.path.dirname(HERE), path), os.path.join(self.top, path))
         self.git("init", "-q")
         self.commit()
 
@@ -57,8 +118,8 @@ class WrongBodies(unittest.TestCase):
         self.git("add", "-A")
         self.git("commit", "-q", "-m", "a change")
 
-    def tried(self, *given):
-        """The status, the last line, and the wrong bodies that were tried."""
+    def ran(self, *given):
+        """The status, what was told, and what was tried: batches of a crate by their functions, and single edits."""
         open(self.notes, "w").close()
         path = os.path.join(self.room.name, "bin") + os.pathsep + os.environ["PATH"]
         ran = subprocess.run(
@@ -69,39 +130,129 @@ class WrongBodies(unittest.TestCase):
             text=True,
         )
         with open(self.notes, encoding="utf-8") as it:
-            return (
-                ran.returncode,
-                ran.stdout.splitlines()[-1] if ran.stdout else ran.stderr,
-                sorted(it.read().split()),
-            )
+            return ran.returncode, (ran.stdout or ran.stderr).splitlines(), sorted(it.read().splitlines())
+
+    def tried(self, *given):
+        """The status, the last line, and what was tried."""
+        status, told, tried = self.ran(*given)
+        return status, told[-1], tried
+
+    def with_edits(self, **edits):
+        """What a run of the lowest crate with more edits comes to."""
+        for name, text in edits.items():
+            self.write("crates/low/wrong-bodies/%s.edit" % name, text)
+        self.commit()
+        return self.ran("low")
 
     def test_all_are_tried_and_none_of_the_gate_s(self):
         last = "wrong bodies: 4 tried in 3 crates, 0 crates left; each was refused"
-        self.assertEqual(self.tried(), (0, last, ["low/one", "low/two", "other/four", "top/three"]))
+        self.assertEqual(self.tried(), (0, last, ALL))
+        self.assertEqual(self.tried("--jobs", "1"), (0, last, ALL))
+        self.assertFalse(os.path.exists(os.path.join(self.top, "crates/low/out")))
+
+    def test_each_alone_where_that_is_asked_for(self):
+        last = "wrong bodies: 4 tried in 3 crates, 0 crates left; each was refused"
+        alone = ["singly low/one", "singly low/two", "singly other/four", "singly top/three"]
+        self.assertEqual(self.tried("--singly"), (0, last, alone))
+        self.assertEqual(self.tried("--singly", "--minutes", "5"), (0, last, alone))
 
     def test_a_crate_or_one_body_is_tried_alone(self):
-        self.assertEqual(self.tried("low")[2], ["low/one", "low/two"])
-        self.assertEqual(self.tried("low/two")[2], ["low/two"])
+        self.assertEqual(self.tried("low")[2], ["low one two"])
+        self.assertEqual(self.tried("low/two")[2], ["low two"])
+        self.assertEqual(self.tried("low/two", "low/one")[1].split(";")[0][:25], "wrong bodies: 2 tried in ")
         self.assertEqual(self.tried("none")[0], 1)
+        self.assertEqual(self.tried("low/none")[0], 1)
+
+    def test_two_edits_of_one_function_are_never_tried_together(self):
+        self.assertEqual(self.with_edits(anew=edit("one is well", "one is wrong too"))[2], ["low one", "low one two"])
+
+    def test_functions_of_one_name_in_two_files_are_apart(self):
+        told = self.with_edits(far=edit("far is well", "far is wrong", "src/far.rt"))[1]
+        self.assertTrue(told[0].startswith("low: 3 refused in one check ("), told)
+
+    def test_an_edit_of_a_contract_or_of_two_functions_is_tried_singly(self):
+        both = edit("one is well", "one is wrong") + "old: two is well\nnew: two is wrong\n"
+        _, _, tried = self.with_edits(clause=edit("{ second }", "{ third }"), both=both)
+        self.assertEqual(tried, ["low one two", "singly low/both", "singly low/clause"])
+
+    def test_one_that_the_check_does_not_name_is_tried_singly(self):
+        status, _, tried = self.with_edits(two=edit("two is well", "two is silent"))
+        self.assertEqual((status, tried), (0, ["low one two", "singly low/two"]))
 
     def test_one_that_is_let_through_is_told(self):
-        self.write("crates/other/wrong-bodies/let-through.edit", "wrong\n")
+        status, told, tried = self.with_edits(two=edit("two is well", "two is fine"))
+        self.assertEqual((status, tried), (1, ["low one two", "singly low/two"]))
+        self.assertEqual(told[-2], "not refused: low/two")
+        self.assertTrue(told[-1].endswith("0 crates left; not all were refused"))
+
+    def test_a_check_that_ends_in_another_way_shows_nothing(self):
+        status, _, tried = self.with_edits(far=edit("far is well", "far is unread", "src/far.rt"))
+        halves = ["low far/one two", "low one"]
+        self.assertEqual((status, tried), (0, ["low far/one one two", *halves, "singly low/far", "singly low/two"]))
+
+    def test_a_crate_that_is_not_proved_is_told(self):
+        self.write("crates/low/src/lib.rt", LOW + "// open\n")
         self.commit()
-        status, last, _ = self.tried()
-        self.assertEqual((status, last.split("; ")[1]), (1, "not all were refused"))
+        status, told, tried = self.ran()
+        self.assertEqual((status, tried, told[-2]), (1, [], "not refused: low itself"))
 
     def test_crates_that_changed_and_those_above(self):
         self.write("crates/middle/src/lib.rt", "middle, anew\n")
         self.write("crates/other/README.md", "no source\n")
         self.commit()
-        self.assertEqual(self.tried("--since", "HEAD~1")[2], ["top/three"])
+        self.assertEqual(self.tried("--since", "HEAD~1")[2], ["top three"])
         last = "wrong bodies: 0 tried in 0 crates, 0 crates left; each was refused"
         self.assertEqual(self.tried("--since", "HEAD")[1:], (last, []))
 
     def test_no_crate_is_begun_once_the_time_is_up(self):
         last = "wrong bodies: 0 tried in 0 crates, 3 crates left; each was refused"
         self.assertEqual(self.tried("--minutes", "0")[1:], (last, []))
-        self.assertEqual(len(self.tried("--minutes", "5")[2]), 4)
+        self.assertEqual(self.tried("--minutes", "0", "--singly")[1:], (last, []))
+        self.assertEqual(self.tried("--minutes", "5")[2], ALL)
+
+
+class Reading(unittest.TestCase):
+    def test_where_a_body_begins_and_ends(self):
+        text = (
+            "impl A {\n    fn none(&self);\n\n"
+            "    pub fn laid(\n        a: u8,\n    ) -> u8 {\n        if a {\n        }\n    }\n\n"
+            "    pub(crate) const fn kept(&self)\n        requires { a }\n    {\n        body\n    }\n\n"
+            "    fn law() {}\n}\n\n"
+            "impl B for A\n{\n    a\n}\n"
+        )
+        found = {name: text[begin:end] for name, begin, end in body_edits.bodies(text)}
+        self.assertEqual(found, {"laid": "        if a {\n        }\n", "kept": "        body\n"})
+
+    def refused(self, *lines, path="src/far/places.rt", status=1, last="logic=not-proved functions=3"):
+        it = body_edits.Edit("low", "edit", path, "step")
+        return it in body_edits.refusals([it], status, "\n".join([*lines, last, "rt: rt lemma finds one"]))
+
+    def test_what_shows_that_a_function_is_refused(self):
+        own = "fn low::far::places::Places::step: not proved"
+        error = "./proofs/far/places/Places/step/Answers.antt:4:5: error: `returns`: the two types differ"
+        goal = "note: `returns` of proofs/far/places/Places/step/Answers.antt must prove: a ≡ b"
+        self.assertTrue(self.refused(own, error))
+        self.assertTrue(self.refused(own, goal))
+        self.assertTrue(self.refused("fn low::step: not proved", error.replace("far/places/", ""), path="src/lib.rt"))
+        self.assertFalse(self.refused(own))
+        self.assertFalse(self.refused(error))
+        self.assertFalse(self.refused("fn low::far::places::Places::step: proved", error))
+        self.assertFalse(self.refused(own, error.replace("/step/", "/other/")))
+        self.assertFalse(self.refused(own, error.replace("far/places/", "places/")))
+        self.assertFalse(self.refused(own, error, path="src/lib.rt"))
+
+    def test_what_shows_nothing(self):
+        own = "fn low::far::places::Places::step: not proved"
+        error = "proofs/far/places/Places/step/Answers.antt:4:5: error: `returns`: "
+        others = ["it ran out of steps", "`goal.returns`: module `Rattle.low.proofs.step.Goals` lacks it"]
+        for said in ("`c` has no field `push`", "`push` is not in scope", "`one` was not admitted", *others):
+            self.assertFalse(self.refused(own, error + said), said)
+        differs = error + "they differ"
+        self.assertTrue(self.refused(own, differs))
+        self.assertFalse(self.refused(own, differs, status=3))
+        self.assertFalse(self.refused(own, differs, last="rattle was killed"))
+        self.assertFalse(self.refused(own, differs, "error[E0308]: mismatched types"))
+        self.assertFalse(self.refused(own, differs, "specs/Places.antt:1:1: error: `a` is not in scope"))
 
 
 if __name__ == "__main__":

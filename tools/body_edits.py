@@ -1,0 +1,142 @@
+"""What a wrong body changes, which of them can be tried in one check, and what the lines of a check show of each.
+
+Code is laid out by `rt fmt`, so a function's body is found by its indentation. The proofs of the function `f` of the
+type `T` in `src/m.rt` stand in `proofs/m/T/f`.
+"""
+
+import os
+import re
+from dataclasses import dataclass
+
+MOST_IN_A_BATCH = 12
+HEAD = re.compile(r'( *)(?:pub(?:\([a-z ]+\))? |const |unsafe |extern "C" )*fn (\w+)')
+# What the check could not read, or could not use, so that no contract was tried.
+UNREAD = re.compile(r"(?:\./)?(?:src|specs)/\S+:\d+:\d+: error|.*\berror\[[\w-]+\]|.*Run the lower steps again")
+# A line that says only that a name is gone, or that a limit was met.
+SHOWS_NOTHING = re.compile(
+    r"has no field|is not in scope|has no `|was not admitted|is no name|operand is missing|expected the end"
+    r"|cannot continue|ran out of|memory limit|step limit|`goal\.[^`]*`: module "
+)
+
+
+@dataclass(frozen=True)
+class Edit:
+    """A wrong body. One that changes a single function's body has that function, and what stands from `begin` to `end`
+    of the file with it; any other has no function, and is tried singly."""
+
+    crate: str
+    name: str
+    path: str = ""
+    function: str = ""
+    begin: int = 0
+    end: int = 0
+    new: str = ""
+
+
+def bodies(text):
+    """The functions of a formatted source: the name of each, and where its body begins and ends."""
+    found, name, indent, begin, at = [], None, "", None, 0
+    for line in text.splitlines(keepends=True):
+        bare, at = line.rstrip("\n"), at + len(line)
+        if begin is not None:
+            if bare == indent + "}":
+                found.append((name, begin, at - len(line)))
+                name = begin = None
+            continue
+        head = HEAD.match(bare)
+        if head:
+            indent, name = head.groups()
+        is_signature = head or bare.startswith((indent + ")", indent + "where"))
+        if name and (bare == indent + "{" or (is_signature and bare.endswith(" {"))):
+            begin = at
+        elif name and bare and not is_signature and not bare.startswith(indent + " "):
+            name = None
+    return found
+
+
+def changed(folder, edit):
+    """Each file that the text of an edit changes, with its old and its new text; none where it can't be applied."""
+    path, old, found = "", None, {}
+    for line in edit.split("\n"):
+        if line.startswith("file: "):
+            path = line[len("file: ") :].strip()
+        elif line.startswith("old: "):
+            old = line[len("old: ") :]
+        elif line.startswith("new:"):
+            whole = os.path.join(folder, path)
+            if not old or not os.path.isfile(whole):
+                return {}
+            was, now = found.get(path) or [text_of(whole)] * 2
+            if now.count(old) != 1:
+                return {}
+            found[path] = was, now.replace(old, line[len("new:") :].removeprefix(" "))
+            old = None
+    return found
+
+
+def text_of(path):
+    with open(path, encoding="utf-8") as it:
+        return it.read()
+
+
+def read_edit(top, crate, name):
+    """A wrong body of the crate, with the function that it changes where that is one."""
+    folder = os.path.join(top, "crates", crate)
+    found = changed(folder, text_of(os.path.join(folder, "wrong-bodies", name + ".edit")))
+    if len(found) != 1:
+        return Edit(crate, name)
+    (path, (was, now)), *_ = found.items()
+    begin = len(os.path.commonprefix([was, now]))
+    behind = len(os.path.commonprefix([was[begin:][::-1], now[begin:][::-1]]))
+    end = len(was) - behind
+    for function, first, last in bodies(was):
+        if path.startswith("src/") and was != now and first <= begin and end <= last:
+            return Edit(crate, name, path, function, begin, end, now[begin : len(now) - behind])
+    return Edit(crate, name)
+
+
+def in_batches(edits):
+    """The edits of a crate in batches, in each of which a function of a file stands once."""
+    batches = []
+    for edit in edits:
+        for batch in batches:
+            if len(batch) < MOST_IN_A_BATCH and all(is_apart(edit, it) for it in batch):
+                batch.append(edit)
+                break
+        else:
+            batches.append([edit])
+    return batches
+
+
+def is_apart(one, other):
+    return (one.path, one.function) != (other.path, other.function)
+
+
+def apply(edits, folder):
+    """Writes all the edits of a batch into the crate's folder. No two overlap, and the last in a file comes first."""
+    for edit in sorted(edits, key=lambda it: -it.begin):
+        path = os.path.join(folder, edit.path)
+        text = text_of(path)
+        with open(path, "w", encoding="utf-8") as it:
+            it.write(text[: edit.begin] + edit.new + text[edit.end :])
+
+
+def refusal(edit, lines):
+    """The line of a check that shows that it refuses the edit's own function, or none."""
+    module = edit.path[len("src/") : -len(".rt")].removesuffix("lib").removesuffix("/")
+    steps = [re.escape(it) for it in module.split("/") if it]
+    proofs = r"(?:\./)?%s/(?:[A-Z][^/\s]*/)?\+?%s/\w+\.antt" % ("/".join(["proofs", *steps]), edit.function)
+    verdict = r"fn %s::(?:[A-Z][^:\s]*::)?%s: (?!proved)" % ("::".join([edit.crate, *steps]), edit.function)
+    shows = re.compile(r"%s:\d+:\d+: error: |note: `[^`]+` of %s must prove: " % (proofs, proofs))
+    if not any(re.match(verdict, it) for it in lines):
+        return ""
+    return next((it for it in lines if shows.match(it) and not SHOWS_NOTHING.search(it)), "")
+
+
+def refusals(edits, status, told):
+    """The edits that a check refused, each with the line that shows it."""
+    lines = told.splitlines()
+    ended = any(it.startswith("logic=not-proved") for it in lines)
+    if status != 1 or not ended or any(UNREAD.match(it) for it in lines):
+        return {}
+    return {edit: line for edit in edits for line in [refusal(edit, lines)] if line}

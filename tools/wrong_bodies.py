@@ -1,0 +1,296 @@
+#!/usr/bin/env python3
+"""Tries the wrong bodies that the gate leaves out, many in one check. The script `wrong-bodies` at the top says how it
+is called.
+
+Proofs are modular: what a function owes follows from its own body and from the contracts of what it calls. So edits in
+the bodies of different functions are tried together, in one check of their crate, which goes on past a function that is
+not proved and tells each. Two edits of one function are never tried together, nor two of functions in one file that
+have one name, because the check's lines are told apart by these.
+
+An edit is refused where the check ends with `logic=not-proved` and names a proof of the edit's own function: an answer
+that is now wrong, or a goal that has none. Lines that only miss a name which an edit took away show nothing, nor does a
+check that ended in another way. What is left of a batch is tried again in halves, and at last singly by `rt must-fail`,
+which has the last word. An edit of more than one body, or of a clause, a constant or a type, is tried singly at once.
+
+A batch is checked in a room of its own, over what the crate's own proof kept.
+"""
+
+import argparse
+import os
+import re
+import shutil
+import signal
+import subprocess
+import sys
+import tempfile
+import time
+from concurrent.futures import FIRST_COMPLETED, ThreadPoolExecutor, wait
+from contextlib import suppress
+
+sys.dont_write_bytecode = True
+import side_by_side  # noqa: E402
+from body_edits import apply, in_batches, read_edit, refusals, text_of  # noqa: E402
+from side_by_side import kept_copy  # noqa: E402
+
+# A check over kept work takes so much of the memory of a whole proof.
+OVER_KEPT = 0.7
+
+
+class Trial:
+    """One run: the crates that are still to be proved, the batches that wait, and what is left to be tried singly."""
+
+    def __init__(self, room, edits, given):
+        self.top, self.rooms = os.path.join(room, "top"), os.path.join(room, "rooms")
+        self.edits, self.given = edits, given
+        self.jobs = given.jobs or len(os.sched_getaffinity(0))
+        self.ends = time.monotonic() + 60 * given.minutes if given.minutes is not None else None
+        self.crates = {it.name: it for name in edits for it in side_by_side.crates_for(self.top, name)}
+        self.deps = {it.name: it.deps for it in self.crates.values()}
+        self.waiting, self.made = side_by_side.below({**self.deps, "": [*self.deps]}, ""), set()
+        self.behind = side_by_side.behind([self.crates[it] for it in self.waiting])
+        self.batches, self.singles, self.begun = [], [], []
+        self.not_refused, self.count = [], 0
+        self.memory = side_by_side.free_memory()
+        self.children, self.is_ending = [], False
+
+    def is_over(self):
+        return self.ends is not None and time.monotonic() >= self.ends
+
+    def run_rt(self, words, folder):
+        """What an `rt` came to: its status, and what it told. `RT_JOBS` is how many edits it tries at once."""
+        if self.is_ending:
+            return 130, ""
+        how = {"stdin": subprocess.DEVNULL, "stdout": subprocess.PIPE, "stderr": subprocess.STDOUT, "errors": "replace"}
+        env = {**os.environ, "RT_JOBS": str(self.given.jobs)} if self.given.jobs else None
+        ran = subprocess.Popen(["rt", *words], cwd=folder, env=env, start_new_session=True, **how)
+        self.children.append(ran)
+        told = ran.communicate()[0]
+        return ran.returncode, told
+
+    def end(self, *_):
+        self.is_ending = True
+        for ran in self.children:
+            if ran.poll() is None:
+                with suppress(ProcessLookupError):
+                    os.killpg(ran.pid, signal.SIGTERM)
+        sys.exit(130)
+
+    def furnished(self, name, room):
+        side_by_side.furnish(self.top, room, name, side_by_side.below(self.deps, name))
+        return os.path.join(room, "crates", name)
+
+    def prove(self, name):
+        """Proves a crate, and keeps its work for its batches and its library for the crates above."""
+        room = os.path.join(self.rooms, name)
+        is_below = any(name in deps for deps in self.deps.values())
+        status, told = self.run_rt(["lib" if is_below else "check", "--jobs", "1"], self.furnished(name, room))
+        if not status:
+            side_by_side.clear(self.top, room, name)
+        return status, told
+
+    def check(self, name, batch):
+        """Checks a crate with a batch of edits. The answer is those that it refused, and its seconds."""
+        began, room = time.monotonic(), tempfile.mkdtemp(dir=self.rooms)
+        kept = os.path.join("crates", name, "out", "incremental")
+        try:
+            shutil.copytree(os.path.join(self.top, kept), os.path.join(room, kept), copy_function=kept_copy)
+            folder = self.furnished(name, room)
+            apply(batch, folder)
+            return refusals(batch, *self.run_rt(["check", "--jobs", "1"], folder)), time.monotonic() - began
+        finally:
+            shutil.rmtree(room, ignore_errors=True)
+
+    def tasks(self):
+        """What can be begun now: proofs, those with the longest chain behind them first, and then batches, which fill
+        the processors at the end. Under a limit of time a crate's batches come before the next crate."""
+        ready = [it for it in self.waiting if self.made.issuperset(self.deps[it])]
+        ready.sort(key=lambda it: -self.behind[it])
+        proofs = [(it, None) for it in ready if not self.is_over()]
+        return proofs + self.batches if self.ends is None else self.batches + proofs
+
+    def next_task(self, running):
+        """Takes a task for which memory is free, if there is one."""
+        used = sum(self.need(*it) for it in running)
+        for name, batch in self.tasks():
+            if not running or used + self.need(name, batch) <= self.memory:
+                if batch:
+                    self.batches.remove((name, batch))
+                else:
+                    self.waiting.remove(name)
+                return name, batch
+        return None
+
+    def need(self, name, batch):
+        return self.crates[name].memory * (OVER_KEPT if batch else 1)
+
+    def run(self):
+        """Tries all the edits, in batches where they can be."""
+        running = {}
+        with ThreadPoolExecutor(self.jobs) as pool:
+            while True:
+                while len(running) < self.jobs:
+                    task = self.next_task(running.values())
+                    if not task:
+                        break
+                    name, batch = task
+                    call = pool.submit(self.check, name, batch) if batch else pool.submit(self.prove, name)
+                    running[call] = task
+                if not running:
+                    break
+                for call in wait(running, return_when=FIRST_COMPLETED).done:
+                    name, batch = running.pop(call)
+                    if batch:
+                        self.take(name, batch, *call.result())
+                    else:
+                        self.begin(name, *call.result())
+        self.try_singly(self.singles)
+
+    def begin(self, name, status, told):
+        """A crate's proof has ended: its edits come next."""
+        if status:
+            print(told, end="")
+            print("%s is not proved, so no wrong body of it or of a crate above it is tried" % name, flush=True)
+            self.not_refused.append("%s itself" % name)
+            return
+        self.made.add(name)
+        if name in self.edits and not self.is_over():
+            self.begun.append(name)
+            self.count += len(self.edits[name])
+            self.singles += [it for it in self.edits[name] if not it.function]
+            self.batches += [(name, it) for it in in_batches([it for it in self.edits[name] if it.function])]
+
+    def take(self, name, batch, refused, seconds):
+        """A batch was checked: what it did not refuse is tried again."""
+        rest = [it for it in batch if it not in refused]
+        how = "singly" if len(rest) < 3 else "again"
+        left = ", %d left to try %s" % (len(rest), how) if rest else ""
+        print("%s: %d refused in one check%s (%d s)" % (name, len(refused), left, seconds))
+        for edit, line in refused.items():
+            print("  %s/%s: %s" % (name, edit.name, line[:160]))
+        sys.stdout.flush()
+        if how == "singly":
+            self.singles += rest
+        else:
+            self.batches += [(name, it) for it in (rest[::2], rest[1::2])]
+
+    def try_singly(self, edits):
+        """Has the kit try each edit alone, over what the proof of its crate kept."""
+        if not edits:
+            return
+        names = sorted({it.crate for it in edits})
+        for name in names:
+            folder = os.path.join(self.top, "crates", name)
+            to = os.path.join(folder, "must-fail")
+            shutil.rmtree(to, ignore_errors=True)
+            os.mkdir(to)
+            for it in edits:
+                if it.crate == name:
+                    shutil.copy2(os.path.join(folder, "wrong-bodies", it.name + ".edit"), to)
+        print("%d to try singly" % len(edits), flush=True)
+        status, told = self.run_rt(["must-fail", *names], self.top)
+        print(told, end="", flush=True)
+        refused = re.findall(r"(?m)^rt: must-fail (\S+)\.edit: refused, as it must be", told)
+        if status:
+            missed = [it for it in ("%s/%s" % (it.crate, it.name) for it in edits) if it not in refused]
+            self.not_refused += missed or ["rt must-fail itself"]
+
+    def run_singly(self):
+        """Tries each edit alone. With no limit of time all are tried in one run, which fills the processors better."""
+        if self.ends is None:
+            self.begun, self.count = [*self.edits], sum(map(len, self.edits.values()))
+            self.try_singly([it for of_crate in self.edits.values() for it in of_crate])
+        for name in self.edits if self.ends is not None else ():
+            if not self.is_over():
+                self.begun.append(name)
+                self.count += len(self.edits[name])
+                self.try_singly(self.edits[name])
+
+
+def changed_since(top, commit):
+    """The crates that changed since a commit, and those that stand on them, lowest first."""
+    told = subprocess.run(
+        ["git", "-C", top, "diff", "--name-only", commit, "HEAD", "--", "crates"],
+        check=True,
+        stdout=subprocess.PIPE,
+        text=True,
+    ).stdout
+    found = set(re.findall(r"(?m)^crates/([^/]+)/(?:src|specs|proofs|wrong-bodies)/", told))
+    deps = side_by_side.listed(text_of(os.path.join(top, "crates.txt")))
+    for name in deps:
+        if found.intersection(deps[name]):
+            found.add(name)
+    return [it for it in deps if it in found]
+
+
+def named_edits(top, words):
+    """The edits that the words CRATE and CRATE/NAME name, by their crates."""
+    found = {}
+    for word in words:
+        crate, _, name = word.partition("/")
+        folder = os.path.join(top, "crates", crate)
+        if not os.path.isdir(folder):
+            sys.exit("there is no crate %s" % crate)
+        if not os.path.isdir(os.path.join(folder, "wrong-bodies")):
+            print("%s has no folder wrong-bodies" % crate, flush=True)
+            continue
+        every = sorted(os.listdir(os.path.join(folder, "wrong-bodies")))
+        names = [it.removesuffix(".edit") for it in every if it.endswith(".edit")]
+        if name and name not in names:
+            sys.exit("there is no wrong body %s" % word)
+        edits = [read_edit(top, crate, it) for it in names if it == name or not name]
+        found[crate] = [*found.get(crate, []), *[it for it in edits if it not in found.get(crate, [])]]
+    return found
+
+
+def given_words(words):
+    parser = argparse.ArgumentParser(prog="wrong-bodies")
+    parser.add_argument("--minutes", type=float)
+    parser.add_argument("--since")
+    parser.add_argument("--jobs", type=int)
+    parser.add_argument("--singly", action="store_true")
+    parser.add_argument("crates", nargs="*")
+    return parser.parse_args(words)
+
+
+def copied(checkout, room):
+    """A copy of what is committed, in which nothing was made yet."""
+    top = os.path.join(room, "top")
+    for it in (top, os.path.join(top, ".git"), os.path.join(room, "rooms")):
+        os.mkdir(it)
+    packed = subprocess.run(["git", "-C", checkout, "archive", "HEAD"], check=True, stdout=subprocess.PIPE).stdout
+    subprocess.run(["tar", "-x", "-C", top], check=True, input=packed)
+    return top
+
+
+def asked_for(checkout, top, given):
+    """The crates that are to be tried, or single wrong bodies of them."""
+    if not given.since:
+        crates = os.path.join(top, "crates")
+        with_bodies = [it for it in os.listdir(crates) if os.path.isdir(os.path.join(crates, it, "wrong-bodies"))]
+        return given.crates or sorted(with_bodies)
+    names = changed_since(checkout, given.since)
+    if not names:
+        print("no crate has changed since %s" % given.since)
+    return names
+
+
+def main(words):
+    given = given_words(words)
+    checkout = subprocess.check_output(["git", "rev-parse", "--show-toplevel"], text=True).strip()
+    with tempfile.TemporaryDirectory(prefix="wrong-bodies-") as room:
+        top = copied(checkout, room)
+        trial = Trial(room, named_edits(top, asked_for(checkout, top, given)), given)
+        signal.signal(signal.SIGTERM, trial.end)
+        signal.signal(signal.SIGINT, trial.end)
+        trial.run_singly() if given.singly else trial.run()
+    for it in trial.not_refused:
+        print("not refused: %s" % it)
+    left = len(trial.edits) - len(trial.begun)
+    verdict = "not all were refused" if trial.not_refused else "each was refused"
+    counts = trial.count, len(trial.begun), left, verdict
+    print("wrong bodies: %d tried in %d crates, %d crates left; %s" % counts)
+    return 1 if trial.not_refused else 0
+
+
+if __name__ == "__main__":
+    sys.exit(main(sys.argv[1:]))
