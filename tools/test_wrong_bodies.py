@@ -118,9 +118,11 @@ class Runs(unittest.TestCase):
         self.git("add", "-A")
         self.git("commit", "-q", "-m", "a change")
 
-    def ran(self, *given):
+    def ran(self, *given, forgets=True):
         """The status, what was told, and what was tried: batches of a crate by their functions, and single edits."""
         open(self.notes, "w").close()
+        if forgets:
+            shutil.rmtree(os.path.join(self.top, ".git/wrong-bodies"), ignore_errors=True)
         path = os.path.join(self.room.name, "bin") + os.pathsep + os.environ["PATH"]
         ran = subprocess.run(
             ["./wrong-bodies", *given],
@@ -195,6 +197,19 @@ class Runs(unittest.TestCase):
         self.commit()
         status, told, tried = self.ran()
         self.assertEqual((status, tried, told[-2]), (1, [], "not refused: low itself"))
+
+    def test_what_was_refused_is_not_tried_again_over_the_same_sources(self):
+        self.with_edits(two=edit("two is well", "two is fine"))
+        self.write("crates/other/src/lib.rt", "of other, anew\n")
+        self.commit()
+        status, told, tried = self.ran(forgets=False)
+        self.assertEqual((status, told[0]), (1, "1 were refused before, over the same sources"))
+        self.assertEqual(tried, ["low two", "singly low/two", "singly other/four", "top three"])
+        self.write("crates/middle/src/lib.rt", "middle, anew\n")
+        self.commit()
+        self.assertEqual(self.ran("top", "other", forgets=False)[2], ["top three"])
+        last = "wrong bodies: 2 tried in 2 crates, 0 crates left; each was refused"
+        self.assertEqual(self.ran("top", "other", forgets=False)[1:], ([told[0].replace("1", "2"), last], []))
 
     def test_crates_that_changed_and_those_above(self):
         self.write("crates/middle/src/lib.rt", "middle, anew\n")

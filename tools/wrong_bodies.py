@@ -12,10 +12,12 @@ that is now wrong, or a goal that has none. Lines that only miss a name which an
 check that ended in another way. What is left of a batch is tried again in halves, and at last singly by `rt must-fail`,
 which has the last word. An edit of more than one body, or of a clause, a constant or a type, is tried singly at once.
 
-A batch is checked in a room of its own, over what the crate's own proof kept.
+A batch is checked in a room of its own, over what the crate's own proof kept. What was refused is noted in the folder
+of git, by the sum of all that it read, so the same edit over the same sources is not tried again there.
 """
 
 import argparse
+import hashlib
 import os
 import re
 import shutil
@@ -39,9 +41,9 @@ OVER_KEPT = 0.7
 class Trial:
     """One run: the crates that are still to be proved, the batches that wait, and what is left to be tried singly."""
 
-    def __init__(self, room, edits, given):
+    def __init__(self, room, edits, notes, given):
         self.top, self.rooms = os.path.join(room, "top"), os.path.join(room, "rooms")
-        self.edits, self.given = edits, given
+        self.edits, self.notes, self.given = edits, notes, given
         self.jobs = given.jobs or len(os.sched_getaffinity(0))
         self.ends = time.monotonic() + 60 * given.minutes if given.minutes is not None else None
         self.crates = {it.name: it for name in edits for it in side_by_side.crates_for(self.top, name)}
@@ -162,6 +164,7 @@ class Trial:
     def take(self, name, batch, refused, seconds):
         """A batch was checked: what it did not refuse is tried again."""
         rest = [it for it in batch if it not in refused]
+        self.notes.keep(refused)
         how = "singly" if len(rest) < 3 else "again"
         left = ", %d left to try %s" % (len(rest), how) if rest else ""
         print("%s: %d refused in one check%s (%d s)" % (name, len(refused), left, seconds))
@@ -190,6 +193,7 @@ class Trial:
         status, told = self.run_rt(["must-fail", *names], self.top)
         print(told, end="", flush=True)
         refused = re.findall(r"(?m)^rt: must-fail (\S+)\.edit: refused, as it must be", told)
+        self.notes.keep([it for it in edits if "%s/%s" % (it.crate, it.name) in refused])
         if status:
             missed = [it for it in ("%s/%s" % (it.crate, it.name) for it in edits) if it not in refused]
             self.not_refused += missed or ["rt must-fail itself"]
@@ -204,6 +208,47 @@ class Trial:
                 self.begun.append(name)
                 self.count += len(self.edits[name])
                 self.try_singly(self.edits[name])
+
+
+class Notes:
+    """Which wrong bodies were refused before, each by the sum of its text and of all that its crate's proof reads."""
+
+    def __init__(self, folder, top):
+        self.folder, self.top, self.sums = folder, top, {}
+        os.makedirs(folder, exist_ok=True)
+        self.kit = subprocess.run(["rt", "version"], stdout=subprocess.PIPE, check=True).stdout
+
+    def sum_of(self, name):
+        """The sum of the sources of a crate and of all below it."""
+        if name not in self.sums:
+            deps = side_by_side.listed(text_of(os.path.join(self.top, "crates.txt")))
+            found = hashlib.sha256(self.kit)
+            for crate in [*side_by_side.below(deps, name), name]:
+                found.update(("%s: %s\n" % (crate, deps[crate])).encode())
+                for path in sources(os.path.join(self.top, "crates", crate)):
+                    found.update(("%s %s\n" % (os.path.relpath(path, self.top), text_of(path))).encode())
+            self.sums[name] = found.digest()
+        return self.sums[name]
+
+    def note_of(self, edit):
+        text = text_of(os.path.join(self.top, "crates", edit.crate, "wrong-bodies", edit.name + ".edit"))
+        return os.path.join(self.folder, hashlib.sha256(self.sum_of(edit.crate) + text.encode()).hexdigest())
+
+    def has(self, edit):
+        return os.path.exists(self.note_of(edit))
+
+    def keep(self, refused):
+        for it in refused:
+            open(self.note_of(it), "w").close()
+
+
+def sources(folder):
+    """The files that a crate's proof reads, in order."""
+    found = []
+    for part in side_by_side.PARTS:
+        for at, _, names in os.walk(os.path.join(folder, part)):
+            found += [os.path.join(at, it) for it in names]
+    return sorted(found)
 
 
 def changed_since(top, commit):
@@ -279,7 +324,13 @@ def main(words):
     checkout = subprocess.check_output(["git", "rev-parse", "--show-toplevel"], text=True).strip()
     with tempfile.TemporaryDirectory(prefix="wrong-bodies-") as room:
         top = copied(checkout, room)
-        trial = Trial(room, named_edits(top, asked_for(checkout, top, given)), given)
+        notes = Notes(os.path.join(git_folder(checkout), "wrong-bodies"), top)
+        asked = named_edits(top, asked_for(checkout, top, given))
+        before = sum(notes.has(it) for edits in asked.values() for it in edits)
+        new = {name: [it for it in edits if not notes.has(it)] for name, edits in asked.items()}
+        trial = Trial(room, {name: edits for name, edits in new.items() if edits}, notes, given)
+        if before:
+            print("%d were refused before, over the same sources" % before, flush=True)
         signal.signal(signal.SIGTERM, trial.end)
         signal.signal(signal.SIGINT, trial.end)
         trial.run_singly() if given.singly else trial.run()
@@ -287,9 +338,14 @@ def main(words):
         print("not refused: %s" % it)
     left = len(trial.edits) - len(trial.begun)
     verdict = "not all were refused" if trial.not_refused else "each was refused"
-    counts = trial.count, len(trial.begun), left, verdict
+    counts = before + trial.count, len(asked) - left, left, verdict
     print("wrong bodies: %d tried in %d crates, %d crates left; %s" % counts)
     return 1 if trial.not_refused else 0
+
+
+def git_folder(checkout):
+    told = subprocess.check_output(["git", "-C", checkout, "rev-parse", "--absolute-git-dir"], text=True)
+    return told.strip()
 
 
 if __name__ == "__main__":
