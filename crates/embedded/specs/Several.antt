@@ -1,5 +1,5 @@
 -- The calls of several lines, one after another (this project's own).
-use Rattle.std.specs.Prelude.{ℕ, List, [], ◌∷◌, ◌++◌, ◌==◌, ◌≡◌, ◌≤◌, ◌⊎◌, Bool, length, map, take, drop, if◌then◌else◌, Option, Some, None, Result, Ok, Err, Unit}
+use Rattle.std.specs.Prelude.{ℕ, List, [], ◌∷◌, ◌++◌, ◌==◌, ◌≡◌, ◌≤◌, ◌<◌, ◌-◌, ◌⊎◌, Bool, length, map, take, drop, if◌then◌else◌, Option, Some, None, Result, Ok, Err, Unit}
 use Rattle.std.specs.List.{flat_map}
 use Rattle.spans.specs.declared.calls.events.Event.{Event}
 use Rattle.word_lines.specs.Faults.{code_of}
@@ -35,29 +35,29 @@ pub record Step : Type 0 where
   pub note : Done
   pub shown : List ℕ
 
--- the text of a call was shown whole; or the line is faulty, and none was; or the text of a call found no room or no memory
-abbrev pub IsNoted : Database → Result (Unit {0}) CallError → Step → Type 0
-IsNoted d (Ok _) s =
-    ((s.note ≡ record { length = length (text_of (last_of d)); status = 0 }) × (s.shown ≡ text_of (last_of d)))
-    ⊎ ((s.note ≡ record { length = length (text_of (last_of d)); status = 14 }) × (s.shown ≡ []))
-IsNoted d (Err (Fault f)) s = (s.note ≡ record { length = 0; status = code_of f }) × (s.shown ≡ [])
-IsNoted d (Err Unwritten) s = (s.note ≡ record { length = 0; status = 14 }) × (s.shown ≡ [])
-IsNoted d (Err _) s = ⊥
+-- the text of a call was shown whole, where there is room for so much; or the line is faulty, and none was; or the text found no memory
+abbrev pub IsNoted : (room : ℕ) → Database → Result (Unit {0}) CallError → Step → Type 0
+IsNoted room d (Ok _) s =
+    ((length (text_of (last_of d)) ≤ room) × (s.note ≡ record { length = length (text_of (last_of d)); status = 0 }) × (s.shown ≡ text_of (last_of d)))
+    ⊎ ((room < length (text_of (last_of d))) × (s.note ≡ record { length = length (text_of (last_of d)); status = 14 }) × (s.shown ≡ []))
+IsNoted room d (Err (Fault f)) s = (s.note ≡ record { length = 0; status = code_of f }) × (s.shown ≡ [])
+IsNoted room d (Err Unwritten) s = (s.note ≡ record { length = 0; status = 14 }) × (s.shown ≡ [])
+IsNoted room d (Err _) s = ⊥
 
--- one line's call, from h to h'
-pub record IsStep (h : List Event) (d : Database) (s : Step) (h' : List Event) (d' : Database) : Type 0 where
+-- one line's call, from h to h', where there is room for so much of its text
+pub record IsStep (room : ℕ) (h : List Event) (d : Database) (s : Step) (h' : List Event) (d' : Database) : Type 0 where
   pub outcome : Result (Unit {0}) CallError
   pub called : Called h s.line d outcome d'
-  pub noted : IsNoted d' outcome s
+  pub noted : IsNoted room d' outcome s
   pub stands : StandsFor d' h'
   pub grown : if has_event outcome then ((e : Event) × (h' ≡ e ∷ h)) else (h' ≡ h)
 
 -- the lines' calls, one after another: each line is the first of the bytes that are left
-abbrev pub AreSteps : List Event → Database → List ℕ → List Step → List ℕ → List Event → Database → Type 0
-AreSteps h d bytes [] left h' d' = (left ≡ bytes) × (h' ≡ h) × (d' ≡ d)
-AreSteps h d bytes (s ∷ steps) left h' d' =
-    (h1 : List Event) × (d1 : Database) × (s.line ≡ first_line bytes) × IsStep h d s h1 d1
-    × AreSteps h1 d1 (drop (length s.line) bytes) steps left h' d'
+abbrev pub AreSteps : (room : ℕ) → List Event → Database → List ℕ → List Step → List ℕ → List Event → Database → Type 0
+AreSteps room h d bytes [] left h' d' = (left ≡ bytes) × (h' ≡ h) × (d' ≡ d)
+AreSteps room h d bytes (s ∷ steps) left h' d' =
+    (h1 : List Event) × (d1 : Database) × (s.line ≡ first_line bytes) × IsStep room h d s h1 d1
+    × AreSteps (room - length s.shown) h1 d1 (drop (length s.line) bytes) steps left h' d'
 
 -- why no further line was taken: none is left, or no room for its note; or the last one's text wasn't shown; or the next one can't be called
 abbrev pub EndsBy : List Event → Database → (left : List ℕ) → (steps : List Step) → (room : ℕ) → Result (Unit {0}) CallError → Type 0
@@ -71,7 +71,7 @@ pub record HaveBeenCalled (h : List Event) (lines : List ℕ) (old : Database) (
   pub steps : List Step
   pub left : List ℕ
   pub after : List Event
-  pub called : AreSteps h old lines steps left after new
+  pub called : AreSteps (length out) h old lines steps left after new
   pub stands : StandsFor new after
   pub ends : EndsBy after new left steps (length notes) result
   -- only the last text may be missing
