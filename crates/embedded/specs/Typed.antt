@@ -1,8 +1,9 @@
 -- Calls whose command is given in parts, and answers in numbers and bytes (this project's own).
-use Rattle.core.specs.Int.{w32, w64, to_le_bytes}
-use Rattle.std.specs.Prelude.{ℕ, List, [], ◌∷◌, ◌++◌, ◌≡◌, length, Option, Some, None, Result, Ok, Err}
+use Rattle.std.specs.Int.{w32, w64, to_le_bytes}
+use Rattle.std.specs.Prelude.{ℕ, List, [], ◌∷◌, ◌++◌, ◌≡◌, length, Bool, true, false, Option, Some, None, Result, Ok, Err}
 use Rattle.std.specs.List.{flat_map}
 use Rattle.spans.specs.declared.calls.commands.Cmd.{Cmd}
+use Rattle.spans.specs.declared.calls.commands.Cmd.TheVariants as command
 use Rattle.spans.specs.declared.calls.events.Event.{Event}
 use Rattle.spans.specs.declared.calls.messages.Message.{Message}
 use Rattle.spans.specs.declared.calls.messages.Message.TheVariants as message
@@ -10,7 +11,7 @@ use Rattle.spans.specs.declared.calls.replies.Refusal.{Refusal}
 use Rattle.spans.specs.declared.calls.replies.Refusal.TheVariants as refusal
 use Rattle.spans.specs.declared.calls.replies.Reply.{Reply}
 use Rattle.spans.specs.declared.calls.replies.Reply.TheVariants as reply
-use Rattle.embedded.specs.Embedded.{HasStepped, last_of}
+use Rattle.embedded.specs.Embedded.{HasStepped}
 use Rattle.embedded.specs.declared.database.Database.{Database}
 use Rattle.embedded.specs.declared.typed.Answer.{Answer}
 use Rattle.embedded.specs.declared.typed.Spent.{Spent}
@@ -65,14 +66,15 @@ answer_of (Some e) = reply_numbers e.reply
 abbrev pub head : (kind at key value : ℕ) → List ℕ
 head kind at key value = kind ∷ to_le_bytes w64 at ++ to_le_bytes w32 key ++ to_le_bytes w32 value
 
--- a message in bytes: 0 a resolved timestamp, 1 a row with a value, 2 a row of a delete
+-- a row in bytes: 1 with a value, 2 of a delete
+abbrev pub row_bytes : (at : ℕ) (key : List ℕ) (after : Option (List ℕ)) → List ℕ
+row_bytes at key (Some value) = head 1 at (length key) (length value) ++ key ++ value
+row_bytes at key None = head 2 at (length key) 0 ++ key
+
+-- a message in bytes: 0 a resolved timestamp, else its row
 abbrev pub message_bytes : Message → List ℕ
 message_bytes (message.Resolved t) = head 0 t 0 0
 message_bytes (message.Row row) = row_bytes row.ts row.key row.after
-  where
-  row_bytes : ℕ → List ℕ → Option (List ℕ) → List ℕ
-  row_bytes ts key (Some value) = head 1 ts (length key) (length value) ++ key ++ value
-  row_bytes ts key None = head 2 ts (length key) 0 ++ key
 
 -- the bytes of an answer: a value, or messages one behind another; no byte of another
 abbrev pub reply_bytes : Reply → List ℕ
@@ -85,6 +87,16 @@ abbrev pub bytes_of : Option Event → List ℕ
 bytes_of None = []
 bytes_of (Some e) = reply_bytes e.reply
 
+-- a reply has messages
+abbrev pub AreMessages : Reply → Type 0
+AreMessages r = (ms : List Message) × (r ≡ reply.Messages ms)
+
 -- an event was answered with messages, whose bytes take memory
 abbrev pub HasMessages : Option Event → Type 0
 HasMessages last = (e : Event) × (ms : List Message) × (last ≡ Some e) × (e.reply ≡ reply.Messages ms)
+
+-- the command reads one key
+abbrev pub is_read : Cmd → Bool
+is_read (command.Get t x) = true
+is_read (command.ReadAt t x) = true
+is_read _ = false
