@@ -1,5 +1,5 @@
 -- What each typed call tells the program, and what it does to the handle's database (this project's own).
-use Rattle.std.specs.Prelude.{ℕ, zero, suc, List, ◌≡◌, ◌<◌, ◌⊎◌, nat_le, nat_lt, ◌&&◌, if◌then◌else◌, length, Option, Some, None}
+use Rattle.std.specs.Prelude.{ℕ, zero, suc, List, ◌≡◌, ◌==◌, ◌<◌, ◌⊎◌, nat_le, nat_lt, Bool, true, false, ◌&&◌, ◌||◌, if◌then◌else◌, length, Option, Some, None}
 use Rattle.spans.specs.declared.calls.commands.Cmd.{Cmd}
 use Rattle.spans.specs.declared.calls.events.Event.{Event}
 use Rattle.json_lines.specs.Writing.{Copied}
@@ -58,13 +58,31 @@ OfHandle P (Some old) number (Some new) = P old number new
 OfHandle P (Some old) number None = ⊥
 OfHandle P None number new = (number ≡ 16) × (new ≡ None)
 
+-- the same of a call's handle, whose command has no key, a key, or a key and a value; and of a poll's
+abbrev pub MadeAlone : (seat : ℕ) (cmd : Cmd) (old : Option Database) (number : ℕ) (new : Option Database) → Type 0
+MadeAlone seat cmd old number new = OfHandle (MadeOn (seat_fault seat) ⊥ seat cmd) old number new
+
+abbrev pub MadeAtKey : (seat : ℕ) (key : List ℕ) (cmd : Cmd) (old : Option Database) (number : ℕ) (new : Option Database) → Type 0
+MadeAtKey seat key cmd old number new = OfHandle (MadeOn (seat_fault seat or key_fault key) (IsLong key) seat cmd) old number new
+
+abbrev pub MadeWithValue : (seat : ℕ) (key value : List ℕ) (cmd : Cmd) (old : Option Database) (number : ℕ) (new : Option Database) → Type 0
+MadeWithValue seat key value cmd old number new =
+    OfHandle (MadeOn (seat_fault seat or key_fault key or value_fault value) (IsLong key ⊎ IsLong value) seat cmd) old number new
+
+abbrev pub MadePoll : (seat : ℕ) (cmd : Cmd) (old : Option Database) (number : ℕ) (new : Option Database) → Type 0
+MadePoll seat cmd old number new = OfHandle (PolledOn (seat_fault seat) seat cmd) old number new
+
 -- a call that was made tells its answer; else the answer is all 0
+abbrev pub is_made : ℕ → Bool
+is_made number = number == 0 || number == 14
+
+abbrev pub AnsweredIf : Bool → Option Database → Answer → Type 0
+AnsweredIf true (Some new) answer = answer ≡ answer_of (last_of new)
+AnsweredIf true None answer = ⊥
+AnsweredIf false new answer = answer ≡ numbers 0 0 0
+
 abbrev pub Answered : ℕ → Option Database → Answer → Type 0
-Answered zero (Some new) answer = answer ≡ answer_of (last_of new)
-Answered zero None answer = ⊥
-Answered 14 (Some new) answer = answer ≡ answer_of (last_of new)
-Answered 14 None answer = ⊥
-Answered _ new answer = answer ≡ numbers 0 0 0
+Answered number new answer = AnsweredIf (is_made number) new answer
 
 -- at 0 the bytes of the last event's answer are shown, and their whole length told; at any other number nothing is
 abbrev pub ShownBytes : ℕ → Option Database → (before after : List ℕ) → ℕ → Type 0
