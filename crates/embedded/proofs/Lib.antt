@@ -1,1 +1,2 @@
+pub mod ReadReplies
 pub mod Stepping

@@ -1,8 +1,14 @@
 -- What a database holds after a step of its engine.
-use Rattle.std.proofs.Common.{◌≡◌, ℕ, List, [], ◌∷◌, reverse, length, Some, Ok, inr, sym, ap, ◌∙◌, subst, arith}
+use Rattle.std.proofs.Common.{◌≡◌, ℕ, false, List, [], ◌∷◌, reverse, length, Some, Ok, inr, sym, ap, ◌∙◌, subst, arith}
 use Rattle.std.proofs.lemmas.List.{reverse-append, length-reverse}
+use Rattle.std.proofs.Math.Logic.{∥∥₁_elim}
+use Rattle.std.proofs.Props.{props}
 use Rattle.spans.specs.declared.calls.commands.Cmd.{Cmd}
 use Rattle.spans.specs.declared.calls.events.Event.{Event}
+use Rattle.spans.specs.declared.calls.messages.Message.{Message}
+use Rattle.spans.specs.declared.calls.replies.Reply.{Reply}
+use Rattle.spans.specs.declared.calls.replies.Reply.TheVariants.{Messages}
+use Rattle.spans.specs.Effects.{effects_of, event}
 use Rattle.spans.specs.Legal.{IsGapless}
 use Rattle.spans.proofs.Histories.{gapless_more}
 use Rattle.engine.specs.declared.Engine.{Engine}
@@ -13,6 +19,8 @@ use Rattle.word_lines.specs.Reading.{command_at}
 use Rattle.word_lines.specs.Table.{table}
 use Rattle.embedded.specs.declared.database.Database.{Database}
 use Rattle.embedded.specs.Embedded.{StandsFor, HasStepped, Made, IsUnwritten, last_of}
+use Rattle.embedded.specs.Typed.{is_read}
+use Rattle.embedded.proofs.ReadReplies.{is_no_read}
 
 -- an event whose position is the count of those before it leaves no gap
 next_gapless : (h : List Event) (e : Event) → IsGapless 0 (reverse h) → e.position ≡ length h → IsGapless 0 (reverse (e ∷ h))
@@ -40,3 +48,7 @@ made h line read stepped new step same spelled found = (
     spelled = spelled ∙ sym (λ i. command_line (step.seat i) (step.command i));
   },
 )
+
+-- a read is answered with no messages, whatever the engine's history
+pub no_read : (old new : Engine) (seat : ℕ) (cmd : Cmd) (r : Reply) (ms : List Message) → ((h : List Event) (n : ℕ) → engines.StandsFor old h → engines.StandsFor new (event n seat cmd r ∷ h)) → r ≡ Messages ms → is_read cmd ≡ false
+no_read old new seat cmd r ms history is = ∥∥₁_elim old.stands (hlevel props) (λ h. is_no_read (effects_of h.0) (event 0 seat cmd r) ms (history h.0 0 h.1).kept.legal.0 is)

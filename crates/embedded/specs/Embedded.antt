@@ -3,7 +3,6 @@ use Rattle.std.specs.Prelude.{ℕ, List, [], ◌∷◌, ◌≡◌, ◌⊎◌, le
 use Rattle.spans.specs.declared.calls.commands.Cmd.{Cmd}
 use Rattle.spans.specs.declared.calls.events.Event.{Event}
 use Rattle.spans.specs.Legal.{IsLegal, IsGapless}
-use Rattle.engine.specs.Engine.{steps_of}
 use Rattle.engine.specs.Engine as engines
 use Rattle.text_format.specs.declared.Format.TheVariants.{Two}
 use Rattle.word_lines.specs.Commands.{command_line}
@@ -36,10 +35,6 @@ kept_text d = d.text.items
 -- there is an event, so there is a text to write
 abbrev pub HasLast : Database → Type 0
 HasLast d = (e : Event) × (last_of d ≡ Some e)
-
--- how many calls its engine answered
-abbrev pub steps_in : Database → ℕ
-steps_in d = steps_of d.engine
 
 -- it has all of the text, byte for byte
 abbrev pub IsWritten : Database → Type 0

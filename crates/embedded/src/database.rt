@@ -1,17 +1,18 @@
 //! The database, with the last event that was made.
 
-ghost use Rattle.std.specs.Prelude.{◌≡◌, ◌<◌, ◌≤◌, List, ◌∷◌, [], Some, IfErr, OnOk, OnErr};
+ghost use Rattle.std.specs.Prelude.{◌≡◌, ◌≤◌, List, ◌∷◌, [], Some, IfErr, OnOk, OnErr};
 ghost use Rattle.spans.specs.declared.calls.events.Event.{Event};
 ghost use Rattle.text_format.specs.declared.Format.TheVariants.{Two};
 ghost use Rattle.word_lines.specs.Memory.{WantsMemory, verb_at};
 ghost use Rattle.word_lines.specs.Table.{table};
 ghost use Rattle.embedded.specs.declared.database.CallError.TheVariants.{NoMemory};
-ghost use Rattle.embedded.specs.Embedded.{StandsFor, HasLast, HasStepped, IsWritten, IsUnwritten, Called, last_of, kept_text, steps_in};
+ghost use Rattle.embedded.specs.Embedded.{StandsFor, HasLast, IsWritten, IsUnwritten, Called, last_of, kept_text};
 ghost use Rattle.json_lines.specs.Writing.{Copied};
 
+use crate::typed::Spent;
 use engine::Engine;
 use json_lines::buffer::copy_front;
-use spans::calls::{Cmd, Event};
+use spans::calls::Event;
 use std::alloc::{AllocError, Global};
 use text_format::Format;
 use word_lines::commands::read_command;
@@ -23,7 +24,7 @@ use word_lines::fault::{LineFault, ReadError};
 pub struct Database {
     pub(crate) alloc: Global,
     pub(crate) engine: Engine,
-    last: Option<Event>,
+    pub(crate) last: Option<Event>,
     /// The last event's text, empty until it is written.
     text: Vec<u8>,
 }
@@ -68,33 +69,18 @@ impl Database {
             Err(ReadError::Fault(fault)) => return Err(CallError::Fault(fault)),
             Err(ReadError::NoMemory) => return Err(CallError::NoMemory),
         };
-        if self.engine.steps() == u64::MAX {
-            return Err(CallError::Spent);
+        match self.make(seat, cmd) {
+            Ok(()) => {}
+            Err(Spent) => return Err(CallError::Spent),
         }
-        self.step(seat, cmd);
         match self.write() {
             Ok(()) => Ok(()),
             Err(_) => Err(CallError::Unwritten),
         }
     }
 
-    /// Makes a seat's command the next event, whose text is still to be written.
-    fn step(&mut self, seat: u8, cmd: Cmd)
-        requires room { steps_in self.old < 18446744073709551615 }
-        ensures { (h : List Event) → StandsFor self.old h → HasStepped h seat cmd self.new }
-    {
-        let position = self.engine.steps();
-        let reply = self.engine.step(seat, &cmd);
-        self.keep(Event {
-            position,
-            seat,
-            cmd,
-            reply,
-        });
-    }
-
     /// Keeps an event as the last one, with no text yet.
-    fn keep(&mut self, event: Event)
+    pub(crate) fn keep(&mut self, event: Event)
         ensures engine { self.new.engine ≡ self.old.engine }
         ensures last { last_of self.new ≡ Some event }
         ensures text { IsUnwritten self.new }

@@ -1,5 +1,5 @@
 //! A database that is called by text, as programs in other languages call it: the line of a command goes in, the text
-//! of its event comes out.
+//! of its event comes out. Or the command goes in as it is, and its answer comes out in numbers and bytes.
 //!
 //! It knows no C. The static library `ripsawbean` is the caller: it keeps one behind each handle, and has C's
 //! functions. A call reads its line, makes the command's step and keeps the event. The event's text is written after
@@ -17,23 +17,33 @@
 //! call "0 put 10 a\n"      Fault(WordCount)  (as before)                    (as before)
 //! call "0 put 10 a 1\n"    Unwritten         1 0 put 10 a 1 => written      empty: it found no memory
 //! write                    done              1 0 put 10 a 1 => written      26 bytes
+//! make 0 Get { 10, "a" }   done              2 0 get 10 a => value 1        empty until it is asked for
+//! answer                   kind 3, number 1  (as before)                    (as before)
+//! copy_bytes               1                 (as before)                    (as before)
 //! ```
 //!
 //! Costs:
 //!
 //! - `new`: O(1)
 //! - `call`: its line, the engine's step, and the text of its event
+//! - `make`: the engine's step
+//! - `answer`: O(1)
+//! - `copy_bytes`: the bytes copied, and all messages
 //! - `write`: the text, where it isn't written; else O(1)
 //! - `copy_text`: the bytes copied
 //! - `state`: the transactions that are undecided, the protections and the feeds, with a search for each, and its text
 //!
 //! `call` takes memory for the keys and values of its line, by the engine's step, and for the text, which keeps its
-//! room. `write` takes it for the text, and `state` for its own. `new` and `copy_text` take none.
+//! room. `make` takes it by the engine's step, `write` for the text, `copy_bytes` for messages, and `state` for its own
+//! text. `new`, `answer` and `copy_text` take none.
 //!
 //! Tests: `embed/test`, `embed/random`, outside the gate.
 #![tactic(auto)]
 
 mod database;
+mod message_bytes;
 mod state;
+mod typed;
 
 pub use database::{CallError, Database};
+pub use typed::{Answer, Spent};

@@ -3,3 +3,5 @@ pub mod Handles
 pub mod Exports
 pub mod ReplicaExports
 pub mod States
+pub mod TypedExports
+pub mod TypedParts

@@ -3,7 +3,8 @@
 //! A program owns a [`Handle`], all zero bytes at first. `ripsawbean_open` puts a database behind it, and
 //! `ripsawbean_close` frees that again. A call takes the line of a command, and shows the text of its event: all of it
 //! or its beginning, and its whole length. The wrappers in `embed` call it, and any program that can call C.
-//! A handle of another kind owns the replica of a feed's span: its functions stand in `replicas`.
+//! Calls whose command has its parts as arguments, in place of a line of text, stand in `typed`. A handle of another
+//! kind owns the replica of a feed's span: its functions stand in `replicas`.
 //!
 //! 1. A handle that is open owns one database and the right to free it; a closed one owns nothing.
 //! 2. A function that answers gives a number. The program's memory then follows from that number alone.
@@ -37,10 +38,12 @@
 //!
 //! - `ripsawbean_open`: O(1); `ripsawbean_close`: all that the database holds is freed
 //! - `ripsawbean_call`: its line, the engine's step, and the text of its event
+//! - the calls of `typed`: the engine's step, the bytes copied, and all messages of a poll
 //! - `ripsawbean_text`: the bytes copied, and the text where it wasn't written
 //! - `ripsawbean_state`: the undecided transactions, the protections and the feeds, with a search for each, and its text
 //!
-//! Memory is the program's own `malloc`, `realloc` and `free`. All but `ripsawbean_close` may take it.
+//! Memory is the program's own `malloc`, `realloc` and `free`. All but `ripsawbean_close` and `ripsawbean_abort` may
+//! take it.
 //!
 //! Tests: `embed/test`, `embed/random`, outside the gate.
 #![tactic(auto)]
@@ -57,12 +60,19 @@ mod loose;
 mod replica_handle;
 mod replicas;
 mod state;
+mod typed;
 
 use crate::handle::Handle;
 use embedded::{CallError, Database};
 use std::alloc::Global;
 
-/// No memory for a line, or for a database.
+/// A key has no byte, or more than 256.
+const KEY_LENGTH: u8 = 4;
+/// A value has more than 65536 bytes.
+const VALUE_LENGTH: u8 = 5;
+/// No seat has the number.
+const SESSION: u8 = 6;
+/// No memory for a line, for a key or a value, or for a database.
 const NO_MEMORY: u8 = 12;
 /// No position is left.
 const SPENT: u8 = 13;

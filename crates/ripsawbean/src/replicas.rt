@@ -35,15 +35,13 @@ ghost use Rattle.embedded_replica.specs.declared.consumer.OpenError.TheVariants.
 ghost use Rattle.ripsawbean.specs.ReplicaExports.{Opened, Taken, TakenBy, Told, NoTime, Hidden, ReadyBy, CompleteBy, GotBy, RowsBy, number_or_none, open_number, line_number, message_number, take_number, key_number};
 
 use crate::replica_handle::ReplicaHandle;
-use crate::{CLOSED, NO_MEMORY, OPEN};
+use crate::{CLOSED, KEY_LENGTH, NO_MEMORY, OPEN};
 use embedded_replica::{Consumer, OpenError, TakeError};
 use json_lines::MessageFault;
 use replica::Fault;
 use std::alloc::Global;
 use timestamps::key::KeyError;
 
-/// A key has no byte, or more than 256.
-const KEY_LENGTH: u8 = 4;
 /// The line is no message of a feed.
 const NO_MESSAGE: u8 = 18;
 /// A row comes too early.

@@ -1,0 +1,27 @@
+use Rattle.std.proofs.Common.{◌≡◌, Some, refl, sym, ap, ◌∙◌}
+use Rattle.spans.specs.declared.calls.events.Event.{Event}
+use Rattle.spans.specs.declared.calls.replies.Reply.TheVariants.{Messages}
+use Rattle.spans.specs.Effects.{event}
+use Rattle.embedded.proofs.Stepping.{stands_next, no_read}
+use Rattle.embedded.proofs.database.Database.make.Goals as goal
+
+pub returns-clause-made : goal.returns-clause-made
+returns-clause-made c h held =
+    let at = c.steps-position.ensures.history h held.stands in
+    let e : Event = event c.steps-position.result c.args.seat c.args.cmd c.step-reply.result in
+    record {
+      event = e;
+      holds = stands_next h e c.step-reply.new.self c.args.self.now c.keep.new.self held (c.step-reply.ensures.history h c.steps-position.result held.stands) c.keep.ensures.engine at c.keep.ensures.last c.keep.ensures.text;
+      position = at;
+      seat = refl;
+      command = refl;
+      text = c.keep.ensures.text;
+    }
+
+pub returns-clause-reads : goal.returns-clause-reads
+returns-clause-reads c = λ (e, ms, last, is).
+    let kept : Event = event c.steps-position.result c.args.seat c.args.cmd c.step-reply.result in
+    let both : Some kept ≡ Some e = sym c.keep.ensures.last ∙ last in
+    let same : kept ≡ e = cc in
+    let reply : c.step-reply.result ≡ Messages ms = ap (λ (x : Event). x.reply) same ∙ is in
+    no_read c.args.self.now.engine c.step-reply.new.self c.args.seat c.args.cmd c.step-reply.result ms c.step-reply.ensures.history reply

@@ -1,0 +1,81 @@
+-- The calls of several lines, one after another (this project's own).
+use Rattle.std.specs.Prelude.{ℕ, List, [], ◌∷◌, ◌++◌, ◌==◌, ◌≡◌, ◌≤◌, ◌<◌, ◌-◌, ◌⊎◌, Bool, length, map, take, drop, if◌then◌else◌, Option, Some, None, Result, Ok, Err, Unit}
+use Rattle.std.specs.List.{flat_map}
+use Rattle.spans.specs.declared.calls.events.Event.{Event}
+use Rattle.word_lines.specs.Faults.{code_of}
+use Rattle.embedded.specs.Embedded.{StandsFor, Called, last_of, text_of}
+use Rattle.embedded.specs.declared.database.Database.{Database}
+use Rattle.embedded.specs.declared.database.CallError.{CallError}
+use Rattle.embedded.specs.declared.database.CallError.TheVariants.{Fault, NoMemory, Spent, Unwritten}
+use Rattle.embedded.specs.declared.several.Done.{Done}
+use Rattle.embedded.specs.declared.several.Taken.{Taken}
+
+-- the first line of bytes: through the first newline, or all where there is none
+unfoldable pub first_line : List ℕ → List ℕ
+first_line [] = []
+first_line (b ∷ bytes) = if b == 10 then b ∷ [] else b ∷ first_line bytes
+
+-- the status of a line whose call ended so
+abbrev pub status_of : Result (Unit {0}) CallError → ℕ
+status_of (Ok _) = 0
+status_of (Err (Fault f)) = code_of f
+status_of (Err NoMemory) = 12
+status_of (Err Spent) = 13
+status_of (Err Unwritten) = 14
+
+-- whether a call was made that ended so
+abbrev pub has_event : Result (Unit {0}) CallError → Bool
+has_event (Ok _) = true
+has_event (Err Unwritten) = true
+has_event (Err _) = false
+
+-- a line that was taken: what is noted of it, and the text that was shown
+pub record Step : Type 0 where
+  pub line : List ℕ
+  pub note : Done
+  pub shown : List ℕ
+
+-- the text of a call was shown whole, where there is room for so much; or the line is faulty, and none was; or the text found no memory
+abbrev pub IsNoted : (room : ℕ) → Database → Result (Unit {0}) CallError → Step → Type 0
+IsNoted room d (Ok _) s =
+    ((length (text_of (last_of d)) ≤ room) × (s.note ≡ record { length = length (text_of (last_of d)); status = 0 }) × (s.shown ≡ text_of (last_of d)))
+    ⊎ ((room < length (text_of (last_of d))) × (s.note ≡ record { length = length (text_of (last_of d)); status = 14 }) × (s.shown ≡ []))
+IsNoted room d (Err (Fault f)) s = (s.note ≡ record { length = 0; status = code_of f }) × (s.shown ≡ [])
+IsNoted room d (Err Unwritten) s = (s.note ≡ record { length = 0; status = 14 }) × (s.shown ≡ [])
+IsNoted room d (Err _) s = ⊥
+
+-- one line's call, from h to h', where there is room for so much of its text
+pub record IsStep (room : ℕ) (h : List Event) (d : Database) (s : Step) (h' : List Event) (d' : Database) : Type 0 where
+  pub outcome : Result (Unit {0}) CallError
+  pub called : Called h s.line d outcome d'
+  pub noted : IsNoted room d' outcome s
+  pub stands : StandsFor d' h'
+  pub grown : if has_event outcome then ((e : Event) × (h' ≡ e ∷ h)) else (h' ≡ h)
+
+-- the lines' calls, one after another: each line is the first of the bytes that are left
+abbrev pub AreSteps : (room : ℕ) → List Event → Database → List ℕ → List Step → List ℕ → List Event → Database → Type 0
+AreSteps room h d bytes [] left h' d' = (left ≡ bytes) × (h' ≡ h) × (d' ≡ d)
+AreSteps room h d bytes (s ∷ steps) left h' d' =
+    (h1 : List Event) × (d1 : Database) × (s.line ≡ first_line bytes) × IsStep room h d s h1 d1
+    × AreSteps (room - length s.shown) h1 d1 (drop (length s.line) bytes) steps left h' d'
+
+-- why no further line was taken: none is left, or no room for its note; or the last one's text wasn't shown; or the next one can't be called
+abbrev pub EndsBy : List Event → Database → (left : List ℕ) → (steps : List Step) → (room : ℕ) → Result (Unit {0}) CallError → Type 0
+EndsBy h d left steps room (Ok _) = (left ≡ []) ⊎ (length steps ≡ room)
+EndsBy h d left steps room (Err Unwritten) = (before : List Step) × (s : Step) × (steps ≡ before ++ s ∷ []) × (s.note.status ≡ 14)
+EndsBy h d left steps room (Err (Fault f)) = ⊥
+EndsBy h d left steps room (Err error) = Called h (first_line left) d (Err error) d
+
+-- the calls of several lines on a database that holds h: what was noted and shown, how far they were taken, and why no further
+pub record HaveBeenCalled (h : List Event) (lines : List ℕ) (old : Database) (out out' : List ℕ) (notes notes' : List Done) (taken : Taken) (result : Result (Unit {0}) CallError) (new : Database) : Type 0 where
+  pub steps : List Step
+  pub left : List ℕ
+  pub after : List Event
+  pub called : AreSteps (length out) h old lines steps left after new
+  pub stands : StandsFor new after
+  pub ends : EndsBy after new left steps (length notes) result
+  -- only the last text may be missing
+  pub whole : (before behind : List Step) (s : Step) → steps ≡ before ++ s ∷ behind → s.note.status ≡ 14 → behind ≡ []
+  pub counted : taken ≡ record { lines = length steps; bytes = length lines - length left; length = length (flat_map (λ s. s.shown) steps) }
+  pub shown : out' ≡ flat_map (λ s. s.shown) steps ++ drop (length (flat_map (λ s. s.shown) steps)) out
+  pub noted : notes' ≡ map (λ s. s.note) steps ++ drop (length steps) notes

@@ -1,0 +1,64 @@
+//! Messages as bytes: a head of 17 bytes, and behind it the key and the value of a row.
+
+ghost use Rattle.std.specs.Prelude.{◌≡◌, ◌++◌, OnOk};
+ghost use Rattle.std.specs.List.{flat_map};
+ghost use Rattle.embedded.specs.Typed.{head, message_bytes, row_bytes};
+
+use spans::calls::Message;
+use std::alloc::AllocError;
+use timestamps::row::Row;
+
+/// A resolved timestamp.
+const RESOLVED: u8 = 0;
+/// A row with a value.
+const VALUE: u8 = 1;
+/// A row of a delete.
+const DELETE: u8 = 2;
+
+/// Puts messages at the end, one behind another.
+pub(crate) fn put_messages(out: &mut Vec<u8>, messages: &[Message]) -> Result<(), AllocError>
+    ensures { OnOk result (out.new.items ≡ out.old.items ++ flat_map message_bytes messages.now) }
+{
+    for message in messages {
+        put_message(out, message)?;
+    }
+    Ok(())
+}
+
+fn put_message(out: &mut Vec<u8>, message: &Message) -> Result<(), AllocError>
+    ensures { OnOk result (out.new.items ≡ out.old.items ++ message_bytes message.now) }
+{
+    match message {
+        Message::Resolved(at) => put_head(out, RESOLVED, at.get(), 0, 0),
+        Message::Row(row) => put_row(out, row),
+    }
+}
+
+fn put_row(out: &mut Vec<u8>, row: &Row) -> Result<(), AllocError>
+    ensures { OnOk result (out.new.items ≡ out.old.items ++ row_bytes row.now.ts row.now.key row.now.after) }
+{
+    let at = row.ts.get();
+    let key = row.key.bytes();
+    match &row.after {
+        Some(value) => {
+            let value = value.bytes();
+            put_head(out, VALUE, at, key.len() as u32, value.len() as u32)?;
+            out.extend_from_slice(key)?;
+            out.extend_from_slice(value)
+        }
+        None => {
+            put_head(out, DELETE, at, key.len() as u32, 0)?;
+            out.extend_from_slice(key)
+        }
+    }
+}
+
+/// Puts the head of a message, whose row has so many bytes of a key and of a value.
+fn put_head(out: &mut Vec<u8>, kind: u8, at: u64, key: u32, value: u32) -> Result<(), AllocError>
+    ensures { OnOk result (out.new.items ≡ out.old.items ++ head kind at key value) }
+{
+    out.push(kind)?;
+    out.extend_from_slice(&at.to_le_bytes())?;
+    out.extend_from_slice(&key.to_le_bytes())?;
+    out.extend_from_slice(&value.to_le_bytes())
+}

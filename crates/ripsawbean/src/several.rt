@@ -1,0 +1,30 @@
+//! The calls of several lines at once, as C makes them.
+
+ghost use Rattle.std.specs.Prelude.{◌≡◌};
+ghost use Rattle.ripsawbean.specs.SeveralExports.{Called};
+
+use crate::handle::Handle;
+use embedded::{Done, Taken};
+use std::alloc::Global;
+
+/// Makes the calls of lines, one after another, each with its newline; shows their texts one behind another in `out`, and
+/// notes in `notes` what became of each line: its status, and how many bytes its text has. `taken` tells how many lines
+/// were taken, how many bytes they have, and how many bytes of texts stand in `out`.
+///
+/// A faulty line ends nothing: its note has its fault's code. 0: all lines were taken, or `notes` is full. At any other
+/// number what was taken stands, and the lines behind it were not looked at. 14: the last line's call was made, and its
+/// text found no room or no memory; `ripsawbean_text` shows it. 12, 13: the next line finds no memory, no position. 16:
+/// the handle is closed.
+#[unsafe(no_mangle)]
+pub extern "C" fn ripsawbean_calls(
+    alloc: Global,
+    handle: &mut Handle,
+    lines: &[u8],
+    out: &mut [u8],
+    notes: &mut [Done],
+    taken: &mut Taken,
+) -> u8
+    ensures { Called lines.now handle.old.database out.old out.new notes.old notes.new taken.new result handle.new.database }
+{
+    todo!()
+}

@@ -1,0 +1,455 @@
+//! Calls whose command is given in parts, as C makes them: the same events as by lines, and no text is read or written.
+//!
+//! ```text
+//!                                                       number   answer       length   out
+//! ripsawbean_begin     seat 0, 10                       0        1 started
+//! ripsawbean_put       seat 0, 10, "a", "1"             0        4 written
+//! ripsawbean_get       seat 0, 10, "a"       room 8     0        3 value, 1   1        1
+//! ripsawbean_get       seat 0, 10, ""        room 8     4        0            0        (as before)
+//! ripsawbean_commit    seat 0, 10                       0        5 committed, 1
+//! ripsawbean_text                            room 64    0                     29       3 0 commit 10 => committed 1
+//! ```
+//!
+//! | Number | What it says | By |
+//! |---|---|---|
+//! | 0 | the call was made, and the answer says what came of it; of bytes, they are shown | all |
+//! | 4 | the key has no byte, or more than 256; no call was made | get, put, delete, read_at |
+//! | 5 | the value has more than 65536 bytes; no call was made | put |
+//! | 6 | the seat is not 0 to 63; no call was made. It is tested first, then the key, then the value | all but bytes |
+//! | 12 | no memory for a key or a value of more than 24 bytes; no call was made | get, put, delete, read_at |
+//! | 13 | no position is left; no call was made | all but bytes |
+//! | 14 | the call was made and its answer told; its messages found no memory: `ripsawbean_bytes` tries again | poll, bytes |
+//! | 16 | the handle is closed; nothing was done. It is tested before all else | all |
+
+ghost use Rattle.std.specs.Prelude.{◌≡◌, ◌⊎◌, Some, false, IfOk};
+ghost use Rattle.spans.specs.declared.calls.commands.Cmd.TheVariants.{Begin, Get, Put, Del, Commit, Abort, Close, ReadAt, Poll};
+ghost use Rattle.embedded.specs.Embedded.{last_of};
+ghost use Rattle.embedded.specs.Typed.{HasMessages, is_read, numbers};
+ghost use Rattle.ripsawbean.specs.TypedExports.{◌or◌, key_fault, value_fault, IsLong, OfHandle, MadeAlone, MadeAtKey, MadeWithValue, MadePoll, Answered, ShownBytes, AskedBytes, is_made};
+ghost use Rattle.ripsawbean.specs.TypedParts.{IsOf, MadeOf, ShownOf, number_of};
+
+use crate::handle::Handle;
+use crate::{CLOSED, KEY_LENGTH, NO_MEMORY, SESSION, SPENT, UNWRITTEN, VALUE_LENGTH};
+use embedded::{Answer, Database, Spent};
+use spans::calls::Cmd;
+use std::alloc::Global;
+use timestamps::key::{Key, KeyError};
+use timestamps::value::{MAX_VALUE_BYTES, Value, ValueError};
+
+/// Why parts make no command.
+#[derive(Clone, Copy)]
+enum Unfit {
+    KeyLength,
+    ValueLength,
+    NoMemory,
+}
+
+/// Begins the transaction of a timestamp.
+#[unsafe(no_mangle)]
+pub extern "C" fn ripsawbean_begin(
+    alloc: Global,
+    handle: &mut Handle,
+    seat: u8,
+    timestamp: u64,
+    answer: &mut Answer,
+) -> u8
+    ensures made { MadeAlone seat (Begin timestamp) handle.old.database result handle.new.database }
+    ensures answer { Answered result handle.new.database answer.new }
+{
+    make(
+        alloc,
+        handle,
+        seat,
+        Ok(Cmd::Begin { ts: timestamp }),
+        answer,
+    )
+}
+
+/// Reads a key in a transaction, and shows its value: as much of it as there is room for, and its whole length.
+/// [`ripsawbean_bytes`] shows it again.
+#[unsafe(no_mangle)]
+pub extern "C" fn ripsawbean_get(
+    alloc: Global,
+    handle: &mut Handle,
+    seat: u8,
+    timestamp: u64,
+    key: &[u8],
+    out: &mut [u8],
+    length: &mut usize,
+    answer: &mut Answer,
+) -> u8
+    ensures made { MadeAtKey seat key.now (Get timestamp key.now) handle.old.database result handle.new.database }
+    ensures answer { Answered result handle.new.database answer.new }
+    ensures value { ShownBytes result handle.new.database out.old out.new length.new }
+{
+    let cmd = get(alloc, timestamp, key);
+    show(alloc, handle, seat, cmd, out, length, answer)
+}
+
+/// Writes a value in a transaction.
+#[unsafe(no_mangle)]
+pub extern "C" fn ripsawbean_put(
+    alloc: Global,
+    handle: &mut Handle,
+    seat: u8,
+    timestamp: u64,
+    key: &[u8],
+    value: &[u8],
+    answer: &mut Answer,
+) -> u8
+    ensures made { MadeWithValue seat key.now value.now (Put timestamp key.now value.now) handle.old.database result handle.new.database }
+    ensures answer { Answered result handle.new.database answer.new }
+{
+    let cmd = put(alloc, timestamp, key, value);
+    make(alloc, handle, seat, cmd, answer)
+}
+
+/// Deletes a key in a transaction.
+#[unsafe(no_mangle)]
+pub extern "C" fn ripsawbean_delete(
+    alloc: Global,
+    handle: &mut Handle,
+    seat: u8,
+    timestamp: u64,
+    key: &[u8],
+    answer: &mut Answer,
+) -> u8
+    ensures made { MadeAtKey seat key.now (Del timestamp key.now) handle.old.database result handle.new.database }
+    ensures answer { Answered result handle.new.database answer.new }
+{
+    let cmd = delete(alloc, timestamp, key);
+    make(alloc, handle, seat, cmd, answer)
+}
+
+/// Commits a transaction.
+#[unsafe(no_mangle)]
+pub extern "C" fn ripsawbean_commit(
+    alloc: Global,
+    handle: &mut Handle,
+    seat: u8,
+    timestamp: u64,
+    answer: &mut Answer,
+) -> u8
+    ensures made { MadeAlone seat (Commit timestamp) handle.old.database result handle.new.database }
+    ensures answer { Answered result handle.new.database answer.new }
+{
+    make(
+        alloc,
+        handle,
+        seat,
+        Ok(Cmd::Commit { ts: timestamp }),
+        answer,
+    )
+}
+
+/// Aborts a transaction.
+#[unsafe(no_mangle)]
+pub extern "C" fn ripsawbean_abort(
+    alloc: Global,
+    handle: &mut Handle,
+    seat: u8,
+    timestamp: u64,
+    answer: &mut Answer,
+) -> u8
+    ensures made { MadeAlone seat (Abort timestamp) handle.old.database result handle.new.database }
+    ensures answer { Answered result handle.new.database answer.new }
+{
+    make(
+        alloc,
+        handle,
+        seat,
+        Ok(Cmd::Abort { ts: timestamp }),
+        answer,
+    )
+}
+
+/// Moves the closed timestamp up, to just below the oldest undecided transaction at most.
+#[unsafe(no_mangle)]
+pub extern "C" fn ripsawbean_close_to(
+    alloc: Global,
+    handle: &mut Handle,
+    seat: u8,
+    timestamp: u64,
+    answer: &mut Answer,
+) -> u8
+    ensures made { MadeAlone seat (Close timestamp) handle.old.database result handle.new.database }
+    ensures answer { Answered result handle.new.database answer.new }
+{
+    make(
+        alloc,
+        handle,
+        seat,
+        Ok(Cmd::Close { to: timestamp }),
+        answer,
+    )
+}
+
+/// Reads the committed value of a key at a closed timestamp, and shows it as [`ripsawbean_get`] does.
+#[unsafe(no_mangle)]
+pub extern "C" fn ripsawbean_read_at(
+    alloc: Global,
+    handle: &mut Handle,
+    seat: u8,
+    timestamp: u64,
+    key: &[u8],
+    out: &mut [u8],
+    length: &mut usize,
+    answer: &mut Answer,
+) -> u8
+    ensures made { MadeAtKey seat key.now (ReadAt timestamp key.now) handle.old.database result handle.new.database }
+    ensures answer { Answered result handle.new.database answer.new }
+    ensures value { ShownBytes result handle.new.database out.old out.new length.new }
+{
+    let cmd = read_at(alloc, timestamp, key);
+    show(alloc, handle, seat, cmd, out, length, answer)
+}
+
+/// Takes the next messages of a feed, `most` at most, and shows them as bytes, one behind another. A message has a head
+/// of 17 bytes: what it is (0 a resolved timestamp, 1 a row with a value, 2 a row of a delete), its timestamp in eight
+/// bytes, and in four bytes each how many bytes of a key and of a value stand behind the head. Each number has its
+/// lowest byte first. Messages that find no room or no memory are not lost: [`ripsawbean_bytes`] shows them again.
+#[unsafe(no_mangle)]
+pub extern "C" fn ripsawbean_poll(
+    alloc: Global,
+    handle: &mut Handle,
+    seat: u8,
+    feed: u64,
+    most: u64,
+    out: &mut [u8],
+    length: &mut usize,
+    answer: &mut Answer,
+) -> u8
+    ensures made { MadePoll seat (Poll feed most) handle.old.database result handle.new.database }
+    ensures answer { Answered result handle.new.database answer.new }
+    ensures messages { ShownBytes result handle.new.database out.old out.new length.new }
+{
+    let cmd = Ok(Cmd::Poll { feed, max: most });
+    show(alloc, handle, seat, cmd, out, length, answer)
+}
+
+/// Shows the bytes of the last event's answer again, as often as they are asked for: a value, or messages. No call is made.
+#[unsafe(no_mangle)]
+pub extern "C" fn ripsawbean_bytes(
+    alloc: Global,
+    handle: &mut Handle,
+    out: &mut [u8],
+    length: &mut usize,
+) -> u8
+    ensures same { handle.new.database ≡ handle.old.database }
+    ensures asked { AskedBytes handle.old.database result }
+    ensures bytes { ShownBytes result handle.old.database out.old out.new length.new }
+{
+    match handle.take(alloc) {
+        None => {
+            *length = 0;
+            CLOSED
+        }
+        Some(database) => {
+            let number = bytes(&database, out, length);
+            handle.put(database);
+            number
+        }
+    }
+}
+
+/// The command of a get, or why there is none.
+fn get(alloc: Global, timestamp: u64, key: &[u8]) -> Result<Cmd, Unfit>
+    ensures { IsOf (key_fault key.now) (IsLong key.now) (Get timestamp key.now) result }
+{
+    let key = key_of(alloc, key)?;
+    Ok(Cmd::Get { ts: timestamp, key })
+}
+
+fn put(alloc: Global, timestamp: u64, key: &[u8], value: &[u8]) -> Result<Cmd, Unfit>
+    ensures { IsOf (key_fault key.now or value_fault value.now) (IsLong key.now ⊎ IsLong value.now) (Put timestamp key.now value.now) result }
+{
+    match Key::new(alloc, key) {
+        Err(KeyError::KeyLength) => Err(Unfit::KeyLength),
+        // a fault comes before want of memory
+        Err(KeyError::NoMemory) => {
+            if value.len() > MAX_VALUE_BYTES {
+                Err(Unfit::ValueLength)
+            } else {
+                Err(Unfit::NoMemory)
+            }
+        }
+        Ok(key) => {
+            let value = value_of(alloc, value)?;
+            Ok(Cmd::Put {
+                ts: timestamp,
+                key,
+                value,
+            })
+        }
+    }
+}
+
+fn delete(alloc: Global, timestamp: u64, key: &[u8]) -> Result<Cmd, Unfit>
+    ensures { IsOf (key_fault key.now) (IsLong key.now) (Del timestamp key.now) result }
+{
+    let key = key_of(alloc, key)?;
+    Ok(Cmd::Del { ts: timestamp, key })
+}
+
+fn read_at(alloc: Global, timestamp: u64, key: &[u8]) -> Result<Cmd, Unfit>
+    ensures { IsOf (key_fault key.now) (IsLong key.now) (ReadAt timestamp key.now) result }
+{
+    let key = key_of(alloc, key)?;
+    Ok(Cmd::ReadAt { t: timestamp, key })
+}
+
+fn key_of(alloc: Global, bytes: &[u8]) -> Result<Key, Unfit>
+    ensures { IsOf (key_fault bytes.now) (IsLong bytes.now) bytes.now result }
+{
+    match Key::new(alloc, bytes) {
+        Ok(key) => Ok(key),
+        Err(KeyError::KeyLength) => Err(Unfit::KeyLength),
+        Err(KeyError::NoMemory) => Err(Unfit::NoMemory),
+    }
+}
+
+fn value_of(alloc: Global, bytes: &[u8]) -> Result<Value, Unfit>
+    ensures { IsOf (value_fault bytes.now) (IsLong bytes.now) bytes.now result }
+{
+    match Value::new(alloc, bytes) {
+        Ok(value) => Ok(value),
+        Err(ValueError::ValueLength) => Err(Unfit::ValueLength),
+        Err(ValueError::NoMemory) => Err(Unfit::NoMemory),
+    }
+}
+
+/// The call of a command on a handle's database, or why there is none, by its number.
+fn make(
+    alloc: Global,
+    handle: &mut Handle,
+    seat: u8,
+    cmd: Result<Cmd, Unfit>,
+    answer: &mut Answer,
+) -> u8
+    ensures made { OfHandle (MadeOf seat cmd) handle.old.database result handle.new.database }
+    ensures answer { Answered result handle.new.database answer.new }
+{
+    match handle.take(alloc) {
+        None => {
+            *answer = no_answer();
+            CLOSED
+        }
+        Some(database) => {
+            let mut database = database;
+            let number = call(&mut database, seat, cmd, answer);
+            handle.put(database);
+            number
+        }
+    }
+}
+
+/// The same, and the bytes of its answer.
+fn show(
+    alloc: Global,
+    handle: &mut Handle,
+    seat: u8,
+    cmd: Result<Cmd, Unfit>,
+    out: &mut [u8],
+    length: &mut usize,
+    answer: &mut Answer,
+) -> u8
+    ensures made { OfHandle (ShownOf seat cmd) handle.old.database result handle.new.database }
+    ensures reads { result ≡ 14 → IfOk cmd (λ c. is_read c ≡ false) }
+    ensures answer { Answered result handle.new.database answer.new }
+    ensures bytes { ShownBytes result handle.new.database out.old out.new length.new }
+{
+    match handle.take(alloc) {
+        None => {
+            *length = 0;
+            *answer = no_answer();
+            CLOSED
+        }
+        Some(database) => {
+            let mut database = database;
+            let number = call_shown(&mut database, seat, cmd, out, length, answer);
+            handle.put(database);
+            number
+        }
+    }
+}
+
+/// The call of a command on a database, or why there is none, by its number.
+fn call(database: &mut Database, seat: u8, cmd: Result<Cmd, Unfit>, answer: &mut Answer) -> u8
+    ensures made { MadeOf seat cmd database.old result database.new }
+    ensures reads { result ≡ 0 → HasMessages (last_of database.new) → IfOk cmd (λ c. is_read c ≡ false) }
+    ensures answer { Answered result (Some database.new) answer.new }
+{
+    *answer = no_answer();
+    if seat > 63 {
+        return SESSION;
+    }
+    match cmd {
+        Err(unfit) => number(unfit),
+        Ok(cmd) => match database.make(seat, cmd) {
+            Err(Spent) => SPENT,
+            Ok(()) => {
+                *answer = database.answer();
+                0
+            }
+        },
+    }
+}
+
+fn call_shown(
+    database: &mut Database,
+    seat: u8,
+    cmd: Result<Cmd, Unfit>,
+    out: &mut [u8],
+    length: &mut usize,
+    answer: &mut Answer,
+) -> u8
+    ensures made { ShownOf seat cmd database.old result database.new }
+    ensures reads { result ≡ 14 → IfOk cmd (λ c. is_read c ≡ false) }
+    ensures answer { Answered result (Some database.new) answer.new }
+    ensures bytes { ShownBytes result (Some database.new) out.old out.new length.new }
+{
+    let number = call(database, seat, cmd, answer);
+    if number != 0 {
+        *length = 0;
+        return number;
+    }
+    bytes(database, out, length)
+}
+
+/// The bytes of the last event's answer, with the number that tells of them.
+fn bytes(database: &Database, out: &mut [u8], length: &mut usize) -> u8
+    ensures asked { AskedBytes (Some database.now) result }
+    ensures bytes { ShownBytes result (Some database.now) out.old out.new length.new }
+{
+    match database.copy_bytes(out) {
+        Ok(whole) => {
+            *length = whole;
+            0
+        }
+        Err(_) => {
+            *length = 0;
+            UNWRITTEN
+        }
+    }
+}
+
+fn no_answer() -> Answer
+    ensures { result ≡ numbers 0 0 0 }
+{
+    Answer {
+        kind: 0,
+        number: 0,
+        other: 0,
+    }
+}
+
+fn number(unfit: Unfit) -> u8
+    ensures number { result ≡ number_of unfit }
+    ensures unmade { is_made result ≡ false }
+{
+    match unfit {
+        Unfit::KeyLength => KEY_LENGTH,
+        Unfit::ValueLength => VALUE_LENGTH,
+        Unfit::NoMemory => NO_MEMORY,
+    }
+}
