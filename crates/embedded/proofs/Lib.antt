@@ -1,1 +1,4 @@
 pub mod Stepping
+pub mod FirstLines
+pub mod TakenLines
+pub mod TakingLines

@@ -3,3 +3,4 @@ pub mod Handles
 pub mod Exports
 pub mod ReplicaExports
 pub mod States
+pub mod SeveralExports
