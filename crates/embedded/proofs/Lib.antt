@@ -1,2 +1,5 @@
 pub mod ReadReplies
 pub mod Stepping
+pub mod FirstLines
+pub mod TakenLines
+pub mod TakingLines

@@ -1,12 +1,12 @@
 -- The calls of several lines, one after another (this project's own).
-use Rattle.std.specs.Prelude.{ℕ, List, [], ◌∷◌, ◌++◌, ◌==◌, ◌≡◌, ◌≤◌, ◌<◌, ◌-◌, ◌⊎◌, Bool, length, map, take, drop, if◌then◌else◌, Option, Some, None, Result, Ok, Err, Unit}
+use Rattle.std.specs.Prelude.{ℕ, List, [], ◌∷◌, ◌++◌, ◌==◌, ◌≡◌, ◌≤◌, ◌<◌, ◌-◌, ◌⊎◌, length, map, drop, if◌then◌else◌, Result, Ok, Err}
 use Rattle.std.specs.List.{flat_map}
 use Rattle.spans.specs.declared.calls.events.Event.{Event}
 use Rattle.word_lines.specs.Faults.{code_of}
 use Rattle.embedded.specs.Embedded.{StandsFor, Called, last_of, text_of}
 use Rattle.embedded.specs.declared.database.Database.{Database}
 use Rattle.embedded.specs.declared.database.CallError.{CallError}
-use Rattle.embedded.specs.declared.database.CallError.TheVariants.{Fault, NoMemory, Spent, Unwritten}
+use Rattle.embedded.specs.declared.database.CallError.TheVariants.{Fault, Unwritten}
 use Rattle.embedded.specs.declared.several.Done.{Done}
 use Rattle.embedded.specs.declared.several.Taken.{Taken}
 
@@ -15,19 +15,11 @@ unfoldable pub first_line : List ℕ → List ℕ
 first_line [] = []
 first_line (b ∷ bytes) = if b == 10 then b ∷ [] else b ∷ first_line bytes
 
--- the status of a line whose call ended so
-abbrev pub status_of : Result (Unit {0}) CallError → ℕ
-status_of (Ok _) = 0
-status_of (Err (Fault f)) = code_of f
-status_of (Err NoMemory) = 12
-status_of (Err Spent) = 13
-status_of (Err Unwritten) = 14
-
--- whether a call was made that ended so
-abbrev pub has_event : Result (Unit {0}) CallError → Bool
-has_event (Ok _) = true
-has_event (Err Unwritten) = true
-has_event (Err _) = false
+-- a history goes on by an event, where a call was made that ended so
+abbrev pub GoesOn : List Event → Result (Unit {0}) CallError → List Event → Type 0
+GoesOn h (Ok _) h' = (e : Event) × (h' ≡ e ∷ h)
+GoesOn h (Err Unwritten) h' = (e : Event) × (h' ≡ e ∷ h)
+GoesOn h (Err _) h' = h' ≡ h
 
 -- a line that was taken: what is noted of it, and the text that was shown
 pub record Step : Type 0 where
@@ -50,7 +42,22 @@ pub record IsStep (room : ℕ) (h : List Event) (d : Database) (s : Step) (h' : 
   pub called : Called h s.line d outcome d'
   pub noted : IsNoted room d' outcome s
   pub stands : StandsFor d' h'
-  pub grown : if has_event outcome then ((e : Event) × (h' ≡ e ∷ h)) else (h' ≡ h)
+  pub grown : GoesOn h outcome h'
+
+-- a line was taken by a step, whose text stands at the front of the room; or it can't be called, and all is as it was
+abbrev pub IsTaken : List Event → List ℕ → (old : Database) (out out' : List ℕ) → Result Done CallError → Database → Type 0
+IsTaken h line old out out' (Ok note) new =
+    (s : Step) × (h' : List Event) × (s.line ≡ line) × (s.note ≡ note) × IsStep (length out) h old s h' new
+    × (out' ≡ s.shown ++ drop (length s.shown) out)
+IsTaken h line old out out' (Err (Fault f)) new = ⊥
+IsTaken h line old out out' (Err Unwritten) new = ⊥
+IsTaken h line old out out' (Err error) new = (out' ≡ out) × (new ≡ old) × Called h line old (Err error) old
+
+-- a text stands at the front of the room, where there is room for it; else none does
+abbrev pub IsShown : (text out out' : List ℕ) → Done → Type 0
+IsShown text out out' note =
+    ((length text ≤ length out) × (note ≡ record { length = length text; status = 0 }) × (out' ≡ text ++ drop (length text) out))
+    ⊎ ((length out < length text) × (note ≡ record { length = length text; status = 14 }) × (out' ≡ out))
 
 -- the lines' calls, one after another: each line is the first of the bytes that are left
 abbrev pub AreSteps : (room : ℕ) → List Event → Database → List ℕ → List Step → List ℕ → List Event → Database → Type 0

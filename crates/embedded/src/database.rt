@@ -26,7 +26,7 @@ pub struct Database {
     pub(crate) engine: Engine,
     pub(crate) last: Option<Event>,
     /// The last event's text, empty until it is written.
-    text: Vec<u8>,
+    pub(crate) text: Vec<u8>,
 }
 
 /// Why a call has no text to show.

@@ -4,7 +4,7 @@
 //! It knows no C. The static library `ripsawbean` is the caller: it keeps one behind each handle, and has C's
 //! functions. A call reads its line, makes the command's step and keeps the event. The event's text is written after
 //! that, and copied out as often as it is asked for. A text may find no memory, or no room where it is copied to. That
-//! loses nothing: its event stays until the next call is made.
+//! loses nothing: its event stays until the next call is made. So the calls of several lines end at such a text.
 //!
 //! 1. The engine stands for a legal history, whose positions run from 0 without a gap.
 //! 2. The last event is the newest of that history; there is none before the first call.
@@ -26,6 +26,7 @@
 //!
 //! - `new`: O(1)
 //! - `call`: its line, the engine's step, and the text of its event
+//! - `call_lines`: the calls of the lines that are taken, and the bytes of their texts again
 //! - `make`: the engine's step
 //! - `answer`: O(1)
 //! - `copy_bytes`: the bytes copied, and all messages
@@ -34,16 +35,18 @@
 //! - `state`: the transactions that are undecided, the protections and the feeds, with a search for each, and its text
 //!
 //! `call` takes memory for the keys and values of its line, by the engine's step, and for the text, which keeps its
-//! room. `make` takes it by the engine's step, `write` for the text, `copy_bytes` for messages, and `state` for its own
-//! text. `new`, `answer` and `copy_text` take none.
+//! room; `call_lines` takes what its calls take. `make` takes it by the engine's step, `write` for the text,
+//! `copy_bytes` for messages, and `state` for its own text. `new`, `answer` and `copy_text` take none.
 //!
 //! Tests: `embed/test`, `embed/random`, outside the gate.
 #![tactic(auto)]
 
 mod database;
 mod message_bytes;
+mod several;
 mod state;
 mod typed;
 
 pub use database::{CallError, Database};
+pub use several::{Done, Taken};
 pub use typed::{Answer, Spent};

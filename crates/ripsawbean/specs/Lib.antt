@@ -3,5 +3,6 @@ pub mod Handles
 pub mod Exports
 pub mod ReplicaExports
 pub mod States
+pub mod SeveralExports
 pub mod TypedExports
 pub mod TypedParts

@@ -2,16 +2,17 @@
 use Rattle.std.specs.Prelude.{ℕ, List, ◌≡◌, Option, Some, None, Result}
 use Rattle.spans.specs.declared.calls.events.Event.{Event}
 use Rattle.embedded.specs.Embedded.{StandsFor}
-use Rattle.embedded.specs.Several.{HaveBeenCalled, status_of}
+use Rattle.embedded.specs.Several.{HaveBeenCalled}
 use Rattle.embedded.specs.declared.database.Database.{Database}
 use Rattle.embedded.specs.declared.database.CallError.{CallError}
 use Rattle.embedded.specs.declared.several.Done.{Done}
 use Rattle.embedded.specs.declared.several.Taken.{Taken}
+use Rattle.ripsawbean.specs.Exports.{outcome_number}
 
 -- the lines were called on the handle's database, by an outcome that has the number; a closed handle stays closed
 abbrev pub Called : List ℕ → Option Database → (out out' : List ℕ) → (notes notes' : List Done) → Taken → ℕ → Option Database → Type 0
 Called lines (Some old) out out' notes notes' taken number (Some new) =
-    (result : Result (Unit {0}) CallError) × (number ≡ status_of result)
+    (result : Result (Unit {0}) CallError) × (number ≡ outcome_number result)
     × ((h : List Event) → StandsFor old h → HaveBeenCalled h lines old out out' notes notes' taken result new)
 Called lines (Some old) out out' notes notes' taken number None = ⊥
 Called lines None out out' notes notes' taken number new =

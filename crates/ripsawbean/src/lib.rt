@@ -2,9 +2,10 @@
 //!
 //! A program owns a [`Handle`], all zero bytes at first. `ripsawbean_open` puts a database behind it, and
 //! `ripsawbean_close` frees that again. A call takes the line of a command, and shows the text of its event: all of it
-//! or its beginning, and its whole length. The wrappers in `embed` call it, and any program that can call C.
-//! Calls whose command has its parts as arguments, in place of a line of text, stand in `typed`. A handle of another
-//! kind owns the replica of a feed's span: its functions stand in `replicas`.
+//! or its beginning, and its whole length. `ripsawbean_calls`, in `several`, makes the calls of several lines at once, and
+//! the calls in `typed` have a command's parts as arguments, in place of a line. The wrappers in `embed` call all of them,
+//! and any program that can call C. A handle of another kind owns the replica of a feed's span: its functions stand in
+//! `replicas`.
 //!
 //! 1. A handle that is open owns one database and the right to free it; a closed one owns nothing.
 //! 2. A function that answers gives a number. The program's memory then follows from that number alone.
@@ -22,13 +23,15 @@
 //!
 //! | Number | What it says | By |
 //! |---|---|---|
-//! | 0 | done | open, call, text, state |
-//! | 1 to 9 | the line's fault by its code; no call was made | call |
+//! | 0 | done | open, call, calls, text, state |
+//! | 1 to 9 | the line's fault by its code; no call was made | call, a note of calls |
 //! | 12 | no memory for the line's key, value or span, or for the database; nothing was done | call, open |
 //! | 13 | no position is left; no call was made | call |
+//! | 12, 13 | the same of the next line; what was taken stands | calls |
 //! | 14 | no memory for the text; the event stands, and `ripsawbean_text` tries again | call, text, state |
+//! | 14 | no room or no memory for the last text; the event stands, and `ripsawbean_text` shows it | calls and its note |
 //! | 15 | the ring is out of range; nothing was done | open |
-//! | 16 | the handle is closed; nothing was done | call, text, state |
+//! | 16 | the handle is closed; nothing was done | call, calls, text, state |
 //! | 17 | the handle is open already; nothing was done | open |
 //!
 //! A program owes pointers that aren't null, also to no bytes, and slices that don't overlap. Its handle is all zero
@@ -38,6 +41,7 @@
 //!
 //! - `ripsawbean_open`: O(1); `ripsawbean_close`: all that the database holds is freed
 //! - `ripsawbean_call`: its line, the engine's step, and the text of its event
+//! - `ripsawbean_calls`: the calls of the lines that are taken, and the bytes of their texts again
 //! - the calls of `typed`: the engine's step, the bytes copied, and all messages of a poll
 //! - `ripsawbean_text`: the bytes copied, and the text where it wasn't written
 //! - `ripsawbean_state`: the undecided transactions, the protections and the feeds, with a search for each, and its text
@@ -59,6 +63,7 @@ mod handle;
 mod loose;
 mod replica_handle;
 mod replicas;
+mod several;
 mod state;
 mod typed;
 

@@ -1,10 +1,11 @@
 //! The calls of several lines at once, as C makes them.
 
-ghost use Rattle.std.specs.Prelude.{◌≡◌};
+ghost use Rattle.std.specs.Prelude.{Some};
 ghost use Rattle.ripsawbean.specs.SeveralExports.{Called};
 
 use crate::handle::Handle;
-use embedded::{Done, Taken};
+use crate::{CLOSED, number};
+use embedded::{Database, Done, Taken};
 use std::alloc::Global;
 
 /// Makes the calls of lines, one after another, each with its newline; shows their texts one behind another in `out`, and
@@ -26,5 +27,38 @@ pub extern "C" fn ripsawbean_calls(
 ) -> u8
     ensures { Called lines.now handle.old.database out.old out.new notes.old notes.new taken.new result handle.new.database }
 {
-    todo!()
+    match handle.take(alloc) {
+        None => {
+            *taken = Taken {
+                lines: 0,
+                bytes: 0,
+                length: 0,
+            };
+            CLOSED
+        }
+        Some(database) => {
+            let mut database = database;
+            let number = calls(&mut database, lines, out, notes, taken);
+            handle.put(database);
+            number
+        }
+    }
+}
+
+/// The lines' calls, with the number that tells why they end.
+fn calls(
+    database: &mut Database,
+    lines: &[u8],
+    out: &mut [u8],
+    notes: &mut [Done],
+    taken: &mut Taken,
+) -> u8
+    ensures { Called lines.now (Some database.old) out.old out.new notes.old notes.new taken.new result (Some database.new) }
+{
+    let (told, result) = database.call_lines(lines, out, notes);
+    *taken = told;
+    match result {
+        Ok(()) => 0,
+        Err(error) => number(error),
+    }
 }
