@@ -8,7 +8,7 @@
 //! 0 put 10 a 1\n                0, 26 bytes            1 0 put 10 a 1 => written\n
 //! ```
 
-ghost use Rattle.std.specs.Prelude.{◌≡◌, ◌<◌, ◌≤◌, ◌⊎◌, List, length, IfOk};
+ghost use Rattle.std.specs.Prelude.{◌≡◌, ◌≤◌, ◌⊎◌, List, length, IfOk};
 ghost use Rattle.spans.specs.declared.calls.events.Event.{Event};
 ghost use Rattle.embedded.specs.Embedded.{StandsFor, kept_text};
 ghost use Rattle.embedded.specs.Several.{HaveBeenCalled, IsTaken, IsShown, first_line};
@@ -119,7 +119,6 @@ impl Database {
 /// The first line of bytes, with its newline; all of them where there is none.
 fn first_line(bytes: &[u8]) -> &[u8]
     ensures line { result.now ≡ first_line bytes.now }
-    ensures some { 0 < length bytes.now → 0 < length result.now }
     ensures within { length result.now ≤ length bytes.now }
 {
     match memchr(b'\n', bytes) {
