@@ -2,16 +2,14 @@
 //!
 //! ```text
 //! let mut lines = Lines::new(alloc, Format::One)?;   waits: nothing
-//! lines.next()                  More
-//! lines.read_more(source)?                        waits: 0 begin 10\n0 put 1
-//! lines.next()                  Line(11)
+//! lines.next_line(..)?          Some(11)          waits: 0 begin 10\n0 put 1
 //! lines.line(11)                "0 begin 10\n"
 //! lines.advance(11)                               waits: 0 put 1
-//! lines.next()                  More
+//! lines.next_line(..)?          Some(10)          waits: 0 put 1, and what the next read gave
 //! ```
 //!
-//! A front end asks for what is [`next`](Lines::next): of a line it takes what it needs and advances, and where
-//! more has to be read it first writes what it owes, since a read may wait.
+//! A front end asks for the [`next_line`](Lines::next_line), takes what it needs of it and advances. Where more has to
+//! be read, what the front end owes is written first, since a read may wait.
 ghost use Rattle.std.specs.Prelude.{◌≡◌, ◌≤◌, ◌<◌, ◌+◌, ◌-◌, [], false, position, take, drop, length, vec_len, IfOk, IfSome, OnOk, OnErr};
 ghost use Rattle.script.specs.Lines.{is_newline};
 ghost use Rattle.text_format.specs.Limits.{line_limit};
@@ -81,8 +79,22 @@ impl Lines {
         &self.block[self.start..self.end]
     }
 
+    /// Finds the next line, and reads as often as that takes: how many bytes it has, or none where the input is at its
+    /// end. Before each read all output that waits is written, since a read may wait.
+    pub fn next_line<S: Source, K: Sink>(
+        &mut self,
+        source: &mut S,
+        output: &mut Output,
+        sink: &mut K,
+    ) -> Result<Option<usize>, ServeEnd>
+        ensures read { HasReadOn self.old self.new (S.reads source.old) (S.reads source.new) }
+        ensures sought { IsSought self.new (S.reads source.old) (S.reads source.new) (K.writes sink.old) (K.writes sink.new) output.old output.new result }
+    {
+        todo!()
+    }
+
     /// What comes next.
-    pub fn next(&self) -> Next
+    fn next(&self) -> Next
         ensures { IsNext self.now result }
     {
         if let Some(at) = self.newline {
@@ -122,7 +134,7 @@ impl Lines {
     }
 
     /// Reads once, behind what waits. It may wait for the source. Where the read fails all stays as it was.
-    pub fn read_more<S: Source>(&mut self, source: &mut S) -> Result<(), ReadFailed>
+    fn read_more<S: Source>(&mut self, source: &mut S) -> Result<(), ReadFailed>
         requires room { length (waiting self.old) ≤ line_limit (format_of self.old) }
         requires open { has_ended self.old ≡ false }
         ensures read { OnOk result (IsRead self.old self.new (S.given source.old) (S.given source.new) (S.ended source.new)) }

@@ -32,9 +32,8 @@ pub fn serve<S: Source, K: Sink, T: Wait>(
     format: Format,
     input: &mut S,
     output: &mut K,
-) -> End
-    ensures served { IsServed format config (S.given input.old) (S.given input.new) (S.ended input.new) (K.taken output.old) (K.taken output.new) result }
-    ensures failed { FailsBy result (S.failures input.old) (S.failures input.new) (K.failures output.old) (K.failures output.new) }
+) -> ServeEnd
+    ensures { IsServed format config (S.reads input.old) (S.reads input.new) (K.writes output.old) (K.writes output.new) result }
 {
     match Run::begin(alloc, Terms { config, format }) {
         Ok(mut run) => {
@@ -243,7 +242,7 @@ impl Run {
 }
 
 /// Stays for ever: no run has so many turns.
-fn stay<T: Wait>(rt: &T) -> End
+fn stay<T: Wait>(rt: &T) -> ServeEnd
     ensures { ⊥ }
 {
     for _ in rt.forever() {}

@@ -14,11 +14,8 @@ use std::alloc::{AllocError, Global};
 use text_format::Format;
 
 /// Reads a source to its end.
-pub fn read_whole<S: Source>(alloc: Global, source: &mut S) -> Result<Vec<u8>, End>
-    ensures whole { IfOk result (λ whole. S.given source.new ≡ S.given source.old ++ whole.items) }
-    ensures ended { OnOk result (S.ended source.new ≡ true) }
-    ensures worked { OnOk result (S.failures source.new ≡ S.failures source.old) }
-    ensures failed { IfErr result (λ end. StopsReading end (S.failures source.old) (S.failures source.new)) }
+pub fn read_whole<S: Source>(alloc: Global, source: &mut S) -> Result<Vec<u8>, ServeEnd>
+    ensures { IsReadWhole (S.reads source.old) (S.reads source.new) (result_map (λ whole. whole.items) result) }
 {
     let mut block = match room(alloc) {
         Ok(block) => block,
@@ -47,12 +44,8 @@ fn room(alloc: Global) -> Result<Vec<u8>, AllocError>
 }
 
 /// Writes the bytes, in as many pieces as the device takes.
-pub fn write_whole<K: Sink>(sink: &mut K, bytes: &[u8]) -> Result<(), End>
-    ensures ok { OnOk result (HasTaken (K.taken sink.old) (K.taken sink.new) bytes.now []) }
-    ensures worked { OnOk result (K.failures sink.new ≡ K.failures sink.old) }
-    ensures err { OnErr result (HasBegun (K.taken sink.old) (K.taken sink.new) bytes.now) }
-    ensures failed { IfErr result (λ end. StopsWriting end (K.failures sink.old) (K.failures sink.new)) }
-    ensures output { IfErr result (λ e. e ≡ end.Output) }
+pub fn write_whole<K: Sink>(sink: &mut K, bytes: &[u8]) -> Result<(), WriteFailed>
+    ensures { HasWritten (K.writes sink.old) (K.writes sink.new) bytes.now [] result }
 {
     match write_all(sink, bytes) {
         Ok(()) => Ok(()),
@@ -66,11 +59,8 @@ pub fn write_transcript<K: Sink>(
     sink: &mut K,
     format: Format,
     events: &[Event],
-) -> Result<(), End>
-    ensures ok { OnOk result (HasTaken (K.taken sink.old) (K.taken sink.new) (transcript_text format events.now) []) }
-    ensures worked { OnOk result (K.failures sink.new ≡ K.failures sink.old) }
-    ensures err { OnErr result (HasBegun (K.taken sink.old) (K.taken sink.new) (transcript_text format events.now)) }
-    ensures failed { IfErr result (λ end. StopsWriting end (K.failures sink.old) (K.failures sink.new)) }
+) -> Result<(), ServeEnd>
+    ensures { IsWrittenWhole (transcript_text format events.now) (K.writes sink.old) (K.writes sink.new) result }
 {
     let mut output = match Output::new(alloc) {
         Ok(output) => output,
