@@ -1,5 +1,7 @@
 -- What proofs know of a source of bytes and of a sink, and what one read or one write does to that (this project's own).
 use Rattle.std.specs.Prelude.{ℕ, ◌+◌, ◌==◌, Bool, List, ◌++◌, length}
+use Rattle.sessions.specs.declared.devices.Reading.{Reading}
+use Rattle.sessions.specs.declared.devices.Writing.{Writing}
 
 -- the bytes that reads have given so far, whether the latest that succeeded found the end, and how many have failed
 pub record Reads : Type 0 where
@@ -25,3 +27,10 @@ with_taken w bytes = record { taken = w.taken ++ bytes; failures = w.failures }
 
 abbrev pub with_failed_write : Writes → Writes
 with_failed_write w = record { taken = w.taken; failures = w.failures + 1 }
+
+-- what a reader keeps of its reads, and a writer of its writes
+abbrev pub reads_of : {R : Type 0} → Reading R → Reads
+reads_of s = record { given = s.given.bytes; ended = s.ended; failures = length s.failed.bytes }
+
+abbrev pub writes_of : {W : Type 0} → Writing W → Writes
+writes_of s = record { taken = s.taken.bytes; failures = length s.failed.bytes }

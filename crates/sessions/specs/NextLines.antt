@@ -1,5 +1,6 @@
 -- How the next line of an input is found (this project's own).
-use Rattle.std.specs.Prelude.{◌≡◌, ℕ, ◌+◌, ◌≤◌, ◌⊎◌, true, List, [], ◌++◌, length, Option, Some, None, Result, Ok, Err}
+use Rattle.std.specs.Prelude.{◌≡◌, ℕ, ◌+◌, ◌≤◌, ◌⊎◌, true, List, [], ◌++◌, length, position, Option, Some, None, Result, Ok, Err}
+use Rattle.script.specs.Lines.{is_newline}
 use Rattle.sessions.specs.Devices.{Reads, Writes}
 use Rattle.sessions.specs.Waiting.{waiting, has_ended, format_of, IsLine}
 use Rattle.sessions.specs.Writing.{pending_of, HasTaken, HasBegun}
@@ -21,12 +22,12 @@ pub record HasReadOn (old new : Lines) (r r' : Reads) : Type 0 where
   pub format : format_of new ≡ format_of old
   pub found : ((has_ended new ≡ has_ended old) × (r'.ended ≡ r.ended)) ⊎ (has_ended new ≡ r'.ended)
 
--- the next line was found, or why not: how often reads and writes failed, and what was written of what waits
+-- the next line was found, or why not: how often reads and writes failed, and what was written of what waits. Where a read failed no whole line waits
 abbrev pub IsSought : Lines → Reads → Reads → Writes → Writes → (old new : Output) → Result (Option ℕ) ServeEnd → Type 0
 IsSought l r r' w w' old new (Ok next) =
     IsNextLine l next × HasTaken w.taken w'.taken (pending_of old) (pending_of new) × (r'.failures ≡ r.failures) × (w'.failures ≡ w.failures)
 IsSought l r r' w w' old new (Err end.Input) =
-    HasTaken w.taken w'.taken (pending_of old) (pending_of new) × (r'.failures ≡ r.failures + 1) × (w'.failures ≡ w.failures)
+    (None ≡ position is_newline (waiting l)) × HasTaken w.taken w'.taken (pending_of old) (pending_of new) × (r'.failures ≡ r.failures + 1) × (w'.failures ≡ w.failures)
 IsSought l r r' w w' old new (Err end.Output) =
     HasBegun w.taken w'.taken (pending_of old) × (r'.failures ≡ r.failures) × (w'.failures ≡ w.failures + 1)
 IsSought l r r' w w' old new (Err _) = ⊥

@@ -1,6 +1,6 @@
 -- What writes did to bytes that were to be written, and how reading or writing a whole ends.
-use Rattle.std.specs.Prelude.{◌≡◌, List, [], true, ℕ, ◌+◌, ◌++◌, Result, Ok, Err, Unit}
-use Rattle.std.specs.Vec.{Vec}
+use Rattle.std.specs.Prelude.{◌≡◌, List, [], true, ℕ, ◌+◌, ◌++◌, Result, Ok, Err, Vec}
+use Rattle.std.specs.Global.{Global}
 use Rattle.sessions.specs.declared.output.Output.{Output}
 use Rattle.sessions.specs.declared.sink.WriteFailed.{WriteFailed}
 use Rattle.sessions.specs.declared.ending.ServeEnd.{ServeEnd}
@@ -27,8 +27,8 @@ HasWritten w w' bytes rest (Ok _) = HasTaken w.taken w'.taken bytes rest × (w'.
 HasWritten w w' bytes rest (Err _) = HasBegun w.taken w'.taken bytes × (w'.failures ≡ w.failures + 1)
 
 -- a source was read to its end; or a read failed, which was the last; or memory was wanted
-abbrev pub IsReadWhole : Reads → Reads → Result (List ℕ) ServeEnd → Type 0
-IsReadWhole r r' (Ok whole) = (r'.given ≡ r.given ++ whole) × (r'.ended ≡ true) × (r'.failures ≡ r.failures)
+abbrev pub IsReadWhole : Reads → Reads → Result (Vec ℕ Global) ServeEnd → Type 0
+IsReadWhole r r' (Ok whole) = (r'.given ≡ r.given ++ whole.items) × (r'.ended ≡ true) × (r'.failures ≡ r.failures)
 IsReadWhole r r' (Err end.Input) = r'.failures ≡ r.failures + 1
 IsReadWhole r r' (Err end.Memory) = r'.failures ≡ r.failures
 IsReadWhole r r' (Err _) = ⊥

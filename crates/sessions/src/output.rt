@@ -7,11 +7,12 @@
 //! output.write_full(sink)?                 as before: it is less than 65536 bytes
 //! output.write_out(sink)?                  waits: nothing
 //! ```
-ghost use Rattle.std.specs.Prelude.{◌≡◌, ◌≤◌, ◌<◌, ◌+◌, ◌++◌, [], length, IfOk, OnOk, OnErr};
+ghost use Rattle.std.specs.Prelude.{◌≡◌, ◌++◌, [], IfOk, OnOk, OnErr};
 ghost use Rattle.word_lines.specs.Events.{event_text, fault_line, spent_line};
-ghost use Rattle.sessions.specs.Writing.{pending_of, HasTaken, HasBegun};
+ghost use Rattle.sessions.specs.Writing.{pending_of, HasWritten};
 
 use crate::sink::{Sink, WriteFailed};
+use crate::whole::write_whole;
 use spans::calls::Event;
 use std::alloc::{AllocError, Global};
 use word_lines::events::{write_event, write_fault, write_spent};
@@ -82,22 +83,8 @@ impl Output {
         ensures written { HasWritten (K.writes sink.old) (K.writes sink.new) (pending_of self.old) (pending_of self.new) result }
         ensures all { OnOk result (pending_of self.new ≡ []) }
     {
-        write_all(sink, self.pending.as_slice())?;
+        write_whole(sink, self.pending.as_slice())?;
         self.pending.clear();
         Ok(())
     }
-}
-
-/// Writes the bytes, in as many pieces as the device takes. Where it fails, those before are written.
-pub(crate) fn write_all<K: Sink>(sink: &mut K, bytes: &[u8]) -> Result<(), WriteFailed>
-    ensures { HasWritten (K.writes sink.old) (K.writes sink.new) bytes.now [] result }
-{
-    let mut rest = bytes;
-    while !rest.is_empty() {
-        match sink.write(rest) {
-            Err(failed) => return Err(failed),
-            Ok(count) => rest = &rest[count..],
-        }
-    }
-    Ok(())
 }
