@@ -2,7 +2,6 @@
 ghost use Rattle.std.specs.Prelude.{◌≡◌};
 ghost use Rattle.jobs.specs.Ends.{end_of_run};
 
-use crate::follow::FollowFault;
 use sessions::OpenError;
 use word_lines::fault::LineFault;
 
@@ -11,12 +10,8 @@ use word_lines::fault::LineFault;
 pub enum End {
     /// All of the input was taken, and all of the output written; what was checked is right.
     Done,
-    /// All of a follower's input was taken, and none of it was a message to take.
-    NoMessages,
     /// A line of a script or of a transcript is faulty. The output says so too, as its last line.
     Faulty { line: u64, fault: LineFault },
-    /// A line of a feed can't be followed. The output says so too, as its last line.
-    Unfollowed { line: u64, fault: FollowFault },
     /// What was checked is not right. The output says at which event.
     No { position: u64 },
     /// No position is left for another call. The output says at which line, as its last line.
