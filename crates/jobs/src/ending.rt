@@ -1,8 +1,10 @@
 //! How a job of the program ends.
 ghost use Rattle.std.specs.Prelude.{◌≡◌};
 ghost use Rattle.jobs.specs.Ends.{end_of_run};
+ghost use Rattle.jobs.specs.declared.ending.End.TheVariants as ends;
 
-use sessions::OpenError;
+use sessions::{OpenError, ServeEnd, WriteFailed};
+use std::alloc::AllocError;
 use word_lines::fault::LineFault;
 
 /// Why the program came to its end.
@@ -28,17 +30,34 @@ pub enum End {
     Thread,
 }
 
-/// The end of a run, without the line that it came at.
-pub(crate) fn told(end: sessions::End) -> End
-    ensures { result ≡ end_of_run end }
-{
-    match end {
-        sessions::End::Done => End::Done,
-        sessions::End::Fault { line, fault } => End::Faulty { line, fault },
-        sessions::End::Spent { .. } => End::Spent,
-        sessions::End::Open(refused) => End::Open(refused),
-        sessions::End::Input => End::Input,
-        sessions::End::Output => End::Output,
-        sessions::End::Memory => End::Memory,
+impl From<ServeEnd> for End {
+    ghost from_gives = { λ end e. e ≡ end_of_run end };
+
+    fn from(end: ServeEnd) -> End {
+        match end {
+            ServeEnd::Done => End::Done,
+            ServeEnd::Fault { line, fault } => End::Faulty { line, fault },
+            ServeEnd::Spent { .. } => End::Spent,
+            ServeEnd::Open(refused) => End::Open(refused),
+            ServeEnd::Input => End::Input,
+            ServeEnd::Output => End::Output,
+            ServeEnd::Memory => End::Memory,
+        }
+    }
+}
+
+impl From<WriteFailed> for End {
+    ghost from_gives = { λ _ e. e ≡ ends.Output };
+
+    fn from(_failed: WriteFailed) -> End {
+        End::Output
+    }
+}
+
+impl From<AllocError> for End {
+    ghost from_gives = { λ _ e. e ≡ ends.Memory };
+
+    fn from(_failed: AllocError) -> End {
+        End::Memory
     }
 }
