@@ -8,7 +8,8 @@ use crate::following::{Seeded, seeded_of, shown_of, start_of, with_shown, with_s
 use crate::version::VERSION;
 use clap::error::ErrorKind;
 use clap::{Arg, ArgAction, ArgMatches, Command, Error, value_parser};
-use jobs::{DEFAULTS, Detail, FollowOptions, RaceOptions, span_of};
+use follow::{FollowOptions, span_of};
+use jobs::{DEFAULTS, Detail, RaceOptions};
 use sessions::Config;
 use std::alloc::{AllocError, Global};
 use std::convert::AsStr;

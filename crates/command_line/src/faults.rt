@@ -1,6 +1,6 @@
 //! What is wrong with a line, in words that go on behind `line N`.
 
-use jobs::FollowFault;
+use follow::FollowFault;
 use word_lines::fault::LineFault;
 
 /// The words for a fault of a script or of a transcript.

@@ -2,7 +2,7 @@
 
 use crate::arguments::{format_of, option};
 use clap::{Arg, ArgAction, ArgGroup, ArgMatches, Command, value_parser};
-use jobs::{FollowOptions, Seed, Shown, Start};
+use follow::{FollowOptions, Seed, Shown, Start};
 use std::alloc::{AllocError, Global};
 use text_format::Format;
 

@@ -2,6 +2,7 @@
 
 use crate::faults::{words_of_line, words_of_message};
 use clap::Error;
+use follow::FollowEnd;
 use jobs::End;
 use sessions::OpenError;
 use std::fmt;
@@ -10,8 +11,14 @@ use std::process::ExitCode;
 /// The word where a growth of memory was refused.
 pub const MEMORY: &str = "memory";
 
+/// The word where standard input could not be read to its end.
+const INPUT: &str = "input";
+
 /// The word where standard output took no more.
 const OUTPUT: &str = "output";
+
+/// The word where nothing is left to number another call, or another line, by.
+const SPENT: &str = "spent";
 
 /// The words where an argument of the command line is other bytes than text.
 pub const NO_TEXT: &str = "an argument is not UTF-8";
@@ -25,13 +32,22 @@ const FAULTY: u8 = 2;
 /// The exit status where what was checked is not right.
 const NO: u8 = 3;
 
-/// The exit status of an end: 0 where all was done, 2 for a faulty line, 3 for what is not right, else 1.
+/// The exit status of a job's end: 0 where all was done, 2 for a faulty line, 3 for what is not right, else 1.
 pub fn status_of(end: End) -> u8 {
     match end {
-        End::Done | End::NoMessages => 0,
-        End::Faulty { .. } | End::Unfollowed { .. } => FAULTY,
+        End::Done => 0,
+        End::Faulty { .. } => FAULTY,
         End::No { .. } => NO,
         End::Open(_) | End::Input | End::Output | End::Memory | End::Thread | End::Spent => FAILED,
+    }
+}
+
+/// The exit status of a follower's end: 0 where all was done, 2 for a faulty line, else 1.
+pub fn status_of_follower(end: FollowEnd) -> u8 {
+    match end {
+        FollowEnd::Done | FollowEnd::NoMessages => 0,
+        FollowEnd::Fault { .. } => FAULTY,
+        FollowEnd::Spent | FollowEnd::Input | FollowEnd::Output | FollowEnd::Memory => FAILED,
     }
 }
 
@@ -62,33 +78,54 @@ impl fmt::Display for Sentence {
 pub fn sentence_of(end: End) -> Option<Sentence> {
     let sentence = match end {
         End::Done => return None,
-        End::NoMessages => Sentence::Words("the input has no message to follow"),
         End::Faulty { line, fault } => Sentence::Line {
             number: line,
             words: words_of_line(fault),
         },
-        End::Unfollowed { line, fault } => Sentence::Line {
-            number: line,
-            words: words_of_message(fault),
-        },
         End::No { position } => Sentence::Event { position },
-        End::Spent => Sentence::Words("spent"),
+        End::Spent => Sentence::Words(SPENT),
         End::Open(OpenError::SeatCount) => Sentence::Words("seats"),
         End::Open(OpenError::RingSize) => Sentence::Words("ring"),
         End::Open(OpenError::NoMemory) | End::Memory => Sentence::Words(MEMORY),
-        End::Input => Sentence::Words("input"),
+        End::Input => Sentence::Words(INPUT),
         End::Output => Sentence::Words(OUTPUT),
         End::Thread => Sentence::Words("thread"),
     };
     Some(sentence)
 }
 
+/// What standard error is told of a follower's end.
+pub fn sentence_of_follower(end: FollowEnd) -> Option<Sentence> {
+    let sentence = match end {
+        FollowEnd::Done => return None,
+        FollowEnd::NoMessages => Sentence::Words("the input has no message to follow"),
+        FollowEnd::Fault { line, fault } => Sentence::Line {
+            number: line,
+            words: words_of_message(fault),
+        },
+        FollowEnd::Spent => Sentence::Words(SPENT),
+        FollowEnd::Input => Sentence::Words(INPUT),
+        FollowEnd::Output => Sentence::Words(OUTPUT),
+        FollowEnd::Memory => Sentence::Words(MEMORY),
+    };
+    Some(sentence)
+}
+
 /// The exit status of an end, of which standard error is told where there is more to say.
 pub fn told(rt: &impl Eprint, end: End) -> ExitCode {
-    if let Some(sentence) = sentence_of(end) {
+    left(rt, status_of(end), sentence_of(end))
+}
+
+/// The exit status of a follower's end, of which standard error is told where there is more to say.
+pub fn told_of_follower(rt: &impl Eprint, end: FollowEnd) -> ExitCode {
+    left(rt, status_of_follower(end), sentence_of_follower(end))
+}
+
+fn left(rt: &impl Eprint, status: u8, sentence: Option<Sentence>) -> ExitCode {
+    if let Some(sentence) = sentence {
         tell(rt, sentence);
     }
-    ExitCode::from(status_of(end))
+    ExitCode::from(status)
 }
 
 /// The exit status of a failure, of which standard error is told.

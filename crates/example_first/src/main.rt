@@ -18,7 +18,7 @@
 //! ```
 #![tactic(auto)]
 
-use sessions::{Config, End, Reading, Writing, serve};
+use sessions::{Config, Reading, ServeEnd, Writing, serve};
 use std::io;
 use std::process::ExitCode;
 use text_format::Format;
@@ -39,7 +39,7 @@ fn main(rt: HostRuntime) -> ExitCode {
         &mut input,
         &mut output,
     ) {
-        End::Done => ExitCode::SUCCESS,
+        ServeEnd::Done => ExitCode::SUCCESS,
         _ => ExitCode::FAILURE,
     }
 }

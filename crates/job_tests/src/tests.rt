@@ -20,6 +20,7 @@ mod unfolding;
 
 use devices::{Sink, Source};
 use histories::{history, told_right};
+use follow::FollowEnd;
 use jobs::{End, RaceOptions};
 use long::{
     altered, are_right, followed, is_checked, long_transcript, messages, reads_may_fail,
@@ -156,12 +157,12 @@ fn a_check_of_many_blocks(rt: HostRuntime) -> Result<(), Fail> {
 fn rows_of_many_blocks(rt: HostRuntime) -> Result<(), Fail> {
     let text = messages(rt.alloc(), 4000, 20)?;
     let (end, output) = followed(rt.alloc(), &text, None);
-    assert!(rt; end == End::Done);
+    assert!(rt; end == FollowEnd::Done);
     let newlines = output.iter().filter(|b| **b == b'\n').count();
     assert!(rt; newlines == 80020);
     // the write of the second block fails
     let (end, output) = followed(rt.alloc(), &text, Some(70000));
-    assert!(rt; end == End::Output && output.len() == 70000);
+    assert!(rt; end == FollowEnd::Output && output.len() == 70000);
     Ok(())
 }
 

@@ -1,5 +1,5 @@
 -- A transcript whose events are judged one after the other.
-use Rattle.std.proofs.Common.{◌≡◌, ℕ, ◌+◌, ◌<◌, true, false, List, [], ◌∷◌, ◌++◌, length, Option, Some, None, Result, Ok, Err, refl, sym, ap, ◌∙◌, subst, arith}
+use Rattle.std.proofs.Common.{◌≡◌, ◌+◌, ◌<◌, true, false, List, [], ◌∷◌, ◌++◌, length, Option, Some, None, Result, Err, refl, sym, ap, ◌∙◌, subst, arith}
 use Rattle.std.proofs.lemmas.List.{length-append}
 use Rattle.spans.specs.declared.calls.events.Event.{Event}
 use Rattle.script.specs.declared.fault.TranscriptError.{TranscriptError}
@@ -9,7 +9,7 @@ use Rattle.script.proofs.TakeLines.{behind, reads_more, reads_fail, reads_end}
 use Rattle.trace_check.specs.declared.checker.Checker.{Checker}
 use Rattle.trace_check.specs.declared.Verdict.TheVariants.{Yes, No}
 use Rattle.trace_check.specs.Checkers.{StandsFor, JudgesNext, TakesNext}
-use Rattle.trace_check.specs.Traces.{IsTrace, IsFirstWrong}
+use Rattle.trace_check.specs.Traces.{IsFirstWrong}
 use Rattle.jobs.specs.Judging.{IsAhead, IsJudged}
 
 -- the events that were read so far are a trace, which a checker has taken; so few are there in all that a number counts them

@@ -1,10 +1,3 @@
 pub mod Judging
-pub mod SpanWords
 pub mod States
-pub mod Told
-pub mod Tellings
-pub mod FollowTold
-pub mod MessagesRead
-pub mod FollowLines
-pub mod FollowSteps
-pub mod FollowEnds
+pub mod Answering

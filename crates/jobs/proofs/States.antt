@@ -13,9 +13,7 @@ use Rattle.jobs.specs.States.{is_whole, IsState}
 -- what is said of a text that isn't a trace's is said in the place of its state
 pub refused_state : (detail : Detail) (text : List ℕ) (end : End) (out : List ℕ) → IsRefusal text end out → IsState detail text end out
 refused_state detail text ends.Done out refusal = absurd (refusal.0 refl)
-refused_state detail text ends.NoMessages out refusal = refusal.1
 refused_state detail text (ends.Faulty line fault) out refusal = refusal.1
-refused_state detail text (ends.Unfollowed line fault) out refusal = refusal.1
 refused_state detail text (ends.No position) out refusal = refusal.1
 refused_state detail text ends.Spent out refusal = refusal.1
 refused_state detail text (ends.Open reason) out refusal = refusal.1

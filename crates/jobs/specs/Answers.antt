@@ -1,32 +1,35 @@
 -- A job that reads everything, answers, and writes its answer.
-use Rattle.std.specs.Prelude.{◌≡◌, ℕ, ◌⊎◌, Bool, true, List, ◌++◌}
+use Rattle.std.specs.Prelude.{◌≡◌, ℕ, ◌⊎◌, true, List, ◌++◌}
+use Rattle.sessions.specs.Devices.{Reads, Writes}
 use Rattle.sessions.specs.Writing.{HasBegun}
 use Rattle.jobs.specs.declared.ending.End.{End}
 use Rattle.jobs.specs.declared.ending.End.TheVariants as ends
+use Rattle.jobs.specs.Ends.{FailsAt}
 
 -- the whole input was read and answered, and the answer was written whole; the end is the answer's
-pub record HasAnswered (answers : List ℕ → End → List ℕ → Type 0) (given given' : List ℕ) (ended : Bool) (taken taken' : List ℕ) (e : End) : Type 0 where
+pub record HasAnswered (answers : List ℕ → End → List ℕ → Type 0) (r r' : Reads) (w w' : Writes) (e : End) : Type 0 where
   pub text : List ℕ
-  pub read : given' ≡ given ++ text
-  pub whole : ended ≡ true
+  pub read : r'.given ≡ r.given ++ text
+  pub whole : r'.ended ≡ true
   pub out : List ℕ
   pub right : answers text e out
-  pub wrote : taken' ≡ taken ++ out
+  pub wrote : w'.taken ≡ w.taken ++ out
 
 -- the whole input was read and answered, and the answer was begun
-pub record HasBegunAnswer (answers : List ℕ → End → List ℕ → Type 0) (given given' : List ℕ) (ended : Bool) (taken taken' : List ℕ) : Type 0 where
+pub record HasBegunAnswer (answers : List ℕ → End → List ℕ → Type 0) (r r' : Reads) (w w' : Writes) : Type 0 where
   pub text : List ℕ
-  pub read : given' ≡ given ++ text
-  pub whole : ended ≡ true
+  pub read : r'.given ≡ r.given ++ text
+  pub whole : r'.ended ≡ true
   pub end : End
   pub out : List ℕ
   pub right : answers text end out
-  pub begun : HasBegun taken taken' out
+  pub begun : HasBegun w.taken w'.taken out
 
--- what is known of the job at its end, where a source had given and a sink had taken so much before it and so much after it
-abbrev pub IsAnswered : (List ℕ → End → List ℕ → Type 0) → List ℕ → List ℕ → Bool → List ℕ → List ℕ → End → Type 0
-IsAnswered answers given given' ended taken taken' e =
-    HasAnswered answers given given' ended taken taken' e
-    ⊎ ((e ≡ ends.Input) × (taken' ≡ taken))
-    ⊎ ((e ≡ ends.Output) × HasBegunAnswer answers given given' ended taken taken')
-    ⊎ ((e ≡ ends.Memory) × ((taken' ≡ taken) ⊎ HasBegunAnswer answers given given' ended taken taken'))
+-- what is known of the job at its end, where this was known of its source and its sink before it, and that after it
+pub record IsAnswered (answers : List ℕ → End → List ℕ → Type 0) (r r' : Reads) (w w' : Writes) (e : End) : Type 0 where
+  pub answered :
+      HasAnswered answers r r' w w' e
+      ⊎ ((e ≡ ends.Input) × (w'.taken ≡ w.taken))
+      ⊎ ((e ≡ ends.Output) × HasBegunAnswer answers r r' w w')
+      ⊎ ((e ≡ ends.Memory) × ((w'.taken ≡ w.taken) ⊎ HasBegunAnswer answers r r' w w'))
+  pub failed : FailsAt e r w r' w'

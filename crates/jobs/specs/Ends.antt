@@ -1,15 +1,16 @@
 -- How a job of the program ends, and what is known then of its input and output.
-use Rattle.std.specs.Prelude.{◌≡◌, ℕ, ◌+◌, ◌≤◌, Bool, List}
+use Rattle.std.specs.Prelude.{◌≡◌, ◌+◌, ◌≤◌, Result, Ok, Err}
 use Rattle.text_format.specs.declared.Format.{Format}
 use Rattle.shared_db.specs.declared.config.Config.{Config}
 use Rattle.sessions.specs.Runs.{IsServed}
-use Rattle.sessions.specs.declared.ending.End.{End as RunEnd}
-use Rattle.sessions.specs.declared.ending.End.TheVariants as run
+use Rattle.sessions.specs.Devices.{Reads, Writes}
+use Rattle.sessions.specs.declared.ending.ServeEnd.{ServeEnd}
+use Rattle.sessions.specs.declared.ending.ServeEnd.TheVariants as run
 use Rattle.jobs.specs.declared.ending.End.{End}
 use Rattle.jobs.specs.declared.ending.End.TheVariants as ends
 
 -- the end of a run, without the line at which positions were spent
-abbrev pub end_of_run : RunEnd → End
+abbrev pub end_of_run : ServeEnd → End
 end_of_run run.Done = ends.Done
 end_of_run (run.Fault line fault) = ends.Faulty line fault
 end_of_run (run.Spent line) = ends.Spent
@@ -18,14 +19,20 @@ end_of_run run.Input = ends.Input
 end_of_run run.Output = ends.Output
 end_of_run run.Memory = ends.Memory
 
--- the script was served, and this is the end without its line
-pub record IsRun (format : Format) (config : Config) (given given' : List ℕ) (ended : Bool) (taken taken' : List ℕ) (e : End) : Type 0 where
-  pub run_end : RunEnd
-  pub served : IsServed format config given given' ended taken taken' run_end
-  pub end : e ≡ end_of_run run_end
+-- the end of a job that was written with `?`
+abbrev pub end_of : Result End End → End
+end_of (Ok e) = e
+end_of (Err e) = e
 
--- how often reads and writes had failed before a job, and after it
-abbrev pub FailsAt : End → ℕ → ℕ → ℕ → ℕ → Type 0
-FailsAt ends.Input reads reads' writes writes' = (reads' ≡ reads + 1) × (writes' ≡ writes)
-FailsAt ends.Output reads reads' writes writes' = (reads ≤ reads') × (reads' ≤ reads + 1) × (writes' ≡ writes + 1)
-FailsAt _ reads reads' writes writes' = (reads' ≡ reads) × (writes' ≡ writes)
+-- how often reads and writes failed in a job
+abbrev pub FailsAt : End → Reads → Writes → Reads → Writes → Type 0
+FailsAt ends.Input r w r' w' = (r'.failures ≡ r.failures + 1) × (w'.failures ≡ w.failures)
+FailsAt ends.Output r w r' w' = (r.failures ≤ r'.failures) × (r'.failures ≤ r.failures + 1) × (w'.failures ≡ w.failures + 1)
+FailsAt _ r w r' w' = (r'.failures ≡ r.failures) × (w'.failures ≡ w.failures)
+
+-- the script was served, and this is the end without its line
+pub record IsRun (format : Format) (config : Config) (r r' : Reads) (w w' : Writes) (e : End) : Type 0 where
+  pub run_end : ServeEnd
+  pub served : IsServed format config r r' w w' run_end
+  pub end : e ≡ end_of_run run_end
+  pub failed : FailsAt e r w r' w'

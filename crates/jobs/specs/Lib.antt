@@ -4,15 +4,3 @@ pub mod States
 pub mod Ends
 pub mod Answers
 pub mod Races
-pub mod Followed
-pub mod Chosen
-pub mod Following
-pub mod FollowReports
-pub mod FollowEnds
-pub mod WorkedFollowing
-pub mod Taking
-pub mod Told
-pub mod Telling
-pub mod FollowSteps
-pub mod SpanWords
-pub mod Seeds

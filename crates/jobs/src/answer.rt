@@ -1,10 +1,10 @@
 //! What a race answers, before it is written.
-ghost use Rattle.std.specs.Prelude.{◌≡◌, [], OnOk, OnErr, IfErr};
-ghost use Rattle.sessions.specs.Writing.{HasTaken, HasBegun, StopsWriting};
+ghost use Rattle.std.specs.Prelude.{◌≡◌};
+ghost use Rattle.sessions.specs.Writing.{IsWrittenWhole};
 ghost use Rattle.jobs.specs.Races.{end_of_answer, text_of_answer};
 
 use crate::ending::End;
-use sessions::{Sink, write_transcript, write_whole};
+use sessions::{ServeEnd, Sink, write_transcript, write_whole};
 use spans::calls::Event;
 use std::alloc::Global;
 use text_format::Format;
@@ -43,14 +43,11 @@ impl Answer {
         alloc: Global,
         format: Format,
         output: &mut K,
-    ) -> Result<(), sessions::End>
-        ensures ok { OnOk result (HasTaken (K.taken output.old) (K.taken output.new) (text_of_answer format self.now) []) }
-        ensures worked { OnOk result (K.failures output.new ≡ K.failures output.old) }
-        ensures err { OnErr result (HasBegun (K.taken output.old) (K.taken output.new) (text_of_answer format self.now)) }
-        ensures failed { IfErr result (λ end. StopsWriting end (K.failures output.old) (K.failures output.new)) }
+    ) -> Result<(), ServeEnd>
+        ensures { IsWrittenWhole (text_of_answer format self.now) (K.writes output.old) (K.writes output.new) result }
     {
         match self {
-            Answer::Fault { text, .. } => write_whole(output, text.as_slice()),
+            Answer::Fault { text, .. } => Ok(write_whole(output, text.as_slice())?),
             Answer::Events(events) => write_transcript(alloc, output, format, events.as_slice()),
         }
     }

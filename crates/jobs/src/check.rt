@@ -1,9 +1,9 @@
 //! A transcript is checked.
 ghost use Rattle.jobs.specs.Answers.{IsAnswered};
-ghost use Rattle.jobs.specs.Ends.{FailsAt};
+ghost use Rattle.jobs.specs.Ends.{end_of};
 ghost use Rattle.jobs.specs.Verdicts.{IsVerdict};
 
-use crate::ending::{End, told};
+use crate::ending::End;
 use crate::verdicts::verdict;
 use sessions::{Sink, Source, read_whole, write_whole};
 use std::alloc::Global;
@@ -12,19 +12,18 @@ use std::alloc::Global;
 /// with the position of the first event where it isn't. A transcript that can't be read gets its fault
 /// line, and no verdict.
 pub fn check_io<S: Source, K: Sink>(alloc: Global, input: &mut S, output: &mut K) -> End
-    ensures answered { IsAnswered IsVerdict (S.given input.old) (S.given input.new) (S.ended input.new) (K.taken output.old) (K.taken output.new) result }
-    ensures failed { FailsAt result (S.failures input.old) (S.failures input.new) (K.failures output.old) (K.failures output.new) }
+    ensures { IsAnswered IsVerdict (S.reads input.old) (S.reads input.new) (K.writes output.old) (K.writes output.new) result }
 {
-    let text = match read_whole(alloc, input) {
-        Ok(text) => text,
-        Err(end) => return told(end),
-    };
-    let (end, answer) = match verdict(alloc, text.as_slice()) {
-        Ok(answered) => answered,
-        Err(_) => return End::Memory,
-    };
-    match write_whole(output, answer.as_slice()) {
-        Ok(()) => end,
-        Err(_) => End::Output,
+    match checked(alloc, input, output) {
+        Ok(end) | Err(end) => end,
     }
+}
+
+fn checked<S: Source, K: Sink>(alloc: Global, input: &mut S, output: &mut K) -> Result<End, End>
+    ensures { IsAnswered IsVerdict (S.reads input.old) (S.reads input.new) (K.writes output.old) (K.writes output.new) (end_of result) }
+{
+    let text = read_whole(alloc, input)?;
+    let (end, answer) = verdict(alloc, text.as_slice())?;
+    write_whole(output, answer.as_slice())?;
+    Ok(end)
 }

@@ -1,9 +1,10 @@
 //! How a job of the program ends.
 ghost use Rattle.std.specs.Prelude.{◌≡◌};
 ghost use Rattle.jobs.specs.Ends.{end_of_run};
+ghost use Rattle.jobs.specs.declared.ending.End.TheVariants as ends;
 
-use crate::follow::FollowFault;
-use sessions::OpenError;
+use sessions::{OpenError, ServeEnd, WriteFailed};
+use std::alloc::AllocError;
 use word_lines::fault::LineFault;
 
 /// Why the program came to its end.
@@ -11,12 +12,8 @@ use word_lines::fault::LineFault;
 pub enum End {
     /// All of the input was taken, and all of the output written; what was checked is right.
     Done,
-    /// All of a follower's input was taken, and none of it was a message to take.
-    NoMessages,
     /// A line of a script or of a transcript is faulty. The output says so too, as its last line.
     Faulty { line: u64, fault: LineFault },
-    /// A line of a feed can't be followed. The output says so too, as its last line.
-    Unfollowed { line: u64, fault: FollowFault },
     /// What was checked is not right. The output says at which event.
     No { position: u64 },
     /// No position is left for another call. The output says at which line, as its last line.
@@ -33,17 +30,34 @@ pub enum End {
     Thread,
 }
 
-/// The end of a run, without the line that it came at.
-pub(crate) fn told(end: sessions::End) -> End
-    ensures { result ≡ end_of_run end }
-{
-    match end {
-        sessions::End::Done => End::Done,
-        sessions::End::Fault { line, fault } => End::Faulty { line, fault },
-        sessions::End::Spent { .. } => End::Spent,
-        sessions::End::Open(refused) => End::Open(refused),
-        sessions::End::Input => End::Input,
-        sessions::End::Output => End::Output,
-        sessions::End::Memory => End::Memory,
+impl From<ServeEnd> for End {
+    ghost from_gives = { λ end e. e ≡ end_of_run end };
+
+    fn from(end: ServeEnd) -> End {
+        match end {
+            ServeEnd::Done => End::Done,
+            ServeEnd::Fault { line, fault } => End::Faulty { line, fault },
+            ServeEnd::Spent { .. } => End::Spent,
+            ServeEnd::Open(refused) => End::Open(refused),
+            ServeEnd::Input => End::Input,
+            ServeEnd::Output => End::Output,
+            ServeEnd::Memory => End::Memory,
+        }
+    }
+}
+
+impl From<WriteFailed> for End {
+    ghost from_gives = { λ _ e. e ≡ ends.Output };
+
+    fn from(_failed: WriteFailed) -> End {
+        End::Output
+    }
+}
+
+impl From<AllocError> for End {
+    ghost from_gives = { λ _ e. e ≡ ends.Memory };
+
+    fn from(_failed: AllocError) -> End {
+        End::Memory
     }
 }

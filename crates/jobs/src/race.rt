@@ -5,11 +5,11 @@ ghost use Rattle.word_lines.specs.Events.{fault_line};
 ghost use Rattle.races.specs.declared.racing.RaceError.TheVariants.{Counts};
 ghost use Rattle.races.specs.declared.settling.FreshError.TheVariants.{Race};
 ghost use Rattle.jobs.specs.Answers.{IsAnswered};
-ghost use Rattle.jobs.specs.Ends.{FailsAt};
+ghost use Rattle.jobs.specs.Ends.{end_of};
 ghost use Rattle.jobs.specs.Races.{IsRace, IsUnraced, end_of_answer, text_of_answer, end_of_refusal};
 
 use crate::answer::Answer;
-use crate::ending::{End, told};
+use crate::ending::End;
 use races::{FreshError, Gate, RaceError, race_calls};
 use script::fault::TranscriptError;
 use script::scripts::read_script;
@@ -44,21 +44,27 @@ pub fn race_io<S: Source, K: Sink, R: Threads + Wait + Sync, G: Gate + Sync>(
     input: &mut S,
     output: &mut K,
 ) -> End
-    ensures answered { IsAnswered (IsRace options) (S.given input.old) (S.given input.new) (S.ended input.new) (K.taken output.old) (K.taken output.new) result }
-    ensures failed { FailsAt result (S.failures input.old) (S.failures input.new) (K.failures output.old) (K.failures output.new) }
+    ensures { IsAnswered (IsRace options) (S.reads input.old) (S.reads input.new) (K.writes output.old) (K.writes output.new) result }
 {
-    let text = match read_whole(alloc, input) {
-        Ok(text) => text,
-        Err(end) => return told(end),
-    };
-    let answer = match answer_to(rt, alloc, options, gate, text.as_slice()) {
-        Ok(answer) => answer,
-        Err(end) => return end,
-    };
-    match answer.write(alloc, options.format, output) {
-        Ok(()) => answer.end(),
-        Err(end) => told(end),
+    match raced(rt, alloc, options, gate, input, output) {
+        Ok(end) | Err(end) => end,
     }
+}
+
+fn raced<S: Source, K: Sink, R: Threads + Wait + Sync, G: Gate + Sync>(
+    rt: &R,
+    alloc: Global,
+    options: RaceOptions,
+    gate: &G,
+    input: &mut S,
+    output: &mut K,
+) -> Result<End, End>
+    ensures { IsAnswered (IsRace options) (S.reads input.old) (S.reads input.new) (K.writes output.old) (K.writes output.new) (end_of result) }
+{
+    let text = read_whole(alloc, input)?;
+    let answer = answer_to(rt, alloc, options, gate, text.as_slice())?;
+    answer.write(alloc, options.format, output)?;
+    Ok(answer.end())
 }
 
 /// What a race answers to a script: its first fault, or the history of its calls.
@@ -79,10 +85,8 @@ fn answer_to<R: Threads + Wait + Sync, G: Gate + Sync>(
         },
         Err(TranscriptError::NoMemory) => Err(End::Memory),
         Err(TranscriptError::Fault { line, fault }) => {
-            match fault_text(alloc, options.format, line, fault) {
-                Ok(text) => Ok(Answer::Fault { line, fault, text }),
-                Err(_) => Err(End::Memory),
-            }
+            let text = fault_text(alloc, options.format, line, fault)?;
+            Ok(Answer::Fault { line, fault, text })
         }
     }
 }

@@ -1,7 +1,7 @@
 //! A script is run.
-ghost use Rattle.jobs.specs.Ends.{IsRun, FailsAt};
+ghost use Rattle.jobs.specs.Ends.{IsRun};
 
-use crate::ending::{End, told};
+use crate::ending::End;
 use sessions::{Config, Sink, Source, serve};
 use std::alloc::Global;
 use std::sync::Wait;
@@ -24,8 +24,7 @@ pub fn run_io<S: Source, K: Sink, T: Wait>(
     input: &mut S,
     output: &mut K,
 ) -> End
-    ensures ran { IsRun format options (S.given input.old) (S.given input.new) (S.ended input.new) (K.taken output.old) (K.taken output.new) result }
-    ensures failed { FailsAt result (S.failures input.old) (S.failures input.new) (K.failures output.old) (K.failures output.new) }
+    ensures { IsRun format options (S.reads input.old) (S.reads input.new) (K.writes output.old) (K.writes output.new) result }
 {
-    told(serve(rt, alloc, options, format, input, output))
+    End::from(serve(rt, alloc, options, format, input, output))
 }

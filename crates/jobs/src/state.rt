@@ -1,10 +1,10 @@
 //! The state after a transcript is told.
 ghost use Rattle.std.specs.Prelude.{◌≡◌, IfOk};
 ghost use Rattle.jobs.specs.Answers.{IsAnswered};
-ghost use Rattle.jobs.specs.Ends.{FailsAt};
+ghost use Rattle.jobs.specs.Ends.{end_of};
 ghost use Rattle.jobs.specs.States.{IsState, is_whole};
 
-use crate::ending::{End, told};
+use crate::ending::End;
 use crate::verdicts::refusal;
 use report_lines::write_report;
 use sessions::{Sink, Source, read_whole, write_whole};
@@ -39,21 +39,25 @@ pub fn state_io<S: Source, K: Sink>(
     input: &mut S,
     output: &mut K,
 ) -> End
-    ensures answered { IsAnswered (IsState detail) (S.given input.old) (S.given input.new) (S.ended input.new) (K.taken output.old) (K.taken output.new) result }
-    ensures failed { FailsAt result (S.failures input.old) (S.failures input.new) (K.failures output.old) (K.failures output.new) }
+    ensures { IsAnswered (IsState detail) (S.reads input.old) (S.reads input.new) (K.writes output.old) (K.writes output.new) result }
 {
-    let text = match read_whole(alloc, input) {
-        Ok(text) => text,
-        Err(end) => return told(end),
-    };
-    let (end, answer) = match state_text(alloc, detail, text.as_slice()) {
-        Ok(answered) => answered,
-        Err(_) => return End::Memory,
-    };
-    match write_whole(output, answer.as_slice()) {
-        Ok(()) => end,
-        Err(_) => End::Output,
+    match told(alloc, detail, input, output) {
+        Ok(end) | Err(end) => end,
     }
+}
+
+fn told<S: Source, K: Sink>(
+    alloc: Global,
+    detail: Detail,
+    input: &mut S,
+    output: &mut K,
+) -> Result<End, End>
+    ensures { IsAnswered (IsState detail) (S.reads input.old) (S.reads input.new) (K.writes output.old) (K.writes output.new) (end_of result) }
+{
+    let text = read_whole(alloc, input)?;
+    let (end, answer) = state_text(alloc, detail, text.as_slice())?;
+    write_whole(output, answer.as_slice())?;
+    Ok(end)
 }
 
 /// How [`state_io`] ends on a text, and what it writes. It costs what [`verdict`](crate::verdict) does, and the report.

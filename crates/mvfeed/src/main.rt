@@ -17,17 +17,16 @@
 //! resolved 5 0
 //! ```
 //!
-//! What each command does is a function of the crate `jobs`, over its options, a source and a sink, that
-//! answers an `End`. Which job the words ask for, and which status and sentence an end leaves, is said by the crate
+//! What each command does is a function of the crate `jobs`, or of `follow`, over its options, a source and a sink, that
+//! answers how it ended. Which job the words ask for, and which status and sentence an end leaves, is said by the crate
 //! `command_line`. Here they meet standard input and output.
 //!
 //! Tests: `examples/check`, outside the gate.
 #![tactic(auto)]
 
 use command_line::{Job, Seeded, command, job_in, status};
-use jobs::{
-    End, FollowOptions, SeedError, check_io, follow_io, race_io, run_io, seed_of, state_io,
-};
+use follow::{FollowOptions, SeedError, follow_io, seed_of};
+use jobs::{check_io, race_io, run_io, state_io};
 use races::Open;
 use sessions::{Reading, Sink, Source, Writing};
 use std::alloc::Global;
@@ -50,32 +49,45 @@ fn main(rt: HostRuntime) -> ExitCode {
         Ok(job) => {
             let mut input = Reading::new(rt.reader());
             let mut output = Writing::new(io::writer(&rt));
-            match done(&rt, rt.alloc(), job, &mut input, &mut output) {
-                Ok(end) => status::told(&rt, end),
-                Err(failed) => failed,
-            }
+            done(&rt, rt.alloc(), job, &mut input, &mut output)
         }
         Err(refused) => status::refused(&rt, &refused),
     }
 }
 
-/// How a job ends, or the status where it can't begin.
+/// The status that a job leaves.
 fn done<S: Source, K: Sink, R: Threads + Wait + Sync + Files + AllocGlobal + Eprint>(
     rt: &R,
     alloc: Global,
     job: Job,
     input: &mut S,
     output: &mut K,
-) -> Result<End, ExitCode> {
+) -> ExitCode {
     let end = match job {
         Job::Run(options, format) => run_io(rt, alloc, options, format, input, output),
         Job::Race(options) => race_io(rt, alloc, options, &Open, input, output),
         Job::Check => check_io(alloc, input, output),
         Job::State(detail) => state_io(alloc, detail, input, output),
-        Job::Follow(options) => follow_io(alloc, options, input, output),
-        Job::FollowSeed(seeded) => follow_io(alloc, options_of(rt, &seeded)?, input, output),
+        Job::Follow(options) => return followed(rt, alloc, options, input, output),
+        Job::FollowSeed(seeded) => {
+            return match options_of(rt, &seeded) {
+                Ok(options) => followed(rt, alloc, options, input, output),
+                Err(failed) => failed,
+            };
+        }
     };
-    Ok(end)
+    status::told(rt, end)
+}
+
+/// The status that a follower leaves.
+fn followed<S: Source, K: Sink>(
+    rt: &impl Eprint,
+    alloc: Global,
+    options: FollowOptions,
+    input: &mut S,
+    output: &mut K,
+) -> ExitCode {
+    status::told_of_follower(rt, follow_io(alloc, options, input, output))
 }
 
 /// What is followed from the seed of a file on.

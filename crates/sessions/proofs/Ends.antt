@@ -1,23 +1,24 @@
 -- A run that stopped, once its database is finished.
-use Rattle.std.proofs.Common.{◌≡◌, ◌≢◌, ℕ, ◌+◌, Bool, List, [], ◌++◌, length, refl, sym, ap, ◌∙◌, subst, append-nil, append_assoc, inl}
+use Rattle.std.proofs.Common.{◌≡◌, ◌≢◌, ℕ, ◌+◌, List, [], ◌++◌, length, refl, sym, ap, ◌∙◌, subst, append-nil, append_assoc, inl, arith}
 use Rattle.text_format.specs.declared.Format.{Format}
 use Rattle.spans.specs.declared.calls.events.Event.{Event}
 use Rattle.ticket_lock.specs.Lists.{most}
 use Rattle.shared_db.specs.declared.config.Config.{Config}
 use Rattle.shared_db.specs.Opening.{SeatsInRange, RingInRange}
 use Rattle.shared_db.specs.Seats.{first_of}
-use Rattle.sessions.specs.declared.ending.End.{End}
-use Rattle.sessions.specs.declared.ending.End.TheVariants as end
+use Rattle.sessions.specs.declared.ending.ServeEnd.{ServeEnd}
+use Rattle.sessions.specs.declared.ending.ServeEnd.TheVariants as end
+use Rattle.sessions.specs.Devices.{Reads, Writes}
 use Rattle.sessions.specs.declared.serving.Run.{Run}
-use Rattle.sessions.specs.Writing.{HasTaken}
+use Rattle.sessions.specs.Writing.{HasTaken, HasBegun}
 use Rattle.sessions.specs.Made.{HasMade, HasSpent, IsHistory}
-use Rattle.sessions.specs.Runs.{EndsBy, IsOpenAt, IsServed}
+use Rattle.sessions.specs.Runs.{EndsBy, FailsBy, IsOpenAt, IsServed}
 use Rattle.script.specs.Scripts.{script_at}
 use Rattle.script.specs.Transcripts.{transcript_text}
 use Rattle.sessions.specs.Going.{IsStopped, IsRefused, kept_at}
 use Rattle.sessions.proofs.Goings.{ends_known, cut_off}
 
-open_at : (config : Config) (e : End) → SeatsInRange config × RingInRange config → IsOpenAt config e
+open_at : (config : Config) (e : ServeEnd) → SeatsInRange config × RingInRange config → IsOpenAt config e
 open_at config end.Done r = r
 open_at config (end.Fault line fault) r = r
 open_at config (end.Spent line) r = r
@@ -26,7 +27,7 @@ open_at config end.Input r = r
 open_at config end.Output r = r
 open_at config end.Memory r = r
 
-kept_else : (e : End) (out pending : List ℕ) → e ≢ end.Output → kept_at e out pending ≡ out ++ pending
+kept_else : (e : ServeEnd) (out pending : List ℕ) → e ≢ end.Output → kept_at e out pending ≡ out ++ pending
 kept_else end.Done out pending ne = refl
 kept_else (end.Fault line fault) out pending ne = refl
 kept_else (end.Spent line) out pending ne = refl
@@ -35,15 +36,37 @@ kept_else end.Input out pending ne = refl
 kept_else end.Output out pending ne = absurd (ne refl)
 kept_else end.Memory out pending ne = refl
 
+-- how often writes failed, where the rest is written or can't be
+fails_whole : (e : ServeEnd) (r r' : Reads) (w w' w'' : Writes) → e ≢ end.Output → w''.failures ≡ w'.failures → FailsBy e r w r' w' → FailsBy e r w r' w''
+fails_whole end.Done r r' w w' w'' ne same h = (h.0, same ∙ h.1)
+fails_whole (end.Fault line fault) r r' w w' w'' ne same h = (h.0, same ∙ h.1)
+fails_whole (end.Spent line) r r' w w' w'' ne same h = (h.0, same ∙ h.1)
+fails_whole (end.Open reason) r r' w w' w'' ne same h = (h.0, same ∙ h.1)
+fails_whole end.Input r r' w w' w'' ne same h = (h.0, same ∙ h.1)
+fails_whole end.Output r r' w w' w'' ne same h = absurd (ne refl)
+fails_whole end.Memory r r' w w' w'' ne same h = (h.0, same ∙ h.1)
+
+cut : (r r' : Reads) (w w' w'' : Writes) → w''.failures ≡ w'.failures + 1 → (r'.failures ≡ r.failures) × (w'.failures ≡ w.failures) → FailsBy end.Output r w r' w''
+cut r r' w w' w'' failed h = let reads = h.0 in let writes = h.1 in (omega (arith, reads), omega (arith, reads), failed ∙ ap (λ (n : ℕ). n + 1) writes)
+
+fails_part : (e : ServeEnd) (r r' : Reads) (w w' w'' : Writes) → e ≢ end.Output → w''.failures ≡ w'.failures + 1 → FailsBy e r w r' w' → FailsBy end.Output r w r' w''
+fails_part end.Done r r' w w' w'' ne failed h = cut r r' w w' w'' failed h
+fails_part (end.Fault line fault) r r' w w' w'' ne failed h = cut r r' w w' w'' failed h
+fails_part (end.Spent line) r r' w w' w'' ne failed h = cut r r' w w' w'' failed h
+fails_part (end.Open reason) r r' w w' w'' ne failed h = cut r r' w w' w'' failed h
+fails_part end.Input r r' w w' w'' ne failed h = let reads = h.0 in (omega (arith, reads), omega (arith, reads), failed ∙ ap (λ (n : ℕ). n + 1) h.1)
+fails_part end.Output r r' w w' w'' ne failed h = absurd (ne refl)
+fails_part end.Memory r r' w w' w'' ne failed h = cut r r' w w' w'' failed h
+
 abbrev AllLegal : Run → Type 0
-AllLegal r = (events : List Event) → HasMade r.callers.latest r.callers.seats.items events → IsHistory (first_of r.callers.db) events
+AllLegal run = (events : List Event) → HasMade run.callers.latest run.callers.seats.items events → IsHistory (first_of run.callers.db) events
 
 abbrev AllSpent : Run → Type 0
-AllSpent r = (events : List Event) → HasMade r.callers.latest r.callers.seats.items events → HasSpent r.callers.seats.items → first_of r.callers.db + length events ≡ most
+AllSpent run = (events : List Event) → HasMade run.callers.latest run.callers.seats.items events → HasSpent run.callers.seats.items → first_of run.callers.db + length events ≡ most
 
-served : (given given' taken taken' taken'' output : List ℕ) (ended : Bool) (r : Run) (e e' : End) (s : IsStopped given given' ended taken taken' r e) → AllLegal r → AllSpent r → taken'' ≡ taken ++ output
-    → EndsBy r.terms.format (HasSpent r.callers.seats.items) r.terms.config s.input ended s.events output e' → IsServed r.terms.format r.terms.config given given' ended taken taken'' e'
-served given given' taken taken' taken'' output ended r e e' s legal spent wrote ends = record {
+served : (r r' : Reads) (w w' w'' : Writes) (output : List ℕ) (run : Run) (e e' : ServeEnd) (s : IsStopped r r' w w' run e) → AllLegal run → AllSpent run → w''.taken ≡ w.taken ++ output → FailsBy e' r w r' w''
+    → EndsBy run.terms.format (HasSpent run.callers.seats.items) run.terms.config s.input r'.ended s.events output e' → IsServed run.terms.format run.terms.config r r' w w'' e'
+served r r' w w' w'' output run e e' s legal spent wrote failed ends = record {
   events = s.events;
   history = subst (λ (n : ℕ). IsHistory n s.events) s.first (legal s.events s.made);
   input = s.input;
@@ -51,59 +74,65 @@ served given given' taken taken' taken'' output ended r e e' s legal spent wrote
   output = output;
   wrote = wrote;
   begins = s.begins;
-  ends = ends_known r.terms.format (HasSpent r.callers.seats.items) (r.terms.config.first + length s.events ≡ most) r.terms.config s.input ended s.events output e' (λ h. subst (λ (n : ℕ). n + length s.events ≡ most) s.first (spent s.events s.made h)) ends;
-  opened = open_at r.terms.config e' s.in_range;
+  ends = ends_known run.terms.format (HasSpent run.callers.seats.items) (run.terms.config.first + length s.events ≡ most) run.terms.config s.input r'.ended s.events output e' (λ h. subst (λ (n : ℕ). n + length s.events ≡ most) s.first (spent s.events s.made h)) ends;
+  opened = open_at run.terms.config e' s.in_range;
+  failed = failed;
 }
 
 -- a write has failed before
-pub served_cut : (given given' taken taken' : List ℕ) (ended : Bool) (r : Run) (e : End) → e ≡ end.Output → IsStopped given given' ended taken taken' r e → AllLegal r → AllSpent r → IsServed r.terms.format r.terms.config given given' ended taken taken' end.Output
-served_cut given given' taken taken' ended r e is s legal spent =
-    let s' : IsStopped given given' ended taken taken' r end.Output = subst (IsStopped given given' ended taken taken' r) is s in
-    served given given' taken taken' taken' s'.out ended r end.Output end.Output s' legal spent s'.wrote s'.ends
+pub served_cut : (r r' : Reads) (w w' : Writes) (run : Run) (e : ServeEnd) → e ≡ end.Output → IsStopped r r' w w' run e → AllLegal run → AllSpent run → IsServed run.terms.format run.terms.config r r' w w' end.Output
+served_cut r r' w w' run e is s legal spent =
+    let s' : IsStopped r r' w w' run end.Output = subst (IsStopped r r' w w' run) is s in
+    served r r' w w' w' s'.out run end.Output end.Output s' legal spent s'.wrote s'.failed s'.ends
 
 -- what was left is written
-pub served_whole : (given given' taken taken' taken'' rest : List ℕ) (ended : Bool) (r : Run) (e : End) → e ≢ end.Output → rest ≡ [] → HasTaken taken' taken'' r.output.pending.items rest → IsStopped given given' ended taken taken' r e → AllLegal r → AllSpent r → IsServed r.terms.format r.terms.config given given' ended taken taken'' e
-served_whole given given' taken taken' taken'' rest ended r e ne none w s legal spent =
-    let all : r.output.pending.items ≡ w.part = w.left ∙ (ap (λ (xs : List ℕ). w.part ++ xs) none ∙ append-nil w.part) in
-    served given given' taken taken' taken'' (s.out ++ r.output.pending.items) ended r e e s legal spent
-    (w.took ∙ (ap (λ (xs : List ℕ). xs ++ w.part) s.wrote ∙ (append_assoc taken s.out w.part ∙ ap (λ (xs : List ℕ). taken ++ (s.out ++ xs)) (sym all))))
-    (subst (λ (xs : List ℕ). EndsBy r.terms.format (HasSpent r.callers.seats.items) r.terms.config s.input ended s.events xs e) (kept_else e s.out r.output.pending.items ne) s.ends)
+pub served_whole : (r r' : Reads) (w w' w'' : Writes) (rest : List ℕ) (run : Run) (e : ServeEnd) → e ≢ end.Output → rest ≡ [] → HasTaken w'.taken w''.taken run.output.pending.items rest → w''.failures ≡ w'.failures → IsStopped r r' w w' run e → AllLegal run → AllSpent run → IsServed run.terms.format run.terms.config r r' w w'' e
+served_whole r r' w w' w'' rest run e ne none t same s legal spent =
+    let all : run.output.pending.items ≡ t.part = t.left ∙ (ap (λ (xs : List ℕ). t.part ++ xs) none ∙ append-nil t.part) in
+    served r r' w w' w'' (s.out ++ run.output.pending.items) run e e s legal spent
+    (t.took ∙ (ap (λ (xs : List ℕ). xs ++ t.part) s.wrote ∙ (append_assoc w.taken s.out t.part ∙ ap (λ (xs : List ℕ). w.taken ++ (s.out ++ xs)) (sym all))))
+    (fails_whole e r r' w w' w'' ne same s.failed)
+    (subst (λ (xs : List ℕ). EndsBy run.terms.format (HasSpent run.callers.seats.items) run.terms.config s.input r'.ended s.events xs e) (kept_else e s.out run.output.pending.items ne) s.ends)
 
 -- what was left can't be written
-pub served_part : (given given' taken taken' taken'' rest : List ℕ) (ended : Bool) (r : Run) (e : End) → e ≢ end.Output → HasTaken taken' taken'' r.output.pending.items rest → IsStopped given given' ended taken taken' r e → AllLegal r → AllSpent r → IsServed r.terms.format r.terms.config given given' ended taken taken'' end.Output
-served_part given given' taken taken' taken'' rest ended r e ne w s legal spent =
-    served given given' taken taken' taken'' (s.out ++ w.part) ended r e end.Output s legal spent
-    (w.took ∙ (ap (λ (xs : List ℕ). xs ++ w.part) s.wrote ∙ append_assoc taken s.out w.part))
-    (cut_off r.terms.format (HasSpent r.callers.seats.items) r.terms.config s.input ended s.events e (s.out ++ r.output.pending.items) (s.out ++ w.part)
-    (subst (λ (xs : List ℕ). EndsBy r.terms.format (HasSpent r.callers.seats.items) r.terms.config s.input ended s.events xs e) (kept_else e s.out r.output.pending.items ne) s.ends)
-    (rest, ap (λ (xs : List ℕ). s.out ++ xs) w.left ∙ sym (append_assoc s.out w.part rest)))
+pub served_part : (r r' : Reads) (w w' w'' : Writes) (run : Run) (e : ServeEnd) → e ≢ end.Output → HasBegun w'.taken w''.taken run.output.pending.items → w''.failures ≡ w'.failures + 1 → IsStopped r r' w w' run e → AllLegal run → AllSpent run → IsServed run.terms.format run.terms.config r r' w w'' end.Output
+served_part r r' w w' w'' run e ne begun failed s legal spent =
+    let rest = begun.0 in let t = begun.1 in
+    served r r' w w' w'' (s.out ++ t.part) run e end.Output s legal spent
+    (t.took ∙ (ap (λ (xs : List ℕ). xs ++ t.part) s.wrote ∙ append_assoc w.taken s.out t.part))
+    (fails_part e r r' w w' w'' ne failed s.failed)
+    (cut_off run.terms.format (HasSpent run.callers.seats.items) run.terms.config s.input r'.ended s.events e (s.out ++ run.output.pending.items) (s.out ++ t.part)
+    (subst (λ (xs : List ℕ). EndsBy run.terms.format (HasSpent run.callers.seats.items) run.terms.config s.input r'.ended s.events xs e) (kept_else e s.out run.output.pending.items ne) s.ends)
+    (rest, ap (λ (xs : List ℕ). s.out ++ xs) t.left ∙ sym (append_assoc s.out t.part rest)))
 
 -- nothing was begun
-pub served_refused : (format : Format) (config : Config) (given taken : List ℕ) (ended : Bool) (e : End) → IsRefused config e → IsServed format config given given ended taken taken e
-served_refused format config given taken ended (end.Open reason) why = record {
+pub served_refused : (format : Format) (config : Config) (r : Reads) (w : Writes) (e : ServeEnd) → IsRefused config e → IsServed format config r r w w e
+served_refused format config r w (end.Open reason) why = record {
   events = [];
   history = record { legal = tt; gapless = tt };
   input = [];
-  read = sym (append-nil given);
+  read = sym (append-nil r.given);
   output = [];
-  wrote = sym (append-nil taken);
+  wrote = sym (append-nil w.taken);
   begins = λ whole may. ((script_at format config.seats whole).calls, refl);
   ends = (why, refl, refl, refl);
   opened = tt;
+  failed = (refl, refl);
 }
-served_refused format config given taken ended end.Memory why = record {
+served_refused format config r w end.Memory why = record {
   events = [];
   history = record { legal = tt; gapless = tt };
   input = [];
-  read = sym (append-nil given);
+  read = sym (append-nil r.given);
   output = [];
-  wrote = sym (append-nil taken);
+  wrote = sym (append-nil w.taken);
   begins = λ whole may. ((script_at format config.seats whole).calls, refl);
   ends = record { last = []; is_last = inl refl; begins = (transcript_text format [] ++ [], refl) };
   opened = why;
+  failed = (refl, refl);
 }
-served_refused format config given taken ended end.Done why = absurd why
-served_refused format config given taken ended (end.Fault line fault) why = absurd why
-served_refused format config given taken ended (end.Spent line) why = absurd why
-served_refused format config given taken ended end.Input why = absurd why
-served_refused format config given taken ended end.Output why = absurd why
+served_refused format config r w end.Done why = absurd why
+served_refused format config r w (end.Fault line fault) why = absurd why
+served_refused format config r w (end.Spent line) why = absurd why
+served_refused format config r w end.Input why = absurd why
+served_refused format config r w end.Output why = absurd why

@@ -7,8 +7,8 @@ use Rattle.word_lines.specs.Events.{event_text, fault_line, spent_line}
 use Rattle.script.specs.Transcripts.{events_text, transcript_text}
 use Rattle.ticket_lock.specs.Lists.{StartsWith}
 use Rattle.shared_db.specs.declared.config.Config.{Config}
-use Rattle.sessions.specs.declared.ending.End.{End}
-use Rattle.sessions.specs.declared.ending.End.TheVariants as end
+use Rattle.sessions.specs.declared.ending.ServeEnd.{ServeEnd}
+use Rattle.sessions.specs.declared.ending.ServeEnd.TheVariants as end
 use Rattle.sessions.specs.Runs.{calls_of, IsLast, IsPart, IsSpentAt, EndsBy}
 
 -- ---- lists
@@ -55,7 +55,7 @@ module _ (format : Format) (used : Type 0) (config : Config) (input : List ℕ) 
   nothing output none = part_of_text format config.seats input ended events output (transcript_text format events, ap (λ (xs : List ℕ). xs ++ transcript_text format events) (sym none))
 
   -- where the rest can't be written, what was is a part
-  pub cut_off : (e : End) (whole output : List ℕ) → EndsBy format used config input ended events whole e → StartsWith whole output → IsPart format used config.seats input ended events output
+  pub cut_off : (e : ServeEnd) (whole output : List ℕ) → EndsBy format used config input ended events whole e → StartsWith whole output → IsPart format used config.seats input ended events output
   cut_off end.Done whole output h s = begun whole output (sym h.2) s
   cut_off (end.Fault line fault) whole output h s = record { last = fault_line line fault; is_last = inr (inl (line, fault, h.0, refl)); begins = subst (λ (xs : List ℕ). StartsWith xs output) h.1 s }
   cut_off (end.Spent line) whole output h s = record { last = spent_line line; is_last = inr (inr (line, h.0, refl)); begins = subst (λ (xs : List ℕ). StartsWith xs output) h.1 s }
@@ -78,7 +78,7 @@ module _ {used used' : Type 0} (format : Format) (knows : used → used') (seats
   part_known : (events : List Event) (output : List ℕ) → IsPart format used seats input ended events output → IsPart format used' seats input ended events output
   part_known events output p = record { last = p.last; is_last = last_known (calls_of events) p.last p.is_last; begins = p.begins }
 
-pub ends_known : (format : Format) (used used' : Type 0) (config : Config) (input : List ℕ) (ended : Bool) (events : List Event) (output : List ℕ) (e : End) → (used → used') → EndsBy format used config input ended events output e → EndsBy format used' config input ended events output e
+pub ends_known : (format : Format) (used used' : Type 0) (config : Config) (input : List ℕ) (ended : Bool) (events : List Event) (output : List ℕ) (e : ServeEnd) → (used → used') → EndsBy format used config input ended events output e → EndsBy format used' config input ended events output e
 ends_known format used used' config input ended events output end.Done knows h = h
 ends_known format used used' config input ended events output (end.Fault line fault) knows h = h
 ends_known format used used' config input ended events output (end.Spent line) knows h = (spent_known format knows config.seats input ended (calls_of events) line h.0, h.1)

@@ -1,5 +1,5 @@
 -- The steps of a run.
-use Rattle.std.proofs.Common.{◌≡◌, ℕ, ◌+◌, ◌^◌, ◌<◌, ◌≤◌, Bool, true, List, [], ◌∷◌, ◌++◌, length, take, drop, None, Err, refl, sym, ap, ◌∙◌, subst, arith, append-nil, append_assoc}
+use Rattle.std.proofs.Common.{◌≡◌, ℕ, ◌+◌, ◌^◌, ◌<◌, ◌≤◌, true, List, [], ◌∷◌, ◌++◌, length, take, drop, None, Err, refl, sym, ap, ◌∙◌, subst, arith, append-nil, append_assoc, inl, ⊎_elim}
 use Rattle.std.specs.Prelude.{position, vec_len}
 use Rattle.std.specs.List.{All}
 use Rattle.std.proofs.lemmas.List.{take-append-drop}
@@ -20,111 +20,83 @@ use Rattle.shared_db.specs.declared.config.Config.{Config}
 use Rattle.shared_db.specs.Opening.{SeatsInRange}
 use Rattle.sessions.specs.declared.callers.Callers.{Callers}
 use Rattle.sessions.specs.declared.lines.Lines.{Lines}
-use Rattle.sessions.specs.declared.ending.End.{End}
-use Rattle.sessions.specs.declared.ending.End.TheVariants as end
+use Rattle.sessions.specs.declared.ending.ServeEnd.{ServeEnd}
+use Rattle.sessions.specs.declared.ending.ServeEnd.TheVariants as end
+use Rattle.sessions.specs.Devices.{Reads, Writes}
 use Rattle.sessions.specs.declared.serving.Run.{Run}
 use Rattle.sessions.specs.declared.serving.Terms.{Terms}
 use Rattle.text_format.specs.declared.Format.{Format}
 use Rattle.text_format.specs.Limits.{header}
-use Rattle.sessions.specs.Waiting.{waiting, IsLine, IsRead}
-use Rattle.sessions.specs.Writing.{HasTaken}
+use Rattle.sessions.specs.Waiting.{waiting, IsLine}
+use Rattle.sessions.specs.Writing.{HasTaken, HasBegun}
+use Rattle.sessions.specs.NextLines.{HasReadOn, IsSought}
 use Rattle.sessions.specs.Made.{HasMade, HasSpent}
-use Rattle.sessions.specs.Runs.{calls_of, EndsBy}
+use Rattle.sessions.specs.Runs.{calls_of, EndsBy, FailsBy}
 use Rattle.sessions.specs.Going.{IsGoing, IsStopped, IsFresh, kept_at}
 use Rattle.sessions.proofs.Goings.{behind, calls_more, text_more as events_more, part_of_text, whole_text}
 use Rattle.sessions.proofs.Scripts as scripts
 
 few_seats : (config : Config) → SeatsInRange config → config.seats < 2 ^ 8
-few_seats config range = let r = range.1 in omega arith
+few_seats config range = let low = range.1 in omega arith
 
 -- ---- where it begins
 
-pub started : (given taken : List ℕ) (ended : Bool) (r : Run) → IsFresh r → IsGoing [] given given ended taken taken r []
-started given taken ended r f = record {
+pub started : (r : Reads) (w : Writes) (run : Run) → IsFresh run → IsGoing [] r r w w run []
+started r w run f = record {
   made = f.made;
   first = f.first;
   seats = f.seats;
   in_range = f.in_range;
   formatted = f.formatted;
-  read = sym (ap (λ (xs : List ℕ). given ++ xs) f.waits ∙ append-nil given);
+  read = sym (ap (λ (xs : List ℕ). r.given ++ xs) f.waits ∙ append-nil r.given);
   found = λ e. absurd (let q = f.open_ended in cc);
-  calls = All-nil (IsCall r.terms.format r.terms.config.seats);
+  calls = All-nil (IsCall run.terms.format run.terms.config.seats);
   out = [];
-  wrote = sym (append-nil taken);
-  keeps = f.pending ∙ sym (append-nil (header r.terms.format));
+  wrote = sym (append-nil w.taken);
+  keeps = f.pending ∙ sym (append-nil (header run.terms.format));
+  worked = (refl, refl);
 }
 
 -- ---- where it stops as it is
 
-pub stop : (ahead given given' taken taken' : List ℕ) (ended : Bool) (r : Run) (events : List Event) (e : End) → (g : IsGoing ahead given given' ended taken taken' r events)
-    → EndsBy r.terms.format (HasSpent r.callers.seats.items) r.terms.config (script_text (calls_of events) ++ (ahead ++ waiting r.lines)) ended events (kept_at e g.out r.output.pending.items) e → IsStopped given given' ended taken taken' r e
-stop ahead given given' taken taken' ended r events e g ends = record {
+pub stop : (ahead : List ℕ) (r r' : Reads) (w w' : Writes) (run : Run) (events : List Event) (e : ServeEnd) → (g : IsGoing ahead r r' w w' run events) → FailsBy e r w r' w'
+    → EndsBy run.terms.format (HasSpent run.callers.seats.items) run.terms.config (script_text (calls_of events) ++ (ahead ++ waiting run.lines)) r'.ended events (kept_at e g.out run.output.pending.items) e → IsStopped r r' w w' run e
+stop ahead r r' w w' run events e g failed ends = record {
   events = events;
   made = g.made;
   first = g.first;
   in_range = g.in_range;
-  input = script_text (calls_of events) ++ (ahead ++ waiting r.lines);
+  input = script_text (calls_of events) ++ (ahead ++ waiting run.lines);
   read = g.read;
   out = g.out;
   wrote = g.wrote;
-  begins = scripts.begin_with r.terms.format r.terms.config.seats (script_text (calls_of events) ++ (ahead ++ waiting r.lines)) (ahead ++ waiting r.lines) ended (calls_of events) (few_seats r.terms.config g.in_range.0) g.calls refl;
+  begins = scripts.begin_with run.terms.format run.terms.config.seats (script_text (calls_of events) ++ (ahead ++ waiting run.lines)) (ahead ++ waiting run.lines) r'.ended (calls_of events) (few_seats run.terms.config g.in_range.0) g.calls refl;
   ends = ends;
+  failed = failed;
 }
 
 -- for want of memory
-pub stop_memory : (ahead given given' taken taken' : List ℕ) (ended : Bool) (r : Run) (events : List Event) → IsGoing ahead given given' ended taken taken' r events → IsStopped given given' ended taken taken' r end.Memory
-stop_memory ahead given given' taken taken' ended r events g =
-    stop ahead given given' taken taken' ended r events end.Memory g (whole_text r.terms.format r.terms.config.seats (script_text (calls_of events) ++ (ahead ++ waiting r.lines)) ended events (g.out ++ r.output.pending.items) g.keeps)
-
--- a read failed
-pub stop_input : (given given' taken taken' : List ℕ) (ended : Bool) (r : Run) (events : List Event) → None ≡ position is_newline (waiting r.lines) → IsGoing [] given given' ended taken taken' r events → IsStopped given given' ended taken taken' r end.Input
-stop_input given given' taken taken' ended r events none g = stop [] given given' taken taken' ended r events end.Input g (
-  record {
-    lines = script_text (calls_of events);
-    rest = waiting r.lines;
-    parts = refl;
-    read = script_again r.terms.format r.terms.config.seats (calls_of events) (few_seats r.terms.config g.in_range.0) g.calls;
-    unended = none;
-  },
-  g.keeps,
-)
+pub stop_memory : (ahead : List ℕ) (r r' : Reads) (w w' : Writes) (run : Run) (events : List Event) → IsGoing ahead r r' w w' run events → IsStopped r r' w w' run end.Memory
+stop_memory ahead r r' w w' run events g =
+    stop ahead r r' w w' run events end.Memory g g.worked (whole_text run.terms.format run.terms.config.seats (script_text (calls_of events) ++ (ahead ++ waiting run.lines)) r'.ended events (g.out ++ run.output.pending.items) g.keeps)
 
 -- all of the input was taken
-pub stop_done : (given given' taken taken' : List ℕ) (ended : Bool) (r : Run) (events : List Event) → waiting r.lines ≡ [] → r.lines.ended ≡ true → IsGoing [] given given' ended taken taken' r events → IsStopped given given' ended taken taken' r end.Done
-stop_done given given' taken taken' ended r events none found g = stop [] given given' taken taken' ended r events end.Done g (
+pub stop_done : (r r' : Reads) (w w' : Writes) (run : Run) (events : List Event) → waiting run.lines ≡ [] → run.lines.ended ≡ true → IsGoing [] r r' w w' run events → IsStopped r r' w w' run end.Done
+stop_done r r' w w' run events none found g = stop [] r r' w w' run events end.Done g g.worked (
   g.found found,
-  scripts.read_whole r.terms.format r.terms.config.seats (script_text (calls_of events) ++ ([] ++ waiting r.lines)) (calls_of events) (few_seats r.terms.config g.in_range.0) g.calls (ap (λ (xs : List ℕ). script_text (calls_of events) ++ xs) none),
+  scripts.read_whole run.terms.format run.terms.config.seats (script_text (calls_of events) ++ ([] ++ waiting run.lines)) (calls_of events) (few_seats run.terms.config g.in_range.0) g.calls (ap (λ (xs : List ℕ). script_text (calls_of events) ++ xs) none),
   g.keeps,
 )
-
--- a write failed
-pub stop_output : (ahead given given' taken taken' taken'' : List ℕ) (ended : Bool) (r r' : Run) (events : List Event) → r'.callers ≡ r.callers → r'.terms ≡ r.terms → (rest : List ℕ) → HasTaken taken' taken'' r.output.pending.items rest
-    → IsGoing ahead given given' ended taken taken' r events → IsStopped given given' ended taken taken'' r' end.Output
-stop_output ahead given given' taken taken' taken'' ended r r' events same same' rest w g =
-    let input = script_text (calls_of events) ++ (ahead ++ waiting r.lines) in
-    let begins : transcript_text r.terms.format events ≡ (g.out ++ w.part) ++ rest = sym g.keeps ∙ (ap (λ (xs : List ℕ). g.out ++ xs) w.left ∙ sym (append_assoc g.out w.part rest)) in
-    let s : IsStopped given given' ended taken taken'' (record r' { callers = r.callers; terms = r.terms }) end.Output = record {
-      events = events;
-      made = g.made;
-      first = g.first;
-      in_range = g.in_range;
-      input = input;
-      read = g.read;
-      out = g.out ++ w.part;
-      wrote = w.took ∙ (ap (λ (xs : List ℕ). xs ++ w.part) g.wrote ∙ append_assoc taken g.out w.part);
-      begins = scripts.begin_with r.terms.format r.terms.config.seats input (ahead ++ waiting r.lines) ended (calls_of events) (few_seats r.terms.config g.in_range.0) g.calls refl;
-      ends = part_of_text r.terms.format r.terms.config.seats input ended events (g.out ++ w.part) (rest, begins);
-    } in
-    subst (λ (x : Callers × Terms). IsStopped given given' ended taken taken'' (record r' { callers = x.0; terms = x.1 }) end.Output) (λ i. (sym same i, sym same' i)) s
 
 -- ---- where it goes on
 
 -- the same run with bytes written, and perhaps read
-pub go_on : (ahead given given' given'' taken taken' taken'' : List ℕ) (ended ended' : Bool) (r r' : Run) (events : List Event) → r'.callers ≡ r.callers → r'.terms ≡ r.terms → r'.lines.format ≡ r.lines.format
-    → given'' ≡ given ++ (script_text (calls_of events) ++ (ahead ++ waiting r'.lines)) → (r'.lines.ended ≡ true → ended' ≡ true) → HasTaken taken' taken'' r.output.pending.items r'.output.pending.items
-    → IsGoing ahead given given' ended taken taken' r events → IsGoing ahead given given'' ended' taken taken'' r' events
-go_on ahead given given' given'' taken taken' taken'' ended ended' r r' events same same' formed read found w g =
-    let s : IsGoing ahead given given'' ended' taken taken'' (record r' { callers = r.callers; terms = r.terms }) events = record {
+pub go_on : (ahead : List ℕ) (r r' r'' : Reads) (w w' w'' : Writes) (run run' : Run) (events : List Event) → run'.callers ≡ run.callers → run'.terms ≡ run.terms → run'.lines.format ≡ run.lines.format
+    → r''.given ≡ r.given ++ (script_text (calls_of events) ++ (ahead ++ waiting run'.lines)) → (run'.lines.ended ≡ true → r''.ended ≡ true) → r''.failures ≡ r'.failures
+    → HasTaken w'.taken w''.taken run.output.pending.items run'.output.pending.items → w''.failures ≡ w'.failures
+    → IsGoing ahead r r' w w' run events → IsGoing ahead r r'' w w'' run' events
+go_on ahead r r' r'' w w' w'' run run' events same same' formed read found reads t writes g =
+    let s : IsGoing ahead r r'' w w'' (record run' { callers = run.callers; terms = run.terms }) events = record {
       made = g.made;
       first = g.first;
       seats = g.seats;
@@ -133,46 +105,120 @@ go_on ahead given given' given'' taken taken' taken'' ended ended' r r' events s
       read = read;
       found = found;
       calls = g.calls;
-      out = g.out ++ w.part;
-      wrote = w.took ∙ (ap (λ (xs : List ℕ). xs ++ w.part) g.wrote ∙ append_assoc taken g.out w.part);
-      keeps = append_assoc g.out w.part r'.output.pending.items ∙ (ap (λ (xs : List ℕ). g.out ++ xs) (sym w.left) ∙ g.keeps);
+      out = g.out ++ t.part;
+      wrote = t.took ∙ (ap (λ (xs : List ℕ). xs ++ t.part) g.wrote ∙ append_assoc w.taken g.out t.part);
+      keeps = append_assoc g.out t.part run'.output.pending.items ∙ (ap (λ (xs : List ℕ). g.out ++ xs) (sym t.left) ∙ g.keeps);
+      worked = (reads ∙ g.worked.0, writes ∙ g.worked.1);
     } in
-    subst (λ (x : Callers × Terms). IsGoing ahead given given'' ended' taken taken'' (record r' { callers = x.0; terms = x.1 }) events) (λ i. (sym same i, sym same' i)) s
+    subst (λ (x : Callers × Terms). IsGoing ahead r r'' w w'' (record run' { callers = x.0; terms = x.1 }) events) (λ i. (sym same i, sym same' i)) s
 
 -- nothing was written
 pub untaken : (taken bytes bytes' : List ℕ) → bytes' ≡ bytes → HasTaken taken taken bytes bytes'
 untaken taken bytes bytes' same = record { part = []; took = sym (append-nil taken); left = sym same }
 
--- a read
-pub go_read : (given given' given'' taken taken' taken'' : List ℕ) (ended ended' : Bool) (r r' : Run) (events : List Event) → r'.callers ≡ r.callers → r'.terms ≡ r.terms
-    → IsRead r.lines r'.lines given' given'' ended' → HasTaken taken' taken'' r.output.pending.items r'.output.pending.items
-    → IsGoing [] given given' ended taken taken' r events → IsGoing [] given given'' ended' taken taken'' r' events
-go_read given given' given'' taken taken' taken'' ended ended' r r' events same same' x w g =
-    let text = script_text (calls_of events) in
-    go_on [] given given' given'' taken taken' taken'' ended ended' r r' events same same' x.format
-    (x.gave ∙ (ap (λ (xs : List ℕ). xs ++ x.got) g.read ∙ (behind given text (waiting r.lines) x.got ∙ ap (λ (xs : List ℕ). given ++ (text ++ xs)) (sym x.waits))))
-    (λ e. sym x.found ∙ e) w g
+-- what was read since
+read_on : (given text : List ℕ) (l l' : Lines) (r r' : Reads) → HasReadOn l l' r r' → r.given ≡ given ++ (text ++ waiting l) → r'.given ≡ given ++ (text ++ waiting l')
+read_on given text l l' r r' x read = x.gave ∙ (ap (λ (xs : List ℕ). xs ++ x.got) read ∙ (behind given text (waiting l) x.got ∙ ap (λ (xs : List ℕ). given ++ (text ++ xs)) (sym x.waits)))
+
+found_on : (l l' : Lines) (r r' : Reads) → HasReadOn l l' r r' → (l.ended ≡ true → r.ended ≡ true) → l'.ended ≡ true → r'.ended ≡ true
+found_on l l' r r' x found e = ⊎_elim (λ same. same.1 ∙ found (sym same.0 ∙ e)) (λ is. sym is ∙ e) x.found
+
+-- the next line was sought
+pub go_read : (r r' r'' : Reads) (w w' w'' : Writes) (run run' : Run) (events : List Event) → run'.callers ≡ run.callers → run'.terms ≡ run.terms → HasReadOn run.lines run'.lines r' r'' → r''.failures ≡ r'.failures
+    → HasTaken w'.taken w''.taken run.output.pending.items run'.output.pending.items → w''.failures ≡ w'.failures → IsGoing [] r r' w w' run events → IsGoing [] r r'' w w'' run' events
+go_read r r' r'' w w' w'' run run' events same same' x reads t writes g =
+    go_on [] r r' r'' w w' w'' run run' events same same' x.format (read_on r.given (script_text (calls_of events)) run.lines run'.lines r' r'' x g.read) (found_on run.lines run'.lines r' r'' x g.found) reads t writes g
+
+-- a read failed
+pub stop_input : (r r' r'' : Reads) (w w' w'' : Writes) (run run' : Run) (events : List Event) → run'.callers ≡ run.callers → run'.terms ≡ run.terms → HasReadOn run.lines run'.lines r' r'' → None ≡ position is_newline (waiting run'.lines)
+    → r''.failures ≡ r'.failures + 1 → HasTaken w'.taken w''.taken run.output.pending.items run'.output.pending.items → w''.failures ≡ w'.failures → IsGoing [] r r' w w' run events → IsStopped r r'' w w'' run' end.Input
+stop_input r r' r'' w w' w'' run run' events same same' x none failed t writes g =
+    let before : Reads = record { given = r''.given; ended = r''.ended; failures = r'.failures } in
+    let input = script_text (calls_of events) ++ waiting run'.lines in
+    let k : IsGoing [] r before w w'' run' events = go_on [] r r' before w w' w'' run run' events same same' x.format (read_on r.given (script_text (calls_of events)) run.lines run'.lines r' r'' x g.read) (found_on run.lines run'.lines r' r'' x g.found) refl t writes g in
+    let few = few_seats run'.terms.config k.in_range.0 in
+    record {
+      events = events;
+      made = k.made;
+      first = k.first;
+      in_range = k.in_range;
+      input = input;
+      read = k.read;
+      out = k.out;
+      wrote = k.wrote;
+      begins = scripts.begin_with run'.terms.format run'.terms.config.seats input (waiting run'.lines) r''.ended (calls_of events) few k.calls refl;
+      ends = (
+        record {
+          lines = script_text (calls_of events);
+          rest = waiting run'.lines;
+          parts = refl;
+          read = script_again run'.terms.format run'.terms.config.seats (calls_of events) few k.calls;
+          unended = none;
+        },
+        k.keeps,
+      );
+      failed = (failed ∙ ap (λ (n : ℕ). n + 1) g.worked.0, k.worked.1);
+    }
+
+-- a write failed, after whatever reads
+pub stop_output : (r r' r'' : Reads) (w w' w'' : Writes) (run run' : Run) (events : List Event) → run'.callers ≡ run.callers → run'.terms ≡ run.terms → HasReadOn run.lines run'.lines r' r'' → r''.failures ≡ r'.failures
+    → HasBegun w'.taken w''.taken run.output.pending.items → w''.failures ≡ w'.failures + 1 → IsGoing [] r r' w w' run events → IsStopped r r'' w w'' run' end.Output
+stop_output r r' r'' w w' w'' run run' events same same' x reads begun failed g =
+    let rest = begun.0 in let t = begun.1 in
+    let input = script_text (calls_of events) ++ waiting run'.lines in
+    let begins : transcript_text run.terms.format events ≡ (g.out ++ t.part) ++ rest = sym g.keeps ∙ (ap (λ (xs : List ℕ). g.out ++ xs) t.left ∙ sym (append_assoc g.out t.part rest)) in
+    let same_reads : r''.failures ≡ r.failures = reads ∙ g.worked.0 in
+    let s : IsStopped r r'' w w'' (record run' { callers = run.callers; terms = run.terms }) end.Output = record {
+      events = events;
+      made = g.made;
+      first = g.first;
+      in_range = g.in_range;
+      input = input;
+      read = read_on r.given (script_text (calls_of events)) run.lines run'.lines r' r'' x g.read;
+      out = g.out ++ t.part;
+      wrote = t.took ∙ (ap (λ (xs : List ℕ). xs ++ t.part) g.wrote ∙ append_assoc w.taken g.out t.part);
+      begins = scripts.begin_with run.terms.format run.terms.config.seats input (waiting run'.lines) r''.ended (calls_of events) (few_seats run.terms.config g.in_range.0) g.calls refl;
+      ends = part_of_text run.terms.format run.terms.config.seats input r''.ended events (g.out ++ t.part) (rest, begins);
+      failed = (omega (arith, same_reads), omega (arith, same_reads), failed ∙ ap (λ (n : ℕ). n + 1) g.worked.1);
+    } in
+    subst (λ (x : Callers × Terms). IsStopped r r'' w w'' (record run' { callers = x.0; terms = x.1 }) end.Output) (λ i. (sym same i, sym same' i)) s
+
+-- the next line was sought in vain
+pub stop_sought : (r r' r'' : Reads) (w w' w'' : Writes) (run run' : Run) (events : List Event) (e : ServeEnd) → run'.callers ≡ run.callers → run'.terms ≡ run.terms → HasReadOn run.lines run'.lines r' r''
+    → IsSought run'.lines r' r'' w' w'' run.output run'.output (Err e) → IsGoing [] r r' w w' run events → IsStopped r r'' w w'' run' e
+stop_sought r r' r'' w w' w'' run run' events end.Input same same' x s g = stop_input r r' r'' w w' w'' run run' events same same' x s.0 s.2 s.1 s.3 g
+stop_sought r r' r'' w w' w'' run run' events end.Output same same' x s g = stop_output r r' r'' w w' w'' run run' events same same' x s.1 s.0 s.2 g
+stop_sought r r' r'' w w' w'' run run' events end.Done same same' x s g = absurd s
+stop_sought r r' r'' w w' w'' run run' events (end.Fault line fault) same same' x s g = absurd s
+stop_sought r r' r'' w w' w'' run run' events (end.Spent line) same same' x s g = absurd s
+stop_sought r r' r'' w w' w'' run run' events (end.Open reason) same same' x s g = absurd s
+stop_sought r r' r'' w w' w'' run run' events end.Memory same same' x s g = absurd s
+
+-- nothing was read
+pub unread : (l : Lines) (r : Reads) → HasReadOn l l r r
+unread l r = record { got = []; gave = sym (append-nil r.given); waits = sym (append-nil (waiting l)); format = refl; found = inl (refl, refl) }
 
 -- a line was taken off the front
-pub go_take : (given given' taken taken' : List ℕ) (ended : Bool) (r r' : Run) (events : List Event) (n : ℕ) (line : List ℕ) → r'.callers ≡ r.callers → r'.terms ≡ r.terms → r'.output.pending.items ≡ r.output.pending.items
-    → waiting r'.lines ≡ drop n (waiting r.lines) → r'.lines.ended ≡ r.lines.ended → r'.lines.format ≡ r.lines.format → take n (waiting r.lines) ≡ line → IsGoing [] given given' ended taken taken' r events → IsGoing line given given' ended taken taken' r' events
-go_take given given' taken taken' ended r r' events n line same same' kept left found formed is g =
+pub go_take : (r r' : Reads) (w w' : Writes) (run run' : Run) (events : List Event) (n : ℕ) (line : List ℕ) → run'.callers ≡ run.callers → run'.terms ≡ run.terms → run'.output.pending.items ≡ run.output.pending.items
+    → waiting run'.lines ≡ drop n (waiting run.lines) → run'.lines.ended ≡ run.lines.ended → run'.lines.format ≡ run.lines.format → take n (waiting run.lines) ≡ line → IsGoing [] r r' w w' run events → IsGoing line r r' w w' run' events
+go_take r r' w w' run run' events n line same same' kept left found formed is g =
     let text = script_text (calls_of events) in
-    let whole : waiting r.lines ≡ line ++ waiting r'.lines = sym (take-append-drop n (waiting r.lines)) ∙ (ap (λ (xs : List ℕ). xs ++ drop n (waiting r.lines)) is ∙ ap (λ (xs : List ℕ). line ++ xs) (sym left)) in
-    let s : IsGoing line given given' ended taken taken' (record r' { callers = r.callers; terms = r.terms }) events = record {
+    let whole : waiting run.lines ≡ line ++ waiting run'.lines = sym (take-append-drop n (waiting run.lines)) ∙ (ap (λ (xs : List ℕ). xs ++ drop n (waiting run.lines)) is ∙ ap (λ (xs : List ℕ). line ++ xs) (sym left)) in
+    let s : IsGoing line r r' w w' (record run' { callers = run.callers; terms = run.terms }) events = record {
       made = g.made;
       first = g.first;
       seats = g.seats;
       in_range = g.in_range;
       formatted = formed ∙ g.formatted;
-      read = g.read ∙ ap (λ (xs : List ℕ). given ++ (text ++ xs)) whole;
+      read = g.read ∙ ap (λ (xs : List ℕ). r.given ++ (text ++ xs)) whole;
       found = λ e. g.found (sym found ∙ e);
       calls = g.calls;
       out = g.out;
       wrote = g.wrote;
       keeps = ap (λ (xs : List ℕ). g.out ++ xs) kept ∙ g.keeps;
+      worked = g.worked;
     } in
-    subst (λ (x : Callers × Terms). IsGoing line given given' ended taken taken' (record r' { callers = x.0; terms = x.1 }) events) (λ i. (sym same i, sym same' i)) s
+    subst (λ (x : Callers × Terms). IsGoing line r r' w w' (record run' { callers = x.0; terms = x.1 }) events) (λ i. (sym same i, sym same' i)) s
 
 -- what a call adds to what was read
 record IsCalled (format : Format) (seats : ℕ) (events : List Event) (seat : ℕ) (cmd : Cmd) (event : Event) : Type 0 where
@@ -193,54 +239,56 @@ called_read : (given given' text line waits text' : List ℕ) → given' ≡ giv
 called_read given given' text line waits text' read grown = read ∙ ap (λ (xs : List ℕ). given ++ xs) (sym (append_assoc text line waits) ∙ ap (λ (xs : List ℕ). xs ++ waits) (sym grown))
 
 -- a call was made, and its text is kept
-pub go_call : (given given' taken taken' : List ℕ) (ended : Bool) (r r' : Run) (events : List Event) (seat : ℕ) (cmd : Cmd) (event : Event) → seat < vec_len r.callers.seats → IsCommand r.terms.format cmd → event.seat ≡ seat → event.cmd ≡ cmd
-    → HasMade r'.callers.latest r'.callers.seats.items (events ++ event ∷ []) → r'.callers.db ≡ r.callers.db → vec_len r'.callers.seats ≡ vec_len r.callers.seats → r'.terms ≡ r.terms → r'.lines ≡ r.lines → r'.output.pending.items ≡ r.output.pending.items ++ event_text event
-    → IsGoing (command_line seat cmd) given given' ended taken taken' r events → IsGoing [] given given' ended taken taken' r' (events ++ event ∷ [])
-go_call given given' taken taken' ended r r' events seat cmd event there lawful by asked made db count same lines kept g =
-    let x = called r.terms.format r.terms.config.seats events seat cmd event (let q = g.seats in omega arith) lawful by asked g.calls in
-    let s : IsGoing [] given given' ended taken taken' (record r' { terms = r.terms; lines = r.lines }) (events ++ event ∷ []) = record {
+pub go_call : (r r' : Reads) (w w' : Writes) (run run' : Run) (events : List Event) (seat : ℕ) (cmd : Cmd) (event : Event) → seat < vec_len run.callers.seats → IsCommand run.terms.format cmd → event.seat ≡ seat → event.cmd ≡ cmd
+    → HasMade run'.callers.latest run'.callers.seats.items (events ++ event ∷ []) → run'.callers.db ≡ run.callers.db → vec_len run'.callers.seats ≡ vec_len run.callers.seats → run'.terms ≡ run.terms → run'.lines ≡ run.lines → run'.output.pending.items ≡ run.output.pending.items ++ event_text event
+    → IsGoing (command_line seat cmd) r r' w w' run events → IsGoing [] r r' w w' run' (events ++ event ∷ [])
+go_call r r' w w' run run' events seat cmd event there lawful by asked made db count same lines kept g =
+    let x = called run.terms.format run.terms.config.seats events seat cmd event (let q = g.seats in omega arith) lawful by asked g.calls in
+    let s : IsGoing [] r r' w w' (record run' { terms = run.terms; lines = run.lines }) (events ++ event ∷ []) = record {
       made = made;
       first = ap (λ d. d.lock.first) db ∙ g.first;
       seats = count ∙ g.seats;
       in_range = g.in_range;
       formatted = g.formatted;
-      read = called_read given given' (script_text (calls_of events)) (command_line seat cmd) (waiting r.lines) (script_text (calls_of (events ++ event ∷ []))) g.read x.text;
+      read = called_read r.given r'.given (script_text (calls_of events)) (command_line seat cmd) (waiting run.lines) (script_text (calls_of (events ++ event ∷ []))) g.read x.text;
       found = g.found;
       calls = x.calls;
       out = g.out;
       wrote = g.wrote;
-      keeps = ap (λ (xs : List ℕ). g.out ++ xs) kept ∙ (sym (append_assoc g.out r.output.pending.items (event_text event)) ∙ (ap (λ (xs : List ℕ). xs ++ event_text event) g.keeps ∙ sym (events_more r.terms.format events event)));
+      keeps = ap (λ (xs : List ℕ). g.out ++ xs) kept ∙ (sym (append_assoc g.out run.output.pending.items (event_text event)) ∙ (ap (λ (xs : List ℕ). xs ++ event_text event) g.keeps ∙ sym (events_more run.terms.format events event)));
+      worked = g.worked;
     } in
-    subst (λ (x : Terms × Lines). IsGoing [] given given' ended taken taken' (record r' { terms = x.0; lines = x.1 }) (events ++ event ∷ [])) (λ i. (sym same i, sym lines i)) s
+    subst (λ (x : Terms × Lines). IsGoing [] r r' w w' (record run' { terms = x.0; lines = x.1 }) (events ++ event ∷ [])) (λ i. (sym same i, sym lines i)) s
 
 -- a call was made, and its text can't be kept for want of memory
-pub stop_untold : (given given' taken taken' : List ℕ) (ended : Bool) (r r' : Run) (events : List Event) (seat : ℕ) (cmd : Cmd) (event : Event) → seat < vec_len r.callers.seats → IsCommand r.terms.format cmd → event.seat ≡ seat → event.cmd ≡ cmd
-    → HasMade r'.callers.latest r'.callers.seats.items (events ++ event ∷ []) → r'.callers.db ≡ r.callers.db → r'.terms ≡ r.terms → r'.output.pending.items ≡ r.output.pending.items
-    → IsGoing (command_line seat cmd) given given' ended taken taken' r events → IsStopped given given' ended taken taken' r' end.Memory
-stop_untold given given' taken taken' ended r r' events seat cmd event there lawful by asked made db same kept g =
+pub stop_untold : (r r' : Reads) (w w' : Writes) (run run' : Run) (events : List Event) (seat : ℕ) (cmd : Cmd) (event : Event) → seat < vec_len run.callers.seats → IsCommand run.terms.format cmd → event.seat ≡ seat → event.cmd ≡ cmd
+    → HasMade run'.callers.latest run'.callers.seats.items (events ++ event ∷ []) → run'.callers.db ≡ run.callers.db → run'.terms ≡ run.terms → run'.output.pending.items ≡ run.output.pending.items
+    → IsGoing (command_line seat cmd) r r' w w' run events → IsStopped r r' w w' run' end.Memory
+stop_untold r r' w w' run run' events seat cmd event there lawful by asked made db same kept g =
     let all = events ++ event ∷ [] in
-    let x = called r.terms.format r.terms.config.seats events seat cmd event (let q = g.seats in omega arith) lawful by asked g.calls in
-    let input = script_text (calls_of all) ++ waiting r.lines in
-    let told : g.out ++ r'.output.pending.items ≡ transcript_text r.terms.format events = ap (λ (xs : List ℕ). g.out ++ xs) kept ∙ g.keeps in
-    let s : IsStopped given given' ended taken taken' (record r' { terms = r.terms }) end.Memory = record {
+    let x = called run.terms.format run.terms.config.seats events seat cmd event (let q = g.seats in omega arith) lawful by asked g.calls in
+    let input = script_text (calls_of all) ++ waiting run.lines in
+    let told : g.out ++ run'.output.pending.items ≡ transcript_text run.terms.format events = ap (λ (xs : List ℕ). g.out ++ xs) kept ∙ g.keeps in
+    let s : IsStopped r r' w w' (record run' { terms = run.terms }) end.Memory = record {
       events = all;
       made = made;
       first = ap (λ d. d.lock.first) db ∙ g.first;
       in_range = g.in_range;
       input = input;
-      read = called_read given given' (script_text (calls_of events)) (command_line seat cmd) (waiting r.lines) (script_text (calls_of all)) g.read x.text;
+      read = called_read r.given r'.given (script_text (calls_of events)) (command_line seat cmd) (waiting run.lines) (script_text (calls_of all)) g.read x.text;
       out = g.out;
       wrote = g.wrote;
-      begins = scripts.begin_with r.terms.format r.terms.config.seats input (waiting r.lines) ended (calls_of all) (few_seats r.terms.config g.in_range.0) x.calls refl;
-      ends = part_of_text r.terms.format r.terms.config.seats input ended all (g.out ++ r'.output.pending.items) (event_text event, events_more r.terms.format events event ∙ ap (λ (xs : List ℕ). xs ++ event_text event) (sym told));
+      begins = scripts.begin_with run.terms.format run.terms.config.seats input (waiting run.lines) r'.ended (calls_of all) (few_seats run.terms.config g.in_range.0) x.calls refl;
+      ends = part_of_text run.terms.format run.terms.config.seats input r'.ended all (g.out ++ run'.output.pending.items) (event_text event, events_more run.terms.format events event ∙ ap (λ (xs : List ℕ). xs ++ event_text event) (sym told));
+      failed = g.worked;
     } in
-    subst (λ (x : Terms). IsStopped given given' ended taken taken' (record r' { terms = x }) end.Memory) (sym same) s
+    subst (λ (x : Terms). IsStopped r r' w w' (record run' { terms = x }) end.Memory) (sym same) s
 
 -- a call was refused for want of positions
-pub go_refused : (ahead given given' taken taken' : List ℕ) (ended : Bool) (r r' : Run) (events : List Event) → HasMade r'.callers.latest r'.callers.seats.items events → r'.callers.db ≡ r.callers.db → vec_len r'.callers.seats ≡ vec_len r.callers.seats
-    → r'.terms ≡ r.terms → r'.lines ≡ r.lines → r'.output.pending.items ≡ r.output.pending.items → IsGoing ahead given given' ended taken taken' r events → IsGoing ahead given given' ended taken taken' r' events
-go_refused ahead given given' taken taken' ended r r' events made db count same lines kept g =
-    let s : IsGoing ahead given given' ended taken taken' (record r' { terms = r.terms; lines = r.lines }) events = record {
+pub go_refused : (ahead : List ℕ) (r r' : Reads) (w w' : Writes) (run run' : Run) (events : List Event) → HasMade run'.callers.latest run'.callers.seats.items events → run'.callers.db ≡ run.callers.db → vec_len run'.callers.seats ≡ vec_len run.callers.seats
+    → run'.terms ≡ run.terms → run'.lines ≡ run.lines → run'.output.pending.items ≡ run.output.pending.items → IsGoing ahead r r' w w' run events → IsGoing ahead r r' w w' run' events
+go_refused ahead r r' w w' run run' events made db count same lines kept g =
+    let s : IsGoing ahead r r' w w' (record run' { terms = run.terms; lines = run.lines }) events = record {
       made = made;
       first = ap (λ d. d.lock.first) db ∙ g.first;
       seats = count ∙ g.seats;
@@ -252,25 +300,26 @@ go_refused ahead given given' taken taken' ended r r' events made db count same 
       out = g.out;
       wrote = g.wrote;
       keeps = ap (λ (xs : List ℕ). g.out ++ xs) kept ∙ g.keeps;
+      worked = g.worked;
     } in
-    subst (λ (x : Terms × Lines). IsGoing ahead given given' ended taken taken' (record r' { terms = x.0; lines = x.1 }) events) (λ i. (sym same i, sym lines i)) s
+    subst (λ (x : Terms × Lines). IsGoing ahead r r' w w' (record run' { terms = x.0; lines = x.1 }) events) (λ i. (sym same i, sym lines i)) s
 
 calls_length : (events : List Event) → length (calls_of events) ≡ length events
 calls_length [] = refl
 calls_length (e ∷ events) = let q = calls_length events in omega arith
 
 -- where the line is kept that tells of it
-pub stop_spent : (given given' taken taken' : List ℕ) (ended : Bool) (r r' : Run) (events : List Event) (line seat : ℕ) (cmd : Cmd) → seat < vec_len r.callers.seats → IsCommand r.terms.format cmd → HasMade r'.callers.latest r'.callers.seats.items events → HasSpent r'.callers.seats.items → r'.callers.db ≡ r.callers.db
-    → r'.terms ≡ r.terms → r'.output.pending.items ≡ r.output.pending.items ++ spent_line line → line ≡ length events + 1 → IsGoing (command_line seat cmd) given given' ended taken taken' r events → IsStopped given given' ended taken taken' r' (end.Spent line)
-stop_spent given given' taken taken' ended r r' events line seat cmd there lawful made spent db same kept numbered g =
+pub stop_spent : (r r' : Reads) (w w' : Writes) (run run' : Run) (events : List Event) (line seat : ℕ) (cmd : Cmd) → seat < vec_len run.callers.seats → IsCommand run.terms.format cmd → HasMade run'.callers.latest run'.callers.seats.items events → HasSpent run'.callers.seats.items → run'.callers.db ≡ run.callers.db
+    → run'.terms ≡ run.terms → run'.output.pending.items ≡ run.output.pending.items ++ spent_line line → line ≡ length events + 1 → IsGoing (command_line seat cmd) r r' w w' run events → IsStopped r r' w w' run' (end.Spent line)
+stop_spent r r' w w' run run' events line seat cmd there lawful made spent db same kept numbered g =
     let call : ℕ × Cmd = (seat, cmd) in
     let calls = calls_of events ++ call ∷ [] in
-    let few = few_seats r.terms.config g.in_range.0 in
-    let is : IsCall r.terms.format r.terms.config.seats call = ((let q = g.seats in omega arith), lawful) in
-    let are : All (IsCall r.terms.format r.terms.config.seats) calls = All-append (IsCall r.terms.format r.terms.config.seats) (calls_of events) (call ∷ []) g.calls (All-cons (IsCall r.terms.format r.terms.config.seats) call [] is (All-nil (IsCall r.terms.format r.terms.config.seats))) in
-    let input = script_text (calls_of events) ++ (command_line seat cmd ++ waiting r.lines) in
-    let with_call : input ≡ script_text calls ++ waiting r.lines = sym (append_assoc (script_text (calls_of events)) (command_line seat cmd) (waiting r.lines)) ∙ ap (λ (xs : List ℕ). xs ++ waiting r.lines) (sym (scripts.text_more (calls_of events) call)) in
-    let s : IsStopped given given' ended taken taken' (record r' { terms = r.terms }) (end.Spent line) = record {
+    let few = few_seats run.terms.config g.in_range.0 in
+    let is : IsCall run.terms.format run.terms.config.seats call = ((let q = g.seats in omega arith), lawful) in
+    let are : All (IsCall run.terms.format run.terms.config.seats) calls = All-append (IsCall run.terms.format run.terms.config.seats) (calls_of events) (call ∷ []) g.calls (All-cons (IsCall run.terms.format run.terms.config.seats) call [] is (All-nil (IsCall run.terms.format run.terms.config.seats))) in
+    let input = script_text (calls_of events) ++ (command_line seat cmd ++ waiting run.lines) in
+    let with_call : input ≡ script_text calls ++ waiting run.lines = sym (append_assoc (script_text (calls_of events)) (command_line seat cmd) (waiting run.lines)) ∙ ap (λ (xs : List ℕ). xs ++ waiting run.lines) (sym (scripts.text_more (calls_of events) call)) in
+    let s : IsStopped r r' w w' (record run' { terms = run.terms }) (end.Spent line) = record {
       events = events;
       made = made;
       first = ap (λ d. d.lock.first) db ∙ g.first;
@@ -279,22 +328,23 @@ stop_spent given given' taken taken' ended r r' events line seat cmd there lawfu
       read = g.read;
       out = g.out;
       wrote = g.wrote;
-      begins = scripts.begin_with r.terms.format r.terms.config.seats input (command_line seat cmd ++ waiting r.lines) ended (calls_of events) few g.calls refl;
+      begins = scripts.begin_with run.terms.format run.terms.config.seats input (command_line seat cmd ++ waiting run.lines) r'.ended (calls_of events) few g.calls refl;
       ends = (
-        record { all = spent; numbered = (let q = calls_length events in omega arith); call = call; next = scripts.begin_with r.terms.format r.terms.config.seats input (waiting r.lines) ended calls few are with_call },
-        ap (λ (xs : List ℕ). g.out ++ xs) kept ∙ (sym (append_assoc g.out r.output.pending.items (spent_line line)) ∙ ap (λ (xs : List ℕ). xs ++ spent_line line) g.keeps),
+        record { all = spent; numbered = (let q = calls_length events in omega arith); call = call; next = scripts.begin_with run.terms.format run.terms.config.seats input (waiting run.lines) r'.ended calls few are with_call },
+        ap (λ (xs : List ℕ). g.out ++ xs) kept ∙ (sym (append_assoc g.out run.output.pending.items (spent_line line)) ∙ ap (λ (xs : List ℕ). xs ++ spent_line line) g.keeps),
       );
+      failed = g.worked;
     } in
-    subst (λ (x : Terms). IsStopped given given' ended taken taken' (record r' { terms = x }) (end.Spent line)) (sym same) s
+    subst (λ (x : Terms). IsStopped r r' w w' (record run' { terms = x }) (end.Spent line)) (sym same) s
 
 -- a line is faulty
-pub stop_fault : (given given' taken taken' : List ℕ) (ended : Bool) (r r' : Run) (events : List Event) (n line : ℕ) (f : LineFault) → r'.callers ≡ r.callers → r'.terms ≡ r.terms → r'.output.pending.items ≡ r.output.pending.items ++ fault_line line f
-    → n ≤ length (waiting r.lines) → IsLine r.lines n → command_at r.terms.format table (vec_len r.callers.seats) (take n (waiting r.lines)) ≡ Err f → line ≡ length events + 1 → IsGoing [] given given' ended taken taken' r events → IsStopped given given' ended taken taken' r' (end.Fault line f)
-stop_fault given given' taken taken' ended r r' events n line f same same' kept within at e numbered g =
-    let input = script_text (calls_of events) ++ waiting r.lines in
-    let few = few_seats r.terms.config g.in_range.0 in
-    let e' : command_at r.terms.format table r.terms.config.seats (take n (waiting r.lines)) ≡ Err f = ap (λ (k : ℕ). command_at r.terms.format table k (take n (waiting r.lines))) (sym g.seats) ∙ e in
-    let s : IsStopped given given' ended taken taken' (record r' { callers = r.callers; terms = r.terms }) (end.Fault line f) = record {
+pub stop_fault : (r r' : Reads) (w w' : Writes) (run run' : Run) (events : List Event) (n line : ℕ) (f : LineFault) → run'.callers ≡ run.callers → run'.terms ≡ run.terms → run'.output.pending.items ≡ run.output.pending.items ++ fault_line line f
+    → n ≤ length (waiting run.lines) → IsLine run.lines n → command_at run.terms.format table (vec_len run.callers.seats) (take n (waiting run.lines)) ≡ Err f → line ≡ length events + 1 → IsGoing [] r r' w w' run events → IsStopped r r' w w' run' (end.Fault line f)
+stop_fault r r' w w' run run' events n line f same same' kept within at e numbered g =
+    let input = script_text (calls_of events) ++ waiting run.lines in
+    let few = few_seats run.terms.config g.in_range.0 in
+    let e' : command_at run.terms.format table run.terms.config.seats (take n (waiting run.lines)) ≡ Err f = ap (λ (k : ℕ). command_at run.terms.format table k (take n (waiting run.lines))) (sym g.seats) ∙ e in
+    let s : IsStopped r r' w w' (record run' { callers = run.callers; terms = run.terms }) (end.Fault line f) = record {
       events = events;
       made = g.made;
       first = g.first;
@@ -303,10 +353,11 @@ stop_fault given given' taken taken' ended r r' events n line f same same' kept 
       read = g.read;
       out = g.out;
       wrote = g.wrote;
-      begins = scripts.begin_with r.terms.format r.terms.config.seats input (waiting r.lines) ended (calls_of events) few g.calls refl;
+      begins = scripts.begin_with run.terms.format run.terms.config.seats input (waiting run.lines) r'.ended (calls_of events) few g.calls refl;
       ends = (
-        scripts.end_with r.terms.format r.terms.config.seats n line input r.lines ended (calls_of events) f g.formatted few g.calls refl g.found within at e' (let q = calls_length events in omega arith),
-        ap (λ (xs : List ℕ). g.out ++ xs) kept ∙ (sym (append_assoc g.out r.output.pending.items (fault_line line f)) ∙ ap (λ (xs : List ℕ). xs ++ fault_line line f) g.keeps),
+        scripts.end_with run.terms.format run.terms.config.seats n line input run.lines r'.ended (calls_of events) f g.formatted few g.calls refl g.found within at e' (let q = calls_length events in omega arith),
+        ap (λ (xs : List ℕ). g.out ++ xs) kept ∙ (sym (append_assoc g.out run.output.pending.items (fault_line line f)) ∙ ap (λ (xs : List ℕ). xs ++ fault_line line f) g.keeps),
       );
+      failed = g.worked;
     } in
-    subst (λ (x : Callers × Terms). IsStopped given given' ended taken taken' (record r' { callers = x.0; terms = x.1 }) (end.Fault line f)) (λ i. (sym same i, sym same' i)) s
+    subst (λ (x : Callers × Terms). IsStopped r r' w w' (record run' { callers = x.0; terms = x.1 }) (end.Fault line f)) (λ i. (sym same i, sym same' i)) s

@@ -5,7 +5,7 @@ use Rattle.text_format.specs.Limits.{header}
 use Rattle.spans.specs.declared.calls.events.Event.{Event}
 use Rattle.word_lines.specs.Events.{event_text}
 use Rattle.script.specs.Transcripts.{events_text, transcript_text}
-use Rattle.sessions.specs.Writing.{HasTaken}
+use Rattle.sessions.specs.Writing.{HasTaken, HasBegun}
 
 dropped : {A : Type 0} (xs : List A) (at : ℕ) (x : A) → at < length xs → x ≡ get_or xs at x → drop at xs ≡ x ∷ drop (suc at) xs
 dropped [] at x low e = absurd (omega arith)
@@ -41,3 +41,14 @@ more_taken taken taken' taken'' bytes pending rest more a b = record {
   took = b.took ∙ (ap (λ (xs : List ℕ). xs ++ b.part) a.took ∙ append_assoc taken a.part b.part);
   left = a.left ∙ (ap (λ (xs : List ℕ). a.part ++ (xs ++ more)) b.left ∙ (ap (λ (xs : List ℕ). a.part ++ xs) (append_assoc b.part rest more) ∙ sym (append_assoc a.part b.part (rest ++ more))));
 }
+
+-- of what was left a part is written
+pub begun_on : (taken taken' taken'' bytes pending : List ℕ) → HasTaken taken taken' bytes pending → HasBegun taken' taken'' pending → HasBegun taken taken'' bytes
+begun_on taken taken' taken'' bytes pending a b = (
+  b.0,
+  record {
+    part = a.part ++ b.1.part;
+    took = b.1.took ∙ (ap (λ (xs : List ℕ). xs ++ b.1.part) a.took ∙ append_assoc taken a.part b.1.part);
+    left = a.left ∙ (ap (λ (xs : List ℕ). a.part ++ xs) b.1.left ∙ sym (append_assoc a.part b.1.part b.0));
+  },
+)

@@ -1,5 +1,7 @@
+pub mod Devices
 pub mod Waiting
 pub mod Writing
+pub mod NextLines
 pub mod Seating
 pub mod Made
 pub mod Runs

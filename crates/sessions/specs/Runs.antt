@@ -11,8 +11,9 @@ use Rattle.script.specs.Transcripts.{transcript_text}
 use Rattle.ticket_lock.specs.Lists.{most, StartsWith}
 use Rattle.shared_db.specs.declared.config.Config.{Config}
 use Rattle.shared_db.specs.Opening.{IsReason, SeatsInRange, RingInRange}
-use Rattle.sessions.specs.declared.ending.End.{End}
-use Rattle.sessions.specs.declared.ending.End.TheVariants as end
+use Rattle.sessions.specs.Devices.{Reads, Writes}
+use Rattle.sessions.specs.declared.ending.ServeEnd.{ServeEnd}
+use Rattle.sessions.specs.declared.ending.ServeEnd.TheVariants as end
 use Rattle.sessions.specs.Made.{IsHistory}
 
 -- what a source may hold in all that has given so much: this, and more unless it has ended
@@ -65,7 +66,7 @@ pub record IsPart (format : Format) (used : Type 0) (seats : ℕ) (input : List 
   pub begins : StartsWith (transcript_text format events ++ last) output
 
 -- how each end comes, after these events and with this output
-abbrev pub EndsBy : Format → Type 0 → Config → List ℕ → Bool → List Event → List ℕ → End → Type 0
+abbrev pub EndsBy : Format → Type 0 → Config → List ℕ → Bool → List Event → List ℕ → ServeEnd → Type 0
 EndsBy format used config input ended events output end.Done = (ended ≡ true) × (script_at format config.seats input ≡ record { calls = calls_of events; fault = None }) × (output ≡ transcript_text format events)
 EndsBy format used config input ended events output (end.Fault line fault) = EndWithFault format config.seats input ended (calls_of events) line fault × (output ≡ transcript_text format events ++ fault_line line fault)
 EndsBy format used config input ended events output (end.Spent line) = IsSpentAt format used config.seats input ended (calls_of events) line × (output ≡ transcript_text format events ++ spent_line line)
@@ -75,26 +76,27 @@ EndsBy format used config input ended events output end.Output = IsPart format u
 EndsBy format used config input ended events output end.Memory = IsPart format used config.seats input ended events output
 
 -- the limits of a database are kept, but at the end that says otherwise, which comes before all others
-abbrev pub IsOpenAt : Config → End → Type 0
+abbrev pub IsOpenAt : Config → ServeEnd → Type 0
 IsOpenAt config (end.Open reason) = Unit {0}
 IsOpenAt config _ = SeatsInRange config × RingInRange config
 
--- what is known of a run, where a source had given and a sink had taken so much before it and so much after it
-pub record IsServed (format : Format) (config : Config) (given given' : List ℕ) (ended : Bool) (taken taken' : List ℕ) (e : End) : Type 0 where
+-- how often reads and writes failed in the run: what waits is written also where a read has failed
+abbrev pub FailsBy : ServeEnd → Reads → Writes → Reads → Writes → Type 0
+FailsBy end.Input r w r' w' = (r'.failures ≡ r.failures + 1) × (w'.failures ≡ w.failures)
+FailsBy end.Output r w r' w' = (r.failures ≤ r'.failures) × (r'.failures ≤ r.failures + 1) × (w'.failures ≡ w.failures + 1)
+FailsBy _ r w r' w' = (r'.failures ≡ r.failures) × (w'.failures ≡ w.failures)
+
+-- what is known of a run, where this was known of its source and its sink before it, and that after it
+pub record IsServed (format : Format) (config : Config) (r r' : Reads) (w w' : Writes) (e : ServeEnd) : Type 0 where
   -- the events are one history from the first position on, which has no gap
   pub events : List Event
   pub history : IsHistory config.first events
   pub input : List ℕ
-  pub read : given' ≡ given ++ input
+  pub read : r'.given ≡ r.given ++ input
   pub output : List ℕ
-  pub wrote : taken' ≡ taken ++ output
+  pub wrote : w'.taken ≡ w.taken ++ output
   -- their sessions and commands begin those of the input
-  pub begins : BeginWith format config.seats input ended (calls_of events)
-  pub ends : EndsBy format (config.first + length events ≡ most) config input ended events output e
+  pub begins : BeginWith format config.seats input r'.ended (calls_of events)
+  pub ends : EndsBy format (config.first + length events ≡ most) config input r'.ended events output e
   pub opened : IsOpenAt config e
-
--- how often reads and writes failed before the run and after it: what waits is written also where a read has failed
-abbrev pub FailsBy : End → ℕ → ℕ → ℕ → ℕ → Type 0
-FailsBy end.Input reads reads' writes writes' = (reads' ≡ reads + 1) × (writes' ≡ writes)
-FailsBy end.Output reads reads' writes writes' = (reads ≤ reads') × (reads' ≤ reads + 1) × (writes' ≡ writes + 1)
-FailsBy _ reads reads' writes writes' = (reads' ≡ reads) × (writes' ≡ writes)
+  pub failed : FailsBy e r w r' w'

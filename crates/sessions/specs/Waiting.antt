@@ -1,9 +1,8 @@
 -- The bytes of an input that were read and not yet taken, and what comes next in them.
-use Rattle.std.specs.Prelude.{◌≡◌, ℕ, ◌+◌, ◌-◌, ◌<◌, ◌≤◌, ◌⊎◌, Bool, true, false, List, [], ◌++◌, length, take, drop, position, Some, None}
+use Rattle.std.specs.Prelude.{◌≡◌, ℕ, ◌+◌, ◌-◌, ◌<◌, ◌≤◌, ◌⊎◌, Bool, true, false, List, ◌++◌, length, take, drop, position, Some, None}
 use Rattle.text_format.specs.declared.Format.{Format}
 use Rattle.text_format.specs.Limits.{line_limit}
-use Rattle.sessions.specs.declared.lines.Next.{Next}
-use Rattle.sessions.specs.declared.lines.Next.TheVariants.{Line, More, End}
+use Rattle.sessions.specs.Devices.{Reads, with_failed_read}
 use Rattle.sessions.specs.declared.lines.Lines.{Lines}
 use Rattle.script.specs.Lines.{is_newline}
 
@@ -26,11 +25,13 @@ IsLine l n =
     ((at : ℕ) × (Some at ≡ position is_newline (waiting l)) × (n ≡ at + 1))
     ⊎ ((None ≡ position is_newline (waiting l)) × (n ≡ length (waiting l)) × (0 < n) × ((l.ended ≡ true) ⊎ (line_limit l.format < n)))
 
--- what is said of what waits
-abbrev pub IsNext : Lines → Next → Type 0
-IsNext l (Line n) = (n ≤ length (waiting l)) × IsLine l n
-IsNext l More = (None ≡ position is_newline (waiting l)) × (length (waiting l) ≤ line_limit l.format) × (l.ended ≡ false)
-IsNext l End = (waiting l ≡ []) × (l.ended ≡ true)
+-- neither a whole line waits, nor more bytes than a line may have, and the input may go on
+abbrev pub WantsMore : Lines → Type 0
+WantsMore l = (None ≡ position is_newline (waiting l)) × (length (waiting l) ≤ line_limit l.format) × (l.ended ≡ false)
+
+-- where no whole line waits, more bytes wait than a line may have, or the input is at its end
+abbrev pub HasEnough : Lines → Type 0
+HasEnough l = None ≡ position is_newline (waiting l) → (l.ended ≡ true) ⊎ (line_limit l.format < length (waiting l))
 
 -- the bytes that wait stand at the front of the block
 pub record IsMoved (old new : Lines) : Type 0 where
@@ -41,10 +42,18 @@ pub record IsMoved (old new : Lines) : Type 0 where
   pub format : new.format ≡ old.format
 
 -- one read: what it gave waits behind the rest, and the end is known where it was found; where it wasn't, a byte at least was given
-pub record IsRead (old new : Lines) (given given' : List ℕ) (ended' : Bool) : Type 0 where
+pub record IsRead (old new : Lines) (r r' : Reads) : Type 0 where
   pub got : List ℕ
-  pub gave : given' ≡ given ++ got
+  pub gave : r'.given ≡ r.given ++ got
   pub waits : waiting new ≡ waiting old ++ got
-  pub found : new.ended ≡ ended'
+  pub found : new.ended ≡ r'.ended
   pub some : new.ended ≡ false → 0 < length got
   pub format : new.format ≡ old.format
+  pub worked : r'.failures ≡ r.failures
+
+-- a read failed, and all stays as it was
+pub record IsUnread (old new : Lines) (r r' : Reads) : Type 0 where
+  pub waits : waiting new ≡ waiting old
+  pub ended : new.ended ≡ old.ended
+  pub format : new.format ≡ old.format
+  pub failed : r' ≡ with_failed_read r

@@ -1,8 +1,11 @@
--- What writes did to bytes that were to be written.
-use Rattle.std.specs.Prelude.{◌≡◌, List, ℕ, ◌+◌, ◌++◌}
+-- What writes did to bytes that were to be written, and how reading or writing a whole ends.
+use Rattle.std.specs.Prelude.{◌≡◌, List, [], true, ℕ, ◌+◌, ◌++◌, Result, Ok, Err, Vec}
+use Rattle.std.specs.Global.{Global}
 use Rattle.sessions.specs.declared.output.Output.{Output}
-use Rattle.sessions.specs.declared.ending.End.{End}
-use Rattle.sessions.specs.declared.ending.End.TheVariants as end
+use Rattle.sessions.specs.declared.sink.WriteFailed.{WriteFailed}
+use Rattle.sessions.specs.declared.ending.ServeEnd.{ServeEnd}
+use Rattle.sessions.specs.declared.ending.ServeEnd.TheVariants as end
+use Rattle.sessions.specs.Devices.{Reads, Writes}
 
 -- the bytes that wait to be written
 abbrev pub pending_of : Output → List ℕ
@@ -18,14 +21,21 @@ pub record HasTaken (taken taken' bytes rest : List ℕ) : Type 0 where
 abbrev pub HasBegun : List ℕ → List ℕ → List ℕ → Type 0
 HasBegun taken taken' bytes = (rest : List ℕ) × HasTaken taken taken' bytes rest
 
--- how the reading of a whole input fails, where reads had failed so often before it and so often after it
-abbrev pub StopsReading : End → ℕ → ℕ → Type 0
-StopsReading end.Input reads reads' = reads' ≡ reads + 1
-StopsReading end.Memory reads reads' = reads' ≡ reads
-StopsReading _ reads reads' = ⊥
+-- of bytes that were to be written these are left, and no write failed; or one did, which was the last
+abbrev pub HasWritten : Writes → Writes → (bytes rest : List ℕ) → Result (Unit {0}) WriteFailed → Type 0
+HasWritten w w' bytes rest (Ok _) = HasTaken w.taken w'.taken bytes rest × (w'.failures ≡ w.failures)
+HasWritten w w' bytes rest (Err _) = HasBegun w.taken w'.taken bytes × (w'.failures ≡ w.failures + 1)
 
--- how the writing of a whole output fails
-abbrev pub StopsWriting : End → ℕ → ℕ → Type 0
-StopsWriting end.Output writes writes' = writes' ≡ writes + 1
-StopsWriting end.Memory writes writes' = writes' ≡ writes
-StopsWriting _ writes writes' = ⊥
+-- a source was read to its end; or a read failed, which was the last; or memory was wanted
+abbrev pub IsReadWhole : Reads → Reads → Result (Vec ℕ Global) ServeEnd → Type 0
+IsReadWhole r r' (Ok whole) = (r'.given ≡ r.given ++ whole.items) × (r'.ended ≡ true) × (r'.failures ≡ r.failures)
+IsReadWhole r r' (Err end.Input) = r'.failures ≡ r.failures + 1
+IsReadWhole r r' (Err end.Memory) = r'.failures ≡ r.failures
+IsReadWhole r r' (Err _) = ⊥
+
+-- a text was written whole; or a write failed, which was the last; or memory was wanted
+abbrev pub IsWrittenWhole : List ℕ → Writes → Writes → Result (Unit {0}) ServeEnd → Type 0
+IsWrittenWhole text w w' (Ok _) = HasTaken w.taken w'.taken text [] × (w'.failures ≡ w.failures)
+IsWrittenWhole text w w' (Err end.Output) = HasBegun w.taken w'.taken text × (w'.failures ≡ w.failures + 1)
+IsWrittenWhole text w w' (Err end.Memory) = HasBegun w.taken w'.taken text × (w'.failures ≡ w.failures)
+IsWrittenWhole text w w' (Err _) = ⊥

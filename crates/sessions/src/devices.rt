@@ -1,5 +1,6 @@
 //! Any reader as a source, and any writer as a sink.
-ghost use Rattle.std.specs.Prelude.{◌≡◌, ◌≤◌, ◌<◌, ◌+◌, ◌==◌, ◌++◌, [], false, take, length, IfOk, OnOk, OnErr};
+ghost use Rattle.std.specs.Prelude.{◌≡◌, ◌≤◌, ◌<◌, [], false, take, length, IfOk, OnErr};
+ghost use Rattle.sessions.specs.Devices.{reads_of, writes_of, with_given, with_failed_read, with_taken, with_failed_write};
 ghost use Rattle.std.specs.Io.KnownBytes.{ReadConsumes, WriteAppends};
 
 use crate::sink::{Sink, WriteFailed};
@@ -34,20 +35,12 @@ impl<R: Read> Reading<R> {
 }
 
 impl<R: Read> Source for Reading<R> {
-    ghost given = { λ s. s.given.bytes };
-
-    ghost ended = { λ s. s.ended };
-
-    ghost failures = { λ s. length s.failed.bytes };
+    ghost reads = { reads_of };
 
     fn read(&mut self, block: &mut [u8]) -> Result<usize, ReadFailed>
         ensures count { IfOk result (λ n. n ≤ length block.new) }
-        ensures given { IfOk result (λ n. self.new.given.bytes ≡ self.old.given.bytes ++ take n block.new) }
-        ensures ended { IfOk result (λ n. self.new.ended ≡ (n == 0)) }
-        ensures worked { OnOk result (length self.new.failed.bytes ≡ length self.old.failed.bytes) }
-        ensures nothing { OnErr result (self.new.given.bytes ≡ self.old.given.bytes) }
-        ensures still { OnErr result (self.new.ended ≡ self.old.ended) }
-        ensures failed { OnErr result (length self.new.failed.bytes ≡ length self.old.failed.bytes + 1) }
+        ensures given { IfOk result (λ n. reads_of self.new ≡ with_given (reads_of self.old) (take n block.new)) }
+        ensures failed { OnErr result (reads_of self.new ≡ with_failed_read (reads_of self.old)) }
         // where the reader tells its bytes, these are they
         ensures known { ReadConsumes (R.remaining self.old.reader) (R.remaining self.new.reader) result block.new }
     {
@@ -91,17 +84,13 @@ impl<W: Write> Writing<W> {
 }
 
 impl<W: Write> Sink for Writing<W> {
-    ghost taken = { λ s. s.taken.bytes };
-
-    ghost failures = { λ s. length s.failed.bytes };
+    ghost writes = { writes_of };
 
     fn write(&mut self, bytes: &[u8]) -> Result<usize, WriteFailed>
         ensures least { IfOk result (λ n. 0 < n) }
         ensures most { IfOk result (λ n. n ≤ length bytes.now) }
-        ensures taken { IfOk result (λ n. self.new.taken.bytes ≡ self.old.taken.bytes ++ take n bytes.now) }
-        ensures worked { OnOk result (length self.new.failed.bytes ≡ length self.old.failed.bytes) }
-        ensures nothing { OnErr result (self.new.taken.bytes ≡ self.old.taken.bytes) }
-        ensures failed { OnErr result (length self.new.failed.bytes ≡ length self.old.failed.bytes + 1) }
+        ensures taken { IfOk result (λ n. writes_of self.new ≡ with_taken (writes_of self.old) (take n bytes.now)) }
+        ensures failed { OnErr result (writes_of self.new ≡ with_failed_write (writes_of self.old)) }
         // where the writer tells its bytes, these are they
         ensures known { WriteAppends (W.contents self.old.writer) (W.contents self.new.writer) result bytes.now }
     {

@@ -1,13 +1,15 @@
 //! How a run ends.
 ghost use Rattle.std.specs.Prelude.{◌≡◌};
 
+use crate::sink::WriteFailed;
+use crate::source::ReadFailed;
 use shared_db::OpenError;
 use std::alloc::AllocError;
 use word_lines::fault::LineFault;
 
 /// Why a run came to its end. Lines are counted from 1.
 #[derive(Clone, Copy, Debug, PartialEq, Eq)]
-pub enum End {
+pub enum ServeEnd {
     /// All of the input was taken, and all of the output written.
     Done,
     /// A line of the input is faulty. The output says which, as its last line.
@@ -24,22 +26,42 @@ pub enum End {
     Memory,
 }
 
-impl From<AllocError> for End {
-    ghost use Rattle.sessions.specs.declared.ending.End.TheVariants as end;
+impl From<AllocError> for ServeEnd {
+    ghost use Rattle.sessions.specs.declared.ending.ServeEnd.TheVariants as end;
 
     ghost from_gives = { λ _ e. e ≡ end.Memory };
 
-    fn from(_failed: AllocError) -> End {
-        End::Memory
+    fn from(_failed: AllocError) -> ServeEnd {
+        ServeEnd::Memory
     }
 }
 
-impl From<OpenError> for End {
-    ghost use Rattle.sessions.specs.declared.ending.End.TheVariants as end;
+impl From<OpenError> for ServeEnd {
+    ghost use Rattle.sessions.specs.declared.ending.ServeEnd.TheVariants as end;
 
     ghost from_gives = { λ reason e. e ≡ end.Open reason };
 
-    fn from(refused: OpenError) -> End {
-        End::Open(refused)
+    fn from(refused: OpenError) -> ServeEnd {
+        ServeEnd::Open(refused)
+    }
+}
+
+impl From<ReadFailed> for ServeEnd {
+    ghost use Rattle.sessions.specs.declared.ending.ServeEnd.TheVariants as end;
+
+    ghost from_gives = { λ _ e. e ≡ end.Input };
+
+    fn from(_failed: ReadFailed) -> ServeEnd {
+        ServeEnd::Input
+    }
+}
+
+impl From<WriteFailed> for ServeEnd {
+    ghost use Rattle.sessions.specs.declared.ending.ServeEnd.TheVariants as end;
+
+    ghost from_gives = { λ _ e. e ≡ end.Output };
+
+    fn from(_failed: WriteFailed) -> ServeEnd {
+        ServeEnd::Output
     }
 }

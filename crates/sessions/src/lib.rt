@@ -50,8 +50,8 @@ mod source;
 mod whole;
 
 pub use devices::{Reading, Writing};
-pub use ending::End;
-pub use lines::{Lines, Next};
+pub use ending::ServeEnd;
+pub use lines::Lines;
 pub use output::Output;
 pub use serving::serve;
 pub use shared_db::{Config, OpenError};

@@ -2,20 +2,21 @@
 //!
 //! ```text
 //! let mut lines = Lines::new(alloc, Format::One)?;   waits: nothing
-//! lines.next()                  More
-//! lines.read_more(source)?                        waits: 0 begin 10\n0 put 1
-//! lines.next()                  Line(11)
+//! lines.next_line(..)?          Some(11)          waits: 0 begin 10\n0 put 1
 //! lines.line(11)                "0 begin 10\n"
 //! lines.advance(11)                               waits: 0 put 1
-//! lines.next()                  More
+//! lines.next_line(..)?          Some(10)          waits: 0 put 1, and what the next read gave
 //! ```
 //!
-//! A front end asks for what is [`next`](Lines::next): of a line it takes what it needs and advances, and where
-//! more has to be read it first writes what it owes, since a read may wait.
-ghost use Rattle.std.specs.Prelude.{◌≡◌, ◌≤◌, ◌<◌, ◌+◌, ◌-◌, [], false, position, take, drop, length, vec_len, IfOk, IfSome, OnOk, OnErr};
+//! A front end asks for the [`next_line`](Lines::next_line), takes what it needs of it and advances. Where more has to
+//! be read, what the front end owes is written first, since a read may wait.
+ghost use Rattle.std.specs.Prelude.{◌≡◌, ◌≤◌, ◌<◌, ◌+◌, ◌-◌, [], true, false, position, take, drop, length, vec_len, IfOk, IfSome, OnOk, OnErr};
 ghost use Rattle.script.specs.Lines.{is_newline};
 ghost use Rattle.text_format.specs.Limits.{line_limit};
 
+use crate::ending::ServeEnd;
+use crate::output::Output;
+use crate::sink::Sink;
 use crate::source::{ReadFailed, Source};
 use memchr::memchr;
 use std::alloc::{AllocError, Global};
@@ -23,18 +24,6 @@ use text_format::Format;
 
 /// How many bytes are asked for at once at least, whatever waits.
 pub(crate) const BLOCK: usize = 65536;
-
-/// What the bytes that were read so far hold next.
-#[derive(Clone, Copy, Debug, PartialEq, Eq)]
-pub enum Next {
-    /// A line of this many bytes, its newline among them. The last line of an input may have none, and
-    /// more bytes than the format lets a line have are handed out as one, as soon as they are there.
-    Line(usize),
-    /// No whole line, and no more bytes than a line may have: more has to be read.
-    More,
-    /// Nothing, and the input is at its end.
-    End,
-}
 
 /// The bytes of an input that were read and wait to be taken, line by line. It has no device: each read
 /// is handed one.
@@ -56,7 +45,8 @@ pub struct Lines {
 }
 
 impl Lines {
-    ghost use Rattle.sessions.specs.Waiting.{waiting, has_ended, format_of, IsNext, IsRead, IsMoved};
+    ghost use Rattle.sessions.specs.Waiting.{waiting, has_ended, format_of, WantsMore, HasEnough, IsRead, IsUnread, IsMoved};
+    ghost use Rattle.sessions.specs.NextLines.{IsNextLine, HasReadOn, IsSought};
 
     /// No bytes yet. Its block has room for one line of the format, and for the bytes that are asked for at once behind
     /// it.
@@ -81,25 +71,43 @@ impl Lines {
         &self.block[self.start..self.end]
     }
 
-    /// What comes next.
-    pub fn next(&self) -> Next
-        ensures { IsNext self.now result }
+    /// Finds the next line, and reads as often as that takes: how many bytes it has, or none where the input is at its
+    /// end. Before each read all output that waits is written, since a read may wait.
+    pub fn next_line<S: Source, K: Sink>(
+        &mut self,
+        source: &mut S,
+        output: &mut Output,
+        sink: &mut K,
+    ) -> Result<Option<usize>, ServeEnd>
+        ensures read { HasReadOn self.old self.new (S.reads source.old) (S.reads source.new) }
+        ensures sought { IsSought self.new (S.reads source.old) (S.reads source.new) (K.writes sink.old) (K.writes sink.new) output.old output.new result }
     {
-        if let Some(at) = self.newline {
-            return Next::Line(at + 1);
+        while self.wants_more() {
+            output.write_out(sink)?;
+            self.read_more(source)?;
         }
-        let bytes = self.waiting();
+        Ok(self.first_line())
+    }
+
+    /// Whether more has to be read before it is known what comes next.
+    fn wants_more(&self) -> bool
+        ensures more { result ≡ true → WantsMore self.now }
+        ensures enough { result ≡ false → HasEnough self.now }
+    {
         // a line that grows past its limit is handed out as it is
-        if bytes.len() > self.format.line_limit() {
-            return Next::Line(bytes.len());
+        self.newline.is_none() && !self.ended && self.end - self.start <= self.format.line_limit()
+    }
+
+    /// How many bytes the line has that is there, or none at the end of the input. Its last line may have no newline.
+    fn first_line(&self) -> Option<usize>
+        requires { HasEnough self.now }
+        ensures { IsNextLine self.now result }
+    {
+        match self.newline {
+            Some(at) => Some(at + 1),
+            None if self.start == self.end => None,
+            None => Some(self.end - self.start),
         }
-        if !self.ended {
-            return Next::More;
-        }
-        if bytes.is_empty() {
-            return Next::End;
-        }
-        Next::Line(bytes.len())
     }
 
     /// The first bytes that wait, lent where they lie.
@@ -122,32 +130,18 @@ impl Lines {
     }
 
     /// Reads once, behind what waits. It may wait for the source. Where the read fails all stays as it was.
-    pub fn read_more<S: Source>(&mut self, source: &mut S) -> Result<(), ReadFailed>
-        requires room { length (waiting self.old) ≤ line_limit (format_of self.old) }
-        requires open { has_ended self.old ≡ false }
-        ensures read { OnOk result (IsRead self.old self.new (S.given source.old) (S.given source.new) (S.ended source.new)) }
-        ensures worked { OnOk result (S.failures source.new ≡ S.failures source.old) }
-        ensures format { format_of self.new ≡ format_of self.old }
-        ensures waits { OnErr result ((waiting self.new ≡ waiting self.old) × (has_ended self.new ≡ has_ended self.old)) }
-        ensures nothing { OnErr result (S.given source.new ≡ S.given source.old) }
-        ensures still { OnErr result (S.ended source.new ≡ S.ended source.old) }
-        ensures failed { OnErr result (S.failures source.new ≡ S.failures source.old + 1) }
+    fn read_more<S: Source>(&mut self, source: &mut S) -> Result<(), ReadFailed>
+        requires { WantsMore self.old }
+        ensures read { OnOk result (IsRead self.old self.new (S.reads source.old) (S.reads source.new)) }
+        ensures failed { OnErr result (IsUnread self.old self.new (S.reads source.old) (S.reads source.new)) }
     {
         self.move_to_front();
-        match source.read(&mut self.block[self.end..]) {
-            Err(failed) => Err(failed),
-            Ok(count) => {
-                self.ended = count == 0;
-                // after the move what waits begins the block
-                self.newline = newline_with(
-                    self.newline,
-                    &self.block[..self.end + count],
-                    self.end,
-                );
-                self.end += count;
-                Ok(())
-            }
-        }
+        let count = source.read(&mut self.block[self.end..])?;
+        self.ended = count == 0;
+        // after the move what waits begins the block
+        self.newline = newline_with(self.newline, &self.block[..self.end + count], self.end);
+        self.end += count;
+        Ok(())
     }
 
     /// Makes room behind what waits.

@@ -7,11 +7,12 @@
 //! output.write_full(sink)?                 as before: it is less than 65536 bytes
 //! output.write_out(sink)?                  waits: nothing
 //! ```
-ghost use Rattle.std.specs.Prelude.{◌≡◌, ◌≤◌, ◌<◌, ◌+◌, ◌++◌, [], length, IfOk, OnOk, OnErr};
+ghost use Rattle.std.specs.Prelude.{◌≡◌, ◌++◌, [], IfOk, OnOk, OnErr};
 ghost use Rattle.word_lines.specs.Events.{event_text, fault_line, spent_line};
-ghost use Rattle.sessions.specs.Writing.{pending_of, HasTaken, HasBegun};
+ghost use Rattle.sessions.specs.Writing.{pending_of, HasWritten};
 
 use crate::sink::{Sink, WriteFailed};
+use crate::whole::write_whole;
 use spans::calls::Event;
 use std::alloc::{AllocError, Global};
 use word_lines::events::{write_event, write_fault, write_spent};
@@ -69,10 +70,7 @@ impl Output {
 
     /// Writes what waits where that is a block or more, as `write_out` does.
     pub fn write_full<K: Sink>(&mut self, sink: &mut K) -> Result<(), WriteFailed>
-        ensures ok { OnOk result (HasTaken (K.taken sink.old) (K.taken sink.new) (pending_of self.old) (pending_of self.new)) }
-        ensures err { OnErr result (HasBegun (K.taken sink.old) (K.taken sink.new) (pending_of self.old)) }
-        ensures worked { OnOk result (K.failures sink.new ≡ K.failures sink.old) }
-        ensures failed { OnErr result (K.failures sink.new ≡ K.failures sink.old + 1) }
+        ensures { HasWritten (K.writes sink.old) (K.writes sink.new) (pending_of self.old) (pending_of self.new) result }
     {
         if self.pending.len() < BLOCK {
             return Ok(());
@@ -82,31 +80,11 @@ impl Output {
 
     /// Writes all that waits. Where it fails a part of it is written, and nothing more is to be.
     pub fn write_out<K: Sink>(&mut self, sink: &mut K) -> Result<(), WriteFailed>
-        ensures ok { OnOk result (HasTaken (K.taken sink.old) (K.taken sink.new) (pending_of self.old) (pending_of self.new)) }
-        ensures none { OnOk result (pending_of self.new ≡ []) }
-        ensures err { OnErr result (HasBegun (K.taken sink.old) (K.taken sink.new) (pending_of self.old)) }
-        ensures worked { OnOk result (K.failures sink.new ≡ K.failures sink.old) }
-        ensures failed { OnErr result (K.failures sink.new ≡ K.failures sink.old + 1) }
+        ensures written { HasWritten (K.writes sink.old) (K.writes sink.new) (pending_of self.old) (pending_of self.new) result }
+        ensures all { OnOk result (pending_of self.new ≡ []) }
     {
-        write_all(sink, self.pending.as_slice())?;
+        write_whole(sink, self.pending.as_slice())?;
         self.pending.clear();
         Ok(())
     }
-}
-
-/// Writes the bytes, in as many pieces as the device takes. Where it fails, those before are written.
-pub(crate) fn write_all<K: Sink>(sink: &mut K, bytes: &[u8]) -> Result<(), WriteFailed>
-    ensures ok { OnOk result (HasTaken (K.taken sink.old) (K.taken sink.new) bytes.now []) }
-    ensures err { OnErr result (HasBegun (K.taken sink.old) (K.taken sink.new) bytes.now) }
-    ensures worked { OnOk result (K.failures sink.new ≡ K.failures sink.old) }
-    ensures failed { OnErr result (K.failures sink.new ≡ K.failures sink.old + 1) }
-{
-    let mut rest = bytes;
-    while !rest.is_empty() {
-        match sink.write(rest) {
-            Err(failed) => return Err(failed),
-            Ok(count) => rest = &rest[count..],
-        }
-    }
-    Ok(())
 }

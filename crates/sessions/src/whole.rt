@@ -1,39 +1,29 @@
 //! Whole inputs and whole outputs, for a program that answers once it has read everything.
-ghost use Rattle.std.specs.Prelude.{◌≡◌, ◌<◌, ◌++◌, [], true, vec_len, IfOk, IfErr, OnOk, OnErr};
+ghost use Rattle.std.specs.Prelude.{◌<◌, [], vec_len, IfOk};
 ghost use Rattle.script.specs.Transcripts.{transcript_text};
-ghost use Rattle.sessions.specs.declared.ending.End.TheVariants as end;
-ghost use Rattle.sessions.specs.Writing.{HasTaken, HasBegun, StopsReading, StopsWriting};
+ghost use Rattle.sessions.specs.Writing.{HasWritten, IsReadWhole, IsWrittenWhole};
 
-use crate::ending::End;
+use crate::ending::ServeEnd;
 use crate::lines::BLOCK;
-use crate::output::{Output, write_all};
-use crate::sink::Sink;
+use crate::output::Output;
+use crate::sink::{Sink, WriteFailed};
 use crate::source::Source;
 use spans::calls::Event;
 use std::alloc::{AllocError, Global};
 use text_format::Format;
 
 /// Reads a source to its end.
-pub fn read_whole<S: Source>(alloc: Global, source: &mut S) -> Result<Vec<u8>, End>
-    ensures whole { IfOk result (λ whole. S.given source.new ≡ S.given source.old ++ whole.items) }
-    ensures ended { OnOk result (S.ended source.new ≡ true) }
-    ensures worked { OnOk result (S.failures source.new ≡ S.failures source.old) }
-    ensures failed { IfErr result (λ end. StopsReading end (S.failures source.old) (S.failures source.new)) }
+pub fn read_whole<S: Source>(alloc: Global, source: &mut S) -> Result<Vec<u8>, ServeEnd>
+    ensures { IsReadWhole (S.reads source.old) (S.reads source.new) result }
 {
-    let mut block = match room(alloc) {
-        Ok(block) => block,
-        Err(_) => return Err(End::Memory),
-    };
+    let mut block = room(alloc)?;
     let mut whole = Vec::new(alloc);
     for _turn in 0..u64::MAX {
-        match source.read(&mut block) {
-            Ok(0) => return Ok(whole),
-            Ok(count) => match whole.extend_from_slice(&block[..count]) {
-                Ok(()) => {}
-                Err(_) => return Err(End::Memory),
-            },
-            Err(_) => return Err(End::Input),
+        let count = source.read(&mut block)?;
+        if count == 0 {
+            return Ok(whole);
         }
+        whole.extend_from_slice(&block[..count])?;
     }
     // each turn has read a byte, and no list is so long
     unreachable!()
@@ -46,18 +36,16 @@ fn room(alloc: Global) -> Result<Vec<u8>, AllocError>
     vec![in alloc; 0u8; BLOCK]
 }
 
-/// Writes the bytes, in as many pieces as the device takes.
-pub fn write_whole<K: Sink>(sink: &mut K, bytes: &[u8]) -> Result<(), End>
-    ensures ok { OnOk result (HasTaken (K.taken sink.old) (K.taken sink.new) bytes.now []) }
-    ensures worked { OnOk result (K.failures sink.new ≡ K.failures sink.old) }
-    ensures err { OnErr result (HasBegun (K.taken sink.old) (K.taken sink.new) bytes.now) }
-    ensures failed { IfErr result (λ end. StopsWriting end (K.failures sink.old) (K.failures sink.new)) }
-    ensures output { IfErr result (λ e. e ≡ end.Output) }
+/// Writes the bytes, in as many pieces as the device takes. Where it fails, those before are written.
+pub fn write_whole<K: Sink>(sink: &mut K, bytes: &[u8]) -> Result<(), WriteFailed>
+    ensures { HasWritten (K.writes sink.old) (K.writes sink.new) bytes.now [] result }
 {
-    match write_all(sink, bytes) {
-        Ok(()) => Ok(()),
-        Err(_) => Err(End::Output),
+    let mut rest = bytes;
+    while !rest.is_empty() {
+        let count = sink.write(rest)?;
+        rest = &rest[count..];
     }
+    Ok(())
 }
 
 /// Writes the transcript of events in a format: its header, and their texts, in large blocks.
@@ -66,32 +54,15 @@ pub fn write_transcript<K: Sink>(
     sink: &mut K,
     format: Format,
     events: &[Event],
-) -> Result<(), End>
-    ensures ok { OnOk result (HasTaken (K.taken sink.old) (K.taken sink.new) (transcript_text format events.now) []) }
-    ensures worked { OnOk result (K.failures sink.new ≡ K.failures sink.old) }
-    ensures err { OnErr result (HasBegun (K.taken sink.old) (K.taken sink.new) (transcript_text format events.now)) }
-    ensures failed { IfErr result (λ end. StopsWriting end (K.failures sink.old) (K.failures sink.new)) }
+) -> Result<(), ServeEnd>
+    ensures { IsWrittenWhole (transcript_text format events.now) (K.writes sink.old) (K.writes sink.new) result }
 {
-    let mut output = match Output::new(alloc) {
-        Ok(output) => output,
-        Err(_) => return Err(End::Memory),
-    };
-    match output.keep(format.header()) {
-        Ok(()) => {}
-        Err(_) => return Err(End::Memory),
-    }
+    let mut output = Output::new(alloc)?;
+    output.keep(format.header())?;
     for event in events {
-        match output.keep_event(event) {
-            Ok(()) => {}
-            Err(_) => return Err(End::Memory),
-        }
-        match output.write_full(sink) {
-            Ok(()) => {}
-            Err(_) => return Err(End::Output),
-        }
+        output.keep_event(event)?;
+        output.write_full(sink)?;
     }
-    match output.write_out(sink) {
-        Ok(()) => Ok(()),
-        Err(_) => Err(End::Output),
-    }
+    output.write_out(sink)?;
+    Ok(())
 }

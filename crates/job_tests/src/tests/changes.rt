@@ -5,7 +5,7 @@ use super::devices::{Sink, Source};
 use super::histories::{Opened, history, opened_in, put_told};
 use super::playing::{follow, ran};
 use super::random::Dice;
-use jobs::{End, FollowFault, FollowOptions, SeedError, Shown, Start, seed_of};
+use follow::{FollowEnd, FollowFault, FollowOptions, SeedError, Shown, Start, seed_of};
 use std::alloc::{AllocError, Global};
 use std::collections::BTreeMap;
 use std::sync::Wait;
@@ -158,7 +158,7 @@ fn resumed(
     feed: Option<u64>,
     shown: Shown,
     input: &[u8],
-) -> Option<(End, Vec<u8>)> {
+) -> Option<(FollowEnd, Vec<u8>)> {
     let seed = seed_of(alloc, seed).ok()?;
     let options = FollowOptions {
         span: seed.span,
@@ -182,7 +182,7 @@ fn is_resumed(
     seed: &[u8],
     shown: Shown,
     input: &[u8],
-    end: End,
+    end: FollowEnd,
     told: &[u8],
 ) -> bool {
     match resumed(alloc, seed, None, shown, input) {
@@ -205,7 +205,7 @@ fn a_feed_goes_on_from_a_seed(rt: HostRuntime) -> Result<(), Fail> {
         let (end, output) = resumed(rt.alloc(), &transcript, Some(1), shown, &transcript).ok_or(
             "it has a seed",
         )?;
-        assert!(rt; end == End::Done && output.as_slice() == told);
+        assert!(rt; end == FollowEnd::Done && output.as_slice() == told);
     }
     Ok(())
 }
@@ -213,7 +213,7 @@ fn a_feed_goes_on_from_a_seed(rt: HostRuntime) -> Result<(), Fail> {
 #[test]
 fn seeds_that_cannot_be(rt: HostRuntime) {
     let input = b"{\"resolved\":\"6\"}\n".as_slice();
-    let notafter = End::Unfollowed {
+    let notafter = FollowEnd::Fault {
         line: 0,
         fault: FollowFault::NotAfter,
     };
@@ -228,7 +228,7 @@ fn seeds_that_cannot_be(rt: HostRuntime) {
             b"fault 0 21 notafter\n"
         )
     );
-    let outside = End::Unfollowed {
+    let outside = FollowEnd::Fault {
         line: 0,
         fault: FollowFault::OutsideSpan,
     };
@@ -250,7 +250,7 @@ fn seeds_that_cannot_be(rt: HostRuntime) {
             within,
             Shown::Rows,
             input,
-            End::Done,
+            FollowEnd::Done,
             b"resolved 6 1\nrow a 1\n"
         )
     );

@@ -1,8 +1,11 @@
 //! What the program's command lines ask for, and what it leaves its caller.
 
-use command_line::status::{sentence_of, status_of};
+use command_line::status::{
+    Sentence, sentence_of, sentence_of_follower, status_of, status_of_follower,
+};
 use command_line::{Job, command, job_in};
-use jobs::{End, FollowFault, FollowOptions, span_of};
+use follow::{FollowEnd, FollowFault, FollowOptions, span_of};
+use jobs::End;
 use sessions::OpenError;
 use std::alloc::{AllocError, Global};
 use word_lines::fault::LineFault;
@@ -152,10 +155,9 @@ fn is_followed(alloc: Global, options: &FollowOptions, wanted: &str) -> Option<b
     Some(options.span == span && told.as_str() == rest)
 }
 
-/// Each end but those of faulty lines, with its status and its sentence.
-const ENDS: [(End, u8, &str); 11] = [
+/// Each end of a job but those of faulty lines, with its status and its sentence.
+const ENDS: [(End, u8, &str); 10] = [
     (End::Done, 0, ""),
-    (End::NoMessages, 0, "the input has no message to follow"),
     (
         End::No { position: 7 },
         3,
@@ -169,6 +171,20 @@ const ENDS: [(End, u8, &str); 11] = [
     (End::Memory, 1, "memory"),
     (End::Thread, 1, "thread"),
     (End::Spent, 1, "spent"),
+];
+
+/// Each end of a follower but those of faulty lines, with its status and its sentence.
+const FOLLOW_ENDS: [(FollowEnd, u8, &str); 6] = [
+    (FollowEnd::Done, 0, ""),
+    (
+        FollowEnd::NoMessages,
+        0,
+        "the input has no message to follow",
+    ),
+    (FollowEnd::Input, 1, "input"),
+    (FollowEnd::Output, 1, "output"),
+    (FollowEnd::Memory, 1, "memory"),
+    (FollowEnd::Spent, 1, "spent"),
 ];
 
 /// Each fault of a script or of a transcript, with its sentence at line 2.
@@ -266,13 +282,23 @@ fn ends(rt: HostRuntime) {
             "{sentence}"
         );
     }
+}
+
+#[test]
+fn ends_of_followers(rt: HostRuntime) {
+    for (end, status, sentence) in FOLLOW_ENDS {
+        assert!(rt;
+            is_left_by_follower(rt.alloc(), end, status, sentence) == Some(true),
+            "{sentence}"
+        );
+    }
     for (fault, sentence) in FOLLOW_FAULTS {
-        let end = End::Unfollowed {
+        let end = FollowEnd::Fault {
             line: u64::MAX,
             fault,
         };
         assert!(rt;
-            is_left(rt.alloc(), end, 2, sentence) == Some(true),
+            is_left_by_follower(rt.alloc(), end, 2, sentence) == Some(true),
             "{sentence}"
         );
     }
@@ -280,10 +306,16 @@ fn ends(rt: HostRuntime) {
 
 /// Whether an end leaves a status and a sentence, which is none where it is empty.
 fn is_left(alloc: Global, end: End, status: u8, wanted: &str) -> Option<bool> {
-    if status_of(end) != status {
-        return Some(false);
-    }
-    match sentence_of(end) {
+    Some(status_of(end) == status && is_sentence(alloc, sentence_of(end), wanted)?)
+}
+
+fn is_left_by_follower(alloc: Global, end: FollowEnd, status: u8, wanted: &str) -> Option<bool> {
+    let sentence = sentence_of_follower(end);
+    Some(status_of_follower(end) == status && is_sentence(alloc, sentence, wanted)?)
+}
+
+fn is_sentence(alloc: Global, sentence: Option<Sentence>, wanted: &str) -> Option<bool> {
+    match sentence {
         None => Some(wanted.is_empty()),
         Some(sentence) => is_text(wanted, format!(in alloc; "{sentence}")),
     }

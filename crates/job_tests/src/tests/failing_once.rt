@@ -1,7 +1,6 @@
 //! A read that failed isn't tried again, though a second try would give the rest.
-use jobs::{
-    DEFAULTS, End, FollowOptions, RaceOptions, Shown, Start, check_io, follow_io, race_io, run_io,
-};
+use follow::{FollowEnd, FollowOptions, Shown, Start, follow_io};
+use jobs::{DEFAULTS, End, RaceOptions, check_io, race_io, run_io};
 use races::Open;
 use sessions::{ReadFailed, Reading, Source, Writing};
 use spans::span::Span;
@@ -108,7 +107,7 @@ fn a_follower_reads_no_more_once_a_read_has_failed(rt: HostRuntime) {
         format: Format::One,
     };
     let end = follow_io(rt.alloc(), options, &mut input, &mut output);
-    assert!(rt; end == End::Input);
+    assert!(rt; end == FollowEnd::Input);
     assert!(rt; output.writer.as_slice() == b"resolved 5 0\n".as_slice());
     assert!(rt; input.reader.behind.len() == 17);
 }

@@ -3,7 +3,7 @@
 use super::devices::{Sink, Source};
 use super::playing::{follow, ran};
 use super::random::{Dice, put_form};
-use jobs::{FollowOptions, Shown, Start, span_of};
+use follow::{FollowOptions, Shown, Start, span_of};
 use std::alloc::{AllocError, Global};
 use std::sync::Wait;
 use text_format::Format;

@@ -1,5 +1,6 @@
 //! Answers leave before a read that may wait: each read looks whether all that was asked so far is answered.
-use jobs::{DEFAULTS, End, FollowOptions, Shown, Start, follow_io, run_io};
+use follow::{FollowEnd, FollowOptions, Shown, Start, follow_io};
+use jobs::{DEFAULTS, End, run_io};
 use sessions::{Reading, Writing};
 use spans::span::Span;
 use std::alloc::Global;
@@ -159,6 +160,6 @@ fn a_follower_tells_before_it_reads(rt: HostRuntime) {
         format: Format::One,
     };
     let end = follow_io(rt.alloc(), options, &mut input, &mut output);
-    assert!(rt; end == End::Done);
+    assert!(rt; end == FollowEnd::Done);
     assert!(rt; are_in_time(&output.writer, FOLLOW, ""));
 }

@@ -3,7 +3,8 @@ use super::devices::{Sink, Source};
 use super::followed::CACHE;
 use super::playing::{check, follow, is_yes, ran, run};
 use super::random::{Shape, script};
-use jobs::{DEFAULTS, End, FollowOptions, Shown, Start};
+use follow::{FollowEnd, FollowOptions, Shown, Start};
+use jobs::{DEFAULTS, End};
 use spans::span::Span;
 use std::alloc::{AllocError, Global};
 use std::sync::Wait;
@@ -55,7 +56,11 @@ pub(super) fn messages(alloc: Global, rows: u64, resolved: u64) -> Result<Vec<u8
 }
 
 /// How following all keys of messages from 9 on ends, where the output has so much room, and what is written.
-pub(super) fn followed(alloc: Global, messages: &[u8], room: Option<usize>) -> (End, Vec<u8>) {
+pub(super) fn followed(
+    alloc: Global,
+    messages: &[u8],
+    room: Option<usize>,
+) -> (FollowEnd, Vec<u8>) {
     let mut sink = Sink::new(alloc).with_room(room, false);
     let options = FollowOptions {
         span: Span { lo: None, hi: None },

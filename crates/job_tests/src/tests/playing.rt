@@ -1,16 +1,21 @@
 //! What a case asks for, done over readers and writers in memory.
 use super::devices::{Sink, Source};
 use super::unfolding::{Words, unfolded};
-use jobs::{
-    DEFAULTS, Detail, End, FollowOptions, RaceOptions, Shown, Start, check_io, follow_io, race_io,
-    run_io, span_of, state_io,
-};
+use follow::{FollowEnd, FollowOptions, Shown, Start, follow_io, span_of};
+use jobs::{DEFAULTS, Detail, End, RaceOptions, check_io, race_io, run_io, state_io};
 use races::Open;
 use sessions::{Config, OpenError, Reading, Writing};
 use std::alloc::{AllocError, Global};
 use std::sync::Wait;
 use std::thread::Threads;
 use text_format::Format;
+
+/// How what a case asks for ended.
+#[derive(Clone, Copy)]
+enum Ended {
+    Job(End),
+    Follower(FollowEnd),
+}
 
 /// How many bytes are read and written at once.
 const PIECES: [usize; 4] = [1, 7, 4096, usize::MAX];
@@ -83,11 +88,22 @@ fn behind(header: &str, word: &str) -> Option<usize> {
 }
 
 /// The word that a case has for an end.
-fn word_of(end: End) -> &'static str {
+fn word_of(ended: Ended) -> &'static str {
+    match ended {
+        Ended::Job(end) => word_of_job(end),
+        Ended::Follower(FollowEnd::Done) => "done",
+        Ended::Follower(FollowEnd::Fault { .. }) => "faulty",
+        Ended::Follower(FollowEnd::NoMessages) => "nothing",
+        Ended::Follower(FollowEnd::Input) => "input",
+        Ended::Follower(FollowEnd::Output) => "output",
+        Ended::Follower(_) => "other",
+    }
+}
+
+fn word_of_job(end: End) -> &'static str {
     match end {
         End::Done => "done",
-        End::Faulty { .. } | End::Unfollowed { .. } => "faulty",
-        End::NoMessages => "nothing",
+        End::Faulty { .. } => "faulty",
         End::No { .. } => "no",
         End::Input => "input",
         End::Output => "output",
@@ -99,11 +115,15 @@ fn word_of(end: End) -> &'static str {
 }
 
 /// Whether an output ends with the line that tells what its end tells.
-fn is_told(alloc: Global, end: End, output: &[u8]) -> Option<bool> {
-    let line = match end {
-        End::Faulty { line, fault } => fault_line(alloc, line, fault.code(), fault.name()),
-        End::Unfollowed { line, fault } => fault_line(alloc, line, fault.code(), fault.name()),
-        End::No { position } => format!(in alloc; "no {position}\n"),
+fn is_told(alloc: Global, ended: Ended, output: &[u8]) -> Option<bool> {
+    let line = match ended {
+        Ended::Job(End::Faulty { line, fault }) => {
+            fault_line(alloc, line, fault.code(), fault.name())
+        }
+        Ended::Follower(FollowEnd::Fault { line, fault }) => {
+            fault_line(alloc, line, fault.code(), fault.name())
+        }
+        Ended::Job(End::No { position }) => format!(in alloc; "no {position}\n"),
         _ => return Some(true),
     };
     Some(output.ends_with(line.ok()?.as_bytes()))
@@ -120,32 +140,34 @@ fn done<R: Threads + Wait + Sync>(
     header: &str,
     source: Source<'_>,
     sink: &mut Sink,
-) -> Option<End> {
+) -> Option<Ended> {
     let mut words = Words::new(header);
-    match words.word().as_bytes() {
+    let end = match words.word().as_bytes() {
         b"run" => {
             let config = config_of(&mut words)?;
-            Some(run(rt, alloc, config, format_of(header), source, sink))
+            run(rt, alloc, config, format_of(header), source, sink)
         }
-        b"check" => Some(check(alloc, source, sink)),
-        b"state" => Some(state(alloc, detail_of(&mut words), source, sink)),
+        b"check" => check(alloc, source, sink),
+        b"state" => state(alloc, detail_of(&mut words), source, sink),
         b"race" => {
             let mut options = race_options_of(&mut words)?;
             options.format = format_of(header);
-            Some(race(rt, alloc, options, source, sink))
+            race(rt, alloc, options, source, sink)
         }
         b"follow" => {
             let mut options = follow_options_of(alloc, &mut words)?;
             options.format = format_of(header);
-            Some(follow(alloc, options, source, sink))
+            return Some(Ended::Follower(follow(alloc, options, source, sink)));
         }
         _ => {
             let mut played = Sink::new(alloc);
             run(rt, alloc, DEFAULTS, Format::One, source, &mut played);
             let source = Source::new(&played.taken);
-            Some(follow(alloc, follow_options_of(alloc, &mut words)?, source, sink))
+            let options = follow_options_of(alloc, &mut words)?;
+            return Some(Ended::Follower(follow(alloc, options, source, sink)));
         }
-    }
+    };
+    Some(Ended::Job(end))
 }
 
 /// How much of a state a header asks for.
@@ -256,7 +278,7 @@ pub(super) fn follow(
     options: FollowOptions,
     source: Source<'_>,
     sink: &mut Sink,
-) -> End {
+) -> FollowEnd {
     let mut input = Reading::new(source);
     let mut output = Writing::new(sink);
     follow_io(alloc, options, &mut input, &mut output)

@@ -1,20 +1,25 @@
 use Rattle.std.proofs.Common.{refl}
+use Rattle.std.proofs.lemmas.Result.{err_from_is_err_and}
 use Rattle.word_lines.specs.Commands.{command_line}
 use Rattle.sessions.proofs.Steps.{go_call, go_refused, stop_untold, stop_memory, stop_spent}
 use Rattle.sessions.proofs.serving.Run.call.Goals as goal
 
-pub returns-in-Ok-keep_event-clause-ok : goal.returns-in-Ok-keep_event-clause-ok
-returns-in-Ok-keep_event-clause-ok g c = λ given given' taken taken' ended events h. let k = c.in-Ok.ensures in
-    (c.in-Ok.event, go_call given given' taken taken' ended c.args.self.now _ events c.args.seat c.args.cmd c.in-Ok.event c.requires.there c.requires.lawful k.event.0 k.event.1 (k.made events h.made) k.db k.count refl refl c.in-Ok-keep_event.ensures.ok h)
+pub returns-in-Ok-clause-ok : goal.returns-in-Ok-clause-ok
+returns-in-Ok-clause-ok g c = λ r r' w w' events h. let k = c.in-Ok.ensures in
+    (c.in-Ok.event, go_call r r' w w' c.args.self.now _ events c.args.seat c.args.cmd c.in-Ok.event c.requires.there c.requires.lawful k.event.0 k.event.1 (k.made events h.made) k.db k.count refl refl c.in_ok-keep_event-in-Ok.ensures.ok h)
 
-pub returns-in-Ok-clause-err : goal.returns-in-Ok-clause-err
-returns-in-Ok-clause-err g c = λ given given' taken taken' ended events numbered h. let k = c.in-Ok.ensures in
-    stop_untold given given' taken taken' ended c.args.self.now _ events c.args.seat c.args.cmd c.in-Ok.event c.requires.there c.requires.lawful k.event.0 k.event.1 (k.made events h.made) k.db refl c.in-Err-keep_event.ensures.err h
-
-pub returns-in-Ok-keep_spent-clause-err : goal.returns-in-Ok-keep_spent-clause-err
-returns-in-Ok-keep_spent-clause-err g c = λ given given' taken taken' ended events numbered h. let k = c.in-Err.ensures in
-    stop_spent given given' taken taken' ended c.args.self.now _ events c.args.number c.args.seat c.args.cmd c.requires.there c.requires.lawful (k.still events h.made) k.spent k.db refl c.in-Ok-keep_spent.ensures.ok numbered h
+pub returns-in_err-keep_event-in-Ok-clause-err : goal.returns-in_err-keep_event-in-Ok-clause-err
+returns-in_err-keep_event-in-Ok-clause-err g c =
+    let p = err_from_is_err_and c.from_residual.result c.from_residual.ensures.1 in
+    rw (p.1, p.2) (λ r r' w w' events numbered h. let k = c.in-Ok.ensures in
+    stop_untold r r' w w' c.args.self.now _ events c.args.seat c.args.cmd c.in-Ok.event c.requires.there c.requires.lawful k.event.0 k.event.1 (k.made events h.made) k.db refl c.in_err-keep_event-in-Ok.ensures.err h)
 
 pub returns-clause-err : goal.returns-clause-err
-returns-clause-err g c = λ given given' taken taken' ended events numbered h. let k = c.in-Err.ensures in
-    stop_memory (command_line c.args.seat c.args.cmd) given given' taken taken' ended _ events (go_refused (command_line c.args.seat c.args.cmd) given given' taken taken' ended c.args.self.now _ events (k.still events h.made) k.db k.count refl refl c.in-Err-keep_spent.ensures.err h)
+returns-clause-err g c = λ r r' w w' events numbered h. let k = c.in-Err.ensures in
+    stop_spent r r' w w' c.args.self.now _ events c.args.number c.args.seat c.args.cmd c.requires.there c.requires.lawful (k.still events h.made) k.spent k.db refl c.in_ok-keep_spent-in-Err.ensures.ok numbered h
+
+pub returns-in_err-keep_spent-in-Err-clause-err : goal.returns-in_err-keep_spent-in-Err-clause-err
+returns-in_err-keep_spent-in-Err-clause-err g c =
+    let p = err_from_is_err_and c.from_residual-in_err-keep_spent-in-Err.result c.from_residual-in_err-keep_spent-in-Err.ensures.1 in
+    rw (p.1, p.2) (λ r r' w w' events numbered h. let k = c.in-Err.ensures in
+    stop_memory (command_line c.args.seat c.args.cmd) r r' w w' _ events (go_refused (command_line c.args.seat c.args.cmd) r r' w w' c.args.self.now _ events (k.still events h.made) k.db k.count refl refl c.in_err-keep_spent-in-Err.ensures.err h))

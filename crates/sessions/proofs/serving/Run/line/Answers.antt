@@ -1,20 +1,29 @@
 use Rattle.std.proofs.Common.{[], ◌∷◌, ◌++◌, refl}
-use Rattle.sessions.proofs.Steps.{go_on, stop_output}
+use Rattle.std.proofs.lemmas.Result.{err_from_is_err_and}
+use Rattle.sessions.proofs.Steps.{go_on, stop_output, unread}
 use Rattle.sessions.proofs.serving.Run.line.Goals as goal
 
-pub returns-in-Err-clause-err : goal.returns-in-Err-clause-err
-returns-in-Err-clause-err g c = λ given given' taken ended events numbered h. c.in-Err.ensures.err given given' taken (g.K.Sink.taken c.args.output.now) ended events numbered h
+pub returns-in_err-seat-clause-err : goal.returns-in_err-seat-clause-err
+returns-in_err-seat-clause-err g c =
+    let p = err_from_is_err_and c.from_residual.result c.from_residual.ensures.1 in
+    rw (p.1, p.2) (λ r r' w events numbered h. c.in_err-seat.ensures.err r r' w (g.K.Sink.writes c.args.output.now) events numbered h)
 
-pub returns-in-Err-call-clause-err : goal.returns-in-Err-call-clause-err
-returns-in-Err-call-clause-err g c = λ given given' taken ended events numbered h. let k = g.K.Sink.taken c.args.output.now in
-    c.in-Err-call.ensures.err given given' taken k ended events numbered (c.in-Ok.ensures.ok.1 given given' taken k ended events h)
+pub returns-in_err-call-clause-err : goal.returns-in_err-call-clause-err
+returns-in_err-call-clause-err g c =
+    let p = err_from_is_err_and c.from_residual-in_err-call.result c.from_residual-in_err-call.ensures.1 in
+    rw (p.1, p.2) (λ r r' w events numbered h. let w' = g.K.Sink.writes c.args.output.now in
+    c.in_err-call.ensures.err r r' w w' events numbered (c.in_ok-seat.ensures.ok.1 r r' w w' events h))
 
-pub returns-in-Ok-write_full-clause-ok : goal.returns-in-Ok-write_full-clause-ok
-returns-in-Ok-write_full-clause-ok g c = λ given given' taken ended events numbered h. let k = g.K.Sink.taken c.args.output.now in
-    let made = c.in-Ok-call.ensures.ok given given' taken k ended events (c.in-Ok.ensures.ok.1 given given' taken k ended events h) in
-    (made.0, go_on [] given given' given' taken k (g.K.Sink.taken c.write_full.new.sink) ended ended c.call.new.self _ (events ++ made.0 ∷ []) refl refl refl made.1.read made.1.found c.in-Ok-write_full.ensures.ok made.1)
+pub returns-clause-ok : goal.returns-clause-ok
+returns-clause-ok g c = λ r r' w events numbered h. let w' = g.K.Sink.writes c.args.output.now in
+    let made = c.in_ok-call.ensures.ok r r' w w' events (c.in_ok-seat.ensures.ok.1 r r' w w' events h) in
+    let k = c.in_ok-write_full.ensures in
+    (made.0, go_on [] r r' r' w w' (g.K.Sink.writes c.write_full.new.sink) c.call.new.self _ (events ++ made.0 ∷ []) refl refl refl made.1.read made.1.found refl k.0 k.1 made.1)
 
-pub returns-in-Err-write_full-clause-err : goal.returns-in-Err-write_full-clause-err
-returns-in-Err-write_full-clause-err g c = λ given given' taken ended events numbered h. let k = g.K.Sink.taken c.args.output.now in
-    let made = c.in-Ok-call.ensures.ok given given' taken k ended events (c.in-Ok.ensures.ok.1 given given' taken k ended events h) in
-    stop_output [] given given' taken k (g.K.Sink.taken c.write_full.new.sink) ended c.call.new.self _ (events ++ made.0 ∷ []) refl refl c.in-Err-write_full.ensures.err.0 c.in-Err-write_full.ensures.err.1 made.1
+pub returns-in_err-write_full-clause-err : goal.returns-in_err-write_full-clause-err
+returns-in_err-write_full-clause-err g c =
+    let p = err_from_is_err_and c.from_residual-in_err-write_full.result c.from_residual-in_err-write_full.ensures.1 in
+    rw (p.1, p.2) (λ r r' w events numbered h. let w' = g.K.Sink.writes c.args.output.now in
+    let made = c.in_ok-call.ensures.ok r r' w w' events (c.in_ok-seat.ensures.ok.1 r r' w w' events h) in
+    let k = c.in_err-write_full.ensures in
+    stop_output r r' r' w w' (g.K.Sink.writes c.write_full.new.sink) c.call.new.self _ (events ++ made.0 ∷ []) refl refl (unread c.call.new.self.lines r') refl k.0 k.1 made.1)

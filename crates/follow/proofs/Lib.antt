@@ -1,0 +1,8 @@
+pub mod SpanWords
+pub mod Told
+pub mod Tellings
+pub mod Reports
+pub mod MessagesRead
+pub mod Lines
+pub mod Steps
+pub mod Ends

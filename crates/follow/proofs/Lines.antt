@@ -1,0 +1,189 @@
+-- What is followed of an input, line by line.
+use Rattle.std.proofs.Common.{◌≡◌, ℕ, suc, ◌+◌, ◌-◌, ◌<◌, ◌≤◌, ◌⊎◌, ⊎_elim, Bool, true, false, cond, List, [], ◌∷◌, ◌++◌, length, take, drop, Option, Some, None, Result, Ok, Err, refl, sym, ap, subst, ◌∙◌, arith, append-nil, length-append, inl, inr}
+use Rattle.std.specs.Prelude.{not, position}
+use Rattle.std.specs.List.{position_or_len}
+use Rattle.std.proofs.lemmas.Bool.{lt-ltb}
+use Rattle.std.proofs.lemmas.List.{length-take, length-take-le, take-append-drop, take-append-le}
+use Rattle.std.proofs.lemmas.List.Sums.{fails_before_first}
+use Rattle.std.proofs.Math.Seq.{take-length, take-append_seam, drop-append_seam, take-append-add}
+use Rattle.text_format.specs.declared.Format.{Format}
+use Rattle.text_format.specs.Limits.{line_limit}
+use Rattle.spans.specs.declared.calls.messages.Message.{Message}
+use Rattle.spans.specs.Consumer.{apply_fault}
+use Rattle.json_lines.specs.Messages.{IsMessage, message_line}
+use Rattle.json_lines.specs.Tests.{message_at}
+use Rattle.word_lines.specs.declared.fault.LineFault.{LineFault}
+use Rattle.word_lines.specs.declared.fault.LineFault.TheVariants as faults
+use Rattle.word_lines.specs.Words.{has_newline, without_newline, text_at}
+use Rattle.word_lines.proofs.Splitting.{place_cases}
+use Rattle.script.specs.Lines.{is_newline, lines_of}
+use Rattle.script.proofs.CutLines.{lines_alone, lines_first}
+use Rattle.sessions.specs.declared.lines.Lines.{Lines}
+use Rattle.sessions.specs.Waiting.{waiting, IsLine}
+use Rattle.sessions.proofs.Finding.{newline_stays, newline_comes, newline_lacks}
+use Rattle.follow.specs.declared.options.FollowOptions.{FollowOptions}
+use Rattle.follow.specs.declared.fault.FollowError.{FollowError}
+use Rattle.follow.specs.Chosen.{is_taking_after}
+use Rattle.follow.specs.Followed.{start_of, is_chosen, error_of_line}
+use Rattle.follow.specs.Following.{chosen_at, said_by, line_at, taking_behind, stopped_at, followed_through, onto_followed, followed_step, followed_lines}
+use Rattle.follow.proofs.MessagesRead.{line_is_message}
+
+-- ---- what a line says
+
+module _ (format : Format) where
+  -- it is too long, or has no newline
+  pub line_misread : (taking : Bool) (line : List ℕ) (f : LineFault) → text_at format line ≡ Err f → line_at format taking line ≡ Err (error_of_line f)
+  line_misread taking line f e = ap (said_by format taking line) e
+
+  -- it is one to take
+  line_chosen : (taking : Bool) (line text : List ℕ) → text_at format line ≡ Ok text → is_chosen taking text ≡ true → line_at format taking line ≡ chosen_at (message_at format line)
+  line_chosen taking line text e on = ap (said_by format taking line) e ∙ ap (λ (b : Bool). cond b (chosen_at (message_at format line)) (Ok None)) on
+
+  -- it is a message's
+  pub line_message : (taking : Bool) (line text : List ℕ) (m : Message) → text_at format line ≡ Ok text → is_chosen taking text ≡ true → (line ≡ message_line m) × IsMessage format m → line_at format taking line ≡ Ok (Some m)
+  line_message taking line text m e on is = line_chosen taking line text e on ∙ ap chosen_at (ap (message_at format) is.0 ∙ line_is_message format m is.1)
+
+-- ---- the first line of what waits
+
+known_first : (xs more : List ℕ) → None ≡ position is_newline xs → 0 < length xs → (x : List ℕ) × (others : List (List ℕ)) × (lines_of (xs ++ more) ≡ (xs ++ x) ∷ others)
+known_first xs more none some = by_place (position is_newline more) refl
+  where
+    by_place : (at : Option ℕ) → at ≡ position is_newline more → (x : List ℕ) × (others : List (List ℕ)) × (lines_of (xs ++ more) ≡ (xs ++ x) ∷ others)
+    by_place None lacks = (more, lines_of [], lines_alone (xs ++ more) (let l = length-append xs more in omega arith) (newline_lacks xs more none lacks))
+    by_place (Some at) is =
+        let cut = lines_first (xs ++ more) (length xs + at) (newline_comes xs more at none is) in
+        let n : length xs + at + 1 ≡ length xs + (at + 1) = omega arith in (
+          take (at + 1) more,
+          lines_of (drop (length xs + at + 1) (xs ++ more)),
+          cut ∙ ap (λ (l : List ℕ). l ∷ lines_of (drop (length xs + at + 1) (xs ++ more))) (ap (λ (k : ℕ). take k (xs ++ more)) n ∙ take-append-add xs more (at + 1)),
+        )
+
+newline_none : (xs : List ℕ) → None ≡ position is_newline xs → length xs ≤ position_or_len is_newline xs
+newline_none xs none = elim (place_cases (position_or_len is_newline xs) (length xs) _ None refl none) [
+  | inl h ↦ absurd cc
+  | inr h ↦ h.1
+]
+
+no_last : (xs : List ℕ) → None ≡ position is_newline xs → 0 < length xs → has_newline xs ≡ false
+no_last xs none some = let n = newline_none xs none in fails_before_first is_newline xs (length xs - 1) 0 (omega arith)
+
+without_step : (limit : ℕ) (s : Bool) (l : List ℕ) → (s ≡ false) ⊎ (suc limit < length l) → limit < length l → limit < length (cond s (take (length l - 1) l) l)
+without_step limit true l (inl e) long = absurd cc
+without_step limit true l (inr e) long = let q = length-take (length l - 1) l in omega arith
+without_step limit false l e long = long
+
+ended_step : (b s : Bool) (l text : List ℕ) → cond b (Err faults.LineTooLong) (cond (not s) (Err faults.NoNewline) (Ok l)) ≡ Ok text → s ≡ true
+ended_step true s l text e = absurd cc
+ended_step false true l text e = refl
+ended_step false false l text e = absurd cc
+
+module _ (format : Format) where
+  too_long : (line : List ℕ) → (has_newline line ≡ false) ⊎ (suc (line_limit format) < length line) → line_limit format < length line → text_at format line ≡ Err faults.LineTooLong
+  unfolding text_at
+  too_long line e long = rw (lt-ltb (line_limit format) (length (without_newline line)) (without_step (line_limit format) (has_newline line) line e long)) refl
+
+  -- a line that is too long is so with more behind it
+  grown_too_long : (xs x : List ℕ) → None ≡ position is_newline xs → line_limit format < length xs → text_at format (xs ++ x) ≡ Err faults.LineTooLong
+  grown_too_long xs [] none long = ap (text_at format) (append-nil xs) ∙ too_long xs (inl (no_last xs none (omega arith))) long
+  grown_too_long xs (c ∷ cs) none long = let q = length-append xs (c ∷ cs) in too_long (xs ++ c ∷ cs) (inr (omega arith)) (omega arith)
+
+  -- a text has a newline behind it
+  has_end : (line text : List ℕ) → text_at format line ≡ Ok text → has_newline line ≡ true
+  unfolding text_at
+  has_end line text e = ended_step _ (has_newline line) (without_newline line) text e
+
+  -- whatever comes behind what waits, its first line says the same
+  pub line_comes : (taking : Bool) (n : ℕ) (l : Lines) (more : List ℕ) → l.format ≡ format → n ≤ length (waiting l) → IsLine l n → (l.ended ≡ true → more ≡ [])
+      → (line : List ℕ) × (others : List (List ℕ)) × (lines_of (waiting l ++ more) ≡ line ∷ others) × (line_at format taking line ≡ line_at format taking (take n (waiting l)))
+  line_comes taking n l more same within (inl h) stops =
+      let ws = waiting l in
+      let cut = lines_first (ws ++ more) h.0 (newline_stays ws more h.0 h.1) in
+      let front : take (h.0 + 1) (ws ++ more) ≡ take n ws = take-append-le (h.0 + 1) ws more (let q = h.2 in omega arith) ∙ ap (λ (k : ℕ). take k ws) (sym h.2) in
+      (take (h.0 + 1) (ws ++ more), lines_of (drop (h.0 + 1) (ws ++ more)), cut, ap (line_at format taking) front)
+  line_comes taking n l more same within (inr h) stops =
+      let ws = waiting l in
+      let some : 0 < length ws = let q = h.1 in let r = h.2 in omega arith in
+      let all : take n ws ≡ ws = ap (λ (k : ℕ). take k ws) h.1 ∙ take-length ws in
+      ⊎_elim
+      (λ (ended : l.ended ≡ true).
+      let z : ws ++ more ≡ ws = ap (λ (ys : List ℕ). ws ++ ys) (stops ended) ∙ append-nil ws in
+      (ws, lines_of [], ap lines_of z ∙ lines_alone ws some h.0, ap (line_at format taking) (sym all)))
+      (λ (over : line_limit l.format < n).
+      let long : line_limit format < n = subst (λ (x : Format). line_limit x < n) same over in
+      let big : line_limit format < length ws = let q = h.1 in omega arith in
+      let g = known_first ws more h.0 some in
+      let told : text_at format (take n ws) ≡ Err faults.LineTooLong = ap (text_at format) (all ∙ sym (append-nil ws)) ∙ grown_too_long ws [] h.0 big in
+      (ws ++ g.0, g.1, g.2, line_misread format taking (ws ++ g.0) faults.LineTooLong (grown_too_long ws g.0 h.0 big) ∙ sym (line_misread format taking (take n ws) faults.LineTooLong told)))
+      h.3
+
+  front_at : (n at : ℕ) (ws : List ℕ) → n ≤ length ws → Some at ≡ position is_newline ws → n ≡ at + 1 → Some at ≡ position is_newline (take n ws)
+  front_at n at ws within is next = by_place (position is_newline (take n ws)) refl (position is_newline (drop n ws)) refl
+    where
+      l : length (take n ws) ≡ n
+      l = length-take-le n ws within
+
+      whole : Some at ≡ position is_newline (take n ws ++ drop n ws)
+      whole = is ∙ ap (position is_newline) (sym (take-append-drop n ws))
+
+      by_place : (o : Option ℕ) → o ≡ position is_newline (take n ws) → (p : Option ℕ) → p ≡ position is_newline (drop n ws) → Some at ≡ position is_newline (take n ws)
+      by_place (Some k) here p there = let stays = newline_stays (take n ws) (drop n ws) k here in let same : Some at ≡ Some k = whole ∙ sym stays in same ∙ here
+      by_place None none (Some k) there =
+          let comes = newline_comes (take n ws) (drop n ws) k none there in
+          let same : Some at ≡ Some (length (take n ws) + k) = whole ∙ sym comes in
+          let same' : at ≡ length (take n ws) + k = cc in
+          absurd (omega (arith, l))
+      by_place None none None there = let lacks = newline_lacks (take n ws) (drop n ws) none there in let clash : Some at ≡ None = whole ∙ sym lacks in absurd cc
+
+  -- a line that has its newline ends there, whatever comes behind it
+  pub line_ahead : (n : ℕ) (l : Lines) (text : List ℕ) → n ≤ length (waiting l) → IsLine l n → text_at format (take n (waiting l)) ≡ Ok text
+      → (0 < n) × ((more : List ℕ) → lines_of (take n (waiting l) ++ more) ≡ take n (waiting l) ∷ lines_of more)
+  line_ahead n l text within (inl h) e =
+      let ws = waiting l in
+      let size : length (take n ws) ≡ n = length-take-le n ws within in
+      let next : h.0 + 1 ≡ length (take n ws) = sym h.2 ∙ sym size in (
+        (let q = h.2 in omega arith),
+        λ more.
+            let cut = lines_first (take n ws ++ more) h.0 (newline_stays (take n ws) more h.0 (front_at n h.0 ws within h.1 h.2)) in
+            let front : take (h.0 + 1) (take n ws ++ more) ≡ take n ws = ap (λ (k : ℕ). take k (take n ws ++ more)) next ∙ take-append_seam (take n ws) more in
+            let back : drop (h.0 + 1) (take n ws ++ more) ≡ more = ap (λ (k : ℕ). drop k (take n ws ++ more)) next ∙ drop-append_seam (take n ws) more in
+            cut ∙ λ i. front i ∷ lines_of (back i),
+      )
+  line_ahead n l text within (inr h) e =
+      let ws = waiting l in
+      let some : 0 < length ws = let q = h.1 in let r = h.2 in omega arith in
+      let all : take n ws ≡ ws = ap (λ (k : ℕ). take k ws) h.1 ∙ take-length ws in
+      let ended : has_newline ws ≡ true = subst (λ (xs : List ℕ). has_newline xs ≡ true) all (has_end (take n ws) text e) in
+      let lacks = no_last ws h.0 some in
+      absurd (let clash : true ≡ false = sym ended ∙ lacks in cc)
+
+-- ---- what is followed from a line on
+
+module _ (o : FollowOptions) where
+  -- nothing is left
+  pub followed_none : (taking : Bool) (ms : List Message) (number : ℕ) → followed_lines o taking ms number (lines_of []) ≡ followed_through []
+  unfolding followed_lines lines_of
+  followed_none taking ms number = refl
+
+  followed_cons : (taking : Bool) (ms : List Message) (number : ℕ) (line : List ℕ) (lines : List (List ℕ)) (r : Result (Option Message) FollowError) → line_at o.format taking line ≡ r
+      → followed_lines o taking ms number (line ∷ lines) ≡ followed_step o r ms number (λ taken. followed_lines o (taking_behind o.feed taking (text_at o.format line)) taken (number + 1) lines)
+  unfolding followed_lines
+  followed_cons taking ms number line lines r e = ap (λ (x : Result (Option Message) FollowError). followed_step o x ms number (λ taken. followed_lines o (taking_behind o.feed taking (text_at o.format line)) taken (number + 1) lines)) e
+
+  -- the line can't be read
+  pub followed_misread : (taking : Bool) (ms : List Message) (number : ℕ) (text line : List ℕ) (others : List (List ℕ)) (e : FollowError) → lines_of text ≡ line ∷ others → line_at o.format taking line ≡ Err e
+      → followed_lines o taking ms number (lines_of text) ≡ stopped_at number e
+  followed_misread taking ms number text line others e cut is = ap (followed_lines o taking ms number) cut ∙ followed_cons taking ms number line others (Err e) is
+
+  -- the line is passed over
+  pub followed_passed : (taking taking' : Bool) (ms : List Message) (number : ℕ) (text more line words : List ℕ) → lines_of text ≡ line ∷ lines_of more → line_at o.format taking line ≡ Ok None → text_at o.format line ≡ Ok words → taking' ≡ is_taking_after o.feed taking words
+      → followed_lines o taking ms number (lines_of text) ≡ followed_lines o taking' ms (number + 1) (lines_of more)
+  followed_passed taking taking' ms number text more line words cut is whole turns =
+      ap (followed_lines o taking ms number) cut ∙ (followed_cons taking ms number line (lines_of more) (Ok None) is
+      ∙ ap (λ (b : Bool). followed_lines o b ms (number + 1) (lines_of more)) (ap (taking_behind o.feed taking) whole ∙ sym turns))
+
+  -- the line has a message
+  pub followed_message : (taking taking' : Bool) (ms : List Message) (number : ℕ) (m : Message) (text more line words : List ℕ) → lines_of text ≡ line ∷ lines_of more → line_at o.format taking line ≡ Ok (Some m) → text_at o.format line ≡ Ok words → taking' ≡ is_taking_after o.feed taking words
+      → followed_lines o taking ms number (lines_of text) ≡ onto_followed number (apply_fault o.span (start_of o.span o.start).start ms m) m (followed_lines o taking' (ms ++ m ∷ []) (number + 1) (lines_of more))
+  followed_message taking taking' ms number m text more line words cut is whole turns =
+      ap (followed_lines o taking ms number) cut ∙ (followed_cons taking ms number line (lines_of more) (Ok (Some m)) is
+      ∙ ap (λ (b : Bool). onto_followed number (apply_fault o.span (start_of o.span o.start).start ms m) m (followed_lines o b (ms ++ m ∷ []) (number + 1) (lines_of more))) (ap (taking_behind o.feed taking) whole ∙ sym turns))

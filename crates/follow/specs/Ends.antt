@@ -1,0 +1,94 @@
+-- How following a feed ends: what was taken of the input, and what was told of it (this project).
+use Rattle.std.specs.Prelude.{ℕ, zero, ◌+◌, ◌≡◌, ◌≢◌, ◌≤◌, ◌⊎◌, Bool, true, List, [], ◌++◌, length, position, Some, None}
+use Rattle.spans.specs.declared.calls.messages.Message.{Message}
+use Rattle.word_lines.specs.Events.{spent_line}
+use Rattle.script.specs.Lines.{is_newline}
+use Rattle.ticket_lock.specs.Lists.{StartsWith}
+use Rattle.sessions.specs.Runs.{MayHold}
+use Rattle.follow.specs.declared.ending.FollowEnd.{FollowEnd}
+use Rattle.follow.specs.declared.ending.FollowEnd.TheVariants as ends
+use Rattle.follow.specs.declared.options.FollowOptions.{FollowOptions}
+use Rattle.follow.specs.declared.fault.FollowFault.{FollowFault}
+use Rattle.follow.specs.declared.fault.FollowError.TheVariants as errors
+use Rattle.follow.specs.Followed.{IsUnbegun, MayStart, fault_line}
+use Rattle.follow.specs.Following.{followed_at, followed_through}
+use Rattle.follow.specs.Reports.{IsFollowReport}
+
+-- whatever the source holds, its first messages are these
+abbrev pub BeginWith : FollowOptions → List ℕ → Bool → List Message → Type 0
+BeginWith o input ended ms = (whole : List ℕ) → MayHold input ended whole → StartsWith (followed_at o whole).messages ms
+
+-- whatever the source holds, its messages are these, up to this line that can't be followed
+abbrev pub StopAt : FollowOptions → List ℕ → Bool → List Message → ℕ → FollowFault → Type 0
+StopAt o input ended ms line fault = (whole : List ℕ) → MayHold input ended whole → followed_at o whole ≡ record { messages = ms; stop = Some (record { line = line; error = errors.Fault fault }) }
+
+-- the whole lines of the input have these messages, and behind them is no newline
+pub record AreMessages (o : FollowOptions) (input : List ℕ) (ms : List Message) : Type 0 where
+  pub lines : List ℕ
+  pub rest : List ℕ
+  pub parts : input ≡ lines ++ rest
+  pub read : followed_at o lines ≡ followed_through ms
+  pub unended : None ≡ position is_newline rest
+
+-- why the line with this number is at fault: it can't be followed, or before the first the replica can't begin with its rows
+abbrev pub IsFaultAt : FollowOptions → List ℕ → Bool → List Message → ℕ → FollowFault → Type 0
+IsFaultAt o input ended ms line fault =
+    ((line ≡ 0) × (input ≡ []) × (ms ≡ []) × IsUnbegun o.span o.start (errors.Fault fault))
+    ⊎ StopAt o input ended ms line fault
+
+-- each line and each read takes a byte at least, so this many bytes want more turns than a number counts
+abbrev pub IsEndless : List ℕ → Type 0
+IsEndless input = 9223372036854775807 ≤ length input
+
+-- the line that ends the report, if any does
+abbrev pub IsLast : FollowOptions → List ℕ → Bool → List Message → List ℕ → Type 0
+IsLast o input ended ms last =
+    (last ≡ [])
+    ⊎ ((line : ℕ) × (fault : FollowFault) × IsFaultAt o input ended ms line fault × (last ≡ fault_line line fault))
+    ⊎ ((line : ℕ) × IsEndless input × (last ≡ spent_line line))
+
+-- the output is the report of the messages, and this line behind it
+abbrev pub IsReportWith : FollowOptions → List Message → List ℕ → List ℕ → Type 0
+IsReportWith o ms last output = (text : List ℕ) × IsFollowReport o ms text × (output ≡ text ++ last)
+
+-- the output begins the report of the messages with the line that ends it
+pub record IsPart (o : FollowOptions) (input : List ℕ) (ended : Bool) (ms : List Message) (output : List ℕ) : Type 0 where
+  pub last : List ℕ
+  pub is_last : IsLast o input ended ms last
+  pub whole : List ℕ
+  pub report : IsReportWith o ms last whole
+  pub begins : StartsWith whole output
+
+-- how each end comes, after these messages and with this output
+abbrev pub EndsBy : FollowOptions → List ℕ → Bool → List Message → List ℕ → FollowEnd → Type 0
+EndsBy o input ended ms output ends.Done = (ended ≡ true) × (followed_at o input ≡ followed_through ms) × (ms ≢ []) × IsReportWith o ms [] output
+EndsBy o input ended ms output ends.NoMessages = (ended ≡ true) × (followed_at o input ≡ followed_through []) × (ms ≡ []) × (output ≡ [])
+EndsBy o input ended ms output (ends.Fault line fault) = IsFaultAt o input ended ms line fault × IsReportWith o ms (fault_line line fault) output
+EndsBy o input ended ms output ends.Spent = IsEndless input × ((line : ℕ) × IsReportWith o ms (spent_line line) output)
+EndsBy o input ended ms output ends.Input = AreMessages o input ms × IsReportWith o ms [] output
+EndsBy o input ended ms output ends.Output = IsPart o input ended ms output
+EndsBy o input ended ms output ends.Memory = IsPart o input ended ms output
+
+-- what is known of a feed that was followed, where a source had given and a sink had taken so much before it and so much after it
+pub record IsFollowed (o : FollowOptions) (given given' : List ℕ) (ended : Bool) (taken taken' : List ℕ) (e : FollowEnd) : Type 0 where
+  pub messages : List Message
+  pub input : List ℕ
+  pub read : given' ≡ given ++ input
+  pub output : List ℕ
+  pub wrote : taken' ≡ taken ++ output
+  -- they are the first of the input's
+  pub begins : BeginWith o input ended messages
+  pub ends : EndsBy o input ended messages output e
+
+-- a replica could begin, unless the fault says otherwise, which names line 0, or nothing was read before memory or the output failed
+abbrev pub CouldBegin : FollowOptions → (given given' : List ℕ) → FollowEnd → Type 0
+CouldBegin o given given' (ends.Fault zero fault) = Unit {0}
+CouldBegin o given given' ends.Output = (given' ≡ given) ⊎ MayStart o.span o.start
+CouldBegin o given given' ends.Memory = (given' ≡ given) ⊎ MayStart o.span o.start
+CouldBegin o given given' e = MayStart o.span o.start
+
+-- how often reads and writes had failed before it, and after it
+abbrev pub FailsAt : FollowEnd → ℕ → ℕ → ℕ → ℕ → Type 0
+FailsAt ends.Input reads reads' writes writes' = (reads' ≡ reads + 1) × (writes' ≡ writes)
+FailsAt ends.Output reads reads' writes writes' = (reads ≤ reads') × (reads' ≤ reads + 1) × (writes' ≡ writes + 1)
+FailsAt _ reads reads' writes writes' = (reads' ≡ reads) × (writes' ≡ writes)

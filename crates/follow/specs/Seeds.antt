@@ -1,0 +1,72 @@
+-- What a follower may begin with: the rows that the last scan of a transcript found.
+use Rattle.std.specs.Prelude.{◌≡◌, ℕ, List, [], ◌∷◌, Option, Some, None, option_map, Result, Ok, Err}
+use Rattle.text_format.specs.Limits.{format_of}
+use Rattle.spans.specs.declared.span.Span.{Span}
+use Rattle.spans.specs.declared.calls.commands.Cmd.{Cmd}
+use Rattle.spans.specs.declared.calls.commands.Cmd.TheVariants as cmd
+use Rattle.spans.specs.declared.calls.replies.Reply.{Reply}
+use Rattle.spans.specs.declared.calls.replies.Reply.TheVariants as reply
+use Rattle.spans.specs.declared.calls.events.Event.{Event}
+use Rattle.script.specs.declared.fault.TranscriptError.{TranscriptError}
+use Rattle.script.specs.declared.fault.TranscriptError.TheVariants as read_errors
+use Rattle.script.specs.Transcripts.{Fault, Transcript, outcome, transcript_at}
+use Rattle.follow.specs.declared.seed.Seed.{Seed}
+use Rattle.follow.specs.declared.seed.Scan.{Scan}
+use Rattle.follow.specs.declared.seed.SeedError.{SeedError}
+use Rattle.follow.specs.declared.seed.SeedError.TheVariants as errors
+
+-- the span of a scan, its timestamp, and the rows that it found
+abbrev pub Found : Type 0
+Found = Span × ℕ × List (List ℕ × List ℕ)
+
+-- what a scan at a timestamp found, where a command is one that was answered with rows
+abbrev pub found_by : Cmd → Reply → Option Found
+found_by (cmd.ScanAt t span) (reply.Rows rows) = Some (span, t, rows)
+found_by c r = None
+
+abbrev pub scan_in : Event → Option Found
+scan_in e = found_by e.cmd e.reply
+
+-- the first, or else the second
+abbrev pub option_or : {A : Type 0} → Option A → Option A → Option A
+option_or (Some x) other = Some x
+option_or None other = other
+
+-- what the last scan of the events found, or else what was found before them
+abbrev pub last_scan : Option Found → List Event → Option Found
+last_scan before [] = before
+last_scan before (e ∷ events) = last_scan (option_or (scan_in e) before) events
+
+abbrev pub seed_parts : Seed → Found
+seed_parts s = (s.span, s.cursor, s.rows.items)
+
+abbrev pub scan_parts : Scan → Found
+scan_parts s = (s.span, s.cursor, s.rows)
+
+-- the events were read, and this is what their last scan found
+abbrev pub IsLastOf : Result (List Event) Fault → Option Found → Type 0
+IsLastOf read found = (events : List Event) × (read ≡ Ok events) × (last_scan None events ≡ found)
+
+-- the seed is what the last scan of the text's events found
+abbrev pub IsSeedOf : List ℕ → Seed → Type 0
+IsSeedOf text s = IsLastOf (transcript_at (format_of text) text) (Some (seed_parts s))
+
+-- why a text has no seed: its first fault, or that none of its events is a scan at a timestamp that was answered with rows
+abbrev pub IsUnseeded : List ℕ → SeedError → Type 0
+IsUnseeded text (errors.Fault line fault) = transcript_at (format_of text) text ≡ Err (record { line = line; fault = fault })
+IsUnseeded text errors.NoScan = IsLastOf (transcript_at (format_of text) text) None
+IsUnseeded text errors.NoMemory = Unit {0}
+
+-- the same of what is left of a transcript
+abbrev pub IsLastScan : Transcript → Scan → Type 0
+IsLastScan left s = IsLastOf (outcome left) (Some (scan_parts s))
+
+abbrev pub IsUnscanned : Transcript → SeedError → Type 0
+IsUnscanned left (errors.Fault line fault) = outcome left ≡ Err (record { line = line; fault = fault })
+IsUnscanned left errors.NoScan = IsLastOf (outcome left) None
+IsUnscanned left errors.NoMemory = Unit {0}
+
+-- why a text that can't be read has no seed
+abbrev pub refusal_of : TranscriptError → SeedError
+refusal_of (read_errors.Fault line fault) = errors.Fault line fault
+refusal_of read_errors.NoMemory = errors.NoMemory

@@ -1,0 +1,29 @@
+-- What a follower takes of the bytes that wait.
+use Rattle.std.specs.Prelude.{◌≡◌, ◌≢◌, ℕ, List, take, drop, Option, Ok, Err}
+use Rattle.spans.specs.declared.calls.messages.Message.{Message}
+use Rattle.word_lines.specs.Words.{text_at}
+use Rattle.sessions.specs.Waiting.{waiting, has_ended, format_of}
+use Rattle.follow.specs.declared.follower.Follower.{Follower}
+use Rattle.follow.specs.declared.fault.FollowError.{FollowError}
+use Rattle.follow.specs.declared.fault.FollowError.TheVariants as errors
+use Rattle.follow.specs.Chosen.{is_taking_after}
+use Rattle.follow.specs.Following.{line_at}
+
+-- the bytes that wait in front, so many of them
+abbrev pub front_of : Follower → ℕ → List ℕ
+front_of f count = take count (waiting f.lines)
+
+-- so many bytes are a line that has its newline and isn't too long, with this message where it is one to take; they were taken off the front
+pub record HasRead (f f' : Follower) (count : ℕ) (taken : Option Message) : Type 0 where
+  pub text : List ℕ
+  pub whole : text_at f.format (front_of f count) ≡ Ok text
+  pub message : line_at f.format f.choice.taking (front_of f count) ≡ Ok taken
+  pub feed : f'.choice.feed ≡ f.choice.feed
+  pub taking : f'.choice.taking ≡ is_taking_after f.choice.feed f.choice.taking text
+  pub left : waiting f'.lines ≡ drop count (waiting f.lines)
+  pub ended : has_ended f'.lines ≡ has_ended f.lines
+  pub formed : format_of f'.lines ≡ format_of f.lines
+
+-- so many bytes can't be read, unless memory was wanted
+abbrev pub IsMisreadAt : Follower → ℕ → FollowError → Type 0
+IsMisreadAt f count e = e ≢ errors.NoMemory → line_at f.format f.choice.taking (front_of f count) ≡ Err e

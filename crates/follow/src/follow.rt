@@ -1,0 +1,66 @@
+//! A feed is followed, from the first byte read to the last one written.
+ghost use Rattle.std.specs.Prelude.{ℕ, Bool, List};
+ghost use Rattle.follow.specs.declared.options.FollowOptions.{FollowOptions};
+ghost use Rattle.follow.specs.declared.fault.FollowError.TheVariants.{Fault};
+ghost use Rattle.follow.specs.Followed.{IsUnbegun};
+ghost use Rattle.follow.specs.Ends.{CouldBegin, IsFollowed, FailsAt};
+
+use crate::ending::FollowEnd;
+use crate::fault::{FollowError, FollowFault};
+use crate::follower::Follower;
+use crate::options::FollowOptions;
+use crate::texts::put_fault;
+use sessions::{Sink, Source, write_whole};
+use std::alloc::Global;
+
+/// Reads a feed's messages as lines of JSON, applies them to a replica of its span, and writes a line
+/// `resolved T N` at each resolved message: the timestamp and how many rows there are. Where the rows are
+/// asked for they follow, a line `row KEY VALUE` each, keys rising. Where the changes are asked for, only keys follow
+/// that rows named since: `row KEY VALUE`, or `gone KEY`. Where completeness is asked for, a line `complete T N` comes
+/// before the row that shows that the rows are complete at T, in the same form.
+///
+/// Rows to begin with whose keys don't rise, or lie outside the span, are a fault of line 0.
+///
+/// A line that doesn't begin with `{` is passed over. A faulty line, and a message that the replica refuses,
+/// ends the output with its fault; what was told before it stands. The output is written in large blocks, at
+/// the end, and before each read, since a read may wait.
+///
+/// `IsFollowed` in `specs/Ends.antt` says how each end comes, from the bytes read to the bytes written, and
+/// `CouldBegin` that rows which a replica can't begin with are a fault.
+pub fn follow_io<S: Source, K: Sink>(
+    alloc: Global,
+    options: FollowOptions,
+    input: &mut S,
+    output: &mut K,
+) -> FollowEnd
+    ensures followed { IsFollowed options (S.given input.old) (S.given input.new) (S.ended input.new) (K.taken output.old) (K.taken output.new) result }
+    ensures begun { CouldBegin options (S.given input.old) (S.given input.new) result }
+    ensures failed { FailsAt result (S.failures input.old) (S.failures input.new) (K.failures output.old) (K.failures output.new) }
+{
+    match Follower::begin(alloc, options) {
+        Ok(mut follower) => {
+            let end = follower.follow(input, output);
+            follower.finish(end, output)
+        }
+        Err(FollowError::NoMemory) => FollowEnd::Memory,
+        Err(FollowError::Fault(fault)) => unbegun(alloc, fault, output),
+    }
+}
+
+/// Tells what is wrong with the rows to begin with, as the only line.
+fn unbegun<K: Sink>(alloc: Global, fault: FollowFault, output: &mut K) -> FollowEnd
+    ensures followed { (o : FollowOptions) (given : List ℕ) (ended : Bool) → IsUnbegun o.span o.start (Fault fault)
+        → IsFollowed o given given ended (K.taken output.old) (K.taken output.new) result }
+    ensures begun { (o : FollowOptions) (given : List ℕ) → CouldBegin o given given result }
+    ensures failed { (reads : ℕ) → FailsAt result reads reads (K.failures output.old) (K.failures output.new) }
+{
+    let mut text = Vec::new(alloc);
+    match put_fault(&mut text, 0, fault) {
+        Ok(()) => {}
+        Err(_) => return FollowEnd::Memory,
+    }
+    match write_whole(output, text.as_slice()) {
+        Ok(()) => FollowEnd::Fault { line: 0, fault },
+        Err(_) => FollowEnd::Output,
+    }
+}

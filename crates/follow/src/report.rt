@@ -1,0 +1,104 @@
+//! What is told of a feed, line by line, and handed to its device in large blocks.
+ghost use Rattle.std.specs.Prelude.{◌≡◌, ◌+◌, ◌++◌, [], IfOk, OnOk, OnErr};
+ghost use Rattle.word_lines.specs.Events.{spent_line};
+ghost use Rattle.word_lines.specs.Replies.{row_line};
+ghost use Rattle.follow.specs.Followed.{count_line, gone_line, fault_line};
+
+use crate::fault::FollowFault;
+use crate::texts::{put_count, put_fault, put_gone, put_row};
+use sessions::{Output, Sink, WriteFailed};
+use std::alloc::{AllocError, Global};
+use timestamps::key::Key;
+use timestamps::value::Value;
+
+/// The lines that wait to be written.
+#[derive(Drop)]
+pub(crate) struct Report {
+    kept: Output,
+    /// Room for one line, which is kept once it is whole.
+    line: Vec<u8>,
+}
+
+impl Report {
+    ghost use Rattle.sessions.specs.Writing.{pending_of, HasTaken, HasBegun};
+
+    /// Nothing is told.
+    pub(crate) fn new(alloc: Global) -> Result<Report, AllocError>
+        ensures { IfOk result (λ report. pending_of report.kept ≡ []) }
+    {
+        let kept = Output::new(alloc)?;
+        Ok(Report {
+            kept,
+            line: Vec::new(alloc),
+        })
+    }
+
+    /// Tells by a word at which timestamp the rows are complete, and how many there are.
+    pub(crate) fn tell_count(&mut self, word: &[u8], at: u64, rows: usize) -> Result<(), AllocError>
+        ensures ok { OnOk result (pending_of self.new.kept ≡ pending_of self.old.kept ++ count_line word.now at rows) }
+        ensures err { OnErr result (pending_of self.new.kept ≡ pending_of self.old.kept) }
+    {
+        self.line.clear();
+        put_count(&mut self.line, word, at, rows as u64)?;
+        self.kept.keep(self.line.as_slice())
+    }
+
+    /// Tells a row.
+    pub(crate) fn tell_row(&mut self, key: &Key, value: &Value) -> Result<(), AllocError>
+        ensures ok { OnOk result (pending_of self.new.kept ≡ pending_of self.old.kept ++ row_line (key.now, value.now)) }
+        ensures err { OnErr result (pending_of self.new.kept ≡ pending_of self.old.kept) }
+    {
+        self.line.clear();
+        put_row(&mut self.line, key, value)?;
+        self.kept.keep(self.line.as_slice())
+    }
+
+    /// Tells that a key has no value any more.
+    pub(crate) fn tell_gone(&mut self, key: &Key) -> Result<(), AllocError>
+        ensures ok { OnOk result (pending_of self.new.kept ≡ pending_of self.old.kept ++ gone_line key.now) }
+        ensures err { OnErr result (pending_of self.new.kept ≡ pending_of self.old.kept) }
+    {
+        self.line.clear();
+        put_gone(&mut self.line, key)?;
+        self.kept.keep(self.line.as_slice())
+    }
+
+    /// Tells what is wrong with a line, as the last line.
+    pub(crate) fn tell_fault(&mut self, line: u64, fault: FollowFault) -> Result<(), AllocError>
+        ensures ok { OnOk result (pending_of self.new.kept ≡ pending_of self.old.kept ++ fault_line line fault) }
+        ensures err { OnErr result (pending_of self.new.kept ≡ pending_of self.old.kept) }
+    {
+        self.line.clear();
+        put_fault(&mut self.line, line, fault)?;
+        self.kept.keep(self.line.as_slice())
+    }
+
+    /// Tells that no more lines can be counted, as the last line.
+    pub(crate) fn tell_spent(&mut self, line: u64) -> Result<(), AllocError>
+        ensures ok { OnOk result (pending_of self.new.kept ≡ pending_of self.old.kept ++ spent_line line) }
+        ensures err { OnErr result (pending_of self.new.kept ≡ pending_of self.old.kept) }
+    {
+        self.kept.keep_spent(line)
+    }
+
+    /// Writes what waits where that is a block or more.
+    pub(crate) fn write_full<K: Sink>(&mut self, sink: &mut K) -> Result<(), WriteFailed>
+        ensures ok { OnOk result (HasTaken (K.taken sink.old) (K.taken sink.new) (pending_of self.old.kept) (pending_of self.new.kept)) }
+        ensures err { OnErr result (HasBegun (K.taken sink.old) (K.taken sink.new) (pending_of self.old.kept)) }
+        ensures worked { OnOk result (K.failures sink.new ≡ K.failures sink.old) }
+        ensures failed { OnErr result (K.failures sink.new ≡ K.failures sink.old + 1) }
+    {
+        self.kept.write_full(sink)
+    }
+
+    /// Writes all that waits.
+    pub(crate) fn write_out<K: Sink>(&mut self, sink: &mut K) -> Result<(), WriteFailed>
+        ensures ok { OnOk result (HasTaken (K.taken sink.old) (K.taken sink.new) (pending_of self.old.kept) (pending_of self.new.kept)) }
+        ensures none { OnOk result (pending_of self.new.kept ≡ []) }
+        ensures err { OnErr result (HasBegun (K.taken sink.old) (K.taken sink.new) (pending_of self.old.kept)) }
+        ensures worked { OnOk result (K.failures sink.new ≡ K.failures sink.old) }
+        ensures failed { OnErr result (K.failures sink.new ≡ K.failures sink.old + 1) }
+    {
+        self.kept.write_out(sink)
+    }
+}

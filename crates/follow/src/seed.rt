@@ -1,0 +1,133 @@
+//! The rows that a transcript's last scan at a closed timestamp found: what a replica begins with.
+//!
+//! ```text
+//! 4 0 protect 10 => protected 1
+//! 5 0 scanat 10 - - => rows 1       the seed: all keys, at 10, with the row a 1
+//! row a 1
+//! 6 0 open - - 10 => opened 1
+//! ```
+ghost use Rattle.std.specs.Prelude.{◌≡◌, IfOk, IfErr, option_map};
+ghost use Rattle.follow.specs.Seeds.{IsSeedOf, IsUnseeded, IsLastScan, IsUnscanned, option_or, refusal_of, scan_in, scan_parts};
+
+use script::events::Events;
+use script::fault::TranscriptError;
+use spans::calls::{Cmd, Event, Reply, Rows};
+use spans::span::Span;
+use std::alloc::{AllocError, Global};
+use text_format::Format;
+use timestamps::key::Key;
+use timestamps::value::Value;
+use word_lines::fault::LineFault;
+
+/// What a scan found in a span, at a timestamp.
+#[derive(Debug, Drop, PartialEq, Eq)]
+pub struct Seed {
+    pub span: Span,
+    pub cursor: u64,
+    pub rows: Vec<(Key, Value)>,
+}
+
+/// Why a text has no seed.
+#[derive(Clone, Copy, Debug, PartialEq, Eq)]
+pub enum SeedError {
+    /// A line of it is faulty.
+    Fault { line: u64, fault: LineFault },
+    /// It has no scan at a timestamp that was answered with rows.
+    NoScan,
+    /// A growth of memory was refused.
+    NoMemory,
+}
+
+/// A scan that was answered.
+#[derive(Drop)]
+struct Scan {
+    span: Span,
+    cursor: u64,
+    rows: Rows,
+}
+
+/// The seed of a transcript, in the format that its first line says: what its last scan at a timestamp found. That the
+/// transcript is right isn't looked at.
+pub fn seed_of(alloc: Global, text: &[u8]) -> Result<Seed, SeedError>
+    ensures found { IfOk result (IsSeedOf text.now) }
+    ensures refused { IfErr result (IsUnseeded text.now) }
+{
+    let mut events = match Events::new(text, Format::of_transcript(text)) {
+        Ok(events) => events,
+        Err(error) => return Err(refusal(error)),
+    };
+    let scan = last_scan(alloc, &mut events)?;
+    match copied(alloc, scan.rows.as_slice()) {
+        Ok(rows) => Ok(Seed {
+            span: scan.span,
+            cursor: scan.cursor,
+            rows,
+        }),
+        Err(_) => Err(SeedError::NoMemory),
+    }
+}
+
+/// The last scan of the events that are left.
+fn last_scan(alloc: Global, events: &mut Events) -> Result<Scan, SeedError>
+    ensures found { IfOk result (IsLastScan events.old) }
+    ensures refused { IfErr result (IsUnscanned events.old) }
+{
+    let mut last = None;
+    while let Some(event) = events.next(alloc) {
+        match event {
+            Ok(event) => last = later(last, scan_of(event)),
+            Err(error) => return Err(refusal(error)),
+        }
+    }
+    match last {
+        Some(scan) => Ok(scan),
+        None => Err(SeedError::NoScan),
+    }
+}
+
+/// The scan of an event, if it is one.
+fn scan_of(event: Event) -> Option<Scan>
+    ensures { option_map scan_parts result ≡ scan_in event }
+{
+    match (event.cmd, event.reply) {
+        (Cmd::ScanAt { t, span }, Reply::Rows(rows)) => Some(Scan {
+            span,
+            cursor: t,
+            rows,
+        }),
+        _ => None,
+    }
+}
+
+/// The latter of two scans, where it is one.
+fn later(before: Option<Scan>, scan: Option<Scan>) -> Option<Scan>
+    ensures { result ≡ option_or scan before }
+{
+    match scan {
+        Some(scan) => Some(scan),
+        None => before,
+    }
+}
+
+/// Why there is no seed in a text that can't be read.
+fn refusal(error: TranscriptError) -> SeedError
+    ensures { result ≡ refusal_of error }
+{
+    match error {
+        TranscriptError::Fault { line, fault } => SeedError::Fault { line, fault },
+        TranscriptError::NoMemory => SeedError::NoMemory,
+    }
+}
+
+/// The rows once more.
+fn copied(alloc: Global, rows: &[(Key, Value)]) -> Result<Vec<(Key, Value)>, AllocError>
+    ensures { IfOk result (λ copies. copies.items ≡ rows.now) }
+{
+    let mut copies = Vec::new(alloc);
+    for row in rows {
+        let key = row.0.copy()?;
+        let value = row.1.copy()?;
+        copies.push((key, value))?;
+    }
+    Ok(copies)
+}

@@ -1,0 +1,65 @@
+//! The lines that are told of a feed.
+ghost use Rattle.std.specs.Prelude.{◌≡◌, ◌++◌, OnOk};
+ghost use Rattle.word_lines.specs.Replies.{row_line};
+ghost use Rattle.follow.specs.Followed.{count_line, gone_line, fault_line};
+
+use crate::fault::FollowFault;
+use json_lines::numbers::put_number;
+use std::alloc::AllocError;
+use timestamps::key::Key;
+use timestamps::value::Value;
+use word_lines::spelling::put_spelling;
+
+/// Writes a word, a timestamp at which the rows are complete, and how many there are.
+pub(crate) fn put_count(
+    out: &mut Vec<u8>,
+    word: &[u8],
+    at: u64,
+    rows: u64,
+) -> Result<(), AllocError>
+    ensures { OnOk result (out.new.items ≡ out.old.items ++ count_line word.now at rows) }
+{
+    out.extend_from_slice(word)?;
+    out.push(b' ')?;
+    put_number(out, at)?;
+    out.push(b' ')?;
+    put_number(out, rows)?;
+    out.push(b'\n')?;
+    Ok(())
+}
+
+/// Writes that a key has no value any more.
+pub(crate) fn put_gone(out: &mut Vec<u8>, key: &Key) -> Result<(), AllocError>
+    ensures { OnOk result (out.new.items ≡ out.old.items ++ gone_line key.now) }
+{
+    out.extend_from_slice(b"gone ")?;
+    put_spelling(out, key.bytes())?;
+    out.push(b'\n')?;
+    Ok(())
+}
+
+/// Writes the line of a row, as it stands in transcripts.
+pub(crate) fn put_row(out: &mut Vec<u8>, key: &Key, value: &Value) -> Result<(), AllocError>
+    ensures { OnOk result (out.new.items ≡ out.old.items ++ row_line (key.now, value.now)) }
+{
+    out.extend_from_slice(b"row ")?;
+    put_spelling(out, key.bytes())?;
+    out.push(b' ')?;
+    put_spelling(out, value.bytes())?;
+    out.push(b'\n')?;
+    Ok(())
+}
+
+/// Writes the line that names a fault and the line where it stands, counted from 1.
+pub(crate) fn put_fault(out: &mut Vec<u8>, line: u64, fault: FollowFault) -> Result<(), AllocError>
+    ensures { OnOk result (out.new.items ≡ out.old.items ++ fault_line line fault) }
+{
+    out.extend_from_slice(b"fault ")?;
+    put_number(out, line)?;
+    out.push(b' ')?;
+    put_number(out, u64::from(fault.code()))?;
+    out.push(b' ')?;
+    out.extend_from_slice(fault.name().as_bytes())?;
+    out.push(b'\n')?;
+    Ok(())
+}
