@@ -150,8 +150,8 @@ void ripsawbean_close(ripsawbean *db);
 //     ripsawbean_put(&db, 0, 10, (const uint8_t *)"apple", 5, (const uint8_t *)"3", 1, &answer);
 //     if (answer.kind >= RIPSAWBEAN_ANSWER_REFUSED) puts(ripsawbean_answer_name(answer.kind));
 //
-// The event is that of the command's line. ripsawbean_text shows its text, which is written when it is asked for.
-// `answer` shares no byte with the rest either, and so keys, values and *length.
+// The event is that of the command's line. ripsawbean_text shows its text, which is written when it is asked for. A key
+// and a value are only read, and may share bytes. The answer shares none with anything else.
 
 typedef struct {
     uint8_t kind;    // RIPSAWBEAN_ANSWER_..
@@ -305,9 +305,9 @@ typedef struct {
 // bytes of out, whole; the rest of out is as it was, and so are the notes behind the first taken->lines.
 //
 //     RIPSAWBEAN_OK         all lines were taken, or there is no room for a further note
-//     RIPSAWBEAN_UNWRITTEN  the last line that was taken made its call, and its text found no room or no memory: its note has this
-//                           status, and the text's length where it found no room. ripsawbean_text shows it. Do not make
-//                           that call again; go on behind it
+//     RIPSAWBEAN_UNWRITTEN  the last line that was taken made its call, and its text found no room or no memory: its
+//                           note has this status, and the text's length where it found no room. ripsawbean_text shows
+//                           it. Do not make that call again; go on behind it
 //     RIPSAWBEAN_NOMEMORY, RIPSAWBEAN_SPENT
 //                           the next line, which was not taken, can't be called, as by ripsawbean_call
 //     RIPSAWBEAN_CLOSED     taken is all 0, and out and notes are as they were

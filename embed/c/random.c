@@ -204,7 +204,9 @@ static bool has_parts(void) {
     static const struct {
         const char *name;
         size_t words;
-    } commands[] = {{"begin", 1}, {"get", 2}, {"put", 3}, {"del", 2}, {"commit", 1}, {"abort", 1}, {"close", 1}, {"readat", 2}, {"poll", 2}};
+    } commands[] = {
+        {"begin", 1}, {"get", 2}, {"put", 3}, {"del", 2}, {"commit", 1}, {"abort", 1}, {"close", 1}, {"readat", 2}, {"poll", 2},
+    };
     char *at;
     parts.seat = (unsigned)strtoul(line, &at, 10);
     at++;
@@ -276,7 +278,8 @@ static void ask_bytes(database *db) {
 }
 
 // Sees that a call that was made told what its text says.
-static void see_answer(database *db, const uint8_t *beginning, size_t shown, size_t length, bool has_shown, const ripsawbean_answer *answer) {
+static void see_answer(database *db, const uint8_t *beginning, size_t shown, size_t length, bool has_shown,
+                       const ripsawbean_answer *answer) {
     const uint8_t *known;
     size_t known_length = known_bytes(db, &known);
     ripsawbean_answer numbers = answer_numbers(db->last, known_length);
@@ -346,7 +349,8 @@ static void call_faulty(database *db) {
 // ---- many lines at once
 
 // Takes what became of the first lines, up to a line whose text isn't shown.
-static void take_lines(database *db, const char *all, size_t all_length, const uint8_t *texts, const ripsawbean_done *done, const ripsawbean_taken *taken) {
+static void take_lines(database *db, const char *all, size_t all_length, const uint8_t *texts, const ripsawbean_done *done,
+                       const ripsawbean_taken *taken) {
     size_t from = 0, shown = 0;
     for (size_t i = 0; i < taken->lines; i++) {
         const char *end = memchr(all + from, '\n', all_length - from);
@@ -391,9 +395,14 @@ static void call_all(database *db, const char *all, size_t all_length) {
         memcpy(done, told, taken.lines * sizeof *done);
         uint8_t last = taken.lines > 0 ? done[taken.lines - 1].status : 0;
         CHECK((status == RIPSAWBEAN_UNWRITTEN) == (last == RIPSAWBEAN_UNWRITTEN));
-        if (last == RIPSAWBEAN_UNWRITTEN) CHECK(done[taken.lines - 1].length == 0 ? was_refused : done[taken.lines - 1].length > room - taken.length);
-        else if (status == RIPSAWBEAN_OK) CHECK(taken.bytes == left || taken.lines == places);
-        else CHECK(status == RIPSAWBEAN_NOMEMORY && was_refused);
+        if (last == RIPSAWBEAN_UNWRITTEN) {
+            size_t length = done[taken.lines - 1].length;
+            CHECK(length == 0 ? was_refused : length > room - taken.length);
+        } else if (status == RIPSAWBEAN_OK) {
+            CHECK(taken.bytes == left || taken.lines == places);
+        } else {
+            CHECK(status == RIPSAWBEAN_NOMEMORY && was_refused);
+        }
         uint8_t *texts = malloc(taken.length + 1);
         CHECK(texts != NULL);
         memcpy(texts, out, taken.length);

@@ -163,7 +163,8 @@ static void see_faults(database *db) {
     for (size_t i = 0; i < sizeof seats / sizeof *seats; i++) {
         for (size_t k = 0; k < 3; k++) {
             size_t key_length = k < 2 ? keys[k] : 1, length = 12345;
-            uint8_t seat = k < 2 && i % 2 == 1 ? 0 : seats[i], expected = seat == 0 ? RIPSAWBEAN_KEYLENGTH : RIPSAWBEAN_SESSION, *out = out_of(9);
+            uint8_t seat = k < 2 && i % 2 == 1 ? 0 : seats[i], expected = seat == 0 ? RIPSAWBEAN_KEYLENGTH : RIPSAWBEAN_SESSION;
+            uint8_t *out = out_of(9);
             const uint8_t *at = line_of(key, key_length);
             ripsawbean_answer answer = other_answer();
             CHECK(ripsawbean_get(handle, seat, 10, at, key_length, out, 9, &length, &answer) == expected);
