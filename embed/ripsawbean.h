@@ -61,9 +61,8 @@ typedef struct {
 #define RIPSAWBEAN_MAX_VALUE 65536                       // bytes of a value; it may have none
 #define RIPSAWBEAN_MAX_LINE 200000                       // bytes of a line before its newline
 
-// What ripsawbean_open, ripsawbean_call, ripsawbean_text and ripsawbean_state return. After RIPSAWBEAN_OK and
-// RIPSAWBEAN_UNWRITTEN of a call the database has one event more. After every other status it is as it was, its last
-// event and that event's text too.
+// What the functions of a database return. After RIPSAWBEAN_OK and RIPSAWBEAN_UNWRITTEN of a call the database has one
+// event more. After every other status it is as it was, its last event and that event's text too.
 enum {
     RIPSAWBEAN_OK = 0,
 
@@ -87,7 +86,7 @@ enum {
     // changed nothing else. Its text may want memory as well, as any text: see RIPSAWBEAN_UNWRITTEN.
     RIPSAWBEAN_NOMEMORY = 12,
     RIPSAWBEAN_SPENT = 13,     // no position is left after 18446744073709551615 calls: no call was made. A fault is told first
-    RIPSAWBEAN_UNWRITTEN = 14, // the call was made, or had been; its text found no memory. Ask ripsawbean_text for it again
+    RIPSAWBEAN_UNWRITTEN = 14, // the call was made, or had been; its text, or a poll's messages, found no memory. Ask again
     RIPSAWBEAN_RING = 15,      // the ring is not 1 to 65536
     RIPSAWBEAN_CLOSED = 16,    // the handle is closed
     RIPSAWBEAN_OPEN = 17,      // the handle is open already
@@ -143,6 +142,180 @@ uint8_t ripsawbean_state(ripsawbean *db, uint8_t *out, size_t room, size_t *leng
 
 // Frees the database, and leaves the handle closed. It may be opened again. A closed handle stays closed.
 void ripsawbean_close(ripsawbean *db);
+
+// ---- CALLS WITHOUT LINES. A command's parts are arguments, bytes are spelled by nobody, and no text is written:
+//
+//     ripsawbean_answer answer;
+//     ripsawbean_begin(&db, 0, 10, &answer);                                              // .. == RIPSAWBEAN_OK
+//     ripsawbean_put(&db, 0, 10, (const uint8_t *)"apple", 5, (const uint8_t *)"3", 1, &answer);
+//     if (answer.kind >= RIPSAWBEAN_ANSWER_REFUSED) puts(ripsawbean_answer_name(answer.kind));
+//
+// The event is that of the command's line. ripsawbean_text shows its text, which is written when it is asked for. A key
+// and a value are only read, and may share bytes. The answer shares none with anything else.
+
+typedef struct {
+    uint8_t kind;    // RIPSAWBEAN_ANSWER_..
+    uint64_t number; // what it counts, or the timestamp that it names; 0 where there is none
+    uint64_t other;  // a closing's aborted transactions, else 0
+} ripsawbean_answer;
+
+// The kinds of answers, named as texts name them.
+enum {
+    RIPSAWBEAN_ANSWER_MISSING = 0, // no call was made, and the answer is all 0
+    RIPSAWBEAN_ANSWER_STARTED = 1,
+    RIPSAWBEAN_ANSWER_NONE = 2,  // the key has no value
+    RIPSAWBEAN_ANSWER_VALUE = 3, // number: how many bytes it has
+    RIPSAWBEAN_ANSWER_WRITTEN = 4,
+    RIPSAWBEAN_ANSWER_COMMITTED = 5, // number: how many keys were written
+    RIPSAWBEAN_ANSWER_ABORTED = 6,
+    RIPSAWBEAN_ANSWER_CLOSED = 7,   // number: the closed timestamp
+    RIPSAWBEAN_ANSWER_MESSAGES = 8, // number: how many
+
+    RIPSAWBEAN_ANSWER_REFUSED = 32,     // from here on refusals. Each is an event, and all but TOOLATE change nothing else
+    RIPSAWBEAN_ANSWER_BELOWCLOSED = 32, // number: the closed timestamp
+    RIPSAWBEAN_ANSWER_TSUSED = 33,
+    RIPSAWBEAN_ANSWER_TSRANGE = 34,
+    RIPSAWBEAN_ANSWER_BLOCKED = 35, // number: the timestamp of the transaction in whose way it stands
+    RIPSAWBEAN_ANSWER_NOTXN = 36,
+    RIPSAWBEAN_ANSWER_NOTOWNER = 37,
+    RIPSAWBEAN_ANSWER_ENDED = 38,
+    RIPSAWBEAN_ANSWER_TOOLATE = 39,
+    RIPSAWBEAN_ANSWER_NOTCLOSED = 40,    // number: the closed timestamp
+    RIPSAWBEAN_ANSWER_BELOWHORIZON = 41, // number: the horizon
+    RIPSAWBEAN_ANSWER_NOPROTECTION = 42,
+    RIPSAWBEAN_ANSWER_NOFEED = 43,
+    RIPSAWBEAN_ANSWER_FEEDCANCELLED = 44,
+    RIPSAWBEAN_ANSWER_NOMEMORY = 45,
+    RIPSAWBEAN_ANSWER_GAPRANGE = 46
+};
+
+// Each makes one call.
+//
+//     RIPSAWBEAN_OK           the call was made, and answer says what came of it
+//     RIPSAWBEAN_SESSION      the seat is not 0 to 63. It is tested first, then the key, then the value
+//     RIPSAWBEAN_KEYLENGTH    the key has no byte, or more than 256
+//     RIPSAWBEAN_VALUELENGTH  the value has more than 65536 bytes
+//     RIPSAWBEAN_NOMEMORY     there was no memory for a key or a value of more than 24 bytes
+//     RIPSAWBEAN_SPENT, RIPSAWBEAN_CLOSED
+//
+// After all but RIPSAWBEAN_OK no call was made, and answer is all 0.
+uint8_t ripsawbean_begin(ripsawbean *db, uint8_t seat, uint64_t timestamp, ripsawbean_answer *answer);
+uint8_t ripsawbean_put(ripsawbean *db, uint8_t seat, uint64_t timestamp, const uint8_t *key, size_t key_length, const uint8_t *value,
+                       size_t value_length, ripsawbean_answer *answer);
+uint8_t ripsawbean_delete(ripsawbean *db, uint8_t seat, uint64_t timestamp, const uint8_t *key, size_t key_length,
+                          ripsawbean_answer *answer);
+uint8_t ripsawbean_commit(ripsawbean *db, uint8_t seat, uint64_t timestamp, ripsawbean_answer *answer);
+uint8_t ripsawbean_abort(ripsawbean *db, uint8_t seat, uint64_t timestamp, ripsawbean_answer *answer);
+
+// The command "close", and not ripsawbean_close.
+uint8_t ripsawbean_close_to(ripsawbean *db, uint8_t seat, uint64_t timestamp, ripsawbean_answer *answer);
+
+// Each makes one call as those above, and shows the value that it found. At RIPSAWBEAN_OK *length is the value's whole
+// length, 0 where the answer is not RIPSAWBEAN_ANSWER_VALUE, and out begins with as much of it as there is room for. At
+// every other status *length is 0 and out is as it was. Where *length is above room nothing is lost: ripsawbean_bytes
+// shows the value again. ripsawbean_read_at is the command "readat": the committed value at a closed timestamp.
+uint8_t ripsawbean_get(ripsawbean *db, uint8_t seat, uint64_t timestamp, const uint8_t *key, size_t key_length, uint8_t *out,
+                       size_t room, size_t *length, ripsawbean_answer *answer);
+uint8_t ripsawbean_read_at(ripsawbean *db, uint8_t seat, uint64_t timestamp, const uint8_t *key, size_t key_length, uint8_t *out,
+                           size_t room, size_t *length, ripsawbean_answer *answer);
+
+// Takes the next messages of a feed, `most` at most, and shows them one behind another, to be read by
+// ripsawbean_read_message. A message has a head of 17 bytes: its kind, its timestamp in eight bytes, and in four bytes
+// each how many bytes of a key and of a value stand behind the head. Each number has its lowest byte first.
+//
+//     RIPSAWBEAN_OK         the call was made. *length is the whole length of the messages; out as for a value. Messages that
+//                           found no room are not lost: ripsawbean_bytes shows them again. Do not poll again for them
+//     RIPSAWBEAN_UNWRITTEN  the call was made, and answer says so; its messages found no memory. *length is 0 and out is as
+//                           it was. ripsawbean_bytes tries again
+//     RIPSAWBEAN_SESSION, RIPSAWBEAN_SPENT, RIPSAWBEAN_CLOSED
+//                           no call was made, and answer is all 0; *length is 0 and out is as it was
+uint8_t ripsawbean_poll(ripsawbean *db, uint8_t seat, uint64_t feed, uint64_t most, uint8_t *out, size_t room, size_t *length,
+                        ripsawbean_answer *answer);
+
+// Shows the bytes of the last event's answer again, any number of times, also where a line made its call: a value, or
+// messages. It makes no call.
+//
+//     RIPSAWBEAN_OK         *length is their whole length, 0 where there are none; out as for a value
+//     RIPSAWBEAN_UNWRITTEN  there is no memory for messages; *length is 0 and out is as it was. They may be asked for again
+//     RIPSAWBEAN_CLOSED     *length is 0 and out is as it was
+uint8_t ripsawbean_bytes(ripsawbean *db, uint8_t *out, size_t room, size_t *length);
+
+// A message, read where it stands.
+typedef struct {
+    uint8_t kind;              // RIPSAWBEAN_MESSAGE_..
+    uint64_t timestamp;        // resolved, or of the row's transaction
+    const uint8_t *key;        // of a row
+    size_t key_length;         // 1 to 256, or 0 where there is none
+    const uint8_t *value;      // of a row that is no delete
+    size_t value_length;       // 0 to 65536
+} ripsawbean_message;
+
+enum {
+    RIPSAWBEAN_MESSAGE_RESOLVED = 0,
+    RIPSAWBEAN_MESSAGE_ROW = 1,
+    RIPSAWBEAN_MESSAGE_DELETE = 2,
+    RIPSAWBEAN_MESSAGE_HEAD = 17 // bytes before the key
+};
+
+// Reads the message at the beginning of `length` bytes. Returns how many bytes it has, behind which the next one stands;
+// 0 where no whole message stands there, and then *message is as it was.
+//
+//     for (size_t at = 0, step; (step = ripsawbean_read_message(out + at, length - at, &message)) > 0; at += step) ..
+static inline size_t ripsawbean_read_message(const uint8_t *bytes, size_t length, ripsawbean_message *message) {
+    uint64_t numbers[3] = {0, 0, 0}; // the timestamp, and the lengths of the key and the value
+    size_t i, whole;
+    if (length < RIPSAWBEAN_MESSAGE_HEAD) return 0;
+    for (i = 0; i < 8; i++) numbers[0] |= (uint64_t)bytes[1 + i] << 8 * i;
+    for (i = 0; i < 4; i++) numbers[1] |= (uint64_t)bytes[9 + i] << 8 * i;
+    for (i = 0; i < 4; i++) numbers[2] |= (uint64_t)bytes[13 + i] << 8 * i;
+    if (numbers[1] + numbers[2] > length - RIPSAWBEAN_MESSAGE_HEAD) return 0;
+    whole = RIPSAWBEAN_MESSAGE_HEAD + (size_t)(numbers[1] + numbers[2]);
+    message->kind = bytes[0];
+    message->timestamp = numbers[0];
+    message->key = bytes + RIPSAWBEAN_MESSAGE_HEAD;
+    message->key_length = (size_t)numbers[1];
+    message->value = message->key + message->key_length;
+    message->value_length = (size_t)numbers[2];
+    return whole;
+}
+
+// ---- MANY LINES AT ONCE: one crossing from a language whose crossings are dear.
+//
+//     ripsawbean_done notes[2];
+//     ripsawbean_taken taken;
+//     const char *lines = "0 begin 10\n0 begin\n";
+//     ripsawbean_calls(&db, (const uint8_t *)lines, strlen(lines), out, sizeof out, notes, 2, &taken);   // RIPSAWBEAN_OK
+//     // taken: 2 lines, 19 bytes, 24 bytes of texts; notes: {24, RIPSAWBEAN_OK}, {0, RIPSAWBEAN_WORDCOUNT}
+
+// What became of one line.
+typedef struct {
+    size_t length;  // of its event's text; 0 where no call was made, or the text found no memory
+    uint8_t status; // RIPSAWBEAN_OK, its fault, or RIPSAWBEAN_UNWRITTEN where its call was made and its text isn't shown
+} ripsawbean_done;
+
+// How far the lines were taken.
+typedef struct {
+    size_t lines;  // each has its note
+    size_t bytes;  // of those lines: the first byte that was not taken stands behind them
+    size_t length; // of the texts that are shown
+} ripsawbean_taken;
+
+// Makes the calls of lines, one after another, each up to its newline, and shows their texts, one behind another. A
+// faulty line makes no call, and the next one is taken; it ends nothing. The texts stand in the first taken->length
+// bytes of out, whole; the rest of out is as it was, and so are the notes behind the first taken->lines.
+//
+//     RIPSAWBEAN_OK         all lines were taken, or there is no room for a further note
+//     RIPSAWBEAN_UNWRITTEN  the last line that was taken made its call, and its text found no room or no memory: its
+//                           note has this status, and the text's length where it found no room. ripsawbean_text shows
+//                           it. Do not make that call again; go on behind it
+//     RIPSAWBEAN_NOMEMORY, RIPSAWBEAN_SPENT
+//                           the next line, which was not taken, can't be called, as by ripsawbean_call
+//     RIPSAWBEAN_CLOSED     taken is all 0, and out and notes are as they were
+//
+// Nothing is lost at any of them: each line before the first byte that was not taken is done, and no line behind it
+// was looked at. lines, out, notes and *taken share no byte.
+uint8_t ripsawbean_calls(ripsawbean *db, const uint8_t *lines, size_t lines_length, uint8_t *out, size_t room, ripsawbean_done *notes,
+                         size_t notes_length, ripsawbean_taken *taken);
 
 // ---- A REPLICA: the rows of one feed's span, kept by its messages. It stands beside a database, which may be another
 // process's: nothing but lines goes in. What is said above of the handle, of pointers, threads and memory holds of it
@@ -205,6 +378,18 @@ static inline const char *ripsawbean_status_name(uint8_t status) {
         "nomessage",   "notafter",  "outsidespan",    "resolvedback", "nofeed", "novalue",
     };
     return status < sizeof names / sizeof *names ? names[status] : "unknown";
+}
+
+// The name of an answer's kind, as texts have it; "unknown" for a number that is none, and for that of no answer.
+static inline const char *ripsawbean_answer_name(uint8_t kind) {
+    static const char *const done[] = {"unknown", "started", "none", "value", "written", "committed", "aborted", "closed", "messages"};
+    static const char *const refused[] = {
+        "belowclosed", "tsused",    "tsrange",      "blocked",      "notxn",  "notowner",      "ended",    "toolate",
+        "notclosed",   "belowhorizon", "noprotection", "nofeed", "feedcancelled", "nomemory", "gaprange",
+    };
+    if (kind < sizeof done / sizeof *done) return done[kind];
+    if (kind < RIPSAWBEAN_ANSWER_REFUSED || kind - RIPSAWBEAN_ANSWER_REFUSED >= (int)(sizeof refused / sizeof *refused)) return "unknown";
+    return refused[kind - RIPSAWBEAN_ANSWER_REFUSED];
 }
 
 #ifdef __cplusplus

@@ -1,257 +1,25 @@
-// Random calls on a few databases at a time, with buffers of random room, faulty lines, refused growths, and handles
-// that are closed and opened anew. `random SEED FOLDER` makes one round, always the same for a seed, and writes the
-// transcript of each database into the folder, for `mvfeed check`. It compares what each call leaves with what
-// ripsawbean.h promises, ends at the first difference, and else writes its counts. `embed/random` makes rounds for as
-// long as it is told to.
-#include "testing.h"
+// Random calls on a few databases at a time, by lines, by many lines at once and without lines, with buffers of random
+// room, faulty lines, refused growths, and handles that are closed and opened anew. `random SEED FOLDER` makes one
+// round, always the same for a seed, and writes the transcript of each database into the folder, for `mvfeed check`. It
+// compares what each call leaves with what ripsawbean.h promises, and each text with that of a second database, which is
+// called by single lines alone. It ends at the first difference, and else writes its counts. `embed/random` makes
+// rounds for as long as it is told to.
+#include "drawing.h"
+#include "reading.h"
 
-#include <inttypes.h>
-#include <stdarg.h>
-
-enum { SLOTS = 3, DATABASES = 12, MOST_LINE = 400000, MOST_TEXT = 64000000, TRANSACTIONS = 8, FEEDS = 64 };
-
-typedef struct {
-    ripsawbean handle;
-    FILE *transcript;   // null where the handle is closed
-    uint64_t made;      // events
-    uint64_t most;      // events, after which it is closed
-    char *last;         // the text of the last event
-    size_t length;
-    uint64_t clock;     // the greatest timestamp that was used
-    struct {
-        uint64_t ts;
-        unsigned seat;
-    } transactions[TRANSACTIONS];
-    unsigned begun;
-    unsigned owners[FEEDS]; // of feeds, by number from 1
-    uint64_t opened, protected;
-} database;
+enum {
+    SLOTS = 3,
+    DATABASES = 12,
+    MOST_TEXT = 64000000,
+    MOST_AT_ONCE = 40, // lines
+};
 
 static struct {
-    unsigned long databases, events, faults, refusals, asked, unwritten, no_memory, closed, repeats;
+    unsigned long databases, events, faults, refusals, asked, unwritten, no_memory, closed, repeats, typed, batches, bytes;
 } counts;
 
 static const char *folder;
 static uint64_t seed;
-static char line[MOST_LINE];
-static size_t line_length;
-
-// ---- lines
-
-static void add(const char *format, ...) __attribute__((format(printf, 1, 2)));
-static void add(const char *format, ...) {
-    va_list arguments;
-    va_start(arguments, format);
-    line_length += (size_t)vsnprintf(line + line_length, sizeof line - line_length, format, arguments);
-    va_end(arguments);
-}
-
-static void add_byte(uint8_t byte) {
-    if (byte > ' ' && byte <= '~' && byte != '%') line[line_length++] = (char)byte;
-    else add("%%%02X", byte);
-}
-
-static void add_bytes(size_t count) {
-    uint8_t first = (uint8_t)below(256);
-    for (size_t i = 0; i < count; i++) add_byte(count < 20 ? (uint8_t)below(256) : first);
-}
-
-static void add_key(void) {
-    line[line_length++] = ' ';
-    if (one_in(60)) {
-        add_bytes(200 + below(57));
-    } else if (one_in(10)) {
-        line[line_length++] = 'b';
-        add_bytes(1 + below(3));
-    } else if (one_in(20)) {
-        add(one_in(2) ? "=>" : "%%2D");
-    } else {
-        line[line_length++] = (char)('a' + below(6));
-    }
-}
-
-static void add_bound(void) {
-    if (one_in(3)) add(" -");
-    else add_key();
-}
-
-static void add_value(void) {
-    line[line_length++] = ' ';
-    size_t count = one_in(700) ? 60000 + below(5537) : one_in(20) ? below(500) : below(6);
-    // No bytes, and a single "-", have spellings of their own.
-    if (count < 2) add(one_in(3) ? "%%2D" : one_in(2) ? "-" : "%" PRIu64, below(10));
-    else add_bytes(count);
-}
-
-static uint64_t near_timestamp(const database *db) {
-    if (one_in(60)) return one_in(2) ? 0 : UINT64_C(9223372036854775807) + below(3);
-    uint64_t back = below(12);
-    return back < db->clock ? db->clock - back : 1;
-}
-
-// The beginning of a line: its seat and a command.
-static void start(unsigned seat, const char *name) {
-    line_length = 0;
-    add("%u %s", seat, name);
-}
-
-// A transaction's command, mostly of one that began.
-static void start_in_transaction(const database *db, const char *name) {
-    if (db->begun > 0 && !one_in(12)) {
-        unsigned at = (unsigned)below(db->begun < TRANSACTIONS ? db->begun : TRANSACTIONS);
-        start(db->transactions[at].seat, name);
-        add(" %" PRIu64, db->transactions[at].ts);
-    } else {
-        start((unsigned)below(64), name);
-        add(" %" PRIu64, near_timestamp(db));
-    }
-}
-
-// A line that is a command.
-static void make_line(database *db) {
-    static const char *const kinds[] = {"begin", "get",    "put",     "put",     "put",     "del",     "commit", "commit", "abort", "scan",
-                                        "close", "readat", "scanat",  "protect", "release", "collect", "open",   "poll",   "poll",  "stats",
-                                        "put",   "get",    "cancel",  "begin",   "begin",   "hard",
-                                        "openinitial", "openevery", "openinitialevery"};
-    const char *kind = kinds[below(sizeof kinds / sizeof *kinds)];
-    unsigned seat = (unsigned)below(one_in(10) ? 64 : 4);
-    if (strcmp(kind, "begin") == 0) {
-        start(seat, "begin");
-        add(" %" PRIu64, one_in(5) ? near_timestamp(db) : db->clock + 1 + below(3));
-    } else if (strcmp(kind, "get") == 0) {
-        start_in_transaction(db, "get");
-        add_key();
-    } else if (strcmp(kind, "put") == 0) {
-        start_in_transaction(db, "put");
-        add_key();
-        add_value();
-    } else if (strcmp(kind, "del") == 0) {
-        start_in_transaction(db, "del");
-        add_key();
-    } else if (strcmp(kind, "commit") == 0) {
-        start_in_transaction(db, "commit");
-    } else if (strcmp(kind, "abort") == 0) {
-        if (one_in(2)) start_in_transaction(db, "abort");
-        else start_in_transaction(db, "commit");
-    } else if (strcmp(kind, "scan") == 0) {
-        start_in_transaction(db, "scan");
-        add_bound();
-        add_bound();
-    } else if (strcmp(kind, "close") == 0) {
-        start(seat, "close");
-        add(" %" PRIu64, near_timestamp(db));
-    } else if (strcmp(kind, "hard") == 0) {
-        start(seat, one_in(4) ? "closehard" : "close");
-        add(" %" PRIu64, near_timestamp(db));
-    } else if (strcmp(kind, "readat") == 0) {
-        start(seat, "readat");
-        add(" %" PRIu64, near_timestamp(db));
-        add_key();
-    } else if (strcmp(kind, "scanat") == 0) {
-        start(seat, "scanat");
-        add(" %" PRIu64, near_timestamp(db));
-        add_bound();
-        add_bound();
-    } else if (strcmp(kind, "protect") == 0) {
-        start(seat, "protect");
-        add(" %" PRIu64, near_timestamp(db));
-    } else if (strcmp(kind, "release") == 0) {
-        start(seat, "release");
-        add(" %" PRIu64, below(db->protected + 2));
-    } else if (strcmp(kind, "collect") == 0) {
-        start(seat, "collect");
-        add(" %" PRIu64, near_timestamp(db));
-    } else if (strncmp(kind, "open", 4) == 0) {
-        start(seat, kind);
-        add_bound();
-        add_bound();
-        add(" %" PRIu64, one_in(3) ? 0 : near_timestamp(db));
-        if (strstr(kind, "every")) add(" %" PRIu64, below(6));
-    } else if (strcmp(kind, "poll") == 0) {
-        uint64_t feed = below(db->opened + 2);
-        bool is_known = feed > 0 && feed <= db->opened && feed <= FEEDS;
-        start(is_known && !one_in(10) ? db->owners[feed - 1] : seat, "poll");
-        add(" %" PRIu64 " %" PRIu64, feed, one_in(20) ? UINT64_MAX : below(7));
-    } else if (strcmp(kind, "cancel") == 0) {
-        start(seat, "cancel");
-        add(" %" PRIu64, below(db->opened + 2) + (one_in(2) ? 0 : 1000));
-    } else {
-        start(seat, "stats");
-    }
-    line[line_length++] = '\n';
-}
-
-// Puts a byte into the line.
-static void insert(size_t at, char byte) {
-    memmove(line + at + 1, line + at, line_length - at);
-    line[at] = byte;
-    line_length++;
-}
-
-// A line with one fault, whose status is told.
-static uint8_t make_fault(database *db) {
-    make_line(db);
-    switch (below(10)) {
-    case 0:
-        line_length--;
-        return RIPSAWBEAN_NONEWLINE;
-    case 1:
-        insert(below(line_length), (char)(one_in(2) ? below(' ') : 127 + below(129)));
-        return RIPSAWBEAN_BADBYTE;
-    case 2:
-        insert(line_length - 1, 'x');
-        insert(line_length - 2, ' ');
-        return RIPSAWBEAN_WORDCOUNT;
-    case 3:
-        insert((size_t)(strchr(line, ' ') - line), ' ');
-        return RIPSAWBEAN_WORDCOUNT;
-    case 4:
-        insert((size_t)(strchr(line, ' ') - line) + 1, 'x');
-        return RIPSAWBEAN_UNKNOWNCOMMAND;
-    case 5:
-        insert(0, (char)('7' + below(3)));
-        return RIPSAWBEAN_SESSION;
-    case 6:
-        start((unsigned)below(64), "close 0");
-        add("%" PRIu64 "\n", below(10));
-        return RIPSAWBEAN_NUMBER;
-    case 7:
-        start((unsigned)below(64), "get 1 ");
-        if (one_in(2)) add("-\n");
-        else add("%0*d\n", 257 + (int)below(10), 0);
-        return RIPSAWBEAN_KEYLENGTH;
-    case 8:
-        if (!one_in(10)) {
-            start((unsigned)below(64), "put 1 a\n");
-            return RIPSAWBEAN_WORDCOUNT;
-        }
-        start((unsigned)below(64), "put 1 a ");
-        add_bytes(65537 + below(1000));
-        add("\n");
-        return line_length > 200001 ? RIPSAWBEAN_LINETOOLONG : RIPSAWBEAN_VALUELENGTH;
-    default:
-        if (!one_in(10)) {
-            start((unsigned)below(64), "scan 1 - %41\n");
-            return RIPSAWBEAN_BADBYTE;
-        }
-        while (line_length < 200002) line[line_length++] = (char)below(256);
-        return RIPSAWBEAN_LINETOOLONG;
-    }
-}
-
-// A line with a byte changed, taken out or put in. It may still be a command.
-static void mangle(database *db) {
-    make_line(db);
-    size_t at = below(line_length);
-    if (one_in(3)) {
-        memmove(line + at, line + at + 1, line_length - at - 1);
-        line_length--;
-    } else if (one_in(2)) {
-        line[at] = (char)(' ' + below(95));
-    } else {
-        insert(at, (char)(' ' + below(95)));
-    }
-}
 
 // ---- calls
 
@@ -320,7 +88,49 @@ static void learn(database *db, const char *answer) {
     }
 }
 
-// Takes the text of the call that was made, of which `shown` bytes were seen: it is the next event, of this very line.
+// The second database makes the call of the line too, whose text is the same. Its growths are never refused: where the
+// first one was answered "nomemory", which changed nothing, it makes another call that changes nothing.
+static void see_twin(database *db, const char *text, size_t length) {
+    static uint8_t twins[MOST_TEXT];
+    size_t told;
+    if (has_name(words_of(text), "nomemory")) {
+        CHECK(length == strlen(text) && strchr(text, '\n') == text + length - 1);
+        CHECK(ripsawbean_call(&db->twin, (const uint8_t *)"0 stats\n", 8, twins, sizeof twins, &told) == RIPSAWBEAN_OK);
+        return;
+    }
+    CHECK(ripsawbean_call(&db->twin, (const uint8_t *)line, line_length, twins, sizeof twins, &told) == RIPSAWBEAN_OK);
+    CHECK(told == length && memcmp(twins, text, length) == 0);
+}
+
+// The second database finds the same fault in the line.
+static void see_twins_fault(database *db, uint8_t status) {
+    size_t told;
+    CHECK(ripsawbean_call(&db->twin, (const uint8_t *)line, line_length, (uint8_t *)line, 0, &told) == status);
+}
+
+// Takes the text of the call of the line: it is the next event, of this very line.
+static void take_text(database *db, const uint8_t *text, size_t length) {
+    char position[32];
+    size_t digits = (size_t)snprintf(position, sizeof position, "%" PRIu64 " ", db->made);
+    CHECK(length > digits + line_length + 3);
+    CHECK(memcmp(text, position, digits) == 0);
+    CHECK(memcmp(text + digits, line, line_length - 1) == 0);
+    CHECK(memcmp(text + digits + line_length - 1, " => ", 4) == 0);
+    CHECK(text[length - 1] == '\n');
+    CHECK(fwrite(text, 1, length, db->transcript) == length);
+    free(db->last);
+    db->last = malloc(length + 1);
+    CHECK(db->last != NULL);
+    memcpy(db->last, text, length);
+    db->last[length] = '\0';
+    db->length = length;
+    see_twin(db, db->last, length);
+    db->made++;
+    counts.events++;
+    learn(db, db->last + digits + line_length - 1 + 4);
+}
+
+// Asks for the text of the call that was made, of which `shown` bytes were seen, and takes it.
 static void take_event(database *db, const uint8_t *seen, size_t shown) {
     char *beginning = malloc(shown + 1);
     CHECK(beginning != NULL);
@@ -334,25 +144,9 @@ static void take_event(database *db, const uint8_t *seen, size_t shown) {
         counts.asked++;
         room = one_in(3) ? room + 1 + below(30) : one_in(2) ? length : length + below(100);
     }
-    char position[32];
-    size_t digits = (size_t)snprintf(position, sizeof position, "%" PRIu64 " ", db->made);
-    CHECK(length > digits + line_length + 3);
     CHECK(memcmp(out, beginning, shown) == 0);
-    CHECK(memcmp(out, position, digits) == 0);
-    CHECK(memcmp(out + digits, line, line_length - 1) == 0);
-    CHECK(memcmp(out + digits + line_length - 1, " => ", 4) == 0);
-    CHECK(out[length - 1] == '\n');
-    CHECK(fwrite(out, 1, length, db->transcript) == length);
     free(beginning);
-    free(db->last);
-    db->last = malloc(length + 1);
-    CHECK(db->last != NULL);
-    memcpy(db->last, out, length);
-    db->last[length] = '\0';
-    db->length = length;
-    db->made++;
-    counts.events++;
-    learn(db, db->last + digits + line_length - 1 + 4);
+    take_text(db, out, length);
 }
 
 // Makes the call of the line, and again where there was no memory for it. `expected` is its fault, 0 for none, 255
@@ -389,9 +183,254 @@ static void call(database *db, uint8_t expected) {
             continue;
         }
         CHECK(expected == 255 ? status <= RIPSAWBEAN_BADBYTE : status == expected);
+        see_twins_fault(db, status);
         counts.faults++;
         return;
     }
+}
+
+// ---- calls without lines
+
+// The parts of the line, where it is of a command that can be called so.
+static struct {
+    const char *name;
+    unsigned seat;
+    uint64_t number, most;
+    uint8_t key[300], value[70000];
+    size_t key_length, value_length;
+} parts;
+
+static bool has_parts(void) {
+    static const struct {
+        const char *name;
+        size_t words;
+    } commands[] = {
+        {"begin", 1}, {"get", 2}, {"put", 3}, {"del", 2}, {"commit", 1}, {"abort", 1}, {"close", 1}, {"readat", 2}, {"poll", 2},
+    };
+    char *at;
+    parts.seat = (unsigned)strtoul(line, &at, 10);
+    at++;
+    for (size_t i = 0; i < sizeof commands / sizeof *commands; i++) {
+        if (!has_name(at, commands[i].name)) continue;
+        parts.name = commands[i].name;
+        parts.number = strtoull(at + strlen(parts.name) + 1, &at, 10);
+        if (strcmp(parts.name, "poll") == 0) {
+            parts.most = strtoull(at, NULL, 10);
+        } else if (commands[i].words > 1) {
+            parts.key_length = unspell(++at, parts.key);
+            if (commands[i].words > 2) parts.value_length = unspell(strchr(at, ' ') + 1, parts.value);
+        }
+        return true;
+    }
+    return false;
+}
+
+static bool is_long(void) {
+    bool has_key = strchr("gpdr", parts.name[0]) != NULL && strcmp(parts.name, "poll") != 0;
+    return has_key && (parts.key_length > 24 || (strcmp(parts.name, "put") == 0 && parts.value_length > 24));
+}
+
+// Makes the call of the parts. The functions that show bytes change `length`.
+static uint8_t call_parts(database *db, uint8_t *out, size_t room, size_t *length, ripsawbean_answer *answer) {
+    ripsawbean *handle = &db->handle;
+    uint8_t seat = (uint8_t)parts.seat;
+    const uint8_t *key = line_of(parts.key, parts.key_length), *value = other_of(parts.value, parts.value_length);
+    switch (parts.name[0]) {
+    case 'b': return ripsawbean_begin(handle, seat, parts.number, answer);
+    case 'g': return ripsawbean_get(handle, seat, parts.number, key, parts.key_length, out, room, length, answer);
+    case 'd': return ripsawbean_delete(handle, seat, parts.number, key, parts.key_length, answer);
+    case 'a': return ripsawbean_abort(handle, seat, parts.number, answer);
+    case 'r': return ripsawbean_read_at(handle, seat, parts.number, key, parts.key_length, out, room, length, answer);
+    case 'c':
+        if (parts.name[1] == 'o') return ripsawbean_commit(handle, seat, parts.number, answer);
+        return ripsawbean_close_to(handle, seat, parts.number, answer);
+    default:
+        if (parts.name[1] == 'o') return ripsawbean_poll(handle, seat, parts.number, parts.most, out, room, length, answer);
+        return ripsawbean_put(handle, seat, parts.number, key, parts.key_length, value, parts.value_length, answer);
+    }
+}
+
+// The bytes of the last event's answer, by its text.
+static size_t known_bytes(const database *db, const uint8_t **known) {
+    static uint8_t bytes[MOST_TEXT];
+    *known = bytes;
+    return db->length == 0 ? 0 : answer_bytes(db->last, bytes);
+}
+
+// Asks for the bytes of the last event's answer, which are those that its text tells, whatever was refused since.
+static void ask_bytes(database *db) {
+    const uint8_t *known;
+    size_t known_length = known_bytes(db, &known), room = one_in(2) ? below(40) : known_length + below(3), length = 12345;
+    uint8_t *out = out_of(room);
+    may_refuse();
+    uint8_t status = ripsawbean_bytes(&db->handle, out, room, &length);
+    bool was_refused = refuse_none();
+    counts.bytes++;
+    if (status == RIPSAWBEAN_UNWRITTEN) {
+        CHECK(was_refused && length == 0 && is_sand(out, 0, room));
+        CHECK(has_name(words_of(db->last), "messages"));
+        counts.unwritten++;
+        return;
+    }
+    CHECK(status == RIPSAWBEAN_OK && length == known_length);
+    size_t shown = length < room ? length : room;
+    CHECK(memcmp(out, known, shown) == 0 && is_sand(out, shown, room));
+}
+
+// Sees that a call that was made told what its text says.
+static void see_answer(database *db, const uint8_t *beginning, size_t shown, size_t length, bool has_shown,
+                       const ripsawbean_answer *answer) {
+    const uint8_t *known;
+    size_t known_length = known_bytes(db, &known);
+    ripsawbean_answer numbers = answer_numbers(db->last, known_length);
+    CHECK(is_answer(answer, numbers.kind, numbers.number, numbers.other));
+    if (!has_shown) return;
+    CHECK(length == known_length && memcmp(beginning, known, shown) == 0);
+}
+
+// Makes the call of the line by its parts, and again where there was no memory for it. `expected` is the parts' fault.
+static void call_typed(database *db, uint8_t expected) {
+    bool shows = strchr("gr", parts.name[0]) != NULL || strcmp(parts.name, "poll") == 0;
+    line[line_length] = '\0';
+    for (;;) {
+        size_t room = random_room(db), length = shows ? 12345 : 0;
+        uint8_t *out = out_of(room);
+        ripsawbean_answer answer = other_answer();
+        may_refuse();
+        uint8_t status = call_parts(db, out, room, &length, &answer);
+        bool was_refused = refuse_none();
+        if (status == RIPSAWBEAN_OK || status == RIPSAWBEAN_UNWRITTEN) {
+            CHECK(expected == 0 && (status == RIPSAWBEAN_OK || (was_refused && strcmp(parts.name, "poll") == 0 && answer.kind == 8)));
+            CHECK(status == RIPSAWBEAN_OK || length == 0);
+            size_t shown = length < room ? length : room;
+            CHECK(is_sand(out, shown, room));
+            uint8_t *beginning = malloc(shown + 1);
+            CHECK(beginning != NULL);
+            memcpy(beginning, out, shown);
+            take_event(db, out, 0);
+            see_answer(db, beginning, shown, length, status == RIPSAWBEAN_OK, &answer);
+            free(beginning);
+            if (one_in(2)) ask_bytes(db);
+            counts.typed++;
+            return;
+        }
+        CHECK((shows ? length == 0 : true) && is_sand(out, 0, room) && is_answer(&answer, 0, 0, 0));
+        if (status == RIPSAWBEAN_NOMEMORY) {
+            CHECK(was_refused && expected == 0 && is_long());
+            counts.refusals++;
+            ask_again(db);
+            continue;
+        }
+        CHECK(status == expected);
+        counts.faults++;
+        return;
+    }
+}
+
+// Spoils a part, or two of which the first is told, and makes the call.
+static void call_faulty(database *db) {
+    uint8_t expected = 0;
+    bool has_key = strchr("gdr", parts.name[0]) != NULL || strcmp(parts.name, "put") == 0;
+    if (strcmp(parts.name, "put") == 0 && one_in(2)) {
+        parts.value_length = 65537 + below(1000);
+        expected = RIPSAWBEAN_VALUELENGTH;
+    }
+    if (has_key && one_in(2)) {
+        parts.key_length = one_in(2) ? 0 : 257 + below(40);
+        expected = RIPSAWBEAN_KEYLENGTH;
+    }
+    if (expected == 0 || one_in(4)) {
+        parts.seat = 64 + (unsigned)below(192);
+        expected = RIPSAWBEAN_SESSION;
+    }
+    call_typed(db, expected);
+}
+
+// ---- many lines at once
+
+// Takes what became of the first lines, up to a line whose text isn't shown.
+static void take_lines(database *db, const char *all, size_t all_length, const uint8_t *texts, const ripsawbean_done *done,
+                       const ripsawbean_taken *taken) {
+    size_t from = 0, shown = 0;
+    for (size_t i = 0; i < taken->lines; i++) {
+        const char *end = memchr(all + from, '\n', all_length - from);
+        line_length = end == NULL ? all_length - from : (size_t)(end - (all + from)) + 1;
+        memcpy(line, all + from, line_length);
+        line[line_length] = '\0';
+        from += line_length;
+        if (done[i].status == RIPSAWBEAN_OK) {
+            CHECK(done[i].length > 0 && done[i].length <= taken->length - shown);
+            take_text(db, texts + shown, done[i].length);
+            shown += done[i].length;
+        } else if (done[i].status == RIPSAWBEAN_UNWRITTEN) {
+            CHECK(i + 1 == taken->lines);
+            size_t told = done[i].length;
+            take_event(db, texts, 0);
+            CHECK(told == 0 || told == db->length);
+            counts.unwritten++;
+        } else {
+            CHECK(done[i].length == 0 && done[i].status <= RIPSAWBEAN_BADBYTE);
+            see_twins_fault(db, done[i].status);
+            counts.faults++;
+        }
+    }
+    CHECK(from == taken->bytes && shown == taken->length);
+}
+
+// Makes the calls of lines, and goes on behind what was taken until all are.
+static void call_all(database *db, const char *all, size_t all_length) {
+    static ripsawbean_done done[MOST_AT_ONCE + 3];
+    for (size_t from = 0; from < all_length;) {
+        size_t room = one_in(2) ? 100 + below(8000) : random_room(db), places = one_in(3) ? below(6) : MOST_AT_ONCE + 2;
+        size_t left = all_length - from;
+        uint8_t *at = line_of(all + from, left), *out = out_of(room);
+        ripsawbean_done *told = notes_of(places);
+        ripsawbean_taken taken = {12345, 12345, 12345};
+        may_refuse();
+        uint8_t status = ripsawbean_calls(&db->handle, at, left, out, room, told, places, &taken);
+        bool was_refused = refuse_none();
+        CHECK(memcmp(at, all + from, left) == 0);
+        CHECK(taken.lines <= places && taken.bytes <= left && taken.length <= room);
+        CHECK(is_sand(out, taken.length, room) && are_untouched(told, taken.lines, places));
+        memcpy(done, told, taken.lines * sizeof *done);
+        uint8_t last = taken.lines > 0 ? done[taken.lines - 1].status : 0;
+        CHECK((status == RIPSAWBEAN_UNWRITTEN) == (last == RIPSAWBEAN_UNWRITTEN));
+        if (last == RIPSAWBEAN_UNWRITTEN) {
+            size_t length = done[taken.lines - 1].length;
+            CHECK(length == 0 ? was_refused : length > room - taken.length);
+        } else if (status == RIPSAWBEAN_OK) {
+            CHECK(taken.bytes == left || taken.lines == places);
+        } else {
+            CHECK(status == RIPSAWBEAN_NOMEMORY && was_refused);
+        }
+        uint8_t *texts = malloc(taken.length + 1);
+        CHECK(texts != NULL);
+        memcpy(texts, out, taken.length);
+        take_lines(db, all + from, left, texts, done, &taken);
+        free(texts);
+        counts.refusals += status == RIPSAWBEAN_NOMEMORY;
+        counts.batches++;
+        from += taken.bytes;
+    }
+}
+
+static uint8_t make_any(database *db) {
+    if (one_in(12)) return make_fault(db);
+    if (one_in(12)) mangle(db);
+    else make_line(db);
+    return 255;
+}
+
+static void call_several(database *db) {
+    static char all[MOST_LINE];
+    size_t length = 0;
+    for (uint64_t count = 1 + below(MOST_AT_ONCE); count > 0; count--) {
+        make_any(db);
+        if (length + line_length > sizeof all) break;
+        memcpy(all + length, line, line_length);
+        length += line_length;
+    }
+    call_all(db, all, length);
 }
 
 // ---- handles
@@ -399,6 +438,7 @@ static void call(database *db, uint8_t expected) {
 static void open_slot(database *db) {
     static const uint32_t rings[] = {1, 2, 3, 1024, 65536};
     *db = (database){.handle = db->handle, .clock = 1, .most = 1 + below(one_in(3) ? 40 : 700)};
+    CHECK(ripsawbean_open(&db->twin, rings[below(5)]) == RIPSAWBEAN_OK);
     while (ripsawbean_open(&db->handle, one_in(4) ? (one_in(2) ? 0 : 65537 + (uint32_t)below(9)) : rings[below(5)]) != RIPSAWBEAN_OK)
         CHECK(!db->handle.is_open);
     char path[4096];
@@ -409,6 +449,7 @@ static void open_slot(database *db) {
 }
 
 static void close_slot(database *db) {
+    ripsawbean_close(&db->twin);
     ripsawbean_close(&db->handle);
     if (one_in(2)) ripsawbean_close(&db->handle);
     CHECK(!db->handle.is_open);
@@ -420,8 +461,21 @@ static void close_slot(database *db) {
 static void use_closed(database *db) {
     size_t room = below(20), length = 12345;
     uint8_t *out = out_of(room);
-    if (one_in(2)) CHECK(ripsawbean_text(&db->handle, out, room, &length) == RIPSAWBEAN_CLOSED);
-    else CHECK(ripsawbean_call(&db->handle, (const uint8_t *)"0 stats\n", below(9), out, room, &length) == RIPSAWBEAN_CLOSED);
+    ripsawbean_answer answer = other_answer();
+    ripsawbean_taken taken = {1, 2, 3};
+    ripsawbean_done *told = notes_of(2);
+    switch (below(4)) {
+    case 0: CHECK(ripsawbean_text(&db->handle, out, room, &length) == RIPSAWBEAN_CLOSED); break;
+    case 1: CHECK(ripsawbean_call(&db->handle, (const uint8_t *)"0 stats\n", below(9), out, room, &length) == RIPSAWBEAN_CLOSED); break;
+    case 2:
+        CHECK(ripsawbean_poll(&db->handle, (uint8_t)below(256), 1, 9, out, room, &length, &answer) == RIPSAWBEAN_CLOSED);
+        CHECK(is_answer(&answer, 0, 0, 0));
+        break;
+    default:
+        CHECK(ripsawbean_calls(&db->handle, (const uint8_t *)"0 stats\n", below(9), out, room, told, below(3), &taken) == RIPSAWBEAN_CLOSED);
+        CHECK(taken.lines == 0 && taken.bytes == 0 && taken.length == 0 && are_untouched(told, 0, 2));
+        length = 0;
+    }
     CHECK(length == 0 && is_sand(out, 0, room));
     counts.closed++;
 }
@@ -431,7 +485,10 @@ static void use_open(database *db) {
         CHECK(ripsawbean_open(&db->handle, 1 + (uint32_t)below(65536)) == RIPSAWBEAN_OPEN);
         CHECK(ripsawbean_open(&db->handle, 65537) == RIPSAWBEAN_RING);
     } else if (one_in(15)) {
-        ask_again(db);
+        if (one_in(2)) ask_again(db);
+        else ask_bytes(db);
+    } else if (one_in(30)) {
+        call_several(db);
     } else if (one_in(8)) {
         call(db, make_fault(db));
     } else if (one_in(12)) {
@@ -439,7 +496,10 @@ static void use_open(database *db) {
         call(db, 255);
     } else {
         make_line(db);
-        call(db, 0);
+        line[line_length] = '\0';
+        if (!has_parts() || one_in(3)) call(db, 0);
+        else if (one_in(10)) call_faulty(db);
+        else call_typed(db, 0);
     }
 }
 
@@ -470,8 +530,8 @@ int main(int count, char **words) {
         }
     }
     printf("databases %lu events %lu faults %lu answered_nomemory %lu refused_calls %lu unwritten %lu asked_again %lu repeated %lu "
-           "closed %lu growths_refused %lu checks %lu\n",
+           "closed %lu typed %lu batches %lu bytes %lu growths_refused %lu checks %lu\n",
            counts.databases, counts.events, counts.faults, counts.no_memory, counts.refusals, counts.unwritten, counts.asked, counts.repeats,
-           counts.closed, growths_refused, checks);
+           counts.closed, counts.typed, counts.batches, counts.bytes, growths_refused, checks);
     return 0;
 }

@@ -46,6 +46,49 @@ static double transactions(long count) {
     return (double)(4 * count) / took;
 }
 
+// The same calls without lines.
+static double typed(long count) {
+    ripsawbean db = RIPSAWBEAN_INITIALIZER;
+    ripsawbean_answer answer;
+    size_t length;
+    if (ripsawbean_open(&db, 1024) != RIPSAWBEAN_OK) exit(1);
+    double from = now();
+    for (long i = 1; i <= count; i++) {
+        char key_text[30], value_text[30];
+        const uint8_t *key = (const uint8_t *)key_text, *value = (const uint8_t *)value_text;
+        size_t key_length = (size_t)sprintf(key_text, "k%ld", i * 7 % KEYS), value_length = (size_t)sprintf(value_text, "v%ld", i);
+        if (ripsawbean_begin(&db, 0, (uint64_t)i, &answer) != RIPSAWBEAN_OK) exit(1);
+        if (ripsawbean_put(&db, 0, (uint64_t)i, key, key_length, value, value_length, &answer) != RIPSAWBEAN_OK) exit(1);
+        if (ripsawbean_get(&db, 0, (uint64_t)i, key, key_length, out, sizeof out, &length, &answer) != RIPSAWBEAN_OK) exit(1);
+        if (ripsawbean_commit(&db, 0, (uint64_t)i, &answer) != RIPSAWBEAN_OK || answer.number != 1) exit(1);
+    }
+    double took = now() - from;
+    ripsawbean_close(&db);
+    return (double)(4 * count) / took;
+}
+
+// The same calls by lines, 1,000 at once.
+static double several(long count) {
+    static char lines[100000];
+    static uint8_t texts[200000];
+    static ripsawbean_done notes[1000];
+    ripsawbean db = RIPSAWBEAN_INITIALIZER;
+    ripsawbean_taken taken;
+    if (ripsawbean_open(&db, 1024) != RIPSAWBEAN_OK) exit(1);
+    double from = now();
+    for (long i = 1; i <= count;) {
+        size_t length = 0, made = 0;
+        for (; i <= count && made < 1000; i++, made += 4)
+            length += (size_t)sprintf(lines + length, "0 begin %ld\n0 put %ld k%ld v%ld\n0 get %ld k%ld\n0 commit %ld\n", i, i,
+                                      i * 7 % KEYS, i, i, i * 7 % KEYS, i);
+        uint8_t status = ripsawbean_calls(&db, (const uint8_t *)lines, length, texts, sizeof texts, notes, 1000, &taken);
+        if (status != RIPSAWBEAN_OK || taken.lines != made) exit(1);
+    }
+    double took = now() - from;
+    ripsawbean_close(&db);
+    return (double)(4 * count) / took;
+}
+
 // A line with too few words.
 static double refused(long count) {
     ripsawbean db = RIPSAWBEAN_INITIALIZER;
@@ -139,6 +182,8 @@ int main(int count, char **words) {
     long made = atol(words[1]), faulty = atol(words[2]);
     int runs = atoi(words[3]);
     printf("transactions %.0f\n", best(transactions, made, runs));
+    printf("typed %.0f\n", best(typed, made, runs));
+    printf("several %.0f\n", best(several, made, runs));
     printf("refused %.0f\n", best(refused, faulty, runs));
     printf("plain %.0f\n", best(plain, made, runs));
     return 0;

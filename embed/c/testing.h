@@ -60,12 +60,14 @@ static inline bool is_sand(const uint8_t *at, size_t from, size_t to) {
     return true;
 }
 
-// Where lines are read and buffers written, each up to its page.
-static guarded lines, outs;
+// Where lines are read and buffers written, each up to its page: keys too, and the notes of several lines.
+static guarded lines, others, outs, notes;
 
 static inline void make_guarded(size_t longest_line, size_t most_room) {
     lines = guarded_new(longest_line);
+    others = guarded_new(longest_line);
     outs = guarded_new(most_room);
+    notes = guarded_new(4096 * sizeof(ripsawbean_done));
 }
 
 // Bytes for the library to read: a line, or a key.
@@ -75,8 +77,24 @@ static inline uint8_t *line_of(const void *bytes, size_t length) {
     return at;
 }
 
+// More bytes to read in the same call: a value.
+static inline uint8_t *other_of(const void *bytes, size_t length) {
+    uint8_t *at = guarded_last(&others, length);
+    if (length > 0) memcpy(at, bytes, length);
+    return at;
+}
+
 static inline uint8_t *out_of(size_t room) {
     return sanded_last(&outs, room);
+}
+
+static inline ripsawbean_done *notes_of(size_t room) {
+    return (ripsawbean_done *)(void *)sanded_last(&notes, room * sizeof(ripsawbean_done));
+}
+
+// Whether the notes from one on are as they were before.
+static inline bool are_untouched(const ripsawbean_done *at, size_t from, size_t to) {
+    return is_sand((const uint8_t *)at, from * sizeof *at, to * sizeof *at);
 }
 
 // The program is linked with --wrap for malloc and realloc, the library's calls of them too. Where a refusal is due,

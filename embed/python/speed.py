@@ -24,6 +24,32 @@ def transactions(count):
         return 4 * count / (time.perf_counter() - start)
 
 
+def typed(count):
+    """The same calls without lines."""
+    with Database() as db:
+        start = time.perf_counter()
+        for ts in range(1, count + 1):
+            key = b"k%d" % (ts * 7 % KEYS)
+            db.begin(ts)
+            db.put(ts, key, b"v%d" % ts)
+            db.get(ts, key)
+            db.commit(ts)
+        return 4 * count / (time.perf_counter() - start)
+
+
+def several(count):
+    """The same calls by lines, 1,000 at once."""
+    with Database() as db:
+        start = time.perf_counter()
+        for first in range(1, count + 1, 250):
+            lines = []
+            for ts in range(first, min(first + 250, count + 1)):
+                key = ts * 7 % KEYS
+                lines.append("0 begin %d\n0 put %d k%d v%d\n0 get %d k%d\n0 commit %d\n" % (ts, ts, key, ts, ts, key, ts))
+            assert len(db.calls("".join(lines))) == 4 * len(lines)
+        return 4 * count / (time.perf_counter() - start)
+
+
 def refused(count):
     """A line with too few words, which raises."""
     with Database() as db:
@@ -51,7 +77,7 @@ def plain(count):
 
 def main():
     made, faulty, runs = map(int, sys.argv[1:])
-    for work, count in ((transactions, made), (refused, faulty), (plain, made)):
+    for work, count in ((transactions, made), (typed, made), (several, made), (refused, faulty), (plain, made)):
         print(work.__name__, "%.0f" % max(work(count) for _ in range(runs)))
 
 

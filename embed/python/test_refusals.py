@@ -6,7 +6,7 @@ import unittest
 import ripsawbean
 from ripsawbean import Database
 
-LIBRARY = ripsawbean._library
+LIBRARY = ripsawbean.handles.LIBRARY
 CAN_REFUSE = hasattr(LIBRARY, "refuse_after_growths")
 if CAN_REFUSE:
     LIBRARY.refuse_after_growths.argtypes, LIBRARY.refuse_after_growths.restype = [ctypes.c_ulong], None
@@ -65,6 +65,55 @@ class Refusals(unittest.TestCase):
                 self.assertEqual([type(message).__name__ for message in told.messages], ["Row", "Resolved"])
             before += 1
         self.assertEqual(seen, {"no call", "no text", "an answer"})
+
+    def test_each_growth_of_typed_calls(self):
+        key, value, seen, before, any_refused = b"k" * 30, b"v" * 5000, set(), 0, True
+        while any_refused:
+            any_refused = False
+            with Database() as db:
+                db.make("open", None, None, 0)
+                for call in (
+                    lambda: db.begin(1), lambda: db.put(1, key, value), lambda: db.get(1, key), lambda: db.commit(1),
+                    lambda: db.close_to(1), lambda: db.poll(1, 9),
+                ):
+                    told, was_refused = self.refusing(before, call)
+                    any_refused = any_refused or was_refused
+                    if isinstance(told, ripsawbean.NoMemory):
+                        seen.add("no call")
+                        told = call()
+                    elif isinstance(told, ripsawbean.Unwritten):
+                        # The poll was made; its messages can be asked for.
+                        again, was_refused = self.refusing(0, db.data)
+                        self.assertEqual((type(again), was_refused), (ripsawbean.Unwritten, True))
+                        seen.add("no bytes")
+                        continue
+                    elif told.answer == "nomemory":
+                        seen.add("an answer")
+                        told = call()
+                    self.assertFalse(told.is_refusal)
+                self.assertEqual(ripsawbean.messages_of(db.data()), [ripsawbean.Row(key, value, 1), ripsawbean.Resolved(1)])
+            before += 1
+        self.assertEqual(seen, {"no call", "no bytes", "an answer"})
+
+    def test_each_growth_of_lines_at_once(self):
+        before, any_refused = 0, True
+        while any_refused:
+            any_refused = False
+            with Database() as db:
+                position, left = 0, LINES
+                while left:
+                    lines = "".join(line + "\n" for line in left)
+                    told, was_refused = self.refusing(1 << 30 if any_refused else before, lambda: db.calls(lines))
+                    any_refused = any_refused or was_refused
+                    if isinstance(told[-1], ripsawbean.Unwritten):
+                        told[-1] = str(db.text())
+                    elif isinstance(told[-1], ripsawbean.NoMemory):
+                        told.pop()
+                    for line, text in zip(left, told):
+                        self.assertTrue(text.startswith("%d %s => " % (position, line)), text)
+                        position += 1
+                    left = left[len(told) :]
+            before += 1
 
 
 if __name__ == "__main__":

@@ -9,7 +9,7 @@ import warnings
 
 import ripsawbean
 from cache import Cache, NotTaken
-from ripsawbean import Database, Event, Refused, Resolved, Row, spell, unspell
+from ripsawbean import Database, Event, Refused, Resolved, Row, messages_of, spell, unspell
 
 
 class Words(unittest.TestCase):
@@ -143,7 +143,7 @@ class Calls(unittest.TestCase):
         self.assertEqual(str(self.db.make("stats")), "1 0 stats => stats 0 1 0 0 0\n")
 
     def test_the_kinds_name_their_status(self):
-        self.assertEqual(sorted(ripsawbean._ERRORS), [*range(1, 10), *range(12, 24)])
+        self.assertEqual(sorted(ripsawbean.errors.ERRORS), [*range(1, 10), *range(12, 24)])
 
     def test_values_of_python(self):
         db = self.db
@@ -206,6 +206,147 @@ class Calls(unittest.TestCase):
             self.db.make("begin", ts)
         lines = self.db.state().splitlines()
         self.assertEqual([json.loads(line)["timestamp"] for line in lines[1:]], [str(ts) for ts in range(1, 200)])
+
+
+class TypedCalls(unittest.TestCase):
+    def setUp(self):
+        self.db = Database()
+        self.addCleanup(self.db.close)
+
+    def answers(self, answer, kind, text, value=None, number=0):
+        """What a call told, and the text of its event."""
+        self.assertEqual((answer.kind, answer.value, answer.number, answer.is_refusal), (kind, value, number, kind >= 32))
+        event = self.db.text()
+        self.assertEqual(str(event), text)
+        self.assertEqual((event.answer, event.is_refusal), (answer.answer, answer.is_refusal))
+
+    def test_each_call_is_the_event_of_its_line(self):
+        db = self.db
+        self.assertEqual(db.data(), b"")
+        self.answers(db.begin(10, seat=5), 1, "0 5 begin 10 => started\n")
+        self.answers(db.put(10, b"a b", b"\xff-", seat=5), 4, "1 5 put 10 a%20b %FF- => written\n")
+        self.answers(db.put(10, bytearray(b"c"), memoryview(b""), seat=5), 4, "2 5 put 10 c - => written\n")
+        self.answers(db.get(10, b"a b", seat=5), 3, "3 5 get 10 a%20b => value %FF-\n", b"\xff-", 2)
+        self.assertEqual(db.data(), b"\xff-")
+        self.answers(db.get(10, b"c", seat=5), 3, "4 5 get 10 c => value -\n", b"", 0)
+        self.answers(db.get(10, b"d", seat=5), 2, "5 5 get 10 d => none\n")
+        self.answers(db.commit(10, seat=5), 5, "6 5 commit 10 => committed 2\n", None, 2)
+        self.answers(db.begin(20), 1, "7 0 begin 20 => started\n")
+        self.answers(db.delete(20, b"c"), 4, "8 0 del 20 c => written\n")
+        self.answers(db.abort(20), 6, "9 0 abort 20 => aborted\n")
+        self.answers(db.close_to(30, seat=63), 7, "10 63 close 30 => closed 30 0\n", None, 30)
+        self.answers(db.read_at(30, b"a b"), 3, "11 0 readat 30 a%20b => value %FF-\n", b"\xff-", 2)
+        self.answers(db.read_at(9, b"a b"), 2, "12 0 readat 9 a%20b => none\n")
+
+    def test_each_refusal(self):
+        db = self.db
+        db.begin(10)
+        self.answers(db.begin(10), 33, "1 0 begin 10 => tsused\n")
+        self.answers(db.begin((1 << 64) - 1), 34, "2 0 begin 18446744073709551615 => tsrange\n")
+        self.answers(db.get(10, b"a", seat=1), 37, "3 1 get 10 a => notowner\n")
+        self.answers(db.commit(11), 36, "4 0 commit 11 => notxn\n")
+        db.put(10, b"a", b"1")
+        db.begin(20)
+        self.answers(db.get(20, b"a"), 35, "7 0 get 20 a => blocked 10\n", None, 10)
+        db.commit(10)
+        self.answers(db.put(10, b"a", b"2"), 38, "9 0 put 10 a 2 => ended\n")
+        db.get(20, b"a")
+        db.begin(15)
+        self.answers(db.delete(15, b"a"), 39, "12 0 del 15 a => toolate\n")
+        self.answers(db.read_at(20, b"a"), 40, "13 0 readat 20 a => notclosed 0\n", None, 0)
+        db.abort(20)
+        db.close_to(30)
+        self.answers(db.begin(30), 32, "16 0 begin 30 => belowclosed 30\n", None, 30)
+        db.make("collect", 25)
+        self.answers(db.read_at(24, b"a"), 41, "18 0 readat 24 a => belowhorizon 25\n", None, 25)
+        self.answers(db.poll(1, 9), 43, "19 0 poll 1 9 => nofeed\n")
+        db.make("open", None, None, 30)
+        db.make("cancel", 1)
+        self.answers(db.poll(1, 9), 44, "22 0 poll 1 9 => feedcancelled\n")
+
+    def test_messages(self):
+        db = self.db
+        value = bytes(range(256)) * 256
+        all = [Row(b"k" * 256, value, 10)] + [Row(b"z%02d" % i, value, 10) for i in range(30)]
+        db.begin(10)
+        for row in all:
+            self.assertEqual(db.put(10, row.key, row.after).answer, "written")
+        self.assertEqual(db.get(10, b"k" * 256).value, value)
+        db.commit(10)
+        db.begin(20)
+        db.delete(20, b"z07")
+        db.commit(20)
+        db.close_to(20)
+        all += [Row(b"z07", None, 20), Resolved(20)]
+        feed = db.make("open", None, None, 0, seat=3).number
+        answer = db.poll(feed, 100, seat=3)
+        self.assertEqual((answer.messages, answer.number, answer.answer), (all, len(all), "messages %d" % len(all)))
+        self.assertEqual(messages_of(db.data()), all)
+        self.assertEqual(db.text().messages, all)
+        self.assertEqual(db.poll(feed, 100, seat=3).messages, [])
+        self.assertEqual(db.poll(feed, 100).messages, [])
+
+    def test_faulty_parts_make_no_call(self):
+        db = self.db
+        db.begin(10)
+        key, value, great = b"k" * 257, b"v" * 65537, 1 << 64
+        for kind, call in [
+            (ripsawbean.Session, lambda: db.begin(10, seat=64)), (ripsawbean.Session, lambda: db.begin(10, seat=256)),
+            (ripsawbean.Session, lambda: db.poll(1, 1, seat=-1)), (ripsawbean.Session, lambda: db.put(10, key, value, seat=1 << 70)),
+            (ripsawbean.KeyLength, lambda: db.get(10, b"")), (ripsawbean.KeyLength, lambda: db.delete(10, key)),
+            (ripsawbean.KeyLength, lambda: db.put(10, key, value)), (ripsawbean.ValueLength, lambda: db.put(10, b"k", value)),
+            (ripsawbean.Number, lambda: db.begin(great)), (ripsawbean.Number, lambda: db.get(-1, b"a")),
+            (ripsawbean.Number, lambda: db.put(great, b"a", b"")), (ripsawbean.Number, lambda: db.delete(great, b"a")),
+            (ripsawbean.Number, lambda: db.poll(1, great)), (ripsawbean.Number, lambda: db.close_to(great)),
+            (TypeError, lambda: db.get(10, "a")), (TypeError, lambda: db.get(10, None)), (TypeError, lambda: db.put(10, b"a", 5)),
+            (TypeError, lambda: db.begin("10")), (TypeError, lambda: db.commit(1.5)),
+        ]:
+            with self.assertRaises(kind):
+                call()
+            self.assertEqual(str(db.text()), "0 0 begin 10 => started\n")
+        db.close()
+        for call in (lambda: db.begin(1), lambda: db.get(1, b"a"), lambda: db.poll(1, 1), db.data):
+            with self.assertRaises(ripsawbean.Closed):
+                call()
+
+
+class ManyLines(unittest.TestCase):
+    def setUp(self):
+        self.db, self.other = Database(), Database()
+        self.addCleanup(self.db.close)
+        self.addCleanup(self.other.close)
+
+    def alone(self, line):
+        try:
+            return str(self.other.call(line))
+        except ripsawbean.Error as error:
+            return type(error)
+
+    def together(self, lines):
+        return [told if isinstance(told, str) else type(told) for told in self.db.calls(lines)]
+
+    def test_lines_and_their_faults(self):
+        lines = "0 begin 10\n\n0 put 10 a 1\n0 fly\n0 scan 10 - -\n64 stats\n0 get 10 é\n0 commit 10\n0 stats"
+        self.assertEqual(self.together(lines), [
+            "0 0 begin 10 => started\n", ripsawbean.WordCount, "1 0 put 10 a 1 => written\n", ripsawbean.UnknownCommand,
+            "2 0 scan 10 - - => rows 1\nrow a 1\n", ripsawbean.Session, ripsawbean.BadByte, "3 0 commit 10 => committed 1\n",
+            ripsawbean.NoNewline,
+        ])
+        self.assertEqual(self.together(""), [])
+        self.assertEqual(self.together(b"0 begin 5\n"), ["4 0 begin 5 => started\n"])
+        self.db.close()
+        for lines in ("", "0 stats\n"):
+            with self.assertRaises(ripsawbean.Closed):
+                self.db.calls(lines)
+
+    def test_each_line_tells_what_it_tells_alone(self):
+        lines = ["0 begin 1\n"]
+        for i in range(50):
+            lines.append("0 put 1 k%d %s\n" % (i, "v" * (60000 - 1000 * i)))
+            if i % 10 == 0:
+                lines += ["0 scan 1 - -\n", "0 fly\n"]
+        for batch in (lines, ["0 scan 1 - -\n"] * 3, ["0 stats\n"] * 5000):
+            self.assertEqual(self.together("".join(batch)), [self.alone(line) for line in batch])
 
 
 class Feeds(unittest.TestCase):

@@ -6,6 +6,7 @@
 use ripsawbean::{CallError, Command, Database, LineFault};
 use std::collections::HashMap;
 use std::error::Error;
+use std::fmt::Write;
 use std::time::Instant;
 
 const KEYS: u64 = 100;
@@ -21,6 +22,39 @@ fn transactions(count: u64) -> Result<f64, Box<dyn Error>> {
         db.make(0, Command::Put { ts, key, value: value.as_bytes() })?;
         db.make(0, Command::Get { ts, key })?;
         db.make(0, Command::Commit { ts })?;
+    }
+    Ok(4.0 * count as f64 / from.elapsed().as_secs_f64())
+}
+
+/// The same calls without lines.
+fn typed(count: u64) -> Result<f64, Box<dyn Error>> {
+    let mut db = Database::open(1024)?;
+    let from = Instant::now();
+    for ts in 1..=count {
+        let (key, value) = (format!("k{}", ts * 7 % KEYS), format!("v{ts}"));
+        let key = key.as_bytes();
+        db.begin(0, ts)?;
+        db.put(0, ts, key, value.as_bytes())?;
+        db.get(0, ts, key)?;
+        db.commit(0, ts)?;
+    }
+    Ok(4.0 * count as f64 / from.elapsed().as_secs_f64())
+}
+
+/// The same calls by lines, 1,000 at once.
+fn several(count: u64) -> Result<f64, Box<dyn Error>> {
+    let mut db = Database::open(1024)?;
+    let mut lines = String::new();
+    let from = Instant::now();
+    for first in (1..=count).step_by(250) {
+        lines.clear();
+        for ts in first..=count.min(first + 249) {
+            let key = ts * 7 % KEYS;
+            write!(lines, "0 begin {ts}\n0 put {ts} k{key} v{ts}\n0 get {ts} k{key}\n0 commit {ts}\n")?;
+        }
+        for result in db.calls(&lines) {
+            result?;
+        }
     }
     Ok(4.0 * count as f64 / from.elapsed().as_secs_f64())
 }
@@ -58,6 +92,8 @@ fn main() -> Result<(), Box<dyn Error>> {
         (0..runs).try_fold(0.0, |most: f64, _| Ok(most.max(work(count)?)))
     };
     println!("transactions {:.0}", best(transactions, made)?);
+    println!("typed {:.0}", best(typed, made)?);
+    println!("several {:.0}", best(several, made)?);
     println!("refused {:.0}", best(refused, faulty)?);
     println!("plain {:.0}", best(plain, made)?);
     Ok(())

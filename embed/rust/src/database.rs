@@ -3,18 +3,20 @@
 use crate::command::Command;
 use crate::error::{CallError, OpenError, PollError, Unwritten};
 use crate::event::{Event, Message};
-use crate::raw::{Open, Status};
+use crate::raw::{Done, Open, Status};
 use std::fmt;
 use std::fmt::Write;
 use std::vec::IntoIter;
 
 /// A database, open for as long as it lives.
 pub struct Database {
-    open: Open,
+    pub(crate) open: Open,
     /// Room for a text. It grows to what the longest one needed.
-    out: Vec<u8>,
+    pub(crate) out: Vec<u8>,
     /// The line of the command that is made.
     line: String,
+    /// What became of lines that were called at once.
+    pub(crate) notes: Vec<Done>,
 }
 
 impl Database {
@@ -22,7 +24,7 @@ impl Database {
     /// depends on it.
     pub fn open(ring: u32) -> Result<Database, OpenError> {
         let open = Open::new(ring).map_err(OpenError::of)?;
-        Ok(Database { open, out: vec![0; 4096], line: String::new() })
+        Ok(Database { open, out: vec![0; 4096], line: String::new(), notes: Vec::new() })
     }
 
     /// Makes the call of a line, with its newline, as `"0 put 10 apple 3\n"`. After each error but
@@ -80,17 +82,19 @@ impl Database {
         Ok(Event::new(text))
     }
 
-    /// Takes room for twice the length of a text.
-    fn make_room(&mut self, length: usize) -> Result<(), Unwritten> {
+    /// Takes room for twice the length of a text, at least.
+    pub(crate) fn make_room(&mut self, length: usize) -> Result<(), Unwritten> {
         let room = length.saturating_mul(2);
-        self.out.try_reserve_exact(room - self.out.len()).map_err(|_| Unwritten)?;
-        self.out.resize(room, 0);
+        if room > self.out.len() {
+            self.out.try_reserve_exact(room - self.out.len()).map_err(|_| Unwritten)?;
+            self.out.resize(room, 0);
+        }
         Ok(())
     }
 }
 
 /// The only status, beside 0, of an open handle that is asked for its text.
-fn unwritten(status: Status) -> Unwritten {
+pub(crate) fn unwritten(status: Status) -> Unwritten {
     assert_eq!(status, 14, "asking for a text returned {status}");
     Unwritten
 }

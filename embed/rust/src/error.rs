@@ -45,11 +45,57 @@ pub enum CallError {
     NoMemory,
     /// No position is left. No call was made.
     Spent,
-    /// **The call was made**, and there was no memory for its text. [`crate::Database::text`] asks for it again.
+    /// **The call was made**, and there was no memory for its text, or for the bytes of its answer.
+    /// [`crate::Database::text`] and [`crate::Database::bytes`] ask for them again.
     Unwritten,
 }
 
-/// There was no memory for the text of the last event. It may be asked for again.
+/// Why a command was refused, with the timestamp that stands in its way. The call was made, and its event changed
+/// nothing, but for [`Refusal::TooLate`], which aborts the transaction.
+#[derive(Clone, Copy, Debug, PartialEq, Eq, Hash)]
+pub enum Refusal {
+    /// The timestamp is not above the closed one, which is told.
+    BelowClosed(u64),
+    /// A transaction began at the timestamp.
+    TsUsed,
+    /// The timestamp is above 9223372036854775807.
+    TsRange,
+    /// The version to be read is of this undecided transaction.
+    Blocked(u64),
+    /// No transaction began at the timestamp.
+    NoTxn,
+    /// The transaction, or the feed, is another seat's.
+    NotOwner,
+    /// The transaction has ended.
+    Ended,
+    /// A later transaction has read what would be written. The transaction is aborted.
+    TooLate,
+    /// The timestamp is above the closed one, which is told.
+    NotClosed(u64),
+    /// The timestamp is below the horizon, which is told.
+    BelowHorizon(u64),
+    /// There is no such protection.
+    NoProtection,
+    /// There is no such feed.
+    NoFeed,
+    /// The feed was cancelled.
+    FeedCancelled,
+    /// There was no memory for it.
+    NoMemory,
+    /// The gap is out of range.
+    GapRange,
+}
+
+/// Why a command told nothing.
+#[derive(Clone, Copy, Debug, PartialEq, Eq, Hash)]
+pub enum CommandError {
+    /// The call has no answer to show.
+    Call(CallError),
+    /// The call was made, and this refusal is its answer.
+    Refused(Refusal),
+}
+
+/// There was no memory for the text of the last event, or for the bytes of its answer. It may be asked for again.
 #[derive(Clone, Copy, Debug, PartialEq, Eq, Hash)]
 pub struct Unwritten;
 
@@ -196,6 +242,63 @@ impl CallError {
     }
 }
 
+impl Refusal {
+    /// The refusal of an answer's kind, with the number that it tells.
+    pub(crate) fn of(kind: u8, number: u64) -> Option<Refusal> {
+        Some(match kind {
+            32 => Refusal::BelowClosed(number),
+            33 => Refusal::TsUsed,
+            34 => Refusal::TsRange,
+            35 => Refusal::Blocked(number),
+            36 => Refusal::NoTxn,
+            37 => Refusal::NotOwner,
+            38 => Refusal::Ended,
+            39 => Refusal::TooLate,
+            40 => Refusal::NotClosed(number),
+            41 => Refusal::BelowHorizon(number),
+            42 => Refusal::NoProtection,
+            43 => Refusal::NoFeed,
+            44 => Refusal::FeedCancelled,
+            45 => Refusal::NoMemory,
+            46 => Refusal::GapRange,
+            _ => return None,
+        })
+    }
+}
+
+/// The answer's words, as the event's text has them.
+impl fmt::Display for Refusal {
+    fn fmt(&self, f: &mut fmt::Formatter<'_>) -> fmt::Result {
+        let name = match *self {
+            Refusal::BelowClosed(closed) => return write!(f, "belowclosed {closed}"),
+            Refusal::Blocked(by) => return write!(f, "blocked {by}"),
+            Refusal::NotClosed(closed) => return write!(f, "notclosed {closed}"),
+            Refusal::BelowHorizon(horizon) => return write!(f, "belowhorizon {horizon}"),
+            Refusal::TsUsed => "tsused",
+            Refusal::TsRange => "tsrange",
+            Refusal::NoTxn => "notxn",
+            Refusal::NotOwner => "notowner",
+            Refusal::Ended => "ended",
+            Refusal::TooLate => "toolate",
+            Refusal::NoProtection => "noprotection",
+            Refusal::NoFeed => "nofeed",
+            Refusal::FeedCancelled => "feedcancelled",
+            Refusal::NoMemory => "nomemory",
+            Refusal::GapRange => "gaprange",
+        };
+        f.write_str(name)
+    }
+}
+
+impl fmt::Display for CommandError {
+    fn fmt(&self, f: &mut fmt::Formatter<'_>) -> fmt::Result {
+        match self {
+            CommandError::Call(e) => e.fmt(f),
+            CommandError::Refused(refusal) => write!(f, "the command is refused: {refusal}"),
+        }
+    }
+}
+
 impl fmt::Display for OpenError {
     fn fmt(&self, f: &mut fmt::Formatter<'_>) -> fmt::Result {
         f.write_str(match self {
@@ -240,6 +343,7 @@ impl fmt::Display for PollError {
 impl Error for OpenError {}
 impl Error for LineFault {}
 impl Error for Unwritten {}
+impl Error for Refusal {}
 
 impl Error for CallError {
     fn source(&self) -> Option<&(dyn Error + 'static)> {
@@ -256,6 +360,27 @@ impl Error for PollError {
             PollError::Call(e) => Some(e),
             PollError::Refused(_) => None,
         }
+    }
+}
+
+impl Error for CommandError {
+    fn source(&self) -> Option<&(dyn Error + 'static)> {
+        match self {
+            CommandError::Call(e) => Some(e),
+            CommandError::Refused(refusal) => Some(refusal),
+        }
+    }
+}
+
+impl From<CallError> for CommandError {
+    fn from(e: CallError) -> CommandError {
+        CommandError::Call(e)
+    }
+}
+
+impl From<Unwritten> for CommandError {
+    fn from(e: Unwritten) -> CommandError {
+        CommandError::Call(e.into())
     }
 }
 

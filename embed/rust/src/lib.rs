@@ -45,11 +45,17 @@ mod event;
 #[allow(unsafe_code)]
 mod raw;
 mod replica;
+mod several;
+mod typed;
 mod word;
 
 pub use command::{Command, Span};
 pub use database::{Database, Messages};
-pub use error::{CallError, LineFault, OpenError, PollError, ReplicaError, TakeError, Unwritten};
+pub use error::{
+    CallError, CommandError, LineFault, OpenError, PollError, Refusal, ReplicaError, TakeError, Unwritten,
+};
 pub use event::{Event, Message, Row};
 pub use replica::Replica;
+pub use several::Calls;
+pub use typed::{Closed, Told};
 pub use word::{unspell, Spelled};

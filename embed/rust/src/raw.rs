@@ -9,6 +9,32 @@ struct Handle {
     is_open: bool,
 }
 
+/// An answer in numbers as C has it.
+#[repr(C)]
+#[derive(Clone, Copy, Default)]
+pub(crate) struct Answer {
+    pub(crate) kind: u8,
+    pub(crate) number: u64,
+    pub(crate) other: u64,
+}
+
+/// What became of one line of several, as C has it.
+#[repr(C)]
+#[derive(Clone, Copy, Debug, Default)]
+pub(crate) struct Done {
+    pub(crate) length: usize,
+    pub(crate) status: Status,
+}
+
+/// How far several lines were taken, as C has it.
+#[repr(C)]
+#[derive(Clone, Copy, Default)]
+pub(crate) struct Taken {
+    pub(crate) lines: usize,
+    pub(crate) bytes: usize,
+    pub(crate) length: usize,
+}
+
 extern "C" {
     fn ripsawbean_open(db: *mut Handle, ring: u32) -> u8;
     fn ripsawbean_call(
@@ -22,6 +48,71 @@ extern "C" {
     fn ripsawbean_text(db: *mut Handle, out: *mut u8, room: usize, length: *mut usize) -> u8;
     fn ripsawbean_state(db: *mut Handle, out: *mut u8, room: usize, length: *mut usize) -> u8;
     fn ripsawbean_close(db: *mut Handle);
+    fn ripsawbean_begin(db: *mut Handle, seat: u8, timestamp: u64, answer: *mut Answer) -> u8;
+    fn ripsawbean_get(
+        db: *mut Handle,
+        seat: u8,
+        timestamp: u64,
+        key: *const u8,
+        key_length: usize,
+        out: *mut u8,
+        room: usize,
+        length: *mut usize,
+        answer: *mut Answer,
+    ) -> u8;
+    fn ripsawbean_put(
+        db: *mut Handle,
+        seat: u8,
+        timestamp: u64,
+        key: *const u8,
+        key_length: usize,
+        value: *const u8,
+        value_length: usize,
+        answer: *mut Answer,
+    ) -> u8;
+    fn ripsawbean_delete(
+        db: *mut Handle,
+        seat: u8,
+        timestamp: u64,
+        key: *const u8,
+        key_length: usize,
+        answer: *mut Answer,
+    ) -> u8;
+    fn ripsawbean_commit(db: *mut Handle, seat: u8, timestamp: u64, answer: *mut Answer) -> u8;
+    fn ripsawbean_abort(db: *mut Handle, seat: u8, timestamp: u64, answer: *mut Answer) -> u8;
+    fn ripsawbean_close_to(db: *mut Handle, seat: u8, timestamp: u64, answer: *mut Answer) -> u8;
+    fn ripsawbean_read_at(
+        db: *mut Handle,
+        seat: u8,
+        timestamp: u64,
+        key: *const u8,
+        key_length: usize,
+        out: *mut u8,
+        room: usize,
+        length: *mut usize,
+        answer: *mut Answer,
+    ) -> u8;
+    fn ripsawbean_poll(
+        db: *mut Handle,
+        seat: u8,
+        feed: u64,
+        most: u64,
+        out: *mut u8,
+        room: usize,
+        length: *mut usize,
+        answer: *mut Answer,
+    ) -> u8;
+    fn ripsawbean_bytes(db: *mut Handle, out: *mut u8, room: usize, length: *mut usize) -> u8;
+    fn ripsawbean_calls(
+        db: *mut Handle,
+        lines: *const u8,
+        lines_length: usize,
+        out: *mut u8,
+        room: usize,
+        notes: *mut Done,
+        notes_length: usize,
+        taken: *mut Taken,
+    ) -> u8;
     fn ripsawbean_replica_open(replica: *mut Handle, line: *const u8, line_length: usize) -> u8;
     fn ripsawbean_replica_take(replica: *mut Handle, line: *const u8, line_length: usize) -> u8;
     fn ripsawbean_replica_ready(replica: *mut Handle, line: *const u8, line_length: usize, at: *mut u64) -> u8;
@@ -69,35 +160,116 @@ impl Open {
         let status = unsafe {
             ripsawbean_call(&mut self.handle, line.as_ptr(), line.len(), out.as_mut_ptr(), out.len(), &mut length)
         };
-        if status == 0 {
-            Ok(length)
-        } else {
-            Err(status)
-        }
+        done(status, length)
     }
 
     /// Shows the text of the last event in `out`: its whole length.
     pub(crate) fn text(&mut self, out: &mut [u8]) -> Result<usize, Status> {
         let mut length = 0;
-        // SAFETY: as for `call`.
+        // SAFETY: as for `call`, here and below.
         let status = unsafe { ripsawbean_text(&mut self.handle, out.as_mut_ptr(), out.len(), &mut length) };
-        if status == 0 {
-            Ok(length)
-        } else {
-            Err(status)
-        }
+        done(status, length)
     }
 
     /// Shows the text of the database's state in `out`: its whole length.
     pub(crate) fn state(&mut self, out: &mut [u8]) -> Result<usize, Status> {
         let mut length = 0;
-        // SAFETY: as for `call`.
         let status = unsafe { ripsawbean_state(&mut self.handle, out.as_mut_ptr(), out.len(), &mut length) };
-        if status == 0 {
-            Ok(length)
-        } else {
-            Err(status)
-        }
+        done(status, length)
+    }
+
+    pub(crate) fn begin(&mut self, seat: u8, timestamp: u64) -> Result<Answer, Status> {
+        let mut answer = Answer::default();
+        done(unsafe { ripsawbean_begin(&mut self.handle, seat, timestamp, &mut answer) }, answer)
+    }
+
+    /// Reads a key in a transaction, and shows the value in `out`: its whole length.
+    pub(crate) fn get(
+        &mut self,
+        seat: u8,
+        timestamp: u64,
+        key: &[u8],
+        out: &mut [u8],
+    ) -> Result<(Answer, usize), Status> {
+        let (mut answer, mut length) = (Answer::default(), 0);
+        let (handle, out_at, room) = (&mut self.handle, out.as_mut_ptr(), out.len());
+        let status = unsafe {
+            ripsawbean_get(handle, seat, timestamp, key.as_ptr(), key.len(), out_at, room, &mut length, &mut answer)
+        };
+        done(status, (answer, length))
+    }
+
+    pub(crate) fn put(&mut self, seat: u8, timestamp: u64, key: &[u8], value: &[u8]) -> Result<Answer, Status> {
+        let mut answer = Answer::default();
+        let (handle, value_at) = (&mut self.handle, value.as_ptr());
+        let status = unsafe {
+            ripsawbean_put(handle, seat, timestamp, key.as_ptr(), key.len(), value_at, value.len(), &mut answer)
+        };
+        done(status, answer)
+    }
+
+    pub(crate) fn delete(&mut self, seat: u8, timestamp: u64, key: &[u8]) -> Result<Answer, Status> {
+        let mut answer = Answer::default();
+        let status =
+            unsafe { ripsawbean_delete(&mut self.handle, seat, timestamp, key.as_ptr(), key.len(), &mut answer) };
+        done(status, answer)
+    }
+
+    pub(crate) fn commit(&mut self, seat: u8, timestamp: u64) -> Result<Answer, Status> {
+        let mut answer = Answer::default();
+        done(unsafe { ripsawbean_commit(&mut self.handle, seat, timestamp, &mut answer) }, answer)
+    }
+
+    pub(crate) fn abort(&mut self, seat: u8, timestamp: u64) -> Result<Answer, Status> {
+        let mut answer = Answer::default();
+        done(unsafe { ripsawbean_abort(&mut self.handle, seat, timestamp, &mut answer) }, answer)
+    }
+
+    pub(crate) fn close_to(&mut self, seat: u8, timestamp: u64) -> Result<Answer, Status> {
+        let mut answer = Answer::default();
+        done(unsafe { ripsawbean_close_to(&mut self.handle, seat, timestamp, &mut answer) }, answer)
+    }
+
+    /// Reads a key at a closed timestamp, and shows the value in `out`: its whole length.
+    pub(crate) fn read_at(
+        &mut self,
+        seat: u8,
+        timestamp: u64,
+        key: &[u8],
+        out: &mut [u8],
+    ) -> Result<(Answer, usize), Status> {
+        let (mut answer, mut length) = (Answer::default(), 0);
+        let (handle, out_at, room) = (&mut self.handle, out.as_mut_ptr(), out.len());
+        let status = unsafe {
+            ripsawbean_read_at(handle, seat, timestamp, key.as_ptr(), key.len(), out_at, room, &mut length, &mut answer)
+        };
+        done(status, (answer, length))
+    }
+
+    /// Polls a feed, and shows the messages in `out`: their whole length.
+    pub(crate) fn poll(&mut self, seat: u8, feed: u64, most: u64, out: &mut [u8]) -> Result<(Answer, usize), Status> {
+        let (mut answer, mut length) = (Answer::default(), 0);
+        let (handle, out_at, room) = (&mut self.handle, out.as_mut_ptr(), out.len());
+        let status = unsafe { ripsawbean_poll(handle, seat, feed, most, out_at, room, &mut length, &mut answer) };
+        done(status, (answer, length))
+    }
+
+    /// Shows the bytes of the last event's answer in `out`: their whole length.
+    pub(crate) fn bytes(&mut self, out: &mut [u8]) -> Result<usize, Status> {
+        let mut length = 0;
+        let status = unsafe { ripsawbean_bytes(&mut self.handle, out.as_mut_ptr(), out.len(), &mut length) };
+        done(status, length)
+    }
+
+    /// Makes the calls of lines, and shows their texts in `out`: how far they were taken, and the status, 0 too.
+    pub(crate) fn calls(&mut self, lines: &[u8], out: &mut [u8], notes: &mut [Done]) -> (Taken, Status) {
+        let mut taken = Taken::default();
+        let (handle, out_at, room) = (&mut self.handle, out.as_mut_ptr(), out.len());
+        let (notes_at, places) = (notes.as_mut_ptr(), notes.len());
+        let status = unsafe {
+            ripsawbean_calls(handle, lines.as_ptr(), lines.len(), out_at, room, notes_at, places, &mut taken)
+        };
+        (taken, status)
     }
 }
 

@@ -1,6 +1,6 @@
 //! The wrapper where the library finds no memory, over a library whose growths can be refused: `embed/test` runs this.
 
-use ripsawbean::{CallError, Database, Message, OpenError, Unwritten};
+use ripsawbean::{CallError, CommandError, Database, Message, OpenError, Refusal, Told, Unwritten};
 
 extern "C" {
     fn refuse_after_growths(before: std::ffi::c_ulong);
@@ -78,4 +78,92 @@ fn each_growth_is_refused_in_turn() {
         }
     }
     assert!(without_call > 0 && without_text > 0 && answered > 0, "{without_call} {without_text} {answered}");
+    typed_calls();
+    lines_at_once(&lines);
+}
+
+/// Makes a call until it is made, with its growth behind `before` others refused at first. Whether one was.
+fn until_made(
+    db: &mut Database,
+    before: u64,
+    mut call: impl FnMut(&mut Database) -> Result<Vec<u8>, CommandError>,
+) -> (Result<Vec<u8>, CommandError>, bool) {
+    refuse_after(before);
+    let mut told = call(db);
+    let any = refuse_none();
+    if matches!(told, Err(CommandError::Call(CallError::NoMemory) | CommandError::Refused(Refusal::NoMemory))) {
+        assert!(any);
+        told = call(db);
+    }
+    (told, any)
+}
+
+fn typed_calls() {
+    let (key, value) = ([b'k'; 30], [b'v'; 5000]);
+    let mut without_bytes = 0;
+    for before in 0.. {
+        let mut db = Database::open(1024).expect("it opens");
+        let mut any = false;
+        let mut made = |db: &mut Database, call: &mut dyn FnMut(&mut Database) -> Result<Vec<u8>, CommandError>| {
+            let (told, was_refused) = until_made(db, before, call);
+            any |= was_refused;
+            told
+        };
+        made(&mut db, &mut |db| db.begin(0, 1).map(|()| Vec::new())).expect("a call");
+        made(&mut db, &mut |db| db.put(0, 1, &key, &value).map(|()| Vec::new())).expect("a call");
+        let found = made(&mut db, &mut |db| Ok(db.get(0, 1, &key)?.expect("a value").to_vec()));
+        assert_eq!(found, Ok(value.to_vec()));
+        made(&mut db, &mut |db| db.commit(0, 1).map(|_| Vec::new())).expect("a call");
+        made(&mut db, &mut |db| db.close_to(0, 1).map(|_| Vec::new())).expect("a call");
+        db.call("0 open - - 0\n").expect("a call");
+        let polled = made(&mut db, &mut |db| db.poll(0, 1, 9).map(|told| vec![told.count() as u8]));
+        if polled == Err(CommandError::Call(CallError::Unwritten)) {
+            // The poll was made; its messages can be asked for.
+            without_bytes += 1;
+            refuse_after(0);
+            assert_eq!(db.bytes().err(), Some(Unwritten));
+            assert!(refuse_none());
+        } else {
+            assert_eq!(polled, Ok(vec![2]));
+        }
+        let told: Vec<_> = Told::of(db.bytes().expect("bytes")).collect();
+        assert!(matches!(told.as_slice(), [Message::Row(row), Message::Resolved(1)] if row.key == key), "{told:?}");
+        if !any {
+            break;
+        }
+    }
+    assert!(without_bytes > 0);
+}
+
+fn lines_at_once(lines: &[&str]) {
+    let all = lines.concat();
+    for before in 0.. {
+        let mut db = Database::open(1024).expect("it opens");
+        let (mut position, mut from, mut line, mut any) = (0, 0, 0, false);
+        while line < lines.len() {
+            refuse_after(if any { u64::from(u32::MAX) } else { before });
+            let calls = db.calls(&all[from..]);
+            any |= refuse_none();
+            from += calls.taken();
+            let told: Vec<_> = calls.map(|result| result.map(|event| event.text().to_string())).collect();
+            let count = told.len();
+            for (i, result) in told.into_iter().enumerate() {
+                let text = match result {
+                    Ok(text) => text,
+                    Err(CallError::NoMemory) if i + 1 == count => break,
+                    Err(CallError::Unwritten) if i + 1 == count => {
+                        db.text().expect("a text").expect("an event").text().to_string()
+                    }
+                    Err(other) => panic!("{other}"),
+                };
+                assert!(text.starts_with(&format!("{position} {} => ", lines[line].trim_end())), "{text}");
+                position += 1;
+                line += 1;
+            }
+        }
+        assert_eq!(from, all.len());
+        if !any {
+            break;
+        }
+    }
 }

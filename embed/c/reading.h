@@ -1,0 +1,142 @@
+// What an event's text says of its answer, read by itself, for tests to compare with what the calls without lines tell:
+// the answer in numbers, and the bytes of a value or of messages.
+#ifndef READING_H
+#define READING_H
+
+#include "testing.h"
+
+// The answer's words of a text: those behind the last "=>" of its first line, since a key may be spelled so too.
+static inline const char *words_of(const char *text) {
+    const char *end = strchr(text, '\n'), *found = NULL;
+    for (const char *at = strstr(text, " => "); at != NULL && at < end; at = strstr(at + 1, " => ")) found = at + 4;
+    CHECK(found != NULL);
+    return found;
+}
+
+static inline bool has_name(const char *words, const char *name) {
+    size_t length = strlen(name);
+    return strncmp(words, name, length) == 0 && (words[length] == ' ' || words[length] == '\n');
+}
+
+// ---- bytes that are spelled
+
+static inline uint8_t digit(char c) {
+    CHECK((c >= '0' && c <= '9') || (c >= 'A' && c <= 'F'));
+    return (uint8_t)(c <= '9' ? c - '0' : c - 'A' + 10);
+}
+
+// The bytes of a word that ends at a space or a newline.
+static inline size_t unspell(const char *word, uint8_t *out) {
+    size_t length = 0;
+    if (word[0] == '-' && (word[1] == ' ' || word[1] == '\n')) return 0;
+    for (const char *c = word; *c != ' ' && *c != '\n'; c++) {
+        if (*c == '%') {
+            out[length++] = (uint8_t)(digit(c[1]) << 4 | digit(c[2]));
+            c += 2;
+        } else {
+            out[length++] = (uint8_t)*c;
+        }
+    }
+    return length;
+}
+
+// The bytes of base64 up to a quote.
+static inline size_t decode(const char *text, uint8_t *out) {
+    static const char symbols[] = "ABCDEFGHIJKLMNOPQRSTUVWXYZabcdefghijklmnopqrstuvwxyz0123456789+/";
+    size_t length = 0;
+    uint32_t bits = 0;
+    unsigned count = 0;
+    for (const char *c = text; *c != '"' && *c != '='; c++) {
+        const char *symbol = strchr(symbols, *c);
+        CHECK(symbol != NULL);
+        bits = bits << 6 | (uint32_t)(symbol - symbols);
+        count += 6;
+        if (count >= 8) {
+            count -= 8;
+            out[length++] = (uint8_t)(bits >> count);
+        }
+    }
+    return length;
+}
+
+// ---- messages
+
+static inline size_t put_number(uint64_t number, size_t bytes, uint8_t *out) {
+    for (size_t i = 0; i < bytes; i++) out[i] = (uint8_t)(number >> 8 * i);
+    return bytes;
+}
+
+static inline size_t put_head(uint8_t kind, uint64_t timestamp, size_t key_length, size_t value_length, uint8_t *out) {
+    size_t at = put_number(kind, 1, out);
+    at += put_number(timestamp, 8, out + at);
+    at += put_number(key_length, 4, out + at);
+    return at + put_number(value_length, 4, out + at);
+}
+
+// The bytes of the message of a line.
+static inline size_t message_of(const char *line, uint8_t *out) {
+    static uint8_t key[300], value[70000];
+    const char *resolved = "{\"resolved\":\"", *after = "{\"after\":";
+    if (strncmp(line, resolved, strlen(resolved)) == 0) return put_head(0, strtoull(line + strlen(resolved), NULL, 10), 0, 0, out);
+    CHECK(strncmp(line, after, strlen(after)) == 0);
+    const char *told = line + strlen(after), *key_at = strstr(told, "\"key\":\""), *updated = strstr(told, "\"updated\":\"");
+    CHECK(key_at != NULL && updated != NULL);
+    bool is_delete = *told == 'n';
+    size_t key_length = decode(key_at + strlen("\"key\":\""), key), value_length = is_delete ? 0 : decode(told + 1, value);
+    size_t at = put_head(is_delete ? 2 : 1, strtoull(updated + strlen("\"updated\":\""), NULL, 10), key_length, value_length, out);
+    memcpy(out + at, key, key_length);
+    memcpy(out + at + key_length, value, value_length);
+    return at + key_length + value_length;
+}
+
+// ---- answers
+
+// The bytes of the answer of a text: a value, or messages.
+static inline size_t answer_bytes(const char *text, uint8_t *out) {
+    const char *words = words_of(text);
+    size_t length = 0;
+    if (has_name(words, "value")) return unspell(words + strlen("value "), out);
+    if (!has_name(words, "messages")) return 0;
+    for (const char *line = strchr(text, '\n') + 1; *line != '\0'; line = strchr(line, '\n') + 1) length += message_of(line, out + length);
+    return length;
+}
+
+// The answer of a text in numbers. A value's is counted in its bytes.
+static inline ripsawbean_answer answer_numbers(const char *text, size_t bytes) {
+    static const struct {
+        uint8_t kind;
+        const char *name;
+    } kinds[] = {
+        {1, "started"},      {2, "none"},           {3, "value"},     {4, "written"},       {5, "committed"}, {6, "aborted"},
+        {7, "closed"},       {8, "messages"},       {32, "belowclosed"}, {33, "tsused"},    {34, "tsrange"},  {35, "blocked"},
+        {36, "notxn"},       {37, "notowner"},      {38, "ended"},    {39, "toolate"},      {40, "notclosed"}, {41, "belowhorizon"},
+        {42, "noprotection"}, {43, "nofeed"},       {44, "feedcancelled"}, {45, "nomemory"}, {46, "gaprange"},
+    };
+    const char *words = words_of(text);
+    ripsawbean_answer answer = {0, 0, 0};
+    for (size_t i = 0; i < sizeof kinds / sizeof *kinds; i++) {
+        if (!has_name(words, kinds[i].name)) continue;
+        answer.kind = kinds[i].kind;
+        CHECK(strcmp(ripsawbean_answer_name(answer.kind), kinds[i].name) == 0);
+    }
+    CHECK(answer.kind != 0);
+    if (answer.kind == 3) {
+        answer.number = bytes;
+    } else if (words[strlen(ripsawbean_answer_name(answer.kind))] == ' ') {
+        char *end;
+        answer.number = strtoull(words + strlen(ripsawbean_answer_name(answer.kind)), &end, 10);
+        if (*end == ' ') answer.other = strtoull(end, NULL, 10);
+    }
+    return answer;
+}
+
+static inline bool is_answer(const ripsawbean_answer *one, uint8_t kind, uint64_t number, uint64_t other) {
+    return one->kind == kind && one->number == number && one->other == other;
+}
+
+// What stands in an answer before a call.
+static inline ripsawbean_answer other_answer(void) {
+    return (ripsawbean_answer){99, 12345, 54321};
+}
+
+#endif

@@ -1,0 +1,223 @@
+"""Databases."""
+
+import ctypes
+import struct
+from typing import Callable, Iterator, List, Optional, Union
+
+from .errors import Closed, Error, LineFault, Number, Refused, RingRange, Session, Unwritten, error_of
+from .events import Answer, Event, Message, bytes_of, part_of, word_of
+from .handles import BYTES, NONE, ROOM, SIZE, TIME, Opened, functions
+
+# The functions, with what each takes behind the handle.
+_seat, _answer = ctypes.c_uint8, [ctypes.c_void_p]
+_timed, _keyed = [_seat, TIME], [_seat, TIME, *BYTES]
+_database = functions(
+    "ripsawbean_", open=[ctypes.c_uint32], call=BYTES + ROOM, text=ROOM, state=ROOM, close=[],
+    begin=_timed + _answer, get=_keyed + ROOM + _answer, put=_keyed + BYTES + _answer, delete=_keyed + _answer,
+    commit=_timed + _answer, abort=_timed + _answer, close_to=_timed + _answer, read_at=_keyed + ROOM + _answer,
+    poll=[*_timed, TIME, *ROOM, *_answer], bytes=ROOM, calls=[*BYTES, ctypes.c_void_p, SIZE, ctypes.c_void_p, SIZE, ctypes.c_void_p],
+)
+_ANSWER, _TAKEN, _DONE = struct.Struct("@BQQ"), struct.Struct("@NNN"), struct.Struct("@NB0N")
+
+
+class Database(Opened):
+    """One database, open from the start. Each feed keeps up to `ring` rows at hand, 1 to 65536; no answer depends on it.
+
+    A context manager closes it at the end of its block.
+    """
+
+    _free = _database.close
+    _wanting = Unwritten
+
+    def __init__(self, ring: int = 1024):
+        super().__init__()
+        # What C writes besides bytes: an answer, and how far lines were taken.
+        self._answer = ctypes.create_string_buffer(_ANSWER.size)
+        self._answer_at = ctypes.addressof(self._answer)
+        self._taken = ctypes.create_string_buffer(_TAKEN.size)
+        self._notes = ctypes.create_string_buffer(0)
+        self.open(ring)
+
+    def open(self, ring: int = 1024) -> None:
+        """Opens it anew after `close`, empty."""
+        if not 0 <= ring < 1 << 32:
+            raise RingRange("the ring is not 1 to 65536")
+        with self._turn:
+            _database.open(self._at, ring)
+
+    def call(self, line: Union[str, bytes]) -> Event:
+        """Makes the call of a line, with its newline, as "0 put 10 apple 3\\n". It raises where no call was made, and Unwritten."""
+        data = bytes_of(line)
+        with self._turn:
+            _database.call(self._at, data, len(data), self._out_at, self._room, self._length_at)
+            # The call is not made again where its text found too little room.
+            return Event(self._shown(_database.text).decode("ascii"))
+
+    def make(self, command: str, *arguments: Union[int, bytes, None], seat: int = 0) -> Event:
+        """Makes a call from values: numbers, bytes for keys and values, and None for no bound. The event may be a refusal."""
+        return self.call(" ".join([str(seat), command, *map(word_of, arguments)]) + "\n")
+
+    def begin(self, timestamp: int, seat: int = 0) -> Answer:
+        """Begins a transaction. This and what follows are the calls of `make` without a text: an Answer, which may be a refusal."""
+        return self._timed(_database.begin, timestamp, seat)
+
+    def get(self, timestamp: int, key: bytes, seat: int = 0) -> Answer:
+        """Reads a key in a transaction: the answer's `value`."""
+        return self._read(_database.get, timestamp, key, seat)
+
+    def put(self, timestamp: int, key: bytes, value: bytes, seat: int = 0) -> Answer:
+        """Writes a value in a transaction."""
+        if type(key) is not bytes or type(value) is not bytes:
+            key, value = part_of(key), part_of(value)
+        if timestamp >> 64 or seat >> 8:
+            raise _out_of_range(seat)
+        with self._turn:
+            _database.put(self._at, seat, timestamp, key, len(key), value, len(value), self._answer_at)
+            return Answer(*_ANSWER.unpack(self._answer))
+
+    def delete(self, timestamp: int, key: bytes, seat: int = 0) -> Answer:
+        """Deletes a key in a transaction."""
+        if type(key) is not bytes:
+            key = part_of(key)
+        if timestamp >> 64 or seat >> 8:
+            raise _out_of_range(seat)
+        with self._turn:
+            _database.delete(self._at, seat, timestamp, key, len(key), self._answer_at)
+            return Answer(*_ANSWER.unpack(self._answer))
+
+    def commit(self, timestamp: int, seat: int = 0) -> Answer:
+        """Commits a transaction: the answer's `number` is how many keys it wrote."""
+        return self._timed(_database.commit, timestamp, seat)
+
+    def abort(self, timestamp: int, seat: int = 0) -> Answer:
+        """Aborts a transaction."""
+        return self._timed(_database.abort, timestamp, seat)
+
+    def close_to(self, timestamp: int, seat: int = 0) -> Answer:
+        """The command `close`: the answer's `number` is the closed timestamp."""
+        return self._timed(_database.close_to, timestamp, seat)
+
+    def read_at(self, timestamp: int, key: bytes, seat: int = 0) -> Answer:
+        """Reads a key at a closed timestamp: the answer's `value`."""
+        return self._read(_database.read_at, timestamp, key, seat)
+
+    def poll(self, feed: int, max: int, seat: int = 0) -> Answer:
+        """Takes the next messages of a feed, at most so many: the answer's `messages`.
+
+        They are told once. After Unwritten `messages_of(db.data())` are the same, and another poll would tell others.
+        """
+        if feed >> 64 or max >> 64 or seat >> 8:
+            raise _out_of_range(seat)
+        with self._turn:
+            _database.poll(self._at, seat, feed, max, self._out_at, self._room, self._length_at, self._answer_at)
+            return self._shown_answer()
+
+    def data(self) -> bytes:
+        """The bytes of the last event's answer once more, a value or messages, also where a line made its call. It makes no call."""
+        with self._turn:
+            return self._show(_database.bytes)
+
+    def calls(self, lines: Union[str, bytes]) -> List[Union[str, Error]]:
+        """Makes the calls of many lines, each with its newline: a list of their events' texts, or of the errors that `call` raises.
+
+        A faulty line makes no call, and the next one is taken. NoMemory and Spent end the list before the lines behind
+        theirs, which weren't looked at, and so does Unwritten, whose call was made: `text` asks for its text.
+        """
+        left = bytes_of(lines)
+        told: List[Union[str, Error]] = []
+        with self._turn:
+            self._make_notes(left.count(b"\n") + 1, len(left))
+            while True:
+                left = self._call_lines(left, told)
+                if not left:
+                    return told
+
+    def _call_lines(self, lines: bytes, told: List[Union[str, Error]]) -> bytes:
+        """Calls lines as far as there is room for their texts: those that are left to call."""
+        notes = self._notes
+        status = _database.calls(
+            self._at, lines, len(lines), self._out_at, self._room, notes, len(notes) // _DONE.size, self._taken
+        )
+        if status == Closed.status:
+            raise Closed("the library returned %d" % status)
+        count, taken, length = _TAKEN.unpack(self._taken)
+        texts, at = str(memoryview(self._out)[:length], "ascii"), 0
+        for length, fault in _DONE.iter_unpack(memoryview(notes)[: count * _DONE.size]):
+            if not fault:
+                told.append(texts[at : at + length])
+                at += length
+            elif fault != Unwritten.status:
+                told.append(error_of(fault))
+        if status == Unwritten.status:
+            try:
+                told.append(self._show(_database.text).decode("ascii"))
+            except Unwritten as error:
+                told.append(error)
+                return b""
+        elif status:
+            told.append(error_of(status))
+            return b""
+        return lines[taken:]
+
+    def _make_notes(self, count: int, length: int) -> None:
+        """Room for notes of so many lines, and for texts as they mostly are: a line, its position and a short answer."""
+        if count * _DONE.size > len(self._notes):
+            self._notes = ctypes.create_string_buffer(2 * count * _DONE.size)
+        if length + 64 * count > self._room:
+            self._make_room(2 * length + 64 * count)
+
+    def _timed(self, call: Callable[..., None], timestamp: int, seat: int) -> Answer:
+        if timestamp >> 64 or seat >> 8:
+            raise _out_of_range(seat)
+        with self._turn:
+            call(self._at, seat, timestamp, self._answer_at)
+            return Answer(*_ANSWER.unpack(self._answer))
+
+    def _read(self, call: Callable[..., None], timestamp: int, key: bytes, seat: int) -> Answer:
+        if type(key) is not bytes:
+            key = part_of(key)
+        if timestamp >> 64 or seat >> 8:
+            raise _out_of_range(seat)
+        with self._turn:
+            call(self._at, seat, timestamp, key, len(key), self._out_at, self._room, self._length_at, self._answer_at)
+            return self._shown_answer()
+
+    def _shown_answer(self) -> Answer:
+        """The answer with its bytes, which are asked for again where they found too little room."""
+        return Answer(*_ANSWER.unpack(self._answer), self._shown(_database.bytes))
+
+    def text(self) -> Optional[Event]:
+        """The last event once more, or None where no call was made yet. It makes no call."""
+        with self._turn:
+            text = self._show(_database.text)
+        return Event(text.decode("ascii")) if text else None
+
+    def state(self) -> str:
+        """What an operator may ask of the database now, as lines of JSON. It makes no call."""
+        with self._turn:
+            return self._show(_database.state).decode("ascii")
+
+    def messages(self, feed: int, max: int, seat: int = 0) -> Iterator[Message]:
+        """The messages of a feed, up to where none is due, by polls of at most `max` each.
+
+        A poll is made once the messages of the one before are taken. A message is told once: whoever stops midway in the
+        messages of a poll has lost the others, and its consumer begins anew. A poll that is refused raises Refused.
+        """
+        if max < 1:
+            raise ValueError("a poll of no messages tells nothing")
+        return self._polled(feed, max, seat)
+
+    def _polled(self, feed: int, max: int, seat: int) -> Iterator[Message]:
+        told = max
+        while told == max:
+            event = self.make("poll", feed, max, seat=seat)
+            if event.is_refusal:
+                raise Refused(event)
+            messages = event.messages
+            told = len(messages)
+            yield from messages
+
+
+def _out_of_range(seat: int) -> LineFault:
+    """What C's numbers can't hold is refused here, as the library refuses it in a line."""
+    return Session("the seat is no number from 0 to 63") if seat >> 8 else Number("no number from 0 to %d" % NONE)
