@@ -14,10 +14,10 @@ use Rattle.spans.specs.declared.calls.replies.Reply.TheVariants as reply
 use Rattle.embedded.specs.Embedded.{HasStepped}
 use Rattle.embedded.specs.declared.database.Database.{Database}
 use Rattle.embedded.specs.declared.typed.Answer.{Answer}
-use Rattle.embedded.specs.declared.typed.Spent.{Spent}
+use Rattle.embedded.specs.declared.typed.NoPosition.{NoPosition}
 
 -- what a call of a seat's command does to a database that holds h
-abbrev pub MadeBy : List Event → ℕ → Cmd → Database → Result (Unit {0}) Spent → Database → Type 0
+abbrev pub MadeBy : List Event → ℕ → Cmd → Database → Result (Unit {0}) NoPosition → Database → Type 0
 MadeBy h by cmd old (Ok _) new = HasStepped h by cmd new
 MadeBy h by cmd old (Err _) new = (new ≡ old) × (length h ≡ 18446744073709551615)
 

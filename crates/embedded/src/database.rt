@@ -9,7 +9,7 @@ ghost use Rattle.embedded.specs.declared.database.CallError.TheVariants.{NoMemor
 ghost use Rattle.embedded.specs.Embedded.{StandsFor, HasLast, IsWritten, IsUnwritten, Called, last_of, kept_text};
 ghost use Rattle.json_lines.specs.Writing.{Copied};
 
-use crate::typed::Spent;
+use crate::typed::NoPosition;
 use engine::Engine;
 use json_lines::buffer::copy_front;
 use spans::calls::Event;
@@ -71,7 +71,7 @@ impl Database {
         };
         match self.make(seat, cmd) {
             Ok(()) => {}
-            Err(Spent) => return Err(CallError::Spent),
+            Err(NoPosition) => return Err(CallError::Spent),
         }
         match self.write() {
             Ok(()) => Ok(()),

@@ -49,4 +49,4 @@ mod typed;
 
 pub use database::{CallError, Database};
 pub use several::{Done, Taken};
-pub use typed::{Answer, Spent};
+pub use typed::{Answer, NoPosition};

@@ -22,7 +22,7 @@ use std::alloc::{AllocError, Global};
 
 /// No position is left: the next one would be 18446744073709551615. No call was made.
 #[derive(Clone, Copy, Debug)]
-pub struct Spent;
+pub struct NoPosition;
 
 /// What an event was answered, in numbers. `embed/ripsawbean.h` names the kinds.
 #[repr(C)]
@@ -51,8 +51,8 @@ impl Answer {
 impl Database {
     /// Makes the call of a seat's command, 0 to 63. The event's text is written when it is asked for.
     ///
-    /// After `Spent` all is as it was, the last text too.
-    pub fn make(&mut self, seat: u8, cmd: Cmd) -> Result<(), Spent>
+    /// After `NoPosition` all is as it was, the last text too.
+    pub fn make(&mut self, seat: u8, cmd: Cmd) -> Result<(), NoPosition>
         requires seat { seat < 64 }
         ensures made { (h : List Event) → StandsFor self.old h → MadeBy h seat cmd self.old result self.new }
         ensures same { OnErr result (self.new ≡ self.old) }
@@ -61,7 +61,7 @@ impl Database {
     {
         let position = self.engine.steps();
         if position == u64::MAX {
-            return Err(Spent);
+            return Err(NoPosition);
         }
         let reply = self.engine.step(seat, &cmd);
         self.keep(Event {

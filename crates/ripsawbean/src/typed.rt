@@ -30,7 +30,7 @@ ghost use Rattle.ripsawbean.specs.TypedParts.{IsOf, MadeOf, ShownOf, number_of};
 
 use crate::handle::Handle;
 use crate::{CLOSED, KEY_LENGTH, NO_MEMORY, SESSION, SPENT, UNWRITTEN, VALUE_LENGTH};
-use embedded::{Answer, Database, Spent};
+use embedded::{Answer, Database, NoPosition};
 use spans::calls::Cmd;
 use std::alloc::Global;
 use timestamps::key::{Key, KeyError};
@@ -386,7 +386,7 @@ fn call(database: &mut Database, seat: u8, cmd: Result<Cmd, Unfit>, answer: &mut
     match cmd {
         Err(unfit) => number(unfit),
         Ok(cmd) => match database.make(seat, cmd) {
-            Err(Spent) => SPENT,
+            Err(NoPosition) => SPENT,
             Ok(()) => {
                 *answer = database.answer();
                 0
