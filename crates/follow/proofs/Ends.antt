@@ -1,9 +1,10 @@
 -- A follower that stopped, once what waited is written.
-use Rattle.std.proofs.Common.{◌≡◌, ◌≢◌, ℕ, zero, suc, Bool, List, [], ◌∷◌, ◌++◌, refl, sym, ap, ◌∙◌, subst, append-nil, append_assoc, inl, inr}
+use Rattle.std.proofs.Common.{◌≡◌, ◌≢◌, ℕ, zero, suc, ◌+◌, Bool, List, [], ◌∷◌, ◌++◌, refl, sym, ap, ◌∙◌, subst, arith, append-nil, append_assoc, inl, inr}
 use Rattle.spans.specs.declared.calls.messages.Message.{Message}
 use Rattle.word_lines.specs.Events.{spent_line}
 use Rattle.ticket_lock.specs.Lists.{StartsWith}
-use Rattle.sessions.specs.Writing.{HasTaken, HasBegun}
+use Rattle.sessions.specs.Devices.{Reads, Writes}
+use Rattle.sessions.specs.Writing.{HasTaken}
 use Rattle.follow.specs.declared.ending.FollowEnd.{FollowEnd}
 use Rattle.follow.specs.declared.ending.FollowEnd.TheVariants as ends
 use Rattle.follow.specs.declared.options.FollowOptions.{FollowOptions}
@@ -12,18 +13,14 @@ use Rattle.follow.specs.declared.fault.FollowError.TheVariants as errors
 use Rattle.follow.specs.Followed.{IsUnbegun, MayStart, fault_line}
 use Rattle.follow.specs.Following.{followed_at}
 use Rattle.follow.specs.Reports.{IsFollowReport}
-use Rattle.follow.specs.Ends.{IsPart, EndsBy, IsFollowed, CouldBegin}
+use Rattle.follow.specs.Ends.{IsPart, EndsBy, FailsAt, IsFollowed, CouldBegin}
 use Rattle.follow.specs.Told.{kept_at}
 use Rattle.follow.specs.Steps.{IsStopped}
+use Rattle.follow.proofs.Told.{CantWrite}
 
 -- a beginning of a beginning
 starts_trans : (whole part less : List ℕ) → StartsWith whole part → StartsWith part less → StartsWith whole less
 starts_trans whole part less a b = (b.0 ++ a.0, a.1 ∙ (ap (λ (xs : List ℕ). xs ++ a.0) b.1 ∙ append_assoc less b.0 a.0))
-
--- nothing begins with nothing alone
-no_front : (front rest : List ℕ) → [] ≡ front ++ rest → front ≡ []
-no_front [] rest e = refl
-no_front (x ∷ front) rest e = absurd cc
 
 module _ (o : FollowOptions) (input : List ℕ) (ended : Bool) (ms : List Message) where
   -- where the rest can't be written, what was is a part
@@ -45,55 +42,81 @@ kept_else ends.Input out waits ne = refl
 kept_else ends.Output out waits ne = absurd (ne refl)
 kept_else ends.Memory out waits ne = refl
 
-module _ (o : FollowOptions) (given given' taken taken' : List ℕ) (ended : Bool) (kept : List ℕ) (e : FollowEnd) where
-  followed_by : (s : IsStopped o given given' ended taken taken' kept e) (e' : FollowEnd) (taken'' output : List ℕ) → taken'' ≡ taken ++ output → EndsBy o s.input ended s.messages output e' → IsFollowed o given given' ended taken taken'' e'
-  followed_by s e' taken'' output wrote ends = record { messages = s.messages; input = s.input; read = s.read; output = output; wrote = wrote; begins = s.begins; ends = ends }
+-- all that was left is written, and no write fails
+fails_still : (e : FollowEnd) (r r' : Reads) (w w' w'' : Writes) → w''.failures ≡ w'.failures → FailsAt e r w r' w' → FailsAt e r w r' w''
+fails_still ends.Done r r' w w' w'' same f = (f.0, same ∙ f.1)
+fails_still ends.NoMessages r r' w w' w'' same f = (f.0, same ∙ f.1)
+fails_still (ends.Fault line fault) r r' w w' w'' same f = (f.0, same ∙ f.1)
+fails_still ends.Spent r r' w w' w'' same f = (f.0, same ∙ f.1)
+fails_still ends.Input r r' w w' w'' same f = (f.0, same ∙ f.1)
+fails_still ends.Output r r' w w' w'' same f = (f.0, f.1, same ∙ f.2)
+fails_still ends.Memory r r' w w' w'' same f = (f.0, same ∙ f.1)
+
+-- one write more fails
+fails_more : (e : FollowEnd) (r r' : Reads) (w w' w'' : Writes) → e ≢ ends.Output → w''.failures ≡ w'.failures + 1 → FailsAt e r w r' w' → FailsAt ends.Output r w r' w''
+fails_more ends.Done r r' w w' w'' ne more f = let a = f.0 in let b = f.1 in (omega arith, omega arith, omega arith)
+fails_more ends.NoMessages r r' w w' w'' ne more f = let a = f.0 in let b = f.1 in (omega arith, omega arith, omega arith)
+fails_more (ends.Fault line fault) r r' w w' w'' ne more f = let a = f.0 in let b = f.1 in (omega arith, omega arith, omega arith)
+fails_more ends.Spent r r' w w' w'' ne more f = let a = f.0 in let b = f.1 in (omega arith, omega arith, omega arith)
+fails_more ends.Input r r' w w' w'' ne more f = let a = f.0 in let b = f.1 in (omega arith, omega arith, omega arith)
+fails_more ends.Output r r' w w' w'' ne more f = absurd (ne refl)
+fails_more ends.Memory r r' w w' w'' ne more f = let a = f.0 in let b = f.1 in (omega arith, omega arith, omega arith)
+
+module _ (o : FollowOptions) (r r' : Reads) (w w' : Writes) (kept : List ℕ) (e : FollowEnd) where
+  followed_by : (s : IsStopped o r r' w w' kept e) (e' : FollowEnd) (w'' : Writes) (output : List ℕ) → w''.taken ≡ w.taken ++ output → EndsBy o s.input r'.ended s.messages output e' → FailsAt e' r w r' w'' → IsFollowed o r r' w w'' e'
+  followed_by s e' w'' output wrote ends failed = record { messages = s.messages; input = s.input; read = s.read; output = output; wrote = wrote; begins = s.begins; ends = ends; failed = failed }
 
   -- a write has failed before
-  pub followed_cut : e ≡ ends.Output → IsStopped o given given' ended taken taken' kept e → IsFollowed o given given' ended taken taken' ends.Output
-  followed_cut is s = followed_by s ends.Output taken' s.out s.wrote (subst (λ (x : FollowEnd). EndsBy o s.input ended s.messages (kept_at x s.out kept) x) is s.ends)
+  pub followed_cut : e ≡ ends.Output → IsStopped o r r' w w' kept e → IsFollowed o r r' w w' ends.Output
+  followed_cut is s =
+      followed_by s ends.Output w' s.out s.wrote (subst (λ (x : FollowEnd). EndsBy o s.input r'.ended s.messages (kept_at x s.out kept) x) is s.ends)
+      (subst (λ (x : FollowEnd). FailsAt x r w r' w') is s.failed)
 
   -- what was left is written
-  pub followed_whole : (taken'' rest : List ℕ) → e ≢ ends.Output → rest ≡ [] → HasTaken taken' taken'' kept rest → IsStopped o given given' ended taken taken' kept e → IsFollowed o given given' ended taken taken'' e
-  followed_whole taken'' rest ne none w s =
-      let all : kept ≡ w.part = w.left ∙ (ap (λ (xs : List ℕ). w.part ++ xs) none ∙ append-nil w.part) in
-      followed_by s e taken'' (s.out ++ kept) (w.took ∙ (ap (λ (xs : List ℕ). xs ++ w.part) s.wrote ∙ (append_assoc taken s.out w.part ∙ ap (λ (xs : List ℕ). taken ++ (s.out ++ xs)) (sym all))))
-      (subst (λ (xs : List ℕ). EndsBy o s.input ended s.messages xs e) (kept_else e s.out kept ne) s.ends)
+  pub followed_whole : (w'' : Writes) (rest : List ℕ) → e ≢ ends.Output → rest ≡ [] → HasTaken w'.taken w''.taken kept rest → w''.failures ≡ w'.failures → IsStopped o r r' w w' kept e → IsFollowed o r r' w w'' e
+  followed_whole w'' rest ne none t same s =
+      let all : kept ≡ t.part = t.left ∙ (ap (λ (xs : List ℕ). t.part ++ xs) none ∙ append-nil t.part) in
+      followed_by s e w'' (s.out ++ kept) (t.took ∙ (ap (λ (xs : List ℕ). xs ++ t.part) s.wrote ∙ (append_assoc w.taken s.out t.part ∙ ap (λ (xs : List ℕ). w.taken ++ (s.out ++ xs)) (sym all))))
+      (subst (λ (xs : List ℕ). EndsBy o s.input r'.ended s.messages xs e) (kept_else e s.out kept ne) s.ends)
+      (fails_still e r r' w w' w'' same s.failed)
 
   -- what was left can't be written
-  pub followed_part : (taken'' : List ℕ) → e ≢ ends.Output → HasBegun taken' taken'' kept → IsStopped o given given' ended taken taken' kept e → IsFollowed o given given' ended taken taken'' ends.Output
-  followed_part taken'' ne w s =
-      followed_by s ends.Output taken'' (s.out ++ w.1.part) (w.1.took ∙ (ap (λ (xs : List ℕ). xs ++ w.1.part) s.wrote ∙ append_assoc taken s.out w.1.part))
-      (cut_off o s.input ended s.messages e (s.out ++ kept) (s.out ++ w.1.part) (subst (λ (xs : List ℕ). EndsBy o s.input ended s.messages xs e) (kept_else e s.out kept ne) s.ends)
-      (w.0, ap (λ (xs : List ℕ). s.out ++ xs) w.1.left ∙ sym (append_assoc s.out w.1.part w.0)))
+  pub followed_part : (w'' : Writes) → e ≢ ends.Output → CantWrite w' w'' kept → IsStopped o r r' w w' kept e → IsFollowed o r r' w w'' ends.Output
+  followed_part w'' ne cant s =
+      let t = cant.0.1 in
+      followed_by s ends.Output w'' (s.out ++ t.part) (t.took ∙ (ap (λ (xs : List ℕ). xs ++ t.part) s.wrote ∙ append_assoc w.taken s.out t.part))
+      (cut_off o s.input r'.ended s.messages e (s.out ++ kept) (s.out ++ t.part) (subst (λ (xs : List ℕ). EndsBy o s.input r'.ended s.messages xs e) (kept_else e s.out kept ne) s.ends)
+      (cant.0.0, ap (λ (xs : List ℕ). s.out ++ xs) t.left ∙ sym (append_assoc s.out t.part cant.0.0)))
+      (fails_more e r r' w w' w'' ne cant.1 s.failed)
 
 -- ---- nothing was begun
 
-module _ (o : FollowOptions) (given taken : List ℕ) (ended : Bool) where
-  followed_nothing : (e : FollowEnd) (taken' output : List ℕ) → taken' ≡ taken ++ output → EndsBy o [] ended [] output e → IsFollowed o given given ended taken taken' e
-  followed_nothing e taken' output wrote ends = record { messages = []; input = []; read = sym (append-nil given); output = output; wrote = wrote; begins = λ whole may. ((followed_at o whole).messages, refl); ends = ends }
+module _ (o : FollowOptions) (r : Reads) (w : Writes) where
+  followed_nothing : (e : FollowEnd) (w' : Writes) (output : List ℕ) → w'.taken ≡ w.taken ++ output → EndsBy o [] r.ended [] output e → FailsAt e r w r w' → IsFollowed o r r w w' e
+  followed_nothing e w' output wrote ends failed = record { messages = []; input = []; read = sym (append-nil r.given); output = output; wrote = wrote; begins = λ whole may. ((followed_at o whole).messages, refl); ends = ends; failed = failed }
 
   -- memory is wanted
-  pub followed_memory : IsFollowed o given given ended taken taken ends.Memory
-  followed_memory = followed_nothing ends.Memory taken [] (sym (append-nil taken)) (record { last = []; is_last = inl refl; whole = []; report = ([], refl, refl); begins = ([], refl) })
+  pub followed_memory : IsFollowed o r r w w ends.Memory
+  followed_memory = followed_nothing ends.Memory w [] (sym (append-nil w.taken)) (record { last = []; is_last = inl refl; whole = []; report = ([], refl, refl); begins = ([], refl) }) (refl, refl)
 
   -- the replica can't begin, and that is told
-  pub followed_fault : (taken' : List ℕ) (fault : FollowFault) (text : List ℕ) → IsUnbegun o.span o.start (errors.Fault fault) → text ≡ fault_line 0 fault → HasTaken taken taken' text [] → IsFollowed o given given ended taken taken' (ends.Fault 0 fault)
-  followed_fault taken' fault text why told w = followed_nothing (ends.Fault 0 fault) taken' w.part w.took (inl (refl, refl, refl, why), ([], refl, sym (append-nil w.part) ∙ (sym w.left ∙ told)))
+  pub followed_fault : (w' : Writes) (fault : FollowFault) (text : List ℕ) → IsUnbegun o.span o.start (errors.Fault fault) → text ≡ fault_line 0 fault → HasTaken w.taken w'.taken text [] → w'.failures ≡ w.failures → IsFollowed o r r w w' (ends.Fault 0 fault)
+  followed_fault w' fault text why told t same = followed_nothing (ends.Fault 0 fault) w' t.part t.took (inl (refl, refl, refl, why), ([], refl, sym (append-nil t.part) ∙ (sym t.left ∙ told))) (refl, same)
 
   -- or can't be written
-  pub followed_fault_part : (taken' : List ℕ) (fault : FollowFault) (text : List ℕ) → IsUnbegun o.span o.start (errors.Fault fault) → text ≡ fault_line 0 fault → HasBegun taken taken' text → IsFollowed o given given ended taken taken' ends.Output
-  followed_fault_part taken' fault text why told w =
-      followed_nothing ends.Output taken' w.1.part w.1.took
-      (record { last = fault_line 0 fault; is_last = inr (inl (0, fault, inl (refl, refl, refl, why), refl)); whole = fault_line 0 fault; report = ([], refl, refl); begins = (w.0, sym told ∙ w.1.left) })
+  pub followed_fault_part : (w' : Writes) (fault : FollowFault) (text : List ℕ) → IsUnbegun o.span o.start (errors.Fault fault) → text ≡ fault_line 0 fault → CantWrite w w' text → IsFollowed o r r w w' ends.Output
+  followed_fault_part w' fault text why told cant =
+      followed_nothing ends.Output w' cant.0.1.part cant.0.1.took
+      (record { last = fault_line 0 fault; is_last = inr (inl (0, fault, inl (refl, refl, refl, why), refl)); whole = fault_line 0 fault; report = ([], refl, refl); begins = (cant.0.0, sym told ∙ cant.0.1.left) })
+      (omega arith, omega arith, cant.1)
 
 -- where a replica may begin, it could, whatever the end
-pub could_begin : (o : FollowOptions) (given given' : List ℕ) (e : FollowEnd) → MayStart o.span o.start → CouldBegin o given given' e
-could_begin o given given' ends.Done may = may
-could_begin o given given' ends.NoMessages may = may
-could_begin o given given' (ends.Fault zero fault) may = tt
-could_begin o given given' (ends.Fault (suc line) fault) may = may
-could_begin o given given' ends.Spent may = may
-could_begin o given given' ends.Input may = may
-could_begin o given given' ends.Output may = inr may
-could_begin o given given' ends.Memory may = inr may
+pub could_begin : (o : FollowOptions) (r r' : Reads) (e : FollowEnd) → MayStart o.span o.start → CouldBegin o r r' e
+could_begin o r r' ends.Done may = may
+could_begin o r r' ends.NoMessages may = may
+could_begin o r r' (ends.Fault zero fault) may = tt
+could_begin o r r' (ends.Fault (suc line) fault) may = may
+could_begin o r r' ends.Spent may = may
+could_begin o r r' ends.Input may = may
+could_begin o r r' ends.Output may = inr may
+could_begin o r r' ends.Memory may = inr may

@@ -4,6 +4,7 @@ use Rattle.spans.specs.declared.calls.messages.Message.{Message}
 use Rattle.word_lines.specs.Events.{spent_line}
 use Rattle.script.specs.Lines.{is_newline}
 use Rattle.ticket_lock.specs.Lists.{StartsWith}
+use Rattle.sessions.specs.Devices.{Reads, Writes}
 use Rattle.sessions.specs.Runs.{MayHold}
 use Rattle.follow.specs.declared.ending.FollowEnd.{FollowEnd}
 use Rattle.follow.specs.declared.ending.FollowEnd.TheVariants as ends
@@ -36,9 +37,9 @@ IsFaultAt o input ended ms line fault =
     ((line ≡ 0) × (input ≡ []) × (ms ≡ []) × IsUnbegun o.span o.start (errors.Fault fault))
     ⊎ StopAt o input ended ms line fault
 
--- each line and each read takes a byte at least, so this many bytes want more turns than a number counts
+-- each line takes a byte at least, so this many bytes have more lines than a number counts
 abbrev pub IsEndless : List ℕ → Type 0
-IsEndless input = 9223372036854775807 ≤ length input
+IsEndless input = 18446744073709551615 ≤ length input
 
 -- the line that ends the report, if any does
 abbrev pub IsLast : FollowOptions → List ℕ → Bool → List Message → List ℕ → Type 0
@@ -69,26 +70,27 @@ EndsBy o input ended ms output ends.Input = AreMessages o input ms × IsReportWi
 EndsBy o input ended ms output ends.Output = IsPart o input ended ms output
 EndsBy o input ended ms output ends.Memory = IsPart o input ended ms output
 
--- what is known of a feed that was followed, where a source had given and a sink had taken so much before it and so much after it
-pub record IsFollowed (o : FollowOptions) (given given' : List ℕ) (ended : Bool) (taken taken' : List ℕ) (e : FollowEnd) : Type 0 where
+-- how often reads and writes failed: what waits is written also where a read has failed
+abbrev pub FailsAt : FollowEnd → Reads → Writes → Reads → Writes → Type 0
+FailsAt ends.Input r w r' w' = (r'.failures ≡ r.failures + 1) × (w'.failures ≡ w.failures)
+FailsAt ends.Output r w r' w' = (r.failures ≤ r'.failures) × (r'.failures ≤ r.failures + 1) × (w'.failures ≡ w.failures + 1)
+FailsAt _ r w r' w' = (r'.failures ≡ r.failures) × (w'.failures ≡ w.failures)
+
+-- what is known of a feed that was followed, where this was known of its source and its sink before it, and that after it
+pub record IsFollowed (o : FollowOptions) (r r' : Reads) (w w' : Writes) (e : FollowEnd) : Type 0 where
   pub messages : List Message
   pub input : List ℕ
-  pub read : given' ≡ given ++ input
+  pub read : r'.given ≡ r.given ++ input
   pub output : List ℕ
-  pub wrote : taken' ≡ taken ++ output
+  pub wrote : w'.taken ≡ w.taken ++ output
   -- they are the first of the input's
-  pub begins : BeginWith o input ended messages
-  pub ends : EndsBy o input ended messages output e
+  pub begins : BeginWith o input r'.ended messages
+  pub ends : EndsBy o input r'.ended messages output e
+  pub failed : FailsAt e r w r' w'
 
 -- a replica could begin, unless the fault says otherwise, which names line 0, or nothing was read before memory or the output failed
-abbrev pub CouldBegin : FollowOptions → (given given' : List ℕ) → FollowEnd → Type 0
-CouldBegin o given given' (ends.Fault zero fault) = Unit {0}
-CouldBegin o given given' ends.Output = (given' ≡ given) ⊎ MayStart o.span o.start
-CouldBegin o given given' ends.Memory = (given' ≡ given) ⊎ MayStart o.span o.start
-CouldBegin o given given' e = MayStart o.span o.start
-
--- how often reads and writes had failed before it, and after it
-abbrev pub FailsAt : FollowEnd → ℕ → ℕ → ℕ → ℕ → Type 0
-FailsAt ends.Input reads reads' writes writes' = (reads' ≡ reads + 1) × (writes' ≡ writes)
-FailsAt ends.Output reads reads' writes writes' = (reads ≤ reads') × (reads' ≤ reads + 1) × (writes' ≡ writes + 1)
-FailsAt _ reads reads' writes writes' = (reads' ≡ reads) × (writes' ≡ writes)
+abbrev pub CouldBegin : FollowOptions → Reads → Reads → FollowEnd → Type 0
+CouldBegin o r r' (ends.Fault zero fault) = Unit {0}
+CouldBegin o r r' ends.Output = (r'.given ≡ r.given) ⊎ MayStart o.span o.start
+CouldBegin o r r' ends.Memory = (r'.given ≡ r.given) ⊎ MayStart o.span o.start
+CouldBegin o r r' e = MayStart o.span o.start

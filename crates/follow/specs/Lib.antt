@@ -8,5 +8,6 @@ pub mod Taking
 pub mod Told
 pub mod Telling
 pub mod Steps
+pub mod Unfound
 pub mod SpanWords
 pub mod Seeds

@@ -1,6 +1,9 @@
 //! How a follower ends.
+ghost use Rattle.std.specs.Prelude.{◌≡◌};
 
 use crate::fault::FollowFault;
+use sessions::WriteFailed;
+use std::alloc::AllocError;
 
 /// Why following came to its end.
 #[derive(Clone, Copy, Debug, PartialEq, Eq)]
@@ -19,4 +22,24 @@ pub enum FollowEnd {
     Output,
     /// A growth of memory was refused.
     Memory,
+}
+
+impl From<AllocError> for FollowEnd {
+    ghost use Rattle.follow.specs.declared.ending.FollowEnd.TheVariants as ends;
+
+    ghost from_gives = { λ _ e. e ≡ ends.Memory };
+
+    fn from(_refused: AllocError) -> FollowEnd {
+        FollowEnd::Memory
+    }
+}
+
+impl From<WriteFailed> for FollowEnd {
+    ghost use Rattle.follow.specs.declared.ending.FollowEnd.TheVariants as ends;
+
+    ghost from_gives = { λ _ e. e ≡ ends.Output };
+
+    fn from(_failed: WriteFailed) -> FollowEnd {
+        FollowEnd::Output
+    }
 }

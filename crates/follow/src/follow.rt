@@ -1,9 +1,9 @@
 //! A feed is followed, from the first byte read to the last one written.
-ghost use Rattle.std.specs.Prelude.{ℕ, Bool, List};
 ghost use Rattle.follow.specs.declared.options.FollowOptions.{FollowOptions};
 ghost use Rattle.follow.specs.declared.fault.FollowError.TheVariants.{Fault};
 ghost use Rattle.follow.specs.Followed.{IsUnbegun};
-ghost use Rattle.follow.specs.Ends.{CouldBegin, IsFollowed, FailsAt};
+ghost use Rattle.follow.specs.Ends.{CouldBegin, IsFollowed};
+ghost use Rattle.sessions.specs.Devices.{Reads};
 
 use crate::ending::FollowEnd;
 use crate::fault::{FollowError, FollowFault};
@@ -33,13 +33,15 @@ pub fn follow_io<S: Source, K: Sink>(
     input: &mut S,
     output: &mut K,
 ) -> FollowEnd
-    ensures followed { IsFollowed options (S.given input.old) (S.given input.new) (S.ended input.new) (K.taken output.old) (K.taken output.new) result }
-    ensures begun { CouldBegin options (S.given input.old) (S.given input.new) result }
-    ensures failed { FailsAt result (S.failures input.old) (S.failures input.new) (K.failures output.old) (K.failures output.new) }
+    ensures followed { IsFollowed options (S.reads input.old) (S.reads input.new) (K.writes output.old) (K.writes output.new) result }
+    ensures begun { CouldBegin options (S.reads input.old) (S.reads input.new) result }
 {
     match Follower::begin(alloc, options) {
         Ok(mut follower) => {
-            let end = follower.follow(input, output);
+            let end = match follower.follow(input, output) {
+                Ok(()) => FollowEnd::Done,
+                Err(end) => end,
+            };
             follower.finish(end, output)
         }
         Err(FollowError::NoMemory) => FollowEnd::Memory,
@@ -49,10 +51,9 @@ pub fn follow_io<S: Source, K: Sink>(
 
 /// Tells what is wrong with the rows to begin with, as the only line.
 fn unbegun<K: Sink>(alloc: Global, fault: FollowFault, output: &mut K) -> FollowEnd
-    ensures followed { (o : FollowOptions) (given : List ℕ) (ended : Bool) → IsUnbegun o.span o.start (Fault fault)
-        → IsFollowed o given given ended (K.taken output.old) (K.taken output.new) result }
-    ensures begun { (o : FollowOptions) (given : List ℕ) → CouldBegin o given given result }
-    ensures failed { (reads : ℕ) → FailsAt result reads reads (K.failures output.old) (K.failures output.new) }
+    ensures followed { (o : FollowOptions) (r : Reads) → IsUnbegun o.span o.start (Fault fault)
+        → IsFollowed o r r (K.writes output.old) (K.writes output.new) result }
+    ensures begun { (o : FollowOptions) (r : Reads) → CouldBegin o r r result }
 {
     let mut text = Vec::new(alloc);
     match put_fault(&mut text, 0, fault) {

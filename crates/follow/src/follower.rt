@@ -1,22 +1,21 @@
 //! A follower: a replica, with the input that changes it and what is told of it. `IsUnderway` in
 //! `specs/Steps.antt` says what holds between two lines.
-ghost use Rattle.std.specs.Prelude.{◌≡◌, ◌≤◌, ℕ, [], length, take, IfOk, IfErr, OnOk};
+ghost use Rattle.std.specs.Prelude.{◌≡◌, ◌≤◌, [], length, take, IfOk, IfErr, OnOk};
 ghost use Rattle.word_lines.specs.Events.{spent_line};
 ghost use Rattle.follow.specs.declared.ending.FollowEnd.TheVariants.{Spent, Fault};
 ghost use Rattle.replica.specs.Replicas.{Follows};
-ghost use Rattle.follow.specs.Ends.{FailsAt};
 ghost use Rattle.sessions.specs.Waiting.{format_of};
+ghost use Rattle.follow.specs.Unfound.{end_unfound};
 ghost use Rattle.follow.specs.Followed.{start_of, fault_line, IsUnbegun, MayStart};
-ghost use Rattle.sessions.specs.declared.lines.Next.TheVariants.{More};
 
-use crate::ending::FollowEnd;
 use crate::choice::Choice;
+use crate::ending::FollowEnd;
 use crate::fault::{FollowError, FollowFault, of_line, of_message, of_replica};
-use crate::telling::Telling;
 use crate::options::{FollowOptions, Start};
+use crate::telling::Telling;
 use json_lines::read_message;
 use replica::Replica;
-use sessions::{Lines, Next, Sink, Source};
+use sessions::{Lines, ServeEnd, Sink, Source};
 use spans::calls::Message;
 use spans::span::Span;
 use std::alloc::Global;
@@ -38,11 +37,11 @@ pub(crate) struct Follower {
 }
 
 impl Follower {
-    ghost use Rattle.sessions.specs.Waiting.{waiting, IsNext, IsLine};
+    ghost use Rattle.sessions.specs.Waiting.{waiting, IsLine};
     ghost use Rattle.follow.specs.Taking.{HasRead, IsMisreadAt};
     ghost use Rattle.follow.specs.Telling.{waits};
     ghost use Rattle.follow.specs.declared.options.FollowOptions.{FollowOptions};
-    ghost use Rattle.follow.specs.Steps.{IsFresh, IsStopped, GoesOn, Halts, TakesLine, StopsAtLine, TakesMessage, StopsAtMessage, StopsBy, EndsTold, FollowsAs, end_at};
+    ghost use Rattle.follow.specs.Steps.{IsFresh, IsStopped, TakesLine, StopsAtLine, TakesMessage, StopsAtMessage, StopsBy, EndsTold, FollowsAs, end_at, end_of};
 
     pub(crate) fn begin(alloc: Global, options: FollowOptions) -> Result<Follower, FollowError>
         ensures fresh { IfOk result (IsFresh options) }
@@ -72,58 +71,35 @@ impl Follower {
     }
 
     /// Takes all lines, or those before one that ends it.
-    pub(crate) fn follow<S: Source, K: Sink>(&mut self, input: &mut S, output: &mut K) -> FollowEnd
-        ensures stopped { (o : FollowOptions) → IsFresh o self.old
-            → IsStopped o (S.given input.old) (S.given input.new) (S.ended input.new) (K.taken output.old) (K.taken output.new) (waits self.new.telling) result }
-        ensures failed { FailsAt result (S.failures input.old) (S.failures input.new) (K.failures output.old) (K.failures output.new) }
+    pub(crate) fn follow<S: Source, K: Sink>(
+        &mut self,
+        input: &mut S,
+        output: &mut K,
+    ) -> Result<(), FollowEnd>
+        ensures { (o : FollowOptions) → IsFresh o self.old
+            → IsStopped o (S.reads input.old) (S.reads input.new) (K.writes output.old) (K.writes output.new) (waits self.new.telling) (end_of result) }
     {
-        let mut number = 0;
-        for _turn in 0..u64::MAX {
-            match self.lines.next() {
-                Next::End => return self.done(),
-                Next::More => match self.read_more(input, output) {
-                    Ok(()) => continue,
-                    Err(end) => return end,
-                },
-                Next::Line(count) => {
-                    number += 1;
-                    match self.line(output, number, count) {
-                        Ok(()) => continue,
-                        Err(end) => return end,
-                    }
-                }
+        for before in 0..u64::MAX {
+            match self
+                .lines
+                .next_line(input, &mut self.telling.report.kept, output)
+            {
+                Ok(Some(count)) => self.line(output, before + 1, count)?,
+                Ok(None) => return self.done(),
+                Err(end) => return Err(unfound(end)),
             }
         }
-        self.spent(number)
+        Err(self.spent(u64::MAX))
     }
 
     /// How it ends where no line is left.
-    fn done(&self) -> FollowEnd
-        ensures end { result ≡ end_at self.now.started }
-        ensures failed { (reads writes : ℕ) → FailsAt result reads reads writes writes }
+    fn done(&self) -> Result<(), FollowEnd>
+        ensures { end_of result ≡ end_at self.now.started }
     {
         if self.started {
-            FollowEnd::Done
+            Ok(())
         } else {
-            FollowEnd::NoMessages
-        }
-    }
-
-    /// Writes what waits, and reads once.
-    fn read_more<S: Source, K: Sink>(&mut self, input: &mut S, output: &mut K) -> Result<(), FollowEnd>
-        requires more { IsNext self.old.lines More }
-        ensures ok { OnOk result (GoesOn self.old self.new (S.given input.old, S.ended input.old, K.taken output.old) (S.given input.new, S.ended input.new, K.taken output.new)) }
-        ensures err { IfErr result (Halts self.old self.new (S.given input.old, S.ended input.old, K.taken output.old) (S.given input.new, S.ended input.new, K.taken output.new)) }
-        ensures worked { OnOk result ((S.failures input.new ≡ S.failures input.old) × (K.failures output.new ≡ K.failures output.old)) }
-        ensures failed { IfErr result (λ end. FailsAt end (S.failures input.old) (S.failures input.new) (K.failures output.old) (K.failures output.new)) }
-    {
-        match self.telling.write_out(output) {
-            Ok(()) => {}
-            Err(_) => return Err(FollowEnd::Output),
-        }
-        match self.lines.read_more(input) {
-            Ok(()) => Ok(()),
-            Err(_) => Err(FollowEnd::Input),
+            Err(FollowEnd::NoMessages)
         }
     }
 
@@ -131,10 +107,8 @@ impl Follower {
     fn line<K: Sink>(&mut self, output: &mut K, number: u64, count: usize) -> Result<(), FollowEnd>
         requires within { count ≤ length (waiting self.old.lines) }
         requires line { IsLine self.old.lines count }
-        ensures ok { OnOk result (TakesLine self.old self.new number (K.taken output.old) (K.taken output.new)) }
-        ensures err { IfErr result (StopsAtLine self.old self.new number (K.taken output.old) (K.taken output.new)) }
-        ensures worked { OnOk result (K.failures output.new ≡ K.failures output.old) }
-        ensures failed { IfErr result (λ end. (reads : ℕ) → FailsAt end reads reads (K.failures output.old) (K.failures output.new)) }
+        ensures ok { OnOk result (TakesLine self.old self.new number (K.writes output.old) (K.writes output.new)) }
+        ensures err { IfErr result (StopsAtLine self.old self.new number (K.writes output.old) (K.writes output.new)) }
     {
         match self.read(count) {
             Ok(None) => Ok(()),
@@ -172,20 +146,17 @@ impl Follower {
     }
 
     /// Takes a message, and tells what it shows before it and behind it.
-    fn take<K: Sink>(&mut self, output: &mut K, number: u64, message: Message) -> Result<(), FollowEnd>
-        ensures ok { OnOk result (TakesMessage self.old self.new number message (K.taken output.old) (K.taken output.new)) }
-        ensures err { IfErr result (StopsAtMessage self.old self.new number message (K.taken output.old) (K.taken output.new)) }
-        ensures worked { OnOk result (K.failures output.new ≡ K.failures output.old) }
-        ensures failed { IfErr result (λ end. (reads : ℕ) → FailsAt end reads reads (K.failures output.old) (K.failures output.new)) }
+    fn take<K: Sink>(
+        &mut self,
+        output: &mut K,
+        number: u64,
+        message: Message,
+    ) -> Result<(), FollowEnd>
+        ensures ok { OnOk result (TakesMessage self.old self.new number message (K.writes output.old) (K.writes output.new)) }
+        ensures err { IfErr result (StopsAtMessage self.old self.new number message (K.writes output.old) (K.writes output.new)) }
     {
-        match self.telling.tell_before(&self.replica, &message, output) {
-            Ok(()) => {}
-            Err(end) => return Err(end),
-        }
-        match self.telling.note(&message) {
-            Ok(()) => {}
-            Err(_) => return Err(FollowEnd::Memory),
-        }
+        self.telling.tell_before(&self.replica, &message, output)?;
+        self.telling.note(&message)?;
         match self.replica.apply(message) {
             Ok(()) => {}
             Err(fault) => return Err(self.stopped(number, of_replica(fault))),
@@ -196,8 +167,7 @@ impl Follower {
 
     /// Tells what is wrong with a line.
     fn stopped(&mut self, number: u64, error: FollowError) -> FollowEnd
-        ensures end { StopsBy error number (waits self.old.telling) (waits self.new.telling) result }
-        ensures failed { (reads writes : ℕ) → FailsAt result reads reads writes writes }
+        ensures { StopsBy error number (waits self.old.telling) (waits self.new.telling) result }
     {
         match error {
             FollowError::NoMemory => FollowEnd::Memory,
@@ -206,8 +176,7 @@ impl Follower {
     }
 
     fn faulty(&mut self, number: u64, fault: FollowFault) -> FollowEnd
-        ensures end { EndsTold (Fault number fault) (fault_line number fault) (waits self.old.telling) (waits self.new.telling) result }
-        ensures failed { (reads writes : ℕ) → FailsAt result reads reads writes writes }
+        ensures { EndsTold (Fault number fault) (fault_line number fault) (waits self.old.telling) (waits self.new.telling) result }
     {
         match self.telling.tell_fault(number, fault) {
             Ok(()) => FollowEnd::Fault {
@@ -220,8 +189,7 @@ impl Follower {
 
     /// Tells that no further line can be counted.
     fn spent(&mut self, number: u64) -> FollowEnd
-        ensures end { EndsTold Spent (spent_line number) (waits self.old.telling) (waits self.new.telling) result }
-        ensures failed { (reads writes : ℕ) → FailsAt result reads reads writes writes }
+        ensures { EndsTold Spent (spent_line number) (waits self.old.telling) (waits self.new.telling) result }
     {
         match self.telling.tell_spent(number) {
             Ok(()) => FollowEnd::Spent,
@@ -231,8 +199,7 @@ impl Follower {
 
     /// Writes what is left, but where a write has failed: that is not tried again.
     pub(crate) fn finish<K: Sink>(mut self, end: FollowEnd, output: &mut K) -> FollowEnd
-        ensures followed { FollowsAs self end (K.taken output.old) (K.taken output.new) result }
-        ensures failed { (r r' w : ℕ) → FailsAt end r r' w (K.failures output.old) → FailsAt result r r' w (K.failures output.new) }
+        ensures { FollowsAs self end (K.writes output.old) (K.writes output.new) result }
     {
         if let FollowEnd::Output = end {
             return FollowEnd::Output;
@@ -241,6 +208,16 @@ impl Follower {
             Ok(()) => end,
             Err(_) => FollowEnd::Output,
         }
+    }
+}
+
+/// How it ends where the next line isn't found: a read failed, or else a write.
+fn unfound(end: ServeEnd) -> FollowEnd
+    ensures { result ≡ end_unfound end }
+{
+    match end {
+        ServeEnd::Input => FollowEnd::Input,
+        _ => FollowEnd::Output,
     }
 }
 

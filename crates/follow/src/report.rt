@@ -1,5 +1,5 @@
 //! What is told of a feed, line by line, and handed to its device in large blocks.
-ghost use Rattle.std.specs.Prelude.{◌≡◌, ◌+◌, ◌++◌, [], IfOk, OnOk, OnErr};
+ghost use Rattle.std.specs.Prelude.{◌≡◌, ◌++◌, [], IfOk, OnOk, OnErr};
 ghost use Rattle.word_lines.specs.Events.{spent_line};
 ghost use Rattle.word_lines.specs.Replies.{row_line};
 ghost use Rattle.follow.specs.Followed.{count_line, gone_line, fault_line};
@@ -14,13 +14,13 @@ use timestamps::value::Value;
 /// The lines that wait to be written.
 #[derive(Drop)]
 pub(crate) struct Report {
-    kept: Output,
+    pub(crate) kept: Output,
     /// Room for one line, which is kept once it is whole.
     line: Vec<u8>,
 }
 
 impl Report {
-    ghost use Rattle.sessions.specs.Writing.{pending_of, HasTaken, HasBegun};
+    ghost use Rattle.sessions.specs.Writing.{pending_of, HasWritten};
 
     /// Nothing is told.
     pub(crate) fn new(alloc: Global) -> Result<Report, AllocError>
@@ -83,21 +83,15 @@ impl Report {
 
     /// Writes what waits where that is a block or more.
     pub(crate) fn write_full<K: Sink>(&mut self, sink: &mut K) -> Result<(), WriteFailed>
-        ensures ok { OnOk result (HasTaken (K.taken sink.old) (K.taken sink.new) (pending_of self.old.kept) (pending_of self.new.kept)) }
-        ensures err { OnErr result (HasBegun (K.taken sink.old) (K.taken sink.new) (pending_of self.old.kept)) }
-        ensures worked { OnOk result (K.failures sink.new ≡ K.failures sink.old) }
-        ensures failed { OnErr result (K.failures sink.new ≡ K.failures sink.old + 1) }
+        ensures { HasWritten (K.writes sink.old) (K.writes sink.new) (pending_of self.old.kept) (pending_of self.new.kept) result }
     {
         self.kept.write_full(sink)
     }
 
     /// Writes all that waits.
     pub(crate) fn write_out<K: Sink>(&mut self, sink: &mut K) -> Result<(), WriteFailed>
-        ensures ok { OnOk result (HasTaken (K.taken sink.old) (K.taken sink.new) (pending_of self.old.kept) (pending_of self.new.kept)) }
-        ensures none { OnOk result (pending_of self.new.kept ≡ []) }
-        ensures err { OnErr result (HasBegun (K.taken sink.old) (K.taken sink.new) (pending_of self.old.kept)) }
-        ensures worked { OnOk result (K.failures sink.new ≡ K.failures sink.old) }
-        ensures failed { OnErr result (K.failures sink.new ≡ K.failures sink.old + 1) }
+        ensures written { HasWritten (K.writes sink.old) (K.writes sink.new) (pending_of self.old.kept) (pending_of self.new.kept) result }
+        ensures all { OnOk result (pending_of self.new.kept ≡ []) }
     {
         self.kept.write_out(sink)
     }

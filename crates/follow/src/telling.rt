@@ -9,21 +9,20 @@
 //! a deleted at 12                                     complete 11 2\n
 //! resolved 20            resolved 20 1\ngone a\n
 //! ```
-ghost use Rattle.std.specs.Prelude.{◌≡◌, ◌+◌, ◌++◌, ℕ, [], Some, IfOk, OnOk, OnErr, IfErr};
+ghost use Rattle.std.specs.Prelude.{◌≡◌, ◌++◌, [], Some, IfOk, OnOk, OnErr, IfErr};
 ghost use Rattle.std.specs.List.{flat_map};
 ghost use Rattle.std.specs.Option.{option_copied};
 ghost use Rattle.word_lines.specs.Events.{spent_line};
 ghost use Rattle.word_lines.specs.Replies.{row_line};
 ghost use Rattle.replica.specs.Replicas.{view_in};
-ghost use Rattle.follow.specs.Ends.{FailsAt};
 ghost use Rattle.follow.specs.Followed.{fault_line};
 ghost use Rattle.follow.specs.Reports.{change_line};
 ghost use Rattle.follow.specs.Told.{HasTold, IsCut};
 ghost use Rattle.sessions.specs.Writing.{pending_of};
 
 use crate::ending::FollowEnd;
-use crate::options::Shown;
 use crate::fault::FollowFault;
+use crate::options::Shown;
 use crate::report::Report;
 use replica::{Replica, Rows};
 use sessions::{Sink, WriteFailed};
@@ -42,11 +41,11 @@ pub(crate) struct Telling {
     complete: bool,
     /// The keys that rows named since rows were told last, where changes are shown.
     changed: BTreeSet<Key>,
-    report: Report,
+    pub(crate) report: Report,
 }
 
 impl Telling {
-    ghost use Rattle.sessions.specs.Writing.{HasTaken, HasBegun};
+    ghost use Rattle.sessions.specs.Writing.{HasWritten};
     ghost use Rattle.follow.specs.Telling.{waits, named_in, KeepsChoice, ShowsRows, ShowsPart, TellsAt, CutsAt, TellsBefore, CutsBefore, TellsBehind, CutsBehind, NamesKey};
 
     /// Nothing is told.
@@ -71,11 +70,9 @@ impl Telling {
         message: &Message,
         output: &mut K,
     ) -> Result<(), FollowEnd>
-        ensures ok { OnOk result (TellsBefore self.old self.new replica.now message.now (K.taken output.old) (K.taken output.new)) }
-        ensures err { IfErr result (CutsBefore self.old self.new replica.now message.now (K.taken output.old) (K.taken output.new)) }
+        ensures ok { OnOk result (TellsBefore self.old self.new replica.now message.now (K.writes output.old) (K.writes output.new)) }
+        ensures err { IfErr result (CutsBefore self.old self.new replica.now message.now (K.writes output.old) (K.writes output.new)) }
         ensures choice { OnOk result (KeepsChoice self.old self.new) }
-        ensures worked { OnOk result (K.failures output.new ≡ K.failures output.old) }
-        ensures failed { IfErr result (λ end. (reads : ℕ) → FailsAt end reads reads (K.failures output.old) (K.failures output.new)) }
     {
         if !self.complete {
             return Ok(());
@@ -108,11 +105,9 @@ impl Telling {
         replica: &Replica,
         output: &mut K,
     ) -> Result<(), FollowEnd>
-        ensures ok { OnOk result (TellsBehind self.old self.new replica.now (K.taken output.old) (K.taken output.new)) }
-        ensures err { IfErr result (CutsBehind self.old self.new replica.now (K.taken output.old) (K.taken output.new)) }
+        ensures ok { OnOk result (TellsBehind self.old self.new replica.now (K.writes output.old) (K.writes output.new)) }
+        ensures err { IfErr result (CutsBehind self.old self.new replica.now (K.writes output.old) (K.writes output.new)) }
         ensures choice { OnOk result (KeepsChoice self.old self.new) }
-        ensures worked { OnOk result (K.failures output.new ≡ K.failures output.old) }
-        ensures failed { IfErr result (λ end. (reads : ℕ) → FailsAt end reads reads (K.failures output.old) (K.failures output.new)) }
     {
         match replica.at_resolved() {
             None => Ok(()),
@@ -128,32 +123,21 @@ impl Telling {
         replica: &Replica,
         output: &mut K,
     ) -> Result<(), FollowEnd>
-        ensures ok { OnOk result (TellsAt self.old self.new word.now (Some at) (view_in replica.now) (K.taken output.old) (K.taken output.new)) }
-        ensures err { IfErr result (CutsAt self.old self.new word.now (Some at) (view_in replica.now) (K.taken output.old) (K.taken output.new)) }
+        ensures ok { OnOk result (TellsAt self.old self.new word.now (Some at) (view_in replica.now) (K.writes output.old) (K.writes output.new)) }
+        ensures err { IfErr result (CutsAt self.old self.new word.now (Some at) (view_in replica.now) (K.writes output.old) (K.writes output.new)) }
         ensures choice { OnOk result (KeepsChoice self.old self.new) }
-        ensures worked { OnOk result (K.failures output.new ≡ K.failures output.old) }
-        ensures failed { IfErr result (λ end. (reads : ℕ) → FailsAt end reads reads (K.failures output.old) (K.failures output.new)) }
     {
-        match self.report.tell_count(word, at, replica.len()) {
-            Ok(()) => {}
-            Err(_) => return Err(FollowEnd::Memory),
-        }
-        match self.show(replica, output) {
-            Ok(()) => {
-                self.changed = BTreeSet::new(self.alloc);
-                Ok(())
-            }
-            Err(end) => Err(end),
-        }
+        self.report.tell_count(word, at, replica.len())?;
+        self.show(replica, output)?;
+        self.changed = BTreeSet::new(self.alloc);
+        Ok(())
     }
 
     /// Tells what is shown of the rows.
     fn show<K: Sink>(&mut self, replica: &Replica, output: &mut K) -> Result<(), FollowEnd>
-        ensures ok { OnOk result (ShowsRows self.old self.new (view_in replica.now) (K.taken output.old) (K.taken output.new)) }
-        ensures err { IfErr result (ShowsPart self.old self.new (view_in replica.now) (K.taken output.old) (K.taken output.new)) }
+        ensures ok { OnOk result (ShowsRows self.old self.new (view_in replica.now) (K.writes output.old) (K.writes output.new)) }
+        ensures err { IfErr result (ShowsPart self.old self.new (view_in replica.now) (K.writes output.old) (K.writes output.new)) }
         ensures choice { OnOk result (KeepsChoice self.old self.new) }
-        ensures worked { OnOk result (K.failures output.new ≡ K.failures output.old) }
-        ensures failed { IfErr result (λ end. (reads : ℕ) → FailsAt end reads reads (K.failures output.old) (K.failures output.new)) }
     {
         match self.shown {
             Shown::Count => full(&mut self.report, output),
@@ -180,13 +164,8 @@ impl Telling {
 
     /// Writes all that waits.
     pub(crate) fn write_out<K: Sink>(&mut self, sink: &mut K) -> Result<(), WriteFailed>
-        ensures ok { OnOk result (HasTaken (K.taken sink.old) (K.taken sink.new) (waits self.old) (waits self.new)) }
-        ensures none { OnOk result (waits self.new ≡ []) }
-        ensures err { OnErr result (HasBegun (K.taken sink.old) (K.taken sink.new) (waits self.old)) }
-        ensures choice { KeepsChoice self.old self.new }
-        ensures named { named_in self.new ≡ named_in self.old }
-        ensures worked { OnOk result (K.failures sink.new ≡ K.failures sink.old) }
-        ensures failed { OnErr result (K.failures sink.new ≡ K.failures sink.old + 1) }
+        ensures written { HasWritten (K.writes sink.old) (K.writes sink.new) (waits self.old) (waits self.new) result }
+        ensures all { OnOk result (waits self.new ≡ []) }
     {
         self.report.write_out(sink)
     }
@@ -194,33 +173,21 @@ impl Telling {
 
 /// Writes what waits, where that is a block or more.
 fn full<K: Sink>(report: &mut Report, output: &mut K) -> Result<(), FollowEnd>
-    ensures ok { OnOk result (HasTold (K.taken output.old) (K.taken output.new) (pending_of report.old.kept) (pending_of report.new.kept) []) }
-    ensures err { IfErr result (λ end. IsCut end (K.taken output.old) (K.taken output.new) (pending_of report.old.kept) (pending_of report.new.kept) []) }
-    ensures worked { OnOk result (K.failures output.new ≡ K.failures output.old) }
-    ensures failed { IfErr result (λ end. (reads : ℕ) → FailsAt end reads reads (K.failures output.old) (K.failures output.new)) }
+    ensures ok { OnOk result (HasTold (K.writes output.old) (K.writes output.new) (pending_of report.old.kept) (pending_of report.new.kept) []) }
+    ensures err { IfErr result (λ end. IsCut end (K.writes output.old) (K.writes output.new) (pending_of report.old.kept) (pending_of report.new.kept) []) }
 {
-    match report.write_full(output) {
-        Ok(()) => Ok(()),
-        Err(_) => Err(FollowEnd::Output),
-    }
+    report.write_full(output)?;
+    Ok(())
 }
 
 /// Tells the rows, and writes each block of them that is full.
 fn tell_rows<K: Sink>(report: &mut Report, rows: Rows<'_>, output: &mut K) -> Result<(), FollowEnd>
-    ensures ok { OnOk result (HasTold (K.taken output.old) (K.taken output.new) (pending_of report.old.kept) (pending_of report.new.kept) (flat_map row_line rows.entry)) }
-    ensures err { IfErr result (λ end. IsCut end (K.taken output.old) (K.taken output.new) (pending_of report.old.kept) (pending_of report.new.kept) (flat_map row_line rows.entry)) }
-    ensures worked { OnOk result (K.failures output.new ≡ K.failures output.old) }
-    ensures failed { IfErr result (λ end. (reads : ℕ) → FailsAt end reads reads (K.failures output.old) (K.failures output.new)) }
+    ensures ok { OnOk result (HasTold (K.writes output.old) (K.writes output.new) (pending_of report.old.kept) (pending_of report.new.kept) (flat_map row_line rows.entry)) }
+    ensures err { IfErr result (λ end. IsCut end (K.writes output.old) (K.writes output.new) (pending_of report.old.kept) (pending_of report.new.kept) (flat_map row_line rows.entry)) }
 {
     for (key, value) in rows {
-        match report.tell_row(key, value) {
-            Ok(()) => {}
-            Err(_) => return Err(FollowEnd::Memory),
-        }
-        match report.write_full(output) {
-            Ok(()) => {}
-            Err(_) => return Err(FollowEnd::Output),
-        }
+        report.tell_row(key, value)?;
+        report.write_full(output)?;
     }
     Ok(())
 }
@@ -232,22 +199,14 @@ fn tell_changes<K: Sink>(
     replica: &Replica,
     output: &mut K,
 ) -> Result<(), FollowEnd>
-    ensures ok { OnOk result (HasTold (K.taken output.old) (K.taken output.new) (pending_of report.old.kept) (pending_of report.new.kept)
+    ensures ok { OnOk result (HasTold (K.writes output.old) (K.writes output.new) (pending_of report.old.kept) (pending_of report.new.kept)
         (flat_map (λ x. change_line x (view_in replica.now x)) changed.now.keys)) }
-    ensures err { IfErr result (λ end. IsCut end (K.taken output.old) (K.taken output.new) (pending_of report.old.kept) (pending_of report.new.kept)
+    ensures err { IfErr result (λ end. IsCut end (K.writes output.old) (K.writes output.new) (pending_of report.old.kept) (pending_of report.new.kept)
         (flat_map (λ x. change_line x (view_in replica.now x)) changed.now.keys)) }
-    ensures worked { OnOk result (K.failures output.new ≡ K.failures output.old) }
-    ensures failed { IfErr result (λ end. (reads : ℕ) → FailsAt end reads reads (K.failures output.old) (K.failures output.new)) }
 {
     for key in changed.iter() {
-        match tell_change(report, key, replica.get(key)) {
-            Ok(()) => {}
-            Err(_) => return Err(FollowEnd::Memory),
-        }
-        match report.write_full(output) {
-            Ok(()) => {}
-            Err(_) => return Err(FollowEnd::Output),
-        }
+        tell_change(report, key, replica.get(key))?;
+        report.write_full(output)?;
     }
     Ok(())
 }

@@ -19,8 +19,8 @@ mod transactions;
 mod unfolding;
 
 use devices::{Sink, Source};
-use histories::{history, told_right};
 use follow::FollowEnd;
+use histories::{history, told_right};
 use jobs::{End, RaceOptions};
 use long::{
     altered, are_right, followed, is_checked, long_transcript, messages, reads_may_fail,

@@ -2,7 +2,7 @@ use Rattle.follow.proofs.Ends.{followed_memory}
 use Rattle.follow.proofs.follow.follow_io.Goals as goal
 
 pub returns-in-Err-NoMemory-clause-followed : goal.returns-in-Err-NoMemory-clause-followed
-returns-in-Err-NoMemory-clause-followed g c = followed_memory c.args.options (g.S.Source.given c.args.input.now) (g.K.Sink.taken c.args.output.now) (g.S.Source.ended c.args.input.now)
+returns-in-Err-NoMemory-clause-followed g c = followed_memory c.args.options (g.S.Source.reads c.args.input.now) (g.K.Sink.writes c.args.output.now)
 
 pub returns-in-Err-Fault-clause-begun : goal.returns-in-Err-Fault-clause-begun
-returns-in-Err-Fault-clause-begun g c = c.unbegun.ensures.begun c.args.options (g.S.Source.given c.args.input.now)
+returns-in-Err-Fault-clause-begun g c = c.unbegun.ensures.begun c.args.options (g.S.Source.reads c.args.input.now)

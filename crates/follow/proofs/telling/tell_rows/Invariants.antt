@@ -1,4 +1,3 @@
-use Rattle.std.proofs.Common.{◌≡◌}
 use Rattle.sessions.specs.Writing.{pending_of}
 use Rattle.word_lines.specs.Replies.{row_line}
 use Rattle.follow.proofs.Told.{IsTelling}
@@ -7,5 +6,4 @@ use Rattle.follow.proofs.telling.tell_rows.Given as goal
 abbrev pub invariant-loop-key : goal.invariant-loop-key
 invariant-loop-key g l =
     let K = g.K.Sink in
-    (K.failures l.output ≡ K.failures l.initial.output)
-    × IsTelling row_line l.fn.rows l.key-iterator (K.taken l.initial.output) (K.taken l.output) (pending_of l.initial.report.kept) (pending_of l.report.kept)
+    IsTelling row_line l.fn.rows l.key-iterator (K.writes l.initial.output) (K.writes l.output) (pending_of l.initial.report.kept) (pending_of l.report.kept)
