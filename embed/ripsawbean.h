@@ -11,8 +11,9 @@
 //     ripsawbean_close(&db);
 //
 // Lines and texts are those of the program mvfeed, format two. docs/GUIDE.md has each command and each answer, and
-// docs/EMBEDDING.md says how to build, link and use this library. It is proved, function by function; what this page
-// asks of its caller is what the proofs take for granted.
+// docs/EMBEDDING.md says how to build, link and use this library. It is proved, function by function, but for this
+// page's three inline helpers (ripsawbean_read_message, ripsawbean_status_name, ripsawbean_answer_name), which are
+// tested. What this page asks of its caller is what the proofs take for granted.
 //
 // THE HANDLE belongs to the program, which may keep it anywhere: on its stack, in a struct, on its heap. All zero bytes
 // are a closed handle. Only the functions of this page write its members. An open handle may be moved, and is then used
@@ -62,7 +63,8 @@ typedef struct {
 #define RIPSAWBEAN_MAX_LINE 200000                       // bytes of a line before its newline
 
 // What the functions of a database return. After RIPSAWBEAN_OK and RIPSAWBEAN_UNWRITTEN of a call the database has one
-// event more. After every other status it is as it was, its last event and that event's text too.
+// event more. After every other status it is as it was, its last event and that event's text too. ripsawbean_calls is
+// the exception: whatever it returns, *taken and the notes say what was called.
 enum {
     RIPSAWBEAN_OK = 0,
 
@@ -82,8 +84,9 @@ enum {
     RIPSAWBEAN_FOLLOW = 11,        // a fault of transcripts: no function here returns it
 
     // There was no memory for the line, or for a database to open: no call was made, and the same one may be made
-    // again. Where the line was read and memory is wanting in the call itself, its answer is "nomemory": an event that
-    // changed nothing else. Its text may want memory as well, as any text: see RIPSAWBEAN_UNWRITTEN.
+    // again. ripsawbean_calls says it of the next line alone: go on behind the first taken->bytes. Where the line
+    // was read and memory is wanting in the call itself, its answer is "nomemory": an event that changed nothing else.
+    // Its text may want memory as well, as any text: see RIPSAWBEAN_UNWRITTEN.
     RIPSAWBEAN_NOMEMORY = 12,
     RIPSAWBEAN_SPENT = 13,     // no position is left after 18446744073709551615 calls: no call was made. A fault is told first
     RIPSAWBEAN_UNWRITTEN = 14, // the call was made, or had been; its text, or a poll's messages, found no memory. Ask again
@@ -151,7 +154,7 @@ void ripsawbean_close(ripsawbean *db);
 //     if (answer.kind >= RIPSAWBEAN_ANSWER_REFUSED) puts(ripsawbean_answer_name(answer.kind));
 //
 // The event is that of the command's line. ripsawbean_text shows its text, which is written when it is asked for. A key
-// and a value are only read, and may share bytes. The answer shares none with anything else.
+// and a value are only read. key, value, out, *length, *answer and the handle share no byte with one another.
 
 typedef struct {
     uint8_t kind;    // RIPSAWBEAN_ANSWER_..
@@ -312,8 +315,8 @@ typedef struct {
 //                           the next line, which was not taken, can't be called, as by ripsawbean_call
 //     RIPSAWBEAN_CLOSED     taken is all 0, and out and notes are as they were
 //
-// Nothing is lost at any of them: each line before the first byte that was not taken is done, and no line behind it
-// was looked at. lines, out, notes and *taken share no byte.
+// Nothing is lost at any of them: each line before the first byte that was not taken is done, and no line behind the
+// next one was looked at. lines, out, notes and *taken share no byte.
 uint8_t ripsawbean_calls(ripsawbean *db, const uint8_t *lines, size_t lines_length, uint8_t *out, size_t room, ripsawbean_done *notes,
                          size_t notes_length, ripsawbean_taken *taken);
 

@@ -59,19 +59,19 @@ IsShown text out out' note =
     ((length text ≤ length out) × (note ≡ record { length = length text; status = 0 }) × (out' ≡ text ++ drop (length text) out))
     ⊎ ((length out < length text) × (note ≡ record { length = length text; status = 14 }) × (out' ≡ out))
 
--- the lines' calls, one after another: each line is the first of the bytes that are left
+-- the lines' calls, one after another: where bytes are left, the first line of them is taken
 abbrev pub AreSteps : (room : ℕ) → List Event → Database → List ℕ → List Step → List ℕ → List Event → Database → Type 0
 AreSteps room h d bytes [] left h' d' = (left ≡ bytes) × (h' ≡ h) × (d' ≡ d)
 AreSteps room h d bytes (s ∷ steps) left h' d' =
-    (h1 : List Event) × (d1 : Database) × (s.line ≡ first_line bytes) × IsStep room h d s h1 d1
+    (0 < length bytes) × (h1 : List Event) × (d1 : Database) × (s.line ≡ first_line bytes) × IsStep room h d s h1 d1
     × AreSteps (room - length s.shown) h1 d1 (drop (length s.line) bytes) steps left h' d'
 
--- why no further line was taken: none is left, or no room for its note; or the last one's text wasn't shown; or the next one can't be called
+-- why no further line was taken: none is left, or no room for its note; or the last one's text wasn't shown; or the next one's note has room, and it can't be called
 abbrev pub EndsBy : List Event → Database → (left : List ℕ) → (steps : List Step) → (room : ℕ) → Result (Unit {0}) CallError → Type 0
 EndsBy h d left steps room (Ok _) = (left ≡ []) ⊎ (length steps ≡ room)
 EndsBy h d left steps room (Err Unwritten) = (before : List Step) × (s : Step) × (steps ≡ before ++ s ∷ []) × (s.note.status ≡ 14)
 EndsBy h d left steps room (Err (Fault f)) = ⊥
-EndsBy h d left steps room (Err error) = Called h (first_line left) d (Err error) d
+EndsBy h d left steps room (Err error) = (length steps < room) × Called h (first_line left) d (Err error) d
 
 -- the calls of several lines on a database that holds h: what was noted and shown, how far they were taken, and why no further
 pub record HaveBeenCalled (h : List Event) (lines : List ℕ) (old : Database) (out out' : List ℕ) (notes notes' : List Done) (taken : Taken) (result : Result (Unit {0}) CallError) (new : Database) : Type 0 where
@@ -81,8 +81,8 @@ pub record HaveBeenCalled (h : List Event) (lines : List ℕ) (old : Database) (
   pub called : AreSteps (length out) h old lines steps left after new
   pub stands : StandsFor new after
   pub ends : EndsBy after new left steps (length notes) result
-  -- only the last text may be missing
-  pub whole : (before behind : List Step) (s : Step) → steps ≡ before ++ s ∷ behind → s.note.status ≡ 14 → behind ≡ []
+  -- only the last text may be missing, and then that is told
+  pub whole : (before behind : List Step) (s : Step) → steps ≡ before ++ s ∷ behind → s.note.status ≡ 14 → (behind ≡ []) × (result ≡ Err Unwritten)
   pub counted : taken ≡ record { lines = length steps; bytes = length lines - length left; length = length (flat_map (λ s. s.shown) steps) }
   pub shown : out' ≡ flat_map (λ s. s.shown) steps ++ drop (length (flat_map (λ s. s.shown) steps)) out
   pub noted : notes' ≡ map (λ s. s.note) steps ++ drop (length steps) notes

@@ -87,13 +87,13 @@ abbrev pub bytes_of : Option Event → List ℕ
 bytes_of None = []
 bytes_of (Some e) = reply_bytes e.reply
 
--- a reply has messages
+-- a reply has at least one message
 abbrev pub AreMessages : Reply → Type 0
-AreMessages r = (ms : List Message) × (r ≡ reply.Messages ms)
+AreMessages r = (m : Message) × (ms : List Message) × (r ≡ reply.Messages (m ∷ ms))
 
--- an event was answered with messages, whose bytes take memory
+-- an event was answered with at least one message, whose bytes take memory
 abbrev pub HasMessages : Option Event → Type 0
-HasMessages last = (e : Event) × (ms : List Message) × (last ≡ Some e) × (e.reply ≡ reply.Messages ms)
+HasMessages last = (e : Event) × (m : Message) × (ms : List Message) × (last ≡ Some e) × (e.reply ≡ reply.Messages (m ∷ ms))
 
 -- the command reads one key
 abbrev pub is_read : Cmd → Bool

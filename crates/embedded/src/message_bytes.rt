@@ -1,6 +1,6 @@
 //! Messages as bytes: a head of 17 bytes, and behind it the key and the value of a row.
 
-ghost use Rattle.std.specs.Prelude.{◌≡◌, ◌++◌, OnOk};
+ghost use Rattle.std.specs.Prelude.{◌≡◌, ◌++◌, ◌<◌, length, OnOk, OnErr};
 ghost use Rattle.std.specs.List.{flat_map};
 ghost use Rattle.embedded.specs.Typed.{head, message_bytes, row_bytes};
 
@@ -17,7 +17,8 @@ const DELETE: u8 = 2;
 
 /// Puts messages at the end, one behind another.
 pub(crate) fn put_messages(out: &mut Vec<u8>, messages: &[Message]) -> Result<(), AllocError>
-    ensures { OnOk result (out.new.items ≡ out.old.items ++ flat_map message_bytes messages.now) }
+    ensures bytes { OnOk result (out.new.items ≡ out.old.items ++ flat_map message_bytes messages.now) }
+    ensures some { OnErr result (0 < length messages.now) }
 {
     for message in messages {
         put_message(out, message)?;

@@ -8,7 +8,8 @@
 //! `replicas`.
 //!
 //! 1. A handle that is open owns one database and the right to free it; a closed one owns nothing.
-//! 2. A function that answers gives a number. The program's memory then follows from that number alone.
+//! 2. A function that answers gives a number. The program's memory then follows from that number alone; that of
+//!    `ripsawbean_calls` from the notes too.
 //!
 //! ```text
 //!                                             number   length   out              the handle's history

@@ -13,9 +13,9 @@ use std::alloc::Global;
 /// were taken, how many bytes they have, and how many bytes of texts stand in `out`.
 ///
 /// A faulty line ends nothing: its note has its fault's code. 0: all lines were taken, or `notes` is full. At any other
-/// number what was taken stands, and the lines behind it were not looked at. 14: the last line's call was made, and its
-/// text found no room or no memory; `ripsawbean_text` shows it. 12, 13: the next line finds no memory, no position. 16:
-/// the handle is closed.
+/// number what was taken stands, and no line behind the next one was looked at. 14: the last line's call was made, and
+/// its text found no room or no memory; `ripsawbean_text` shows it. 12, 13: the next line finds no memory, no position.
+/// 16: the handle is closed.
 #[unsafe(no_mangle)]
 pub extern "C" fn ripsawbean_calls(
     alloc: Global,

@@ -8,7 +8,7 @@ returns-in-Err c h held =
     let l = c.loop-taken in
     let now = l.invariant.going h held in
     ends_refused h c.args.lines.now c.args.self.now c.args.out.now c.args.notes.now now.0 l.taken l.out l.notes l.self c.take_line.new.self c.first_line-line.result.now c.take_line.new.out _ _ c.in-Err.error now.1 now.2
-    (take_rest c.args.lines.now l.taken.bytes) c.first_line-line.ensures.line (take_rest l.out l.taken.length) l.invariant.bytes (c.in-Err.ensures.taken now.1.after now.1.stands)
+    (take_rest c.args.lines.now l.taken.bytes) c.first_line-line.ensures.line (take_rest l.out l.taken.length) l.invariant.bytes (omega (arith, c.loop-taken-test.true, l.auto.notes)) (c.in-Err.ensures.taken now.1.after now.1.stands)
 
 pub returns-then-done-eq-UNSHOWN : goal.returns-then-done-eq-UNSHOWN
 returns-then-done-eq-UNSHOWN c h held =
@@ -16,7 +16,7 @@ returns-then-done-eq-UNSHOWN c h held =
     let now = l.invariant.going h held in
     let rest = take_rest c.args.lines.now l.taken.bytes in
     ends_missing h c.args.lines.now c.args.self.now c.args.out.now c.args.notes.now now.0 l.taken l.out l.notes l.self c.take_line.new.self c.first_line-line.result.now c.take_line.new.out _ _ c.in-Ok.done now.1 now.2
-    rest c.first_line-line.ensures.line (take_rest l.out l.taken.length) (omega (arith, c.loop-taken-test.true, l.auto.notes)) (c.in-Ok.ensures.taken now.1.after now.1.stands) c.if-done-eq-UNSHOWN.true
+    rest c.first_line-line.ensures.line (take_rest l.out l.taken.length) c.if-taken-lines.true (omega (arith, c.loop-taken-test.true, l.auto.notes)) (c.in-Ok.ensures.taken now.1.after now.1.stands) c.if-done-eq-UNSHOWN.true
     (bytes_within c.args.lines.now _ c.first_line-line.result.now l.taken.bytes rest c.first_line-line.ensures.within l.invariant.bytes)
 
 pub loop-taken-preserved : goal.loop-taken-preserved
@@ -29,7 +29,7 @@ loop-taken-preserved c =
       going = λ h held.
           let now = l.invariant.going h held in
           goes_on h c.args.lines.now c.args.self.now c.args.out.now c.args.notes.now now.0 l.taken l.out l.notes l.self c.take_line.new.self c.first_line-line.result.now c.take_line.new.out _ _ c.in-Ok.done now.1 now.2
-          rest c.first_line-line.ensures.line (take_rest l.out l.taken.length) (omega (arith, c.loop-taken-test.true, l.auto.notes)) (c.in-Ok.ensures.taken now.1.after now.1.stands) c.if-done-eq-UNSHOWN.false;
+          rest c.first_line-line.ensures.line (take_rest l.out l.taken.length) c.if-taken-lines.true (omega (arith, c.loop-taken-test.true, l.auto.notes)) (c.in-Ok.ensures.taken now.1.after now.1.stands) c.if-done-eq-UNSHOWN.false;
     }
 
 pub returns-else-taken-lines : goal.returns-else-taken-lines

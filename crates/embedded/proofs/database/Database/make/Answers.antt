@@ -1,4 +1,4 @@
-use Rattle.std.proofs.Common.{◌≡◌, Some, refl, sym, ap, ◌∙◌}
+use Rattle.std.proofs.Common.{◌≡◌, ◌∷◌, Some, refl, sym, ap, ◌∙◌}
 use Rattle.spans.specs.declared.calls.events.Event.{Event}
 use Rattle.spans.specs.declared.calls.replies.Reply.TheVariants.{Messages}
 use Rattle.spans.specs.Effects.{event}
@@ -19,9 +19,9 @@ returns-clause-made c h held =
     }
 
 pub returns-clause-reads : goal.returns-clause-reads
-returns-clause-reads c = λ (e, ms, last, is).
+returns-clause-reads c = λ (e, m, ms, last, is).
     let kept : Event = event c.steps-position.result c.args.seat c.args.cmd c.step-reply.result in
     let both : Some kept ≡ Some e = sym c.keep.ensures.last ∙ last in
     let same : kept ≡ e = cc in
-    let reply : c.step-reply.result ≡ Messages ms = ap (λ (x : Event). x.reply) same ∙ is in
-    no_read c.args.self.now.engine c.step-reply.new.self c.args.seat c.args.cmd c.step-reply.result ms c.step-reply.ensures.history reply
+    let reply : c.step-reply.result ≡ Messages (m ∷ ms) = ap (λ (x : Event). x.reply) same ∙ is in
+    no_read c.args.self.now.engine c.step-reply.new.self c.args.seat c.args.cmd c.step-reply.result (m ∷ ms) c.step-reply.ensures.history reply

@@ -1,0 +1,17 @@
+use Rattle.std.proofs.Common.{◌≡◌, ◌<◌, List, [], ◌∷◌, length, Ok, Err, arith, subst}
+use Rattle.std.specs.Prelude.{Result, OnErr}
+use Rattle.spans.specs.declared.calls.messages.Message.{Message}
+use Rattle.spans.specs.declared.calls.replies.Reply.{Reply}
+use Rattle.spans.specs.declared.calls.replies.Reply.TheVariants.{Messages}
+use Rattle.embedded.specs.Typed.{AreMessages}
+use Rattle.embedded.proofs.typed.copy_reply.Goals as goal
+
+at_least_one : {T E : Type 0} (result : Result T E) (r : Reply) (ms : List Message) → r ≡ Messages ms → 0 < length ms → OnErr result (AreMessages r)
+at_least_one (Ok x) r ms is some = tt
+at_least_one (Err e) r [] is some = absurd (omega (arith, some))
+at_least_one (Err e) r (m ∷ ms) is some = (m, ms, is)
+
+pub returns-in_err-put_messages-in-Messages-clause-memory : goal.returns-in_err-put_messages-in-Messages-clause-memory
+returns-in_err-put_messages-in-Messages-clause-memory c =
+    let some : 0 < length c.in-Messages.messages = subst (λ (ms : List Message). 0 < length ms) c.as_slice.ensures c.in_err-put_messages-in-Messages.ensures.some in
+    at_least_one c.from_residual.result c.args.reply.now c.in-Messages.messages c.in-Messages.is some
