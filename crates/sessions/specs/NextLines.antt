@@ -2,7 +2,7 @@
 use Rattle.std.specs.Prelude.{◌≡◌, ℕ, ◌+◌, ◌≤◌, ◌⊎◌, true, List, [], ◌++◌, length, position, Option, Some, None, Result, Ok, Err}
 use Rattle.script.specs.Lines.{is_newline}
 use Rattle.sessions.specs.Devices.{Reads, Writes}
-use Rattle.sessions.specs.Waiting.{waiting, has_ended, format_of, IsLine}
+use Rattle.sessions.specs.Waiting.{waiting, has_ended, format_of, IsLine, WantsMore}
 use Rattle.sessions.specs.Writing.{pending_of, HasTaken, HasBegun}
 use Rattle.sessions.specs.declared.ending.ServeEnd.{ServeEnd}
 use Rattle.sessions.specs.declared.ending.ServeEnd.TheVariants as end
@@ -31,3 +31,11 @@ IsSought l r r' w w' old new (Err end.Input) =
 IsSought l r r' w w' old new (Err end.Output) =
     HasBegun w.taken w'.taken (pending_of old) × (r'.failures ≡ r.failures) × (w'.failures ≡ w.failures + 1)
 IsSought l r r' w w' old new (Err _) = ⊥
+
+-- nothing was read or written; or more was wanted, and all that was owed was written
+abbrev pub IsNeeded : (old : Lines) → Reads → Reads → Writes → Writes → (before after : Output) → Result (Option ℕ) ServeEnd → Type 0
+IsNeeded old r r' w w' before after (Ok _) =
+    ((r' ≡ r) × (w' ≡ w) × (pending_of after ≡ pending_of before)) ⊎ (WantsMore old × (pending_of after ≡ []))
+IsNeeded old r r' w w' before after (Err end.Input) = WantsMore old × (pending_of after ≡ [])
+IsNeeded old r r' w w' before after (Err end.Output) = WantsMore old
+IsNeeded old r r' w w' before after (Err _) = ⊥

@@ -46,7 +46,7 @@ pub struct Lines {
 
 impl Lines {
     ghost use Rattle.sessions.specs.Waiting.{waiting, has_ended, format_of, WantsMore, HasEnough, IsRead, IsUnread, IsMoved};
-    ghost use Rattle.sessions.specs.NextLines.{IsNextLine, HasReadOn, IsSought};
+    ghost use Rattle.sessions.specs.NextLines.{IsNextLine, HasReadOn, IsSought, IsNeeded};
 
     /// No bytes yet. Its block has room for one line of the format, and for the bytes that are asked for at once behind
     /// it.
@@ -81,6 +81,7 @@ impl Lines {
     ) -> Result<Option<usize>, ServeEnd>
         ensures read { HasReadOn self.old self.new (S.reads source.old) (S.reads source.new) }
         ensures sought { IsSought self.new (S.reads source.old) (S.reads source.new) (K.writes sink.old) (K.writes sink.new) output.old output.new result }
+        ensures needed { IsNeeded self.old (S.reads source.old) (S.reads source.new) (K.writes sink.old) (K.writes sink.new) output.old output.new result }
     {
         while self.wants_more() {
             output.write_out(sink)?;

@@ -7,7 +7,7 @@
 //! output.write_full(sink)?                 as before: it is less than 65536 bytes
 //! output.write_out(sink)?                  waits: nothing
 //! ```
-ghost use Rattle.std.specs.Prelude.{◌≡◌, ◌++◌, [], IfOk, OnOk, OnErr};
+ghost use Rattle.std.specs.Prelude.{◌≡◌, ◌<◌, ◌++◌, [], length, IfOk, OnOk, OnErr};
 ghost use Rattle.word_lines.specs.Events.{event_text, fault_line, spent_line};
 ghost use Rattle.sessions.specs.Writing.{pending_of, HasWritten};
 
@@ -70,7 +70,8 @@ impl Output {
 
     /// Writes what waits where that is a block or more, as `write_out` does.
     pub fn write_full<K: Sink>(&mut self, sink: &mut K) -> Result<(), WriteFailed>
-        ensures { HasWritten (K.writes sink.old) (K.writes sink.new) (pending_of self.old) (pending_of self.new) result }
+        ensures written { HasWritten (K.writes sink.old) (K.writes sink.new) (pending_of self.old) (pending_of self.new) result }
+        ensures full { OnOk result (length (pending_of self.new) < 65536) }
     {
         if self.pending.len() < BLOCK {
             return Ok(());

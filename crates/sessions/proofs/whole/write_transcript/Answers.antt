@@ -27,7 +27,7 @@ returns-in_err-write_full g c =
     let more : List ℕ = events_text (drop (at + 1) events) in
     let text = transcript_text c.args.format events in
     let kept = one_kept text w.taken w'.taken events at (at + 1) c.event-item.result (pending_of c.loop-event.output) (pending_of c.keep_event.new.self) c.loop-event-test.true c.event-item.is (omega arith) c.in_ok-keep_event.ensures.ok c.loop-event.invariant.0 in
-    let h = c.in_err-write_full.ensures in
+    let h = c.in_err-write_full.ensures.written in
     let p = err_from_is_err_and c.from_residual-in_err-write_full.result c.from_residual-in_err-write_full.ensures.1 in
     rw (p.1, p.2) ((h.0.0 ++ more, more_taken w.taken w'.taken w''.taken text (pending_of c.keep_event.new.self) h.0.0 more kept h.0.1), h.1 ∙ ap (λ (n : ℕ). n + 1) c.loop-event.invariant.1)
 
@@ -41,7 +41,7 @@ loop-event-preserved g c =
     let more : List ℕ = events_text (drop (at + 1) events) in
     let text = transcript_text c.args.format events in
     let kept = one_kept text w.taken w'.taken events at (at + 1) c.event-item.result (pending_of c.loop-event.output) (pending_of c.keep_event.new.self) c.loop-event-test.true c.event-item.is (omega arith) c.in_ok-keep_event.ensures.ok c.loop-event.invariant.0 in
-    let h = c.in_ok-write_full.ensures in
+    let h = c.in_ok-write_full.ensures.written in
     (more_taken w.taken w'.taken w''.taken text (pending_of c.keep_event.new.self) (pending_of c.write_full.new.self) more kept h.0, h.1 ∙ c.loop-event.invariant.1)
 
 pub returns-in_err-write_out : goal.returns-in_err-write_out

@@ -1,17 +1,21 @@
-use Rattle.std.proofs.Common.{◌≡◌, ◌+◌, ◌-◌, cond, length, Ok}
+use Rattle.std.proofs.Common.{◌≡◌, ◌+◌, ◌-◌, cond, length, None, Ok}
 use Rattle.text_format.specs.Limits.{line_limit}
-use Rattle.sessions.specs.Waiting.{waiting}
+use Rattle.sessions.specs.Waiting.{waiting, WantsMore}
 use Rattle.sessions.specs.Writing.{pending_of, HasWritten}
-use Rattle.sessions.specs.NextLines.{HasReadOn}
+use Rattle.sessions.specs.NextLines.{HasReadOn, IsNeeded}
 use Rattle.sessions.proofs.lines.Lines.next_line.Given as goal
 
 abbrev pub invariant-loop-output : goal.invariant-loop-output
 invariant-loop-output g l =
     let r = g.S.Source.reads l.initial.source in
     let r' = g.S.Source.reads l.source in
+    let w = g.K.Sink.writes l.initial.sink in
+    let w' = g.K.Sink.writes l.sink in
     HasReadOn l.initial.self l.self r r'
     × (r'.failures ≡ r.failures)
-    × HasWritten (g.K.Sink.writes l.initial.sink) (g.K.Sink.writes l.sink) (pending_of l.initial.output) (pending_of l.output) (Ok tt)
+    × HasWritten w w' (pending_of l.initial.output) (pending_of l.output) (Ok tt)
+    × IsNeeded l.initial.self r r' w w' l.initial.output l.output (Ok None)
+    × (WantsMore l.self → WantsMore l.initial.self)
 
 -- each read that isn't the end gives a byte at least
 abbrev pub decreases-loop-output : goal.decreases-loop-output
