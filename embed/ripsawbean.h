@@ -154,7 +154,8 @@ void ripsawbean_close(ripsawbean *db);
 //     if (answer.kind >= RIPSAWBEAN_ANSWER_REFUSED) puts(ripsawbean_answer_name(answer.kind));
 //
 // The event is that of the command's line. ripsawbean_text shows its text, which is written when it is asked for. A key
-// and a value are only read. key, value, out, *length, *answer and the handle share no byte with one another.
+// and a value are only read, and may share bytes. Each of out, *length, *answer and the handle shares none with another,
+// nor with a key or a value.
 
 typedef struct {
     uint8_t kind;    // RIPSAWBEAN_ANSWER_..
