@@ -1,9 +1,11 @@
 """What a wrong body changes, which of them can be tried in one check, and what the lines of a check show of each.
 
 Code is laid out by `rt fmt`, so a function's body is found by its indentation. The proofs of the function `f` of the
-type `T` in `src/m.rt` stand in `proofs/m/T/f`.
+type `T` in `src/m.rt` stand in `proofs/m/T/f`; where `T` is of another file `n.rt`, in `proofs/n/T/f`. So a function
+whose name no other has in the crate is known by its name.
 """
 
+import functools
 import os
 import re
 from dataclasses import dataclass
@@ -22,7 +24,8 @@ SHOWS_NOTHING = re.compile(
 @dataclass(frozen=True)
 class Edit:
     """A wrong body. One that changes a single function's body has that function, and what stands from `begin` to `end`
-    of the file with it; any other has no function, and is tried singly."""
+    of the file with it; any other has no function, and is tried singly. `is_lone` says that no other function of the
+    crate has its name."""
 
     crate: str
     name: str
@@ -31,6 +34,7 @@ class Edit:
     begin: int = 0
     end: int = 0
     new: str = ""
+    is_lone: bool = False
 
 
 def bodies(text):
@@ -91,8 +95,19 @@ def read_edit(top, crate, name):
     end = len(was) - behind
     for function, first, last in bodies(was):
         if path.startswith("src/") and was != now and first <= begin and end <= last:
-            return Edit(crate, name, path, function, begin, end, now[begin : len(now) - behind])
+            is_lone = functions_of(folder).count(function) == 1
+            return Edit(crate, name, path, function, begin, end, now[begin : len(now) - behind], is_lone)
     return Edit(crate, name)
+
+
+@functools.lru_cache
+def functions_of(folder):
+    """The names of all functions of a crate."""
+    found = []
+    for at, _, names in os.walk(os.path.join(folder, "src")):
+        for name in names:
+            found += [it for it, _, _ in bodies(text_of(os.path.join(at, name)))]
+    return found
 
 
 def in_batches(edits):
@@ -125,8 +140,11 @@ def refusal(edit, lines):
     """The line of a check that shows that it refuses the edit's own function, or none."""
     module = edit.path[len("src/") : -len(".rt")].removesuffix("lib").removesuffix("/")
     steps = [re.escape(it) for it in module.split("/") if it]
-    proofs = r"(?:\./)?%s/(?:[A-Z][^/\s]*/)?\+?%s/\w+\.antt" % ("/".join(["proofs", *steps]), edit.function)
-    verdict = r"fn %s::(?:[A-Z][^:\s]*::)?%s: (?!proved)" % ("::".join([edit.crate, *steps]), edit.function)
+    in_proofs, in_names = "/".join(["proofs", *steps]), "::".join([edit.crate, *steps])
+    if edit.is_lone:
+        in_proofs, in_names = r"proofs(?:/[a-z][^/\s]*)*", r"%s(?:::[a-z][^:\s]*)*" % edit.crate
+    proofs = r"(?:\./)?%s/(?:[A-Z][^/\s]*/)?\+?%s/\w+\.antt" % (in_proofs, edit.function)
+    verdict = r"fn %s::(?:[A-Z][^:\s]*::)?%s: (?!proved)" % (in_names, edit.function)
     shows = re.compile(r"%s:\d+:\d+: error: |note: `[^`]+` of %s must prove: " % (proofs, proofs))
     if not any(re.match(verdict, it) for it in lines):
         return ""

@@ -238,8 +238,8 @@ class Reading(unittest.TestCase):
         found = {name: text[begin:end] for name, begin, end in body_edits.bodies(text)}
         self.assertEqual(found, {"laid": "        if a {\n        }\n", "kept": "        body\n"})
 
-    def refused(self, *lines, path="src/far/places.rt", status=1, last="logic=not-proved functions=3"):
-        it = body_edits.Edit("low", "edit", path, "step")
+    def refused(self, *lines, path="src/far/places.rt", is_lone=False, status=1, last="logic=not-proved functions=3"):
+        it = body_edits.Edit("low", "edit", path, "step", is_lone=is_lone)
         return it in body_edits.refusals([it], status, "\n".join([*lines, last, "rt: rt lemma finds one"]))
 
     def test_what_shows_that_a_function_is_refused(self):
@@ -255,6 +255,14 @@ class Reading(unittest.TestCase):
         self.assertFalse(self.refused(own, error.replace("/step/", "/other/")))
         self.assertFalse(self.refused(own, error.replace("far/places/", "places/")))
         self.assertFalse(self.refused(own, error, path="src/lib.rt"))
+
+    def test_a_function_with_a_name_of_its_own_is_known_in_any_module(self):
+        own = "fn low::lock::Lock::step: not proved"
+        error = "./proofs/lock/Lock/step/Answers.antt:4:5: error: `returns`: the two types differ"
+        self.assertFalse(self.refused(own, error))
+        self.assertTrue(self.refused(own, error, is_lone=True))
+        self.assertFalse(self.refused(own.replace("low", "other"), error, is_lone=True))
+        self.assertFalse(self.refused(own, error.replace("/step/", "/other/"), is_lone=True))
 
     def test_what_shows_nothing(self):
         own = "fn low::far::places::Places::step: not proved"
