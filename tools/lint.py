@@ -1,6 +1,6 @@
 #!/usr/bin/env python3
-"""`tools/lint.py [RULE..]` looks for breaches of the house's own rules, which no proof and no test sees. It takes some
-five seconds.
+"""`tools/lint.py [RULE..]` looks for breaches of the house's own rules, which no proof and no test sees. It takes a
+second or two.
 
 Each function below is a rule, and its comment says it. A breach is a line `path:line: rule: what`, and the status is
 then 1. `tools/test_lint.py` plants a breach of each rule in a small house.
@@ -305,6 +305,7 @@ def program_version(house):
 @rule
 def heads(house):
     """A file says at its top what it is: a source, a definition, a script; and a page for whom it is."""
+    pages = house.pages()
     for path in house.paths:
         text = house.text(path) if not path.endswith((".png", ".wasm", ".ico")) else ""
         first = text.lstrip().split("\n", 1)[0]
@@ -315,7 +316,7 @@ def heads(house):
             yield path, 1, "it begins with no comment"
         elif first.startswith("#!") and path != ".ci/run" and not re.match(r"#!.*\n\s*(?:#|\"\"\"|//|/\*)", text):
             yield path, 1, "it begins with no comment"
-        elif path in house.pages() and not re.match(r"# [^\n]*\n(?:\s*<!--.*?-->)?\s*\*?For ", text, re.S):
+        elif path in pages and not re.match(r"# [^\n]*\n(?:\s*<!--.*?-->)?\s*\*?For ", text, re.S):
             yield path, 1, "its first words don't say whom it is for"
 
 
