@@ -1,6 +1,6 @@
 #!/usr/bin/env python3
 """`tools/lint.py [RULE..]` looks for breaches of the house's own rules, which no proof and no test sees. It takes a
-second.
+second or two.
 
 Each function below is a rule, and its comment says it. A breach is a line `path:line: rule: what`, and the status is
 then 1. `tools/test_lint.py` plants a breach of each rule in a small house.
@@ -26,6 +26,8 @@ seventeen eighteen nineteen""".split()
 TENS = {"twenty": 20, "thirty": 30, "forty": 40, "fifty": 50, "sixty": 60}
 # Files that nobody reads line by line. The page is built, as one file.
 NOT_READ = (".svg", ".lock", ".tsv", ".transcript", ".json", ".png", ".wasm", "web/playground.html")
+# A script whose lines are still longer.
+WIDE = ("embed/speed",)
 
 RULES = {}
 
@@ -72,9 +74,10 @@ class House:
 
     def version(self):
         """The kit's line, as `rt version` says it."""
-        if self.given_version:
-            return self.given_version
-        return subprocess.run(["rt", "version"], capture_output=True, check=True, text=True).stdout.strip()
+        if not self.given_version:
+            told = subprocess.run(["rt", "version"], capture_output=True, check=True, text=True).stdout
+            self.given_version = told.strip()
+        return self.given_version
 
 
 def line_at(text, at):
@@ -84,23 +87,33 @@ def line_at(text, at):
 def closed_at(text, at):
     """Where the brace that opens at this place is closed."""
     depth = 0
-    for place in range(at, len(text)):
-        depth += {"{": 1, "}": -1}.get(text[place], 0)
+    for found in re.compile("[{}]").finditer(text, at):
+        depth += 1 if found[0] == "{" else -1
         if depth == 0:
-            return place
+            return found.start()
     return len(text) - 1
+
+
+# A function's name, with a first group where it is public to all, or the beginning of a clause with its brace.
+FUNCTION_OR_CLAUSE = re.compile(
+    r'^ *(?:(pub )|pub\([a-z]+\) )?(?:const )?(?:unsafe )?(?:extern "C" )?fn \w+'
+    r"|^ *(?:requires|ensures)\b[^{\n]*\{",
+    re.M,
+)
 
 
 @rule
 def clause_length(house):
     """A clause of a public function has at most 160 characters."""
     for path in house.ending(".rt", under="crates/"):
-        text = house.text(path)
-        for found in re.finditer(r"^ *(?:requires|ensures)\b[^{\n]*\{", text, re.M):
-            functions = re.findall(r"^ *((?:pub(?:\([a-z]+\))? )?)(?:const )?fn \w+", text[: found.start()], re.M)
-            clause = " ".join(text[found.end() - 1 : closed_at(text, found.end() - 1) + 1].split())
-            if functions and functions[-1] == "pub " and len(clause) > LONGEST_CLAUSE:
-                yield path, line_at(text, found.start()), "a clause of %d characters" % len(clause)
+        text, is_public = house.text(path), False
+        for found in FUNCTION_OR_CLAUSE.finditer(text):
+            if not found[0].endswith("{"):
+                is_public = found[1] is not None
+            elif is_public:
+                clause = " ".join(text[found.end() - 1 : closed_at(text, found.end() - 1) + 1].split())
+                if len(clause) > LONGEST_CLAUSE:
+                    yield path, line_at(text, found.start()), "a clause of %d characters" % len(clause)
 
 
 @rule
@@ -162,9 +175,28 @@ def number_of(word):
     return UNITS.index(tens) if tens in UNITS and not unit else None
 
 
+# Counts that pages tell in words of their own: these words, what is counted, and in which files.
+OWN_FIGURES = (
+    (r"`kept`'s\s+([\w-]+)\s+public\s+functions", r"^ *pub (?:const )?fn ", "crates/kept/src/"),
+    (r"[Tt]our(?:\s+of|:)\s+([\w-]+)\s+steps", r"^    title: ", "web/playground/tour.mjs"),
+)
+
+
+def count_of(house, pattern, under):
+    """How often a pattern stands in the files whose paths begin so."""
+    return sum(len(re.findall(pattern, house.text(it), re.M)) for it in house.paths if it.startswith(under))
+
+
+def figure(house, path, found, count):
+    """The breach of a page that tells another count."""
+    said = re.sub("[`*]", "", " ".join(found[0].split()))
+    return path, line_at(house.text(path), found.start()), "`%s`, and there are %d" % (said, count)
+
+
 @rule
 def figures(house):
-    """A count above ten in a page, of crates, must-fail edits, more wrong bodies or commands, is what stands there."""
+    """A count above ten in a page, of crates, must-fail edits, more wrong bodies or commands, is what stands there. So
+    is any count of what OWN_FIGURES lists, and of the lines of a file in web/module."""
     commands = re.search(r"pub enum Cmd \{(.*?)^\}", house.text("crates/spans/src/calls/commands.rt"), re.M | re.S)
     edits = [it.split("/")[2] for it in house.ending(".edit", under="crates/")]
     counts = {
@@ -180,8 +212,16 @@ def figures(house):
             for found in re.finditer(r"(?<![\d,.])\b([\w-]+)\s+%s\b" % kind, house.text(path)):
                 told = number_of(found[1])
                 if told is not None and told != count and told > 10:
-                    number, said = line_at(house.text(path), found.start()), " ".join(found[0].split())
-                    yield path, number, "`%s`, and there are %d" % (said, count)
+                    yield figure(house, path, found, count)
+    for path in house.ending(".md", ".mjs"):
+        for words, pattern, under in OWN_FIGURES:
+            for found in re.finditer(words, house.text(path)):
+                if number_of(found[1]) != count_of(house, pattern, under):
+                    yield figure(house, path, found, count_of(house, pattern, under))
+        for found in re.finditer(r"`(module/[\w.]+)`\W*([\w-]+)\s+lines", house.text(path)):
+            count = count_of(house, r"\n", "web/" + found[1])
+            if number_of(found[2]) != count:
+                yield figure(house, path, found, count)
 
 
 def anchors(text):
@@ -218,16 +258,17 @@ def links(house):
 def claims(house):
     """A function or clause that PROOF claims something of is public in a crate that its section's heading names. A name
     that begins with `_` is the end of one."""
-    crates = []
+    crates, public = [], set()
     for number, line in house.lines("docs/PROOF.md") if "docs/PROOF.md" in house.paths else ():
         if line.startswith("## "):
             crates = re.findall(r"`(?:crates/)?(\w+)", line)
-        elif crates and line.startswith("| `"):
             sources = [it for crate in crates for it in house.ending(".rt", under="crates/%s/src/" % crate)]
             text = "".join(house.text(it) for it in sources)
+            public = {*re.findall(r"pub (?:[\w\"]+ )*fn (\w+)", text), *re.findall(r"ensures (\w+) ", text)}
+        elif crates and line.startswith("| `"):
             for name in re.findall(r"`(?:\w+::)?(\w+)`", line.split("|")[1]):
-                whole = r"\w+" + name if name.startswith("_") else name
-                if not re.search(r"pub (?:[\w\"]+ )*fn %s\b|ensures %s " % (whole, whole), text):
+                ends = [it for it in public if it != name and it.endswith(name)] if name.startswith("_") else []
+                if name not in public and not ends:
                     yield "docs/PROOF.md", number, "no crate of its heading has a public %s" % name
 
 
@@ -253,7 +294,8 @@ def program_version(house):
     if not told:
         yield path, 1, "it tells no version and kit"
         return
-    number, version = line_at(house.text(path), told.start()), re.search(r'^version = "(.*)"', house.text(wrapper), re.M)
+    number = line_at(house.text(path), told.start())
+    version = re.search(r'^version = "(.*)"', house.text(wrapper), re.M)
     if not version or version[1] != told[1]:
         yield path, number, "it tells %s, and %s has %s" % (told[1], wrapper, version and version[1])
     if told[2] != house.version():
@@ -263,6 +305,7 @@ def program_version(house):
 @rule
 def heads(house):
     """A file says at its top what it is: a source, a definition, a script; and a page for whom it is."""
+    pages = house.pages()
     for path in house.paths:
         text = house.text(path) if not path.endswith((".png", ".wasm", ".ico")) else ""
         first = text.lstrip().split("\n", 1)[0]
@@ -273,7 +316,7 @@ def heads(house):
             yield path, 1, "it begins with no comment"
         elif first.startswith("#!") and path != ".ci/run" and not re.match(r"#!.*\n\s*(?:#|\"\"\"|//|/\*)", text):
             yield path, 1, "it begins with no comment"
-        elif path in house.pages() and not re.match(r"# [^\n]*\n(?:\s*<!--.*?-->)?\s*\*?For ", text, re.S):
+        elif path in pages and not re.match(r"# [^\n]*\n(?:\s*<!--.*?-->)?\s*\*?For ", text, re.S):
             yield path, 1, "its first words don't say whom it is for"
 
 
@@ -290,23 +333,25 @@ def file_length(house):
 
 @rule
 def line_length(house):
-    """A line of a page has at most 120 columns, unless it is of a table or of a block of code."""
-    for path in house.ending(".md"):
-        inside = False
+    """A line of a page or script has at most 120 columns, unless it is of a table, or of a block of code in a page."""
+    for path in house.paths:
+        is_page, inside = path.endswith(".md"), False
+        if not is_page and (not house.text(path).startswith("#!") or path in WIDE):
+            continue
         for number, line in house.lines(path):
-            inside ^= line.startswith("```")
-            if not inside and len(line) > LONGEST_LINE and not re.match(r" *\||<|.*\]\(", line):
+            inside ^= is_page and line.startswith("```")
+            is_free = inside or re.match(r" *\||<|.*\]\(", line) if is_page else line.count("|") > 3
+            if len(line) > LONGEST_LINE and not is_free:
                 yield path, number, "a line of %d columns" % len(line)
 
 
 @rule
 def paths_of_machines(house):
     """No file names a place that is one machine's own."""
-    own = re.compile(r"(?<![\w.$}/])/(?:work|root|opt|home|Users)\b(?!-)")
-    for path in house.paths:
-        for number, line in house.lines(path):
-            if own.search(line) and not path.startswith("tools/"):
-                yield path, number, "the path %s" % own.search(line)[0]
+    own = re.compile(r"/(?<![\w.$}/]/)(?:work|root|opt|home|Users)\b(?!-)")
+    for path in [it for it in house.paths if not it.startswith("tools/")]:
+        for found in own.finditer(house.text(path)):
+            yield path, line_at(house.text(path), found.start()), "the path %s" % found[0]
 
 
 @rule

@@ -42,6 +42,24 @@ class Checks(unittest.TestCase):
                 checks.time.sleep(3)
                 os.stat(late)
 
+    def test_what_was_cut_off_has_time_to_end_what_it_started_elsewhere(self):
+        with tempfile.TemporaryDirectory() as room:
+            late = os.path.join(room, "late")
+            script = "(trap 'sleep 1; touch %s; exit' TERM; sleep 60 & wait) & wait" % late
+            self.assertEqual(self.result(script, limit=1)[0], "cut off")
+            os.stat(late)
+
+    def test_a_check_that_wants_a_folder_gets_one(self):
+        script = ["sh", "-c", 'echo 3 tests >"$0/told"; cat "$0/told"']
+        check = checks.Check("one", "a check", script, (r"(\d+) tests", "tests"), wants_room=True)
+        self.assertEqual(checks.run(check, dict(os.environ), 20)[:2], ("passed", "3 tests"))
+
+    def test_a_build_has_a_limit_of_time(self):
+        for script, why in {"sleep 60": "the program wasn't built in 1 seconds", "exit 3": "couldn't be built"}.items():
+            with self.assertRaises(SystemExit) as told:
+                checks.build("the program", ["sh", "-c", script], 1)
+            self.assertIn(why, str(told.exception))
+
     def test_the_gate_s_row_is_the_last_count_of_its_log(self):
         for text, told in {
             "3 passed, 0 failed\n": "passed",

@@ -17,7 +17,7 @@ SOUND = {
     "README.md": "# House\n\nFor readers. It has 12 crates and eleven commands; [more](docs/GUIDE.md#first-steps).\n\n"
     "Kit: %s\n" % KIT,
     "docs/GUIDE.md": "# Guide\n\nFor users.\n\n## First steps\n\n"
-    "See `crates/low/src/lib.rt`, and 12 must-fail edits.\n",
+    "See `crates/low/src/lib.rt`, 12 must-fail edits and `kept`'s two public functions.\n",
     "crates.txt": "low: # the lowest\n" + "".join("c%d: low\n" % n for n in range(11)),
     "crates/low/src/lib.rt": "//! Low.\n\npub struct Low;\n\n"
     "pub fn one() -> u8\n    ensures { result \u2261 1 }\n{\n    1\n}\n",
@@ -27,6 +27,10 @@ SOUND = {
     "crates/command_line/src/version.rt": '//! Which.\n\nconst VERSION: &str = "0.1.0\nproved with %s";\n' % KIT,
     "embed/rust/Cargo.toml": '[package]\nversion = "0.1.0"\n',
     "tools/run": "#!/bin/sh\n# Runs it.\n",
+    "crates/kept/src/lib.rt": "//! Kept.\n\npub fn one() {}\npub fn two() {}\n",
+    "web/README.md": "# Web\n\nA tour of two\nsteps.\n\n- **`module/make`**, 2 lines\n",
+    "web/playground/tour.mjs": '// The tour: two steps.\n    title: "One",\n    title: "Two",\n',
+    "web/module/make": "#!/bin/sh\n# Makes it.\n",
 }
 SOUND.update(
     {"crates/low/must-fail/e%d.edit" % n: "file: src/lib.rt\nold:     1\nnew:     %d\n" % (n + 2) for n in range(12)}
@@ -55,7 +59,10 @@ def planted(path, old, new):
 
 LIB = "crates/low/src/lib.rt"
 PLANTED = {
-    "clause_length": [(LIB, "result \u2261 1", "result \u2261 1" + " + 0" * 50)],
+    "clause_length": [
+        (LIB, "result \u2261 1", "result \u2261 1" + " + 0" * 50),
+        (LIB, "fn one() -> u8\n    ensures { ", 'extern "C" fn one() -> u8\n    ensures { 1 \u2261 1' + " + 0" * 50),
+    ],
     "names_once": [
         ("crates/c1/src/lib.rt", "", "//! Another.\n\npub enum Low { One }\n"),
         ("tools/names-twice", "", "Low: low c1\n"),
@@ -70,6 +77,11 @@ PLANTED = {
         ("README.md", "eleven", "twenty-one"),
         ("docs/GUIDE.md", "12 must-fail", "14 must-fail"),
         ("docs/GUIDE.md", "12 must-fail edits", "12 must-fail edits, 30 more wrong bodies"),
+        ("docs/GUIDE.md", "two public", "three public"),
+        ("web/README.md", "of two", "of three"),
+        ("web/README.md", "2 lines", "3 lines"),
+        ("web/playground/tour.mjs", '    title: "Two",\n', ""),
+        ("web/playground/tour.mjs", "two", "ten"),
     ],
     "links": [
         ("README.md", "docs/GUIDE.md", "docs/GUIDES.md"),
@@ -98,7 +110,10 @@ PLANTED = {
         ("docs/GUIDE.md", "For users", "Use it"),
     ],
     "file_length": [("docs/GUIDE.md", "\n## First", "\n" * 600 + "## First")],
-    "line_length": [("docs/GUIDE.md", "For users.", "For users." + " word" * 30)],
+    "line_length": [
+        ("docs/GUIDE.md", "For users.", "For users." + " word" * 30),
+        ("tools/run", "Runs it.", "Runs it." + " word" * 30),
+    ],
     "paths_of_machines": [("README.md", "more", "/ho" + "me/me/more")],
     "pictures": [
         ("docs/pictures/one.txt", "", "layers One\nrow: box\n"),
