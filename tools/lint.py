@@ -26,8 +26,6 @@ seventeen eighteen nineteen""".split()
 TENS = {"twenty": 20, "thirty": 30, "forty": 40, "fifty": 50, "sixty": 60}
 # Files that nobody reads line by line. The page is built, as one file.
 NOT_READ = (".svg", ".lock", ".tsv", ".transcript", ".json", ".png", ".wasm", "web/playground.html")
-# A script whose lines are still longer.
-WIDE = ("embed/speed",)
 
 RULES = {}
 
@@ -336,7 +334,7 @@ def line_length(house):
     """A line of a page or script has at most 120 columns, unless it is of a table, or of a block of code in a page."""
     for path in house.paths:
         is_page, inside = path.endswith(".md"), False
-        if not is_page and (not house.text(path).startswith("#!") or path in WIDE):
+        if not is_page and not house.text(path).startswith("#!"):
             continue
         for number, line in house.lines(path):
             inside ^= is_page and line.startswith("```")
