@@ -3,11 +3,10 @@ use Rattle.std.proofs.Common.{Bool, List, None, Option, Some, ap, cond, false, r
 use Rattle.std.specs.Prelude.{suc}
 use Rattle.std.proofs.lemmas.Bool.{ltb-false}
 use Rattle.timestamps.specs.declared.ts.TheConstants.{MAX}
-use Rattle.spans.specs.Answer.{first_refusal, first_refusal_or}
+use Rattle.spans.specs.Answer.{first_refusal}
 use Rattle.spans.specs.Effects.{kind_of, open_cmd}
 use Rattle.spans.specs.Kept.{Kept}
 use Rattle.spans.specs.declared.calls.replies.Refusal.{Refusal}
-use Rattle.spans.specs.declared.calls.replies.Reply.{Reply}
 use Rattle.spans.specs.declared.calls.replies.Reply.TheVariants.{Opened, Refused}
 use Rattle.spans.specs.declared.kind.Kind.{Kind}
 use Rattle.spans.specs.declared.span.Span.{Span}

@@ -1,8 +1,9 @@
 -- What the calls change is what the crate `kept` wants of an open, a poll and a cancel.
-use Rattle.std.proofs.Common.{Bool, List, None, Option, Some, ap, nat_lt, cond, false, refl, sym, true, suc, ℕ, ◌==◌, ◌≡◌, ◌≤◌, ◌∙◌, []}
+use Rattle.std.proofs.Common.{Bool, List, None, Option, Some, ap, arith, nat_lt, cond, false, refl, sym, true, suc, ℕ, ◌==◌, ◌≡◌, ◌≤◌, ◌∙◌, []}
 use Rattle.std.specs.Prelude.{option_map, if◌then◌else◌}
 use Rattle.std.proofs.lemmas.Bool.{eq-eqb, eqb-true, ltb-false, or_parts}
 use Rattle.timestamps.specs.declared.row.Row.{Row}
+use Rattle.timestamps.specs.declared.ts.TheConstants.{MAX}
 use Rattle.spans.specs.Kept.{Kept}
 use Rattle.spans.specs.declared.calls.messages.Message.{Message}
 use Rattle.spans.specs.declared.span.Span.{Span}
@@ -12,8 +13,12 @@ use Rattle.kept.specs.Places.{moved}
 use Rattle.kept.specs.Rings.{AreOthersSame}
 use Rattle.spans.specs.Feeds.{start_at}
 use Rattle.spans.specs.declared.kind.Kind.{Kind}
-use Rattle.feed.specs.Live.{Live, begins_behind, opened_at}
+use Rattle.feed.specs.Live.{Live, begins_behind, cut_at_max, opened_at}
 use Rattle.feed.specs.Standing.{IsPut, Standing, behind_or, is_behind, live_in, place_in, ring_of, ring_or}
+
+-- what is in the range of timestamps stays as it is
+pub uncut : (n : ℕ) → n ≤ MAX → cut_at_max n ≡ n
+uncut n low = omega arith
 
 -- the other rings are as they were
 pub others_same : (s s' : Standing) (f : ℕ) (o : Option Live) → IsPut s s' f o → AreOthersSame f (ring_of s) (ring_of s') (is_behind s) (is_behind s')

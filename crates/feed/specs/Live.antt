@@ -1,6 +1,7 @@
 -- A live feed, as it is seen: its place, whether it is served from the store, and the rows in its ring.
-use Rattle.std.specs.Prelude.{Bool, List, None, Option, Some, [], false, if◌then◌else◌, nat_lt, not, true, ℕ, ◌&&◌, ◌||◌, ◌++◌, ◌∷◌, ◌≡◌, ◌⊎◌}
+use Rattle.std.specs.Prelude.{Bool, List, None, Option, Some, [], false, if◌then◌else◌, min, nat_lt, not, true, ℕ, ◌&&◌, ◌||◌, ◌++◌, ◌∷◌, ◌≡◌, ◌⊎◌}
 use Rattle.timestamps.specs.declared.row.Row.{Row}
+use Rattle.timestamps.specs.declared.ts.TheConstants.{MAX}
 use Rattle.spans.specs.Collection.{VersionName}
 use Rattle.spans.specs.Feeds.{is_due, start_at}
 use Rattle.spans.specs.Kept.{Place}
@@ -18,6 +19,10 @@ pub record Live : Type 0 where
 -- an initial feed begins served from the store, and any other where its cursor is below closed
 abbrev pub begins_behind : Kind → ℕ → ℕ → Bool
 begins_behind kind cursor closed = kind.initial || nat_lt cursor closed
+
+-- a number above the greatest timestamp counts as that
+abbrev pub cut_at_max : ℕ → ℕ
+cut_at_max n = min n MAX
 
 -- a feed that has just opened
 abbrev pub opened_at : ℕ → Kind → Span → ℕ → Bool → Live

@@ -1,11 +1,10 @@
 //! All live feeds.
-ghost use Rattle.std.specs.Prelude.{true, ◌≡◌, ◌<◌, ◌≤◌, ℕ, None, Some, is_some, suc, IfErr, IfOk, OnOk, OnErr, IfSome};
+ghost use Rattle.std.specs.Prelude.{true, ◌≡◌, ◌<◌, ℕ, None, Some, is_some, suc, IfErr, IfOk, OnOk, OnErr, IfSome};
 ghost use Rattle.std.specs.BTreeSet.{contains};
 ghost use Rattle.std.specs.Map.{keys_of};
-ghost use Rattle.timestamps.specs.declared.ts.TheConstants.{MAX};
 ghost use Rattle.kept.specs.Places.{IsLeastFloor};
 ghost use Rattle.kept.specs.Reports.{AreLive};
-ghost use Rattle.feed.specs.Live.{IsOffered, begins_behind, opened_at};
+ghost use Rattle.feed.specs.Live.{IsOffered, begins_behind, cut_at_max, opened_at};
 ghost use Rattle.feed.specs.Standing.{opened_in, live_in, place_in, seat_in, behind_in, IsPut, AreChanged, IsSentBehind, IsPolledBy, IsUnpolled, IsCountOf};
 ghost use Rattle.feed.specs.Slots.{IsSourced, slot_of, source_of};
 ghost use Rattle.feed.specs.Ties.{IsFloorMoved, pair_cmp};
@@ -28,6 +27,7 @@ use std::collections::BTreeSet;
 use std::marker::Model;
 use std::sync::Arc;
 use timestamps::row::Row;
+use timestamps::ts::MAX;
 use version_chain::Store;
 
 /// The feeds that live, by number, and the order of their floors.
@@ -105,8 +105,8 @@ impl Feeds {
         }
     }
 
-    /// Opens a feed at its cursor and answers its number. One that begins below closed begins behind, and
-    /// so does an initial one. Where memory is wanting, nothing is opened.
+    /// Opens a feed at its cursor and answers its number. One that begins below closed begins behind, and so does an
+    /// initial one. A cursor above the greatest timestamp counts as that. Where memory is wanting, nothing is opened.
     pub fn open(
         &mut self,
         seat: u8,
@@ -116,12 +116,13 @@ impl Feeds {
         closed: u64,
     ) -> Result<u64, AllocError>
         requires room { opened_in self.old < u64.MAX }
-        requires cursor { cursor ≤ MAX }
         ensures number { IfOk result (λ f. f ≡ suc (opened_in self.old)) }
-        ensures put { IfOk result (λ f. IsPut self.old self.new f (Some (opened_at seat kind span.now cursor (begins_behind kind cursor closed)))) }
+        ensures put { IfOk result (λ f. IsPut self.old self.new f
+            (Some (opened_at seat kind span.now (cut_at_max cursor) (begins_behind kind (cut_at_max cursor) closed)))) }
         ensures opened { IfOk result (λ f. opened_in self.new ≡ f) }
         ensures err { OnErr result (self.new ≡ self.old) }
     {
+        let cursor = cursor.min(MAX);
         let feed = self.opened + 1;
         let behind = begins_behind(kind, cursor, closed);
         let live = LiveFeed::open(self.alloc, self.ring, seat, kind, span, cursor, behind)?;
@@ -158,8 +159,8 @@ impl Feeds {
     }
 
     /// The next messages of a feed for the seat that opened it, at most `max`: from its ring, or from the store where it
-    /// is behind. A feed for which the store then has no row left is served from its ring again. Where memory is wanting,
-    /// nothing is told.
+    /// is behind. A feed for which the store then has no row left is served from its ring again. A `closed` above the
+    /// greatest timestamp counts as that. Where memory is wanting, nothing is told.
     pub fn poll(
         &mut self,
         store: &Store,
@@ -168,8 +169,7 @@ impl Feeds {
         closed: u64,
         max: u64,
     ) -> Result<Messages, PollError>
-        requires closed { closed ≤ MAX }
-        ensures told { IfOk result (λ ms. IsPolledBy store.now self.old self.new seat feed closed max ms) }
+        ensures told { IfOk result (λ ms. IsPolledBy store.now self.old self.new seat feed (cut_at_max closed) max ms) }
         ensures refused { IfErr result (IsUnpolled self.old seat feed) }
         ensures opened { opened_in self.new ≡ opened_in self.old }
         ensures err { OnErr result (self.new ≡ self.old) }
@@ -180,6 +180,7 @@ impl Feeds {
         if live.seat() != seat {
             return Err(PollError::NotOwner);
         }
+        let closed = closed.min(MAX);
         let Ok(told) = live.next_messages(self.alloc, store, closed, max) else {
             return Err(PollError::NoMemory);
         };

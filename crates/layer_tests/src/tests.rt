@@ -2,6 +2,7 @@
 
 mod closings;
 mod collections;
+mod feeds;
 mod marks;
 mod rules;
 mod script;
@@ -9,6 +10,7 @@ mod versions;
 
 use closing::Closing;
 use collections::Held;
+use feeds::Served;
 use mvto_rules::Rules;
 use read_marks::Marks;
 use script::play;
@@ -21,6 +23,7 @@ fn layers(rt: HostRuntime) {
         play(&rt, &mut Store::new(rt.alloc()), script);
     }
     play(&rt, &mut Held::new(rt.alloc()), collections::SCRIPT);
+    play(&rt, &mut Served::new(rt.alloc()), feeds::SCRIPT);
     for script in marks::SCRIPTS {
         play(&rt, &mut Marks::new(rt.alloc()), script);
     }

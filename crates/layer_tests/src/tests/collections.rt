@@ -7,7 +7,6 @@ use feed::Feeds;
 use spans::kind::Kind;
 use spans::span::Span;
 use std::alloc::Global;
-use timestamps::ts::MAX;
 use version_chain::Store;
 
 /// Versions that are written and committed, hard closings, protections, feeds from a cursor, and collections: their
@@ -107,10 +106,10 @@ fn keep(
 }
 
 fn open(alloc: Global, held: &mut Held, words: &mut Words<'_>, out: &mut Vec<u8>) -> Option<()> {
-    let cursor = words.number();
-    if cursor > MAX || held.feeds.opened() == u64::MAX {
+    if held.feeds.opened() == u64::MAX {
         return None;
     }
+    let cursor = words.number();
     let kind = Kind {
         initial: false,
         gap: None,

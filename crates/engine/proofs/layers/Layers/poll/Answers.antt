@@ -7,9 +7,9 @@ use Rattle.kept.specs.Answered.{IsAnswered}
 use Rattle.kept.specs.Places.{AreLeft, moved}
 use Rattle.version_chain.specs.Stores.{Stored, is_committed_in, version_in}
 use Rattle.closing.specs.Standing.{closed_in}
-use Rattle.feed.specs.Live.{Live}
+use Rattle.feed.specs.Live.{Live, cut_at_max}
 use Rattle.feed.specs.Standing.{IsPolledBy, Standing, behind_or, opened_in, place_in}
-use Rattle.feed.proofs.Serving.{is_moved, others_same, ring_here}
+use Rattle.feed.proofs.Serving.{is_moved, others_same, ring_here, uncut}
 use Rattle.mvto_rules.specs.Holding.{closing_of, versions_of}
 use Rattle.engine.specs.Layers.{kept_of}
 use Rattle.engine.specs.Served.{AreServing, IsPolledIn}
@@ -51,9 +51,9 @@ polled e s' seat f max ms is =
 pub returns-in-Ok-clause-step : goal.returns-in-Ok-clause-step
 returns-in-Ok-clause-step c = λ serving.
     let e = c.args.self.now in let s' = c.poll.new.self in
-    inl (answered e s' c.args.seat c.args.feed c.args.max c.in-Ok.messages (told e s' c.versions-versions.result.now c.args.seat c.args.feed c.closed-closed.result c.args.max c.in-Ok.messages c.in-Ok.ensures.told c.versions-versions.ensures c.closed-closed.ensures.closed serving) c.in-Ok.ensures.opened)
+    inl (answered e s' c.args.seat c.args.feed c.args.max c.in-Ok.messages (told e s' c.versions-versions.result.now c.args.seat c.args.feed (cut_at_max c.closed-closed.result) c.args.max c.in-Ok.messages c.in-Ok.ensures.told c.versions-versions.ensures (uncut c.closed-closed.result c.closed-closed.ensures.low ∙ c.closed-closed.ensures.closed) serving) c.in-Ok.ensures.opened)
 
 pub returns-in-Ok-clause-served : goal.returns-in-Ok-clause-served
 returns-in-Ok-clause-served c = λ serving.
     let e = c.args.self.now in let s' = c.poll.new.self in
-    polled e s' c.args.seat c.args.feed c.args.max c.in-Ok.messages (told e s' c.versions-versions.result.now c.args.seat c.args.feed c.closed-closed.result c.args.max c.in-Ok.messages c.in-Ok.ensures.told c.versions-versions.ensures c.closed-closed.ensures.closed serving)
+    polled e s' c.args.seat c.args.feed c.args.max c.in-Ok.messages (told e s' c.versions-versions.result.now c.args.seat c.args.feed (cut_at_max c.closed-closed.result) c.args.max c.in-Ok.messages c.in-Ok.ensures.told c.versions-versions.ensures (uncut c.closed-closed.result c.closed-closed.ensures.low ∙ c.closed-closed.ensures.closed) serving)

@@ -25,8 +25,8 @@ invariant_of-self-2 c =
     let all : AreAllListed opened es c.self.inside.order = subst (λ v. AreAllListed opened v c.self.inside.order) (sym c.reserve.ensures.entries) c.self.invariant.1 in (
       record {
         numbered = numbered_set opened (opened + 1) (opened + 1) (get nat_eq c.reserve.new.self) (get nat_eq c.insert-2.new.self) (Some live) (omega arith) (omega arith) tied.numbered c.in-Ok-insert.ensures.updates.0;
-        each = alike_put (contains pair_cmp c.self.inside.floors) (contains pair_cmp c.insert.new.self) (get nat_eq c.reserve.new.self) (get nat_eq c.insert-2.new.self) c.args.cursor (opened + 1) live
-            (let low : start_at c.args.kind c.args.cursor ≤ c.args.cursor = start_low c.args.kind c.args.cursor in let floor : max c.args.cursor (max (start_at c.args.kind c.args.cursor) 0) ≡ c.args.cursor = omega arith in ap (λ (l : Live). place_floor l.place) c.in_ok-live.ensures ∙ floor)
+        each = alike_put (contains pair_cmp c.self.inside.floors) (contains pair_cmp c.insert.new.self) (get nat_eq c.reserve.new.self) (get nat_eq c.insert-2.new.self) c.min-cursor.result (opened + 1) live
+            (let low : start_at c.args.kind c.min-cursor.result ≤ c.min-cursor.result = start_low c.args.kind c.min-cursor.result in let floor : max c.min-cursor.result (max (start_at c.args.kind c.min-cursor.result) 0) ≡ c.min-cursor.result = omega arith in ap (λ (l : Live). place_floor l.place) c.in_ok-live.ensures ∙ floor)
             (none_beyond opened (opened + 1) (get nat_eq c.reserve.new.self) tied.numbered refl) tied.each c.in_ok-insert.ensures.updates.0 c.in-Ok-insert.ensures.updates.0;
       },
       all_more opened (opened + 1) es c.insert-2.new.self.entries c.shed.new.self c.add.new.self live slot (all_kept opened es c.self.inside.order c.shed.new.self all c.shed.ensures) refl c.in-Ok-insert.ensures.updates.0 c.in-Ok.ensures.added
@@ -41,7 +41,7 @@ invariant_of-self-in_default c =
     let all : AreAllListed opened es c.self.inside.order = subst (λ v. AreAllListed opened v c.self.inside.order) (sym c.reserve.ensures.entries) c.self.invariant.1 in (
       record {
         numbered = tied.numbered;
-        each = alike_again (contains pair_cmp c.self.inside.floors) (contains pair_cmp c.insert.new.self) (contains pair_cmp c.remove.new.self) (get nat_eq c.reserve.new.self) c.args.cursor (opened + 1)
+        each = alike_again (contains pair_cmp c.self.inside.floors) (contains pair_cmp c.insert.new.self) (contains pair_cmp c.remove.new.self) (get nat_eq c.reserve.new.self) c.min-cursor.result (opened + 1)
             (none_beyond opened (opened + 1) (get nat_eq c.reserve.new.self) tied.numbered refl) tied.each c.in_ok-insert.ensures.updates.0 c.remove.ensures.updates.0;
       },
       subst (λ (os : Slots). AreAllListed opened es os) (sym c.in_default.ensures.err) (all_kept opened es c.self.inside.order c.shed.new.self all c.shed.ensures),

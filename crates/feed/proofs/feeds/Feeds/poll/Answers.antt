@@ -2,9 +2,10 @@ use Rattle.std.proofs.Common.{List, Some, ap, drop, refl, subst, sym, ℕ, ◌�
 use Rattle.std.specs.Prelude.{is_some, nat_eq, option_map}
 use Rattle.std.specs.Map.{lookup}
 use Rattle.std.proofs.lemmas.Map.Steps.{set_value_same}
-use Rattle.feed.specs.Live.{Live, arrived_at}
+use Rattle.feed.specs.Live.{Live, arrived_at, cut_at_max}
 use Rattle.feed.specs.Slots.{IsListed, slot_of, source_of, sourced}
 use Rattle.feed.specs.Standing.{IsPolledBy, IsPut, Standing, live_in}
+use Rattle.feed.specs.Telling.{IsTold}
 use Rattle.feed.proofs.Telling.{polled_by}
 use Rattle.feed.proofs.Tying.{IsSet, tied_moved}
 use Rattle.feed.proofs.Walking.{all_put, listed_behind}
@@ -57,5 +58,5 @@ returns-clause-told c =
     let set : IsSet (λ k. lookup (nat_eq k) es) (λ k. lookup (nat_eq k) fs) f (Some l') =
     subst (λ (v : Live). IsSet (λ k. lookup (nat_eq k) es) (λ k. lookup (nat_eq k) fs) f (Some v)) c.arrive.ensures ((c.get_mut.follows.holds c.arrive.new.self).3 (ap is_some stood)).0 in
     let put : IsPut s s' f (Some l') = subst (λ (t : Standing). IsPut t s' f (Some l')) c.self.view_is set in
-    subst (IsPolledBy c.args.store.now s s' c.args.seat f c.args.closed c.args.max) (sym c.from_vec.ensures)
-    (polled_by c.args.store.now s s' c.args.seat f c.args.closed c.args.max l told lives (sym c.seat.ensures ∙ c.if-seat.false) (λ on. c.is_behind.ensures.empty (c.is_behind.ensures.behind ∙ on)) c.in-Ok.ensures put)
+    subst (IsPolledBy c.args.store.now s s' c.args.seat f (cut_at_max c.args.closed) c.args.max) (sym c.from_vec.ensures)
+    (polled_by c.args.store.now s s' c.args.seat f (cut_at_max c.args.closed) c.args.max l told lives (sym c.seat.ensures ∙ c.if-seat.false) (λ on. c.is_behind.ensures.empty (c.is_behind.ensures.behind ∙ on)) (subst (λ n. IsTold c.args.store.now l n c.args.max told) c.min-closed.ensures c.in-Ok.ensures) put)
