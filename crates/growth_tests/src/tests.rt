@@ -1,9 +1,11 @@
-//! Scripts in which a growth may be refused.
+//! Scripts, a race and a feed in which a growth may be refused.
 
+mod following;
 mod playing;
 mod racing;
 mod scripts;
 
+use following::follow_twice;
 use playing::play_twice;
 use racing::race_twice;
 
@@ -20,5 +22,12 @@ fn refused_growths_change_nothing(rt: HostRuntime) {
 #[test]
 fn refused_growths_stop_a_race_at_most(rt: HostRuntime) {
     let wanting = race_twice(&rt, rt.alloc());
+    assert!(rt; matches!(wanting, Some(0 | 1)));
+}
+
+// A follower whose growth was refused ends behind a beginning of its report, and the next one tells all of it.
+#[test]
+fn refused_growths_end_a_follower_at_most(rt: HostRuntime) {
+    let wanting = follow_twice(rt.alloc());
     assert!(rt; matches!(wanting, Some(0 | 1)));
 }

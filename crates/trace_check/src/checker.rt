@@ -1,5 +1,7 @@
 //! Events checked one at a time.
-ghost use Rattle.std.specs.Prelude.{◌≡◌, ◌↔◌, [], true, false, IfOk, OnErr};
+ghost use Rattle.std.specs.Prelude.{◌≡◌, ◌↔◌, List, [], true, false, IfOk, OnErr};
+ghost use Rattle.spans.specs.declared.calls.events.Event.{Event};
+ghost use Rattle.spans.specs.Legal.{may_lack_memory};
 ghost use Rattle.trace_check.specs.Checkers.{StandsFor, JudgesNext, Reports, TakesNext};
 ghost use Rattle.trace_check.specs.Traces.{IsInPlace};
 
@@ -34,6 +36,7 @@ impl Checker {
         ensures taken { IfOk result (TakesNext self.old self.new event.now) }
         ensures refused { IfOk result (λ right. right ≡ false → self.new ≡ self.old) }
         ensures memory { OnErr result (self.new ≡ self.old) }
+        ensures wanting { OnErr result ((events : List Event) → StandsFor self.old events → may_lack_memory event.now.cmd ≡ true) }
     {
         if !is_in_place(self.last, event.position) || !take_in(&mut self.database, event)? {
             return Ok(false);

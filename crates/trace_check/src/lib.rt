@@ -8,7 +8,8 @@
 //! 1. The database stands for the events taken so far, which are legal and have no gap.
 //! 2. An event has to stand one place further than the event before. It is right where its reply is the answer.
 //!    `nomemory` is right too, where the answer is no refusal and the command may want memory.
-//! 3. An event that isn't right, or that finds no memory, leaves the checker as it was.
+//! 3. An event that isn't right, or that finds no memory, leaves the checker as it was. Only an event whose command may
+//!    want memory finds none.
 //!
 //! ```text
 //! 7 0 begin 10 => started           right           10 is undecided
