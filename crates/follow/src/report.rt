@@ -10,6 +10,7 @@ use sessions::{Output, Sink, WriteFailed};
 use std::alloc::{AllocError, Global};
 use timestamps::key::Key;
 use timestamps::value::Value;
+use word_lines::events::write_spent;
 
 /// The lines that wait to be written.
 #[derive(Drop)]
@@ -78,7 +79,9 @@ impl Report {
         ensures ok { OnOk result (pending_of self.new.kept ≡ pending_of self.old.kept ++ spent_line line) }
         ensures err { OnErr result (pending_of self.new.kept ≡ pending_of self.old.kept) }
     {
-        self.kept.keep_spent(line)
+        self.line.clear();
+        write_spent(&mut self.line, line)?;
+        self.kept.keep(self.line.as_slice())
     }
 
     /// Writes what waits where that is a block or more.

@@ -16,7 +16,7 @@ use Rattle.json_lines.specs.Texts.{texts_of}
 use Rattle.json_lines.specs.Steps.{◌>>=◌}
 use Rattle.json_lines.specs.Meaning.{timestamp_of, bytes_of, after_of, key_of, value_of, row_of, message_of}
 use Rattle.text_format.specs.declared.Format.{Format}
-use Rattle.text_format.specs.Limits.{key_limit, value_limit}
+use Rattle.text_format.specs.Limits.{key_limit}
 use Rattle.json_lines.proofs.NumberWords.{number_only}
 
 -- ---- bytes by place and by recursion

@@ -1,5 +1,5 @@
 //! Number words: decimal digits without a leading zero.
-ghost use Rattle.std.specs.Prelude.{◌≡◌, ◌++◌, ◌<◌, ◌^◌, true, decimal, OnOk, OnErr};
+ghost use Rattle.std.specs.Prelude.{◌≡◌, ◌+◌, ◌++◌, ◌<◌, ◌≤◌, ◌^◌, true, decimal, vec_len, vec_capacity, OnOk, OnErr};
 ghost use Rattle.std.specs.Option.{SomeIff};
 ghost use Rattle.std.specs.Str.{all_ascii_digits};
 ghost use Rattle.std.specs.Str.Parse.{digits_value};
@@ -9,12 +9,15 @@ ghost use Rattle.json_lines.specs.Writing.{Keeps};
 use itoa::Buffer;
 use std::alloc::AllocError;
 
-/// Writes a number word at the end.
+/// Writes a number word at the end. Memory is wanted only where there is no room for 20 bytes more, and the buffer keeps
+/// the room that it has.
 #[inline]
 #[tactic(auto, using(crate::proofs::Writing::keeping, std::proofs::lemmas::Fmt::decimal_digit))]
 pub fn put_number(out: &mut Vec<u8>, number: u64) -> Result<(), AllocError>
     ensures ok { OnOk result (out.new.items ≡ out.old.items ++ decimal number) }
     ensures err { OnErr result (Keeps out.old.items out.new.items) }
+    ensures room { OnErr result (vec_capacity out.old < vec_len out.old + 20) }
+    ensures capacity { vec_capacity out.old ≤ vec_capacity out.new }
 {
     if number < 10 {
         out.push(b'0' + number as u8)?;
@@ -28,6 +31,8 @@ pub fn put_number(out: &mut Vec<u8>, number: u64) -> Result<(), AllocError>
 fn put_digits(out: &mut Vec<u8>, number: u64) -> Result<(), AllocError>
     ensures ok { OnOk result (out.new.items ≡ out.old.items ++ decimal number) }
     ensures err { OnErr result (Keeps out.old.items out.new.items) }
+    ensures room { OnErr result (vec_capacity out.old < vec_len out.old + 20) }
+    ensures capacity { vec_capacity out.old ≤ vec_capacity out.new }
 {
     let mut buffer = Buffer::new();
     out.extend_from_slice(buffer.format(number).as_bytes())

@@ -12,9 +12,8 @@ use Rattle.sessions.specs.Devices.{Reads, Writes}
 use Rattle.sessions.specs.declared.serving.Run.{Run}
 use Rattle.sessions.specs.Writing.{HasTaken, HasBegun}
 use Rattle.sessions.specs.Made.{HasMade, HasSpent, IsHistory}
-use Rattle.sessions.specs.Runs.{EndsBy, FailsBy, IsOpenAt, IsServed}
+use Rattle.sessions.specs.Runs.{EndsBy, FailsBy, IsOpenAt, IsServed, last_line}
 use Rattle.script.specs.Scripts.{script_at}
-use Rattle.script.specs.Transcripts.{transcript_text}
 use Rattle.sessions.specs.Going.{IsStopped, IsRefused, kept_at}
 use Rattle.sessions.proofs.Goings.{ends_known, cut_off}
 
@@ -27,14 +26,17 @@ open_at config end.Input r = r
 open_at config end.Output r = r
 open_at config end.Memory r = r
 
-kept_else : (e : ServeEnd) (out pending : List ℕ) → e ≢ end.Output → kept_at e out pending ≡ out ++ pending
-kept_else end.Done out pending ne = refl
+nothing_behind : (out pending : List ℕ) → out ++ pending ≡ out ++ (pending ++ [])
+nothing_behind out pending = ap (λ (xs : List ℕ). out ++ xs) (sym (append-nil pending))
+
+kept_else : (e : ServeEnd) (out pending : List ℕ) → e ≢ end.Output → kept_at e out pending ≡ out ++ (pending ++ last_line e)
+kept_else end.Done out pending ne = nothing_behind out pending
 kept_else (end.Fault line fault) out pending ne = refl
 kept_else (end.Spent line) out pending ne = refl
-kept_else (end.Open reason) out pending ne = refl
-kept_else end.Input out pending ne = refl
+kept_else (end.Open reason) out pending ne = nothing_behind out pending
+kept_else end.Input out pending ne = nothing_behind out pending
 kept_else end.Output out pending ne = absurd (ne refl)
-kept_else end.Memory out pending ne = refl
+kept_else end.Memory out pending ne = nothing_behind out pending
 
 -- how often writes failed, where the rest is written or can't be
 fails_whole : (e : ServeEnd) (r r' : Reads) (w w' w'' : Writes) → e ≢ end.Output → w''.failures ≡ w'.failures → FailsBy e r w r' w' → FailsBy e r w r' w''
@@ -85,25 +87,28 @@ served_cut r r' w w' run e is s legal spent =
     let s' : IsStopped r r' w w' run end.Output = subst (IsStopped r r' w w' run) is s in
     served r r' w w' w' s'.out run end.Output end.Output s' legal spent s'.wrote s'.failed s'.ends
 
--- what was left is written
-pub served_whole : (r r' : Reads) (w w' w'' : Writes) (rest : List ℕ) (run : Run) (e : ServeEnd) → e ≢ end.Output → rest ≡ [] → HasTaken w'.taken w''.taken run.output.pending.items rest → w''.failures ≡ w'.failures → IsStopped r r' w w' run e → AllLegal run → AllSpent run → IsServed run.terms.format run.terms.config r r' w w'' e
-served_whole r r' w w' w'' rest run e ne none t same s legal spent =
-    let all : run.output.pending.items ≡ t.part = t.left ∙ (ap (λ (xs : List ℕ). t.part ++ xs) none ∙ append-nil t.part) in
-    served r r' w w' w'' (s.out ++ run.output.pending.items) run e e s legal spent
+-- what was left is written, with the line of the end
+pub served_whole : (r r' : Reads) (w w' w'' : Writes) (last : List ℕ) (run : Run) (e : ServeEnd) → e ≢ end.Output → last ≡ last_line e → HasTaken w'.taken w''.taken (run.output.pending.items ++ last) [] → w''.failures ≡ w'.failures → IsStopped r r' w w' run e → AllLegal run → AllSpent run → IsServed run.terms.format run.terms.config r r' w w'' e
+served_whole r r' w w' w'' last run e ne is t same s legal spent =
+    let left = run.output.pending.items ++ last_line e in
+    let all : left ≡ t.part = ap (λ (xs : List ℕ). run.output.pending.items ++ xs) (sym is) ∙ (t.left ∙ append-nil t.part) in
+    served r r' w w' w'' (s.out ++ left) run e e s legal spent
     (t.took ∙ (ap (λ (xs : List ℕ). xs ++ t.part) s.wrote ∙ (append_assoc w.taken s.out t.part ∙ ap (λ (xs : List ℕ). w.taken ++ (s.out ++ xs)) (sym all))))
     (fails_whole e r r' w w' w'' ne same s.failed)
     (subst (λ (xs : List ℕ). EndsBy run.terms.format (HasSpent run.callers.seats.items) run.terms.config s.input r'.ended s.events xs e) (kept_else e s.out run.output.pending.items ne) s.ends)
 
 -- what was left can't be written
-pub served_part : (r r' : Reads) (w w' w'' : Writes) (run : Run) (e : ServeEnd) → e ≢ end.Output → HasBegun w'.taken w''.taken run.output.pending.items → w''.failures ≡ w'.failures + 1 → IsStopped r r' w w' run e → AllLegal run → AllSpent run → IsServed run.terms.format run.terms.config r r' w w'' end.Output
-served_part r r' w w' w'' run e ne begun failed s legal spent =
+pub served_part : (r r' : Reads) (w w' w'' : Writes) (last : List ℕ) (run : Run) (e : ServeEnd) → e ≢ end.Output → last ≡ last_line e → HasBegun w'.taken w''.taken (run.output.pending.items ++ last) → w''.failures ≡ w'.failures + 1 → IsStopped r r' w w' run e → AllLegal run → AllSpent run → IsServed run.terms.format run.terms.config r r' w w'' end.Output
+served_part r r' w w' w'' last run e ne is begun failed s legal spent =
     let rest = begun.0 in let t = begun.1 in
+    let left = run.output.pending.items ++ last_line e in
+    let all : left ≡ t.part ++ rest = ap (λ (xs : List ℕ). run.output.pending.items ++ xs) (sym is) ∙ t.left in
     served r r' w w' w'' (s.out ++ t.part) run e end.Output s legal spent
     (t.took ∙ (ap (λ (xs : List ℕ). xs ++ t.part) s.wrote ∙ append_assoc w.taken s.out t.part))
     (fails_part e r r' w w' w'' ne failed s.failed)
-    (cut_off run.terms.format (HasSpent run.callers.seats.items) run.terms.config s.input r'.ended s.events e (s.out ++ run.output.pending.items) (s.out ++ t.part)
+    (cut_off run.terms.format (HasSpent run.callers.seats.items) run.terms.config s.input r'.ended s.events e (s.out ++ left) (s.out ++ t.part)
     (subst (λ (xs : List ℕ). EndsBy run.terms.format (HasSpent run.callers.seats.items) run.terms.config s.input r'.ended s.events xs e) (kept_else e s.out run.output.pending.items ne) s.ends)
-    (rest, ap (λ (xs : List ℕ). s.out ++ xs) t.left ∙ sym (append_assoc s.out t.part rest)))
+    (rest, ap (λ (xs : List ℕ). s.out ++ xs) all ∙ sym (append_assoc s.out t.part rest)))
 
 -- nothing was begun
 pub served_refused : (format : Format) (config : Config) (r : Reads) (w : Writes) (e : ServeEnd) → IsRefused config e → IsServed format config r r w w e
@@ -127,7 +132,7 @@ served_refused format config r w end.Memory why = record {
   output = [];
   wrote = sym (append-nil w.taken);
   begins = λ whole may. ((script_at format config.seats whole).calls, refl);
-  ends = record { last = []; is_last = inl refl; begins = (transcript_text format [] ++ [], refl) };
+  ends = inl (refl, refl, refl);
   opened = why;
   failed = (refl, refl);
 }

@@ -9,7 +9,7 @@ use Rattle.ticket_lock.specs.Lists.{StartsWith}
 use Rattle.shared_db.specs.declared.config.Config.{Config}
 use Rattle.sessions.specs.declared.ending.ServeEnd.{ServeEnd}
 use Rattle.sessions.specs.declared.ending.ServeEnd.TheVariants as end
-use Rattle.sessions.specs.Runs.{calls_of, IsLast, IsPart, IsSpentAt, EndsBy}
+use Rattle.sessions.specs.Runs.{calls_of, IsLast, IsPart, IsSpentAt, IsWanting, EndsBy}
 
 -- ---- lists
 
@@ -43,9 +43,6 @@ module _ {used : Type 0} (format : Format) (seats : ℕ) (input : List ℕ) (end
   pub part_of_text : (output : List ℕ) → StartsWith (transcript_text format events) output → IsPart format used seats input ended events output
   part_of_text output s = record { last = []; is_last = inl refl; begins = (s.0, append-nil (transcript_text format events) ∙ s.1) }
 
-  pub whole_text : (output : List ℕ) → output ≡ transcript_text format events → IsPart format used seats input ended events output
-  whole_text output e = part_of_text output ([], sym (append-nil output ∙ e))
-
 module _ (format : Format) (used : Type 0) (config : Config) (input : List ℕ) (ended : Bool) (events : List Event) where
   begun : (whole output : List ℕ) → transcript_text format events ≡ whole → StartsWith whole output → IsPart format used config.seats input ended events output
   begun whole output is s = part_of_text format config.seats input ended events output (subst (λ (xs : List ℕ). StartsWith xs output) (sym is) s)
@@ -53,6 +50,14 @@ module _ (format : Format) (used : Type 0) (config : Config) (input : List ℕ) 
   -- nothing is a part
   nothing : (output : List ℕ) → output ≡ [] → IsPart format used config.seats input ended events output
   nothing output none = part_of_text format config.seats input ended events output (transcript_text format events, ap (λ (xs : List ℕ). xs ++ transcript_text format events) (sym none))
+
+  -- what was written where memory was wanted is a part
+  wanted : (whole output : List ℕ) → IsWanting format config.seats input events whole → StartsWith whole output → IsPart format used config.seats input ended events output
+  wanted whole output (inl h) s = nothing output (no_front output s.0 (sym h.2 ∙ s.1))
+  wanted whole output (inr (inl h)) s = begun whole output (sym h.1) s
+  wanted whole output (inr (inr h)) s =
+      let told : transcript_text format events ≡ whole ++ event_text h.1 = ap (transcript_text format) h.2 ∙ (text_more format h.0 h.1 ∙ ap (λ (xs : List ℕ). xs ++ event_text h.1) (sym h.3)) in
+      part_of_text format config.seats input ended events output (starts_trans (transcript_text format events) whole output (event_text h.1, told) s)
 
   -- where the rest can't be written, what was is a part
   pub cut_off : (e : ServeEnd) (whole output : List ℕ) → EndsBy format used config input ended events whole e → StartsWith whole output → IsPart format used config.seats input ended events output
@@ -62,7 +67,7 @@ module _ (format : Format) (used : Type 0) (config : Config) (input : List ℕ) 
   cut_off (end.Open reason) whole output h s = nothing output (no_front output s.0 (sym h.3 ∙ s.1))
   cut_off end.Input whole output h s = begun whole output (sym h.1) s
   cut_off end.Output whole output h s = record { last = h.last; is_last = h.is_last; begins = starts_trans (transcript_text format events ++ h.last) whole output h.begins s }
-  cut_off end.Memory whole output h s = record { last = h.last; is_last = h.is_last; begins = starts_trans (transcript_text format events ++ h.last) whole output h.begins s }
+  cut_off end.Memory whole output h s = wanted whole output h s
 
 -- ---- what was known of the seats is known of the positions
 
@@ -85,4 +90,4 @@ ends_known format used used' config input ended events output (end.Spent line) k
 ends_known format used used' config input ended events output (end.Open reason) knows h = h
 ends_known format used used' config input ended events output end.Input knows h = h
 ends_known format used used' config input ended events output end.Output knows h = part_known format knows config.seats input ended events output h
-ends_known format used used' config input ended events output end.Memory knows h = part_known format knows config.seats input ended events output h
+ends_known format used used' config input ended events output end.Memory knows h = h

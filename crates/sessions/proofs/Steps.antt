@@ -1,5 +1,5 @@
 -- The steps of a run.
-use Rattle.std.proofs.Common.{◌≡◌, ℕ, ◌+◌, ◌^◌, ◌<◌, ◌≤◌, true, List, [], ◌∷◌, ◌++◌, length, take, drop, None, Err, refl, sym, ap, ◌∙◌, subst, arith, append-nil, append_assoc, inl, ⊎_elim}
+use Rattle.std.proofs.Common.{◌≡◌, ℕ, ◌+◌, ◌^◌, ◌<◌, ◌≤◌, true, List, [], ◌∷◌, ◌++◌, length, take, drop, None, Err, refl, sym, ap, ◌∙◌, subst, arith, append-nil, append_assoc, inl, inr, ⊎_elim}
 use Rattle.std.specs.Prelude.{position, vec_len}
 use Rattle.std.specs.List.{All}
 use Rattle.std.proofs.lemmas.List.{take-append-drop}
@@ -10,6 +10,7 @@ use Rattle.word_lines.specs.declared.fault.LineFault.{LineFault}
 use Rattle.word_lines.specs.Commands.{command_line}
 use Rattle.word_lines.specs.Limits.{IsCommand}
 use Rattle.word_lines.specs.Events.{event_text, fault_line, spent_line}
+use Rattle.word_lines.specs.Memory.{WantsMemory, verb_at}
 use Rattle.word_lines.specs.Reading.{command_at}
 use Rattle.word_lines.specs.Table.{table}
 use Rattle.script.specs.Lines.{is_newline}
@@ -31,9 +32,9 @@ use Rattle.sessions.specs.Waiting.{waiting, IsLine}
 use Rattle.sessions.specs.Writing.{HasTaken, HasBegun}
 use Rattle.sessions.specs.NextLines.{HasReadOn, IsSought}
 use Rattle.sessions.specs.Made.{HasMade, HasSpent}
-use Rattle.sessions.specs.Runs.{calls_of, EndsBy, FailsBy}
+use Rattle.sessions.specs.Runs.{calls_of, NextWants, EndsBy, FailsBy}
 use Rattle.sessions.specs.Going.{IsGoing, IsStopped, IsFresh, kept_at}
-use Rattle.sessions.proofs.Goings.{behind, calls_more, text_more as events_more, part_of_text, whole_text}
+use Rattle.sessions.proofs.Goings.{behind, calls_more, text_more as events_more, part_of_text}
 use Rattle.sessions.proofs.Scripts as scripts
 
 few_seats : (config : Config) → SeatsInRange config → config.seats < 2 ^ 8
@@ -75,10 +76,16 @@ stop ahead r r' w w' run events e g failed ends = record {
   failed = failed;
 }
 
--- for want of memory
-pub stop_memory : (ahead : List ℕ) (r r' : Reads) (w w' : Writes) (run : Run) (events : List Event) → IsGoing ahead r r' w w' run events → IsStopped r r' w w' run end.Memory
-stop_memory ahead r r' w w' run events g =
-    stop ahead r r' w w' run events end.Memory g g.worked (whole_text run.terms.format run.terms.config.seats (script_text (calls_of events) ++ (ahead ++ waiting run.lines)) r'.ended events (g.out ++ run.output.pending.items) g.keeps)
+-- for want of memory for the line that waits
+pub stop_memory : (r r' : Reads) (w w' : Writes) (run : Run) (events : List Event) (n : ℕ) → WantsMemory (verb_at run.terms.format table (vec_len run.callers.seats) (take n (waiting run.lines))) → IsGoing [] r r' w w' run events → IsStopped r r' w w' run end.Memory
+stop_memory r r' w w' run events n wants g =
+    let next : NextWants run.terms.format run.terms.config.seats (script_text (calls_of events) ++ waiting run.lines) (calls_of events) = record {
+      line = take n (waiting run.lines);
+      rest = drop n (waiting run.lines);
+      parts = ap (λ (xs : List ℕ). script_text (calls_of events) ++ xs) (sym (take-append-drop n (waiting run.lines)));
+      wants = subst (λ (k : ℕ). WantsMemory (verb_at run.terms.format table k (take n (waiting run.lines)))) g.seats wants;
+    } in
+    stop [] r r' w w' run events end.Memory g g.worked (inr (inl (next, g.keeps)))
 
 -- all of the input was taken
 pub stop_done : (r r' : Reads) (w w' : Writes) (run : Run) (events : List Event) → waiting run.lines ≡ [] → run.lines.ended ≡ true → IsGoing [] r r' w w' run events → IsStopped r r' w w' run end.Done
@@ -111,10 +118,6 @@ go_on ahead r r' r'' w w' w'' run run' events same same' formed read found reads
       worked = (reads ∙ g.worked.0, writes ∙ g.worked.1);
     } in
     subst (λ (x : Callers × Terms). IsGoing ahead r r'' w w'' (record run' { callers = x.0; terms = x.1 }) events) (λ i. (sym same i, sym same' i)) s
-
--- nothing was written
-pub untaken : (taken bytes bytes' : List ℕ) → bytes' ≡ bytes → HasTaken taken taken bytes bytes'
-untaken taken bytes bytes' same = record { part = []; took = sym (append-nil taken); left = sym same }
 
 -- what was read since
 read_on : (given text : List ℕ) (l l' : Lines) (r r' : Reads) → HasReadOn l l' r r' → r.given ≡ given ++ (text ++ waiting l) → r'.given ≡ given ++ (text ++ waiting l')
@@ -279,38 +282,22 @@ stop_untold r r' w w' run run' events seat cmd event there lawful by asked made 
       out = g.out;
       wrote = g.wrote;
       begins = scripts.begin_with run.terms.format run.terms.config.seats input (waiting run.lines) r'.ended (calls_of all) (few_seats run.terms.config g.in_range.0) x.calls refl;
-      ends = part_of_text run.terms.format run.terms.config.seats input r'.ended all (g.out ++ run'.output.pending.items) (event_text event, events_more run.terms.format events event ∙ ap (λ (xs : List ℕ). xs ++ event_text event) (sym told));
+      ends = inr (inr (events, event, refl, told));
       failed = g.worked;
     } in
     subst (λ (x : Terms). IsStopped r r' w w' (record run' { terms = x }) end.Memory) (sym same) s
-
--- a call was refused for want of positions
-pub go_refused : (ahead : List ℕ) (r r' : Reads) (w w' : Writes) (run run' : Run) (events : List Event) → HasMade run'.callers.latest run'.callers.seats.items events → run'.callers.db ≡ run.callers.db → vec_len run'.callers.seats ≡ vec_len run.callers.seats
-    → run'.terms ≡ run.terms → run'.lines ≡ run.lines → run'.output.pending.items ≡ run.output.pending.items → IsGoing ahead r r' w w' run events → IsGoing ahead r r' w w' run' events
-go_refused ahead r r' w w' run run' events made db count same lines kept g =
-    let s : IsGoing ahead r r' w w' (record run' { terms = run.terms; lines = run.lines }) events = record {
-      made = made;
-      first = ap (λ d. d.lock.first) db ∙ g.first;
-      seats = count ∙ g.seats;
-      in_range = g.in_range;
-      formatted = g.formatted;
-      read = g.read;
-      found = g.found;
-      calls = g.calls;
-      out = g.out;
-      wrote = g.wrote;
-      keeps = ap (λ (xs : List ℕ). g.out ++ xs) kept ∙ g.keeps;
-      worked = g.worked;
-    } in
-    subst (λ (x : Terms × Lines). IsGoing ahead r r' w w' (record run' { terms = x.0; lines = x.1 }) events) (λ i. (sym same i, sym lines i)) s
 
 calls_length : (events : List Event) → length (calls_of events) ≡ length events
 calls_length [] = refl
 calls_length (e ∷ events) = let q = calls_length events in omega arith
 
--- where the line is kept that tells of it
+-- the line of the end stands behind the text
+told_with : (out pending last text : List ℕ) → out ++ pending ≡ text → out ++ (pending ++ last) ≡ text ++ last
+told_with out pending last text told = sym (append_assoc out pending last) ∙ ap (λ (xs : List ℕ). xs ++ last) told
+
+-- no position is left for the line ahead
 pub stop_spent : (r r' : Reads) (w w' : Writes) (run run' : Run) (events : List Event) (line seat : ℕ) (cmd : Cmd) → seat < vec_len run.callers.seats → IsCommand run.terms.format cmd → HasMade run'.callers.latest run'.callers.seats.items events → HasSpent run'.callers.seats.items → run'.callers.db ≡ run.callers.db
-    → run'.terms ≡ run.terms → run'.output.pending.items ≡ run.output.pending.items ++ spent_line line → line ≡ length events + 1 → IsGoing (command_line seat cmd) r r' w w' run events → IsStopped r r' w w' run' (end.Spent line)
+    → run'.terms ≡ run.terms → run'.output.pending.items ≡ run.output.pending.items → line ≡ length events + 1 → IsGoing (command_line seat cmd) r r' w w' run events → IsStopped r r' w w' run' (end.Spent line)
 stop_spent r r' w w' run run' events line seat cmd there lawful made spent db same kept numbered g =
     let call : ℕ × Cmd = (seat, cmd) in
     let calls = calls_of events ++ call ∷ [] in
@@ -331,33 +318,20 @@ stop_spent r r' w w' run run' events line seat cmd there lawful made spent db sa
       begins = scripts.begin_with run.terms.format run.terms.config.seats input (command_line seat cmd ++ waiting run.lines) r'.ended (calls_of events) few g.calls refl;
       ends = (
         record { all = spent; numbered = (let q = calls_length events in omega arith); call = call; next = scripts.begin_with run.terms.format run.terms.config.seats input (waiting run.lines) r'.ended calls few are with_call },
-        ap (λ (xs : List ℕ). g.out ++ xs) kept ∙ (sym (append_assoc g.out run.output.pending.items (spent_line line)) ∙ ap (λ (xs : List ℕ). xs ++ spent_line line) g.keeps),
+        told_with g.out run'.output.pending.items (spent_line line) (transcript_text run.terms.format events) (ap (λ (xs : List ℕ). g.out ++ xs) kept ∙ g.keeps),
       );
       failed = g.worked;
     } in
     subst (λ (x : Terms). IsStopped r r' w w' (record run' { terms = x }) (end.Spent line)) (sym same) s
 
 -- a line is faulty
-pub stop_fault : (r r' : Reads) (w w' : Writes) (run run' : Run) (events : List Event) (n line : ℕ) (f : LineFault) → run'.callers ≡ run.callers → run'.terms ≡ run.terms → run'.output.pending.items ≡ run.output.pending.items ++ fault_line line f
-    → n ≤ length (waiting run.lines) → IsLine run.lines n → command_at run.terms.format table (vec_len run.callers.seats) (take n (waiting run.lines)) ≡ Err f → line ≡ length events + 1 → IsGoing [] r r' w w' run events → IsStopped r r' w w' run' (end.Fault line f)
-stop_fault r r' w w' run run' events n line f same same' kept within at e numbered g =
+pub stop_fault : (r r' : Reads) (w w' : Writes) (run : Run) (events : List Event) (n line : ℕ) (f : LineFault) → n ≤ length (waiting run.lines) → IsLine run.lines n → command_at run.terms.format table (vec_len run.callers.seats) (take n (waiting run.lines)) ≡ Err f → line ≡ length events + 1
+    → IsGoing [] r r' w w' run events → IsStopped r r' w w' run (end.Fault line f)
+stop_fault r r' w w' run events n line f within at e numbered g =
     let input = script_text (calls_of events) ++ waiting run.lines in
     let few = few_seats run.terms.config g.in_range.0 in
     let e' : command_at run.terms.format table run.terms.config.seats (take n (waiting run.lines)) ≡ Err f = ap (λ (k : ℕ). command_at run.terms.format table k (take n (waiting run.lines))) (sym g.seats) ∙ e in
-    let s : IsStopped r r' w w' (record run' { callers = run.callers; terms = run.terms }) (end.Fault line f) = record {
-      events = events;
-      made = g.made;
-      first = g.first;
-      in_range = g.in_range;
-      input = input;
-      read = g.read;
-      out = g.out;
-      wrote = g.wrote;
-      begins = scripts.begin_with run.terms.format run.terms.config.seats input (waiting run.lines) r'.ended (calls_of events) few g.calls refl;
-      ends = (
-        scripts.end_with run.terms.format run.terms.config.seats n line input run.lines r'.ended (calls_of events) f g.formatted few g.calls refl g.found within at e' (let q = calls_length events in omega arith),
-        ap (λ (xs : List ℕ). g.out ++ xs) kept ∙ (sym (append_assoc g.out run.output.pending.items (fault_line line f)) ∙ ap (λ (xs : List ℕ). xs ++ fault_line line f) g.keeps),
-      );
-      failed = g.worked;
-    } in
-    subst (λ (x : Callers × Terms). IsStopped r r' w w' (record run' { callers = x.0; terms = x.1 }) (end.Fault line f)) (λ i. (sym same i, sym same' i)) s
+    stop [] r r' w w' run events (end.Fault line f) g g.worked (
+      scripts.end_with run.terms.format run.terms.config.seats n line input run.lines r'.ended (calls_of events) f g.formatted few g.calls refl g.found within at e' (let q = calls_length events in omega arith),
+      told_with g.out run.output.pending.items (fault_line line f) (transcript_text run.terms.format events) g.keeps,
+    )

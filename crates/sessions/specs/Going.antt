@@ -2,6 +2,7 @@
 use Rattle.std.specs.Prelude.{◌≡◌, ℕ, ◌+◌, true, false, List, [], ◌∷◌, ◌++◌, length, vec_len, Result, Ok, Err}
 use Rattle.std.specs.List.{All}
 use Rattle.text_format.specs.Limits.{header}
+use Rattle.word_lines.specs.Events.{fault_line, spent_line}
 use Rattle.spans.specs.declared.calls.events.Event.{Event}
 use Rattle.script.specs.Scripts.{script_text, IsCall}
 use Rattle.script.specs.Transcripts.{transcript_text}
@@ -32,9 +33,11 @@ pub record IsGoing (ahead : List ℕ) (r r' : Reads) (w w' : Writes) (run : Run)
   pub keeps : out ++ run.output.pending.items ≡ transcript_text run.terms.format events
   pub worked : (r'.failures ≡ r.failures) × (w'.failures ≡ w.failures)
 
--- what was written and what will be: nothing more once a write has failed
+-- what was written and what will be: what waits, and the line of the end, but nothing more once a write has failed
 abbrev pub kept_at : ServeEnd → List ℕ → List ℕ → List ℕ
 kept_at end.Output out pending = out
+kept_at (end.Fault line fault) out pending = out ++ (pending ++ fault_line line fault)
+kept_at (end.Spent line) out pending = out ++ (pending ++ spent_line line)
 kept_at _ out pending = out ++ pending
 
 -- why no call follows, before the database is finished

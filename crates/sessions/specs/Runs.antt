@@ -5,8 +5,10 @@ use Rattle.spans.specs.declared.calls.commands.Cmd.{Cmd}
 use Rattle.spans.specs.declared.calls.events.Event.{Event}
 use Rattle.word_lines.specs.declared.fault.LineFault.{LineFault}
 use Rattle.word_lines.specs.Events.{fault_line, spent_line}
+use Rattle.word_lines.specs.Memory.{WantsMemory, verb_at}
+use Rattle.word_lines.specs.Table.{table}
 use Rattle.script.specs.Lines.{is_newline}
-use Rattle.script.specs.Scripts.{script_at}
+use Rattle.script.specs.Scripts.{script_at, script_text}
 use Rattle.script.specs.Transcripts.{transcript_text}
 use Rattle.ticket_lock.specs.Lists.{most, StartsWith}
 use Rattle.shared_db.specs.declared.config.Config.{Config}
@@ -65,6 +67,26 @@ pub record IsPart (format : Format) (used : Type 0) (seats : ℕ) (input : List 
   pub is_last : IsLast format used seats input ended (calls_of events) last
   pub begins : StartsWith (transcript_text format events ++ last) output
 
+-- behind these calls stands a line whose command has a key, a value or a span
+pub record NextWants (format : Format) (seats : ℕ) (input : List ℕ) (calls : List (ℕ × Cmd)) : Type 0 where
+  pub line : List ℕ
+  pub rest : List ℕ
+  pub parts : input ≡ script_text calls ++ (line ++ rest)
+  pub wants : WantsMemory (verb_at format table seats line)
+
+-- memory was wanted at the start, before anything was read or written; or for the next line's command; or for the text of the latest event
+abbrev pub IsWanting : Format → ℕ → List ℕ → List Event → List ℕ → Type 0
+IsWanting format seats input events output =
+    ((input ≡ []) × (events ≡ []) × (output ≡ []))
+    ⊎ (NextWants format seats input (calls_of events) × (output ≡ transcript_text format events))
+    ⊎ ((before : List Event) × (e : Event) × (events ≡ before ++ e ∷ []) × (output ≡ transcript_text format before))
+
+-- the line that an end puts behind all that was kept
+abbrev pub last_line : ServeEnd → List ℕ
+last_line (end.Fault line fault) = fault_line line fault
+last_line (end.Spent line) = spent_line line
+last_line _ = []
+
 -- how each end comes, after these events and with this output
 abbrev pub EndsBy : Format → Type 0 → Config → List ℕ → Bool → List Event → List ℕ → ServeEnd → Type 0
 EndsBy format used config input ended events output end.Done = (ended ≡ true) × (script_at format config.seats input ≡ record { calls = calls_of events; fault = None }) × (output ≡ transcript_text format events)
@@ -73,9 +95,9 @@ EndsBy format used config input ended events output (end.Spent line) = IsSpentAt
 EndsBy format used config input ended events output (end.Open reason) = IsReason config reason × (input ≡ []) × (events ≡ []) × (output ≡ [])
 EndsBy format used config input ended events output end.Input = AreLines format config.seats input (calls_of events) × (output ≡ transcript_text format events)
 EndsBy format used config input ended events output end.Output = IsPart format used config.seats input ended events output
-EndsBy format used config input ended events output end.Memory = IsPart format used config.seats input ended events output
+EndsBy format used config input ended events output end.Memory = IsWanting format config.seats input events output
 
--- the limits of a database are kept, but at the end that says otherwise, which comes before all others
+-- the limits of a database are kept, but at `Open`, which says otherwise or that it found no memory, and comes before all others
 abbrev pub IsOpenAt : Config → ServeEnd → Type 0
 IsOpenAt config (end.Open reason) = Unit {0}
 IsOpenAt config _ = SeatsInRange config × RingInRange config

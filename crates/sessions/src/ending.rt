@@ -22,7 +22,8 @@ pub enum ServeEnd {
     Input,
     /// The output could not be written.
     Output,
-    /// A growth of memory was refused.
+    /// A growth of memory was refused: at the start, once the database was open and before anything was read; for the
+    /// key, the value or the span of the next line's command; or for the text of the latest event, which isn't written.
     Memory,
 }
 

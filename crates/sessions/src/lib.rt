@@ -27,14 +27,16 @@
 //! - `serve`, a line: its bytes, and the database's call; six loads more where another seat called before
 //! - `serve`, a read: for 65536 bytes at least, and a line more at most; the waiting bytes of a line are moved to the
 //!   front once at most, and only new bytes are searched for its end
-//! - `serve`, a write: one where 65536 bytes or more wait, one before each read and one at the end
+//! - `serve`, a write: one where 65536 bytes or more wait, one before each read and one at the end, and one more for the
+//!   line of a fault or of spent positions
 //! - `read_whole`, `write_whole`: the bytes, once
 //! - `write_transcript`: the bytes of its text, once
 //!
-//! `serve` takes memory at the start, for the database, then for a block of input and one of output; then for each
-//! line's keys and values, for the answer, and where the text of answers outgrows its block. `read_whole` takes it for a
-//! block and all bytes, `write_transcript` for a block, `write_whole` none. A read or a write that fails in any way, an
-//! interrupted one too, is not tried again.
+//! `serve` takes memory at the start, for the database, then for a block of input, one of output and the line that may
+//! end the output; then for each line's keys and values, for the answer, and where the text of answers outgrows its
+//! block. So it takes none to tell of a faulty line or of spent positions. `read_whole` takes it for a block and all
+//! bytes, `write_transcript` for a block, `write_whole` none. A read or a write that fails in any way, an interrupted
+//! one too, is not tried again.
 //!
 //! Tests: `job_tests`, `session_tests`.
 #![tactic(auto)]
@@ -42,6 +44,7 @@
 mod callers;
 mod devices;
 mod ending;
+mod last_line;
 mod lines;
 mod output;
 mod serving;

@@ -6,17 +6,17 @@
 //! output.keep(b"resolved 5\n")?            waits: 0 0 begin 10 => started\nresolved 5\n
 //! output.write_full(sink)?                 as before: it is less than 65536 bytes
 //! output.write_out(sink)?                  waits: nothing
+//! output.write_last(sink, b"spent 2\n")?   waits: nothing, and the line is written
 //! ```
 ghost use Rattle.std.specs.Prelude.{◌≡◌, ◌<◌, ◌++◌, [], length, IfOk, OnOk, OnErr};
-ghost use Rattle.word_lines.specs.Events.{event_text, fault_line, spent_line};
+ghost use Rattle.word_lines.specs.Events.{event_text};
 ghost use Rattle.sessions.specs.Writing.{pending_of, HasWritten};
 
 use crate::sink::{Sink, WriteFailed};
 use crate::whole::write_whole;
 use spans::calls::Event;
 use std::alloc::{AllocError, Global};
-use word_lines::events::{write_event, write_fault, write_spent};
-use word_lines::fault::LineFault;
+use word_lines::events::write_event;
 
 /// How many bytes are kept before they are written.
 pub(crate) const BLOCK: usize = 65536;
@@ -52,22 +52,6 @@ impl Output {
         write_event(&mut self.pending, event)
     }
 
-    /// Keeps the last line of an output whose input has a faulty line.
-    pub fn keep_fault(&mut self, line: u64, fault: LineFault) -> Result<(), AllocError>
-        ensures ok { OnOk result (pending_of self.new ≡ pending_of self.old ++ fault_line line fault) }
-        ensures err { OnErr result (pending_of self.new ≡ pending_of self.old) }
-    {
-        write_fault(&mut self.pending, line, fault)
-    }
-
-    /// Keeps the last line of an output whose positions are used up.
-    pub fn keep_spent(&mut self, line: u64) -> Result<(), AllocError>
-        ensures ok { OnOk result (pending_of self.new ≡ pending_of self.old ++ spent_line line) }
-        ensures err { OnErr result (pending_of self.new ≡ pending_of self.old) }
-    {
-        write_spent(&mut self.pending, line)
-    }
-
     /// Writes what waits where that is a block or more, as `write_out` does.
     pub fn write_full<K: Sink>(&mut self, sink: &mut K) -> Result<(), WriteFailed>
         ensures written { HasWritten (K.writes sink.old) (K.writes sink.new) (pending_of self.old) (pending_of self.new) result }
@@ -87,5 +71,15 @@ impl Output {
         write_whole(sink, self.pending.as_slice())?;
         self.pending.clear();
         Ok(())
+    }
+
+    /// Writes all that waits, and behind it these bytes, which take no room here. Where it fails a part is written, and
+    /// nothing more is to be.
+    pub fn write_last<K: Sink>(&mut self, sink: &mut K, last: &[u8]) -> Result<(), WriteFailed>
+        ensures written { HasWritten (K.writes sink.old) (K.writes sink.new) (pending_of self.old ++ last.now) [] result }
+        ensures all { OnOk result (pending_of self.new ≡ []) }
+    {
+        self.write_out(sink)?;
+        write_whole(sink, last)
     }
 }

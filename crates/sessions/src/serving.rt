@@ -7,6 +7,7 @@ ghost use Rattle.sessions.specs.Runs.{IsServed};
 
 use crate::callers::Callers;
 use crate::ending::ServeEnd;
+use crate::last_line::LastLine;
 use crate::lines::Lines;
 use crate::output::Output;
 use crate::sink::Sink;
@@ -23,8 +24,9 @@ use word_lines::fault::ReadError;
 /// database is open the output begins with the format's header.
 ///
 /// A line is the call of the seat that it names. A faulty line ends the transcript with its fault,
-/// and so does one for which no position is left; what was answered before it stands. The output is
-/// written in large blocks, at the end, and before each read, since a read may wait.
+/// and so does one for which no position is left; what was answered before it stands. The room of that
+/// last line is made first, so that telling of either wants no memory. The output is written in large
+/// blocks, at the end, and before each read, since a read may wait.
 pub fn serve<S: Source, K: Sink, T: Wait>(
     rt: &T,
     alloc: Global,
@@ -61,6 +63,7 @@ struct Run {
     terms: Terms,
     lines: Lines,
     output: Output,
+    last: LastLine,
     callers: Callers,
 }
 
@@ -77,11 +80,13 @@ impl Run {
         let lines = Lines::new(alloc, terms.format)?;
         let mut output = Output::new(alloc)?;
         output.keep(terms.format.header())?;
+        let last = LastLine::new(alloc)?;
         Ok(Run {
             alloc,
             terms,
             lines,
             output,
+            last,
             callers,
         })
     }
@@ -147,13 +152,10 @@ impl Run {
                 Ok(call)
             }
             Err(ReadError::NoMemory) => Err(ServeEnd::Memory),
-            Err(ReadError::Fault(fault)) => {
-                self.output.keep_fault(number, fault)?;
-                Err(ServeEnd::Fault {
-                    line: number,
-                    fault,
-                })
-            }
+            Err(ReadError::Fault(fault)) => Err(ServeEnd::Fault {
+                line: number,
+                fault,
+            }),
         }
     }
 
@@ -171,28 +173,27 @@ impl Run {
                 self.output.keep_event(&event)?;
                 Ok(())
             }
-            Err(_) => {
-                self.output.keep_spent(number)?;
-                Err(ServeEnd::Spent { line: number })
-            }
+            Err(_) => Err(ServeEnd::Spent { line: number }),
         }
     }
 
-    /// Ends the database, and writes what is left, but where a write has failed: that is not tried
-    /// again.
+    /// Ends the database, and writes what is left, with the line of an end that has one. Where a write has failed before,
+    /// that is not tried again.
     fn finish<K: Sink>(self, end: ServeEnd, output: &mut K) -> ServeEnd
         ensures { ServesAs self end (K.writes output.old) (K.writes output.new) result }
     {
         let Run {
             callers,
             output: mut kept,
+            last,
             ..
         } = self;
         callers.finish();
         if let ServeEnd::Output = end {
             return ServeEnd::Output;
         }
-        match kept.write_out(output) {
+        let last = last.of(end);
+        match kept.write_last(output, &last) {
             Ok(()) => end,
             Err(failed) => ServeEnd::from(failed),
         }

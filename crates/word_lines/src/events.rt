@@ -1,6 +1,6 @@
 //! Events as text, and the lines that can end the output of a run.
 
-ghost use Rattle.std.specs.Prelude.{◌≡◌, ◌++◌, OnOk, OnErr};
+ghost use Rattle.std.specs.Prelude.{◌≡◌, ◌+◌, ◌++◌, ◌<◌, vec_len, vec_capacity, OnOk, OnErr};
 ghost use Rattle.word_lines.specs.Writing.{Keeps};
 ghost use Rattle.word_lines.specs.Events.{event_text, fault_line, spent_line};
 
@@ -11,6 +11,9 @@ use crate::numbers::put_number;
 use crate::replies::put_reply;
 use spans::calls::Event;
 use std::alloc::AllocError;
+
+/// The line of a fault and that of spent positions have no more bytes than this.
+pub const LAST_LINE: usize = 64;
 
 /// Writes an event at the end: its position, its session and its command, `=>` and its reply, and
 /// the lines that follow the reply.
@@ -40,11 +43,12 @@ fn put_event(out: &mut Vec<u8>, event: &Event) -> Result<(), AllocError>
 }
 
 /// Writes the line that names a fault and the line where it stands, counted from 1.
-/// After an error it is as it was.
+/// After an error it is as it was. With room for [`LAST_LINE`] bytes more it wants no memory.
 #[tactic(auto, using(crate::proofs::Writing::undone))]
 pub fn write_fault(out: &mut Vec<u8>, line: u64, fault: LineFault) -> Result<(), AllocError>
     ensures ok { OnOk result (out.new.items ≡ out.old.items ++ fault_line line fault) }
     ensures err { OnErr result (out.new.items ≡ out.old.items) }
+    ensures room { OnErr result (vec_capacity out.old < vec_len out.old + 64) }
 {
     let length_before = out.len();
     let written = put_fault(out, line, fault);
@@ -55,6 +59,7 @@ pub fn write_fault(out: &mut Vec<u8>, line: u64, fault: LineFault) -> Result<(),
 fn put_fault(out: &mut Vec<u8>, line: u64, fault: LineFault) -> Result<(), AllocError>
     ensures ok { OnOk result (out.new.items ≡ out.old.items ++ fault_line line fault) }
     ensures err { OnErr result (Keeps out.old.items out.new.items) }
+    ensures room { OnErr result (vec_capacity out.old < vec_len out.old + 64) }
 {
     out.extend_from_slice(b"fault ")?;
     put_number(out, line)?;
@@ -67,11 +72,12 @@ fn put_fault(out: &mut Vec<u8>, line: u64, fault: LineFault) -> Result<(), Alloc
 }
 
 /// Writes the line that says that no position was left for a line's command.
-/// After an error it is as it was.
+/// After an error it is as it was. With room for [`LAST_LINE`] bytes more it wants no memory.
 #[tactic(auto, using(crate::proofs::Writing::undone))]
 pub fn write_spent(out: &mut Vec<u8>, line: u64) -> Result<(), AllocError>
     ensures ok { OnOk result (out.new.items ≡ out.old.items ++ spent_line line) }
     ensures err { OnErr result (out.new.items ≡ out.old.items) }
+    ensures room { OnErr result (vec_capacity out.old < vec_len out.old + 64) }
 {
     let length_before = out.len();
     let written = put_spent(out, line);
@@ -82,6 +88,7 @@ pub fn write_spent(out: &mut Vec<u8>, line: u64) -> Result<(), AllocError>
 fn put_spent(out: &mut Vec<u8>, line: u64) -> Result<(), AllocError>
     ensures ok { OnOk result (out.new.items ≡ out.old.items ++ spent_line line) }
     ensures err { OnErr result (Keeps out.old.items out.new.items) }
+    ensures room { OnErr result (vec_capacity out.old < vec_len out.old + 64) }
 {
     out.extend_from_slice(b"spent ")?;
     put_number(out, line)?;

@@ -1,7 +1,6 @@
 use Rattle.std.proofs.Common.{refl}
 use Rattle.std.proofs.lemmas.Result.{err_from_is_err_and}
-use Rattle.word_lines.specs.Commands.{command_line}
-use Rattle.sessions.proofs.Steps.{go_call, go_refused, stop_untold, stop_memory, stop_spent}
+use Rattle.sessions.proofs.Steps.{go_call, stop_untold, stop_spent}
 use Rattle.sessions.proofs.serving.Run.call.Goals as goal
 
 pub returns-in-Ok-clause-ok : goal.returns-in-Ok-clause-ok
@@ -16,10 +15,4 @@ returns-in_err-keep_event-in-Ok-clause-err g c =
 
 pub returns-clause-err : goal.returns-clause-err
 returns-clause-err g c = λ r r' w w' events numbered h. let k = c.in-Err.ensures in
-    stop_spent r r' w w' c.args.self.now _ events c.args.number c.args.seat c.args.cmd c.requires.there c.requires.lawful (k.still events h.made) k.spent k.db refl c.in_ok-keep_spent-in-Err.ensures.ok numbered h
-
-pub returns-in_err-keep_spent-in-Err-clause-err : goal.returns-in_err-keep_spent-in-Err-clause-err
-returns-in_err-keep_spent-in-Err-clause-err g c =
-    let p = err_from_is_err_and c.from_residual-in_err-keep_spent-in-Err.result c.from_residual-in_err-keep_spent-in-Err.ensures.1 in
-    rw (p.1, p.2) (λ r r' w w' events numbered h. let k = c.in-Err.ensures in
-    stop_memory (command_line c.args.seat c.args.cmd) r r' w w' _ events (go_refused (command_line c.args.seat c.args.cmd) r r' w w' c.args.self.now _ events (k.still events h.made) k.db k.count refl refl c.in_err-keep_spent-in-Err.ensures.err h))
+    stop_spent r r' w w' c.args.self.now _ events c.args.number c.args.seat c.args.cmd c.requires.there c.requires.lawful (k.still events h.made) k.spent k.db refl refl numbered h
