@@ -1,5 +1,5 @@
 -- Where reading an event may want memory.
-use Rattle.std.proofs.Common.{◌≡◌, ℕ, zero, suc, ◌+◌, ◌<◌, ◌≤◌, Bool, true, false, cond, List, [], ◌∷◌, length, drop, Option, Some, None, Result, Ok, Err, refl, sym, ap, subst, ◌∙◌, arith}
+use Rattle.std.proofs.Common.{◌≡◌, ℕ, zero, suc, ◌+◌, ◌≤◌, Bool, true, false, cond, List, [], ◌∷◌, length, Option, Some, None, Result, Ok, Err, refl, ap, subst, ◌∙◌, arith}
 use Rattle.std.specs.Prelude.{codes, ok_or, not, nat_lt, nat_le, ◌==◌, ◌&&◌, ◌||◌, bytes_eq, IfOk, IfErr}
 use Rattle.std.proofs.lemmas.List.{length-drop}
 use Rattle.text_format.specs.declared.Format.{Format}

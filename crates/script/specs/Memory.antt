@@ -1,5 +1,5 @@
 -- Which events may want memory to be read, and which faults it may hide.
-use Rattle.std.specs.Prelude.{◌≡◌, ℕ, nat_lt, Bool, true, false, ◌||◌, List, length, is_some, Result, Ok, Err}
+use Rattle.std.specs.Prelude.{◌≡◌, nat_lt, Bool, true, false, ◌||◌, length, is_some, Result, Ok, Err}
 use Rattle.spans.specs.declared.calls.commands.Cmd.{Cmd}
 use Rattle.spans.specs.declared.calls.commands.Cmd.TheVariants as cmd
 use Rattle.spans.specs.declared.calls.events.Event.{Event}

@@ -59,7 +59,9 @@ impl<'a> Events<'a> {
         }
     }
 
-    /// Takes the next event, if there is one. What is left after an error isn't said.
+    /// Takes the next event, if there is one. What is left after an error isn't said. Memory is wanted only for an event
+    /// with a key, a value, a span, a row or a message, and for none whose fault is `WordCount`, `Session` or
+    /// `UnknownCommand`.
     pub fn next(&mut self, alloc: Global) -> Option<Result<Event, TranscriptError>>
         ensures { TakesEvent result self.old self.new }
     {

@@ -6,8 +6,8 @@
 //! 3  4 get 10 a                  session at line 3, where there are 4 seats
 //! ```
 //!
-//! A script is read whole, up to its first faulty line, and room is made call by call. No room is wanted before the first
-//! call, unless its line has a key, a value or a span.
+//! A script is read whole, up to its first faulty line, and room is made call by call. No room is wanted before a call
+//! was read, unless the first line's command has a key, a value or a span.
 //!
 //! Cost: each byte is looked at three times. Keys, values and bounds are copied once, and at most
 //! twice where bytes are escaped.

@@ -8,7 +8,8 @@
 //! ```
 //!
 //! The place of `=>` is known from the number of the command's arguments, so a value may be spelled
-//! so. A number of lines that follow asks for no room by itself: it is made line by line.
+//! so. A number of lines that follow asks for no room by itself: it is made line by line. Before an event
+//! was read no room is wanted, unless the first event, or the fault in its place, may want it.
 //!
 //! Cost: each byte is looked at six times at most. Keys, values and bounds are copied once, and at
 //! most twice where bytes are escaped or stand in a line of JSON.
@@ -35,7 +36,7 @@ pub fn read_transcript(
     ensures found { IfOk result (λ events. (text.now ≡ transcript_text format events.items) × All (IsEvent format) events.items) }
     // Which fault it is, and in which line: the first from the top and from the left.
     ensures exact { Tells (λ events. events.items) result (transcript_at format text.now) }
-    // Memory is wanted only to keep an event, or for a first event with a key, a value, a span, a row or a message.
+    // Memory is wanted only to keep an event, or where the first event, or the fault in its place, may want it.
     ensures memory { IfErr result (λ e. e ≡ NoMemory → TranscriptWants format text.now) }
 {
     match Events::new(text, format) {
