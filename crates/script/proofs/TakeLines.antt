@@ -150,8 +150,8 @@ first_wants (Err f) below wants = wants
 event_first : (read : Result (Event × Place) Fault) (below : Place → Transcript) (r : Result Event TranscriptError) (after : Place) → TakesLines (λ x. x) r after read → IfErr r (λ e. e ≡ errors.NoMemory → MayWantAt event_has_bytes read)
     → TakesEvent (Some r) (onto_left read below) (below after)
 event_first read below (Ok e) after takes wants = rw takes refl
-event_first read below (Err errors.NoMemory) after takes wants = first_wants read below (wants refl)
-event_first read below (Err (errors.Fault line fault)) after takes wants = rw takes refl
+event_first read below (Err errors.NoMemory) after takes wants = (tt, λ is. first_wants read below (wants is))
+event_first read below (Err (errors.Fault line fault)) after takes wants = (rw takes refl, λ is. absurd cc)
 
 module _ (format : Format) where
   -- what is taken where a line is left

@@ -164,16 +164,16 @@ MayWantFirst [] None = ⊥
 abbrev pub MayWantNext : Transcript → Type 0
 MayWantNext left = MayWantFirst left.events left.fault
 
--- what is left begins with its fault, or memory ran out where the next event may want it
+-- what is left begins with its fault, unless memory ran out
 abbrev pub IsFaulty : TranscriptError → Transcript → Type 0
-IsFaulty errors.NoMemory left = MayWantNext left
+IsFaulty errors.NoMemory left = Unit {0}
 IsFaulty (errors.Fault line fault) left = left ≡ record { events = []; fault = Some (record { line = line; fault = fault }) }
 
--- the first of what was left was taken off, if there was any, or is faulty
+-- the first of what was left was taken off, if there was any, or is faulty; memory ran out only where it may want some
 abbrev pub TakesEvent : Option (Result Event TranscriptError) → Transcript → Transcript → Type 0
 TakesEvent None left left' = (left ≡ nothing_left) × (left' ≡ left)
 TakesEvent (Some (Ok e)) left left' = left ≡ record { events = e ∷ left'.events; fault = left'.fault }
-TakesEvent (Some (Err error)) left left' = IsFaulty error left
+TakesEvent (Some (Err error)) left left' = IsFaulty error left × (error ≡ errors.NoMemory → MayWantNext left)
 
 -- the text has its header, and an event to keep, or its first event, or the fault in its place, may want memory
 abbrev pub TranscriptWants : Format → List ℕ → Type 0
