@@ -1,5 +1,5 @@
 -- A text behind its header.
-use Rattle.std.proofs.Common.{◌≡◌, ℕ, ◌+◌, ◌≤◌, ◌<◌, Bool, true, false, List, [], ◌∷◌, ◌++◌, length, take, drop, Err, refl, sym, ap, ◌∙◌, arith, append_assoc}
+use Rattle.std.proofs.Common.{◌≡◌, ℕ, ◌+◌, ◌≤◌, ◌<◌, Bool, true, false, List, [], ◌∷◌, ◌++◌, length, take, drop, Err, refl, sym, ap, subst, ◌∙◌, arith, append_assoc}
 use Rattle.std.specs.Prelude.{bytes_eq, codes, decimal, not, ◌==◌, ◌^◌}
 use Rattle.std.specs.List.{All, list_all}
 use Rattle.std.proofs.lemmas.Bool.{ne_eqb}
@@ -9,7 +9,7 @@ use Rattle.std.proofs.lemmas.List.{take-append-drop, take_at, drop_at}
 use Rattle.std.proofs.lemmas.Slice.Eq.{bytes_eq-Decides}
 use Rattle.spans.specs.declared.calls.events.Event.{Event}
 use Rattle.text_format.specs.declared.Format.{Format}
-use Rattle.text_format.specs.Limits.{header, format_of}
+use Rattle.text_format.specs.Limits.{header, header_lines, format_of}
 use Rattle.text_format.specs.declared.Format.TheVariants.{One, Two}
 use Rattle.word_lines.specs.declared.fault.LineFault.TheVariants.{WordCount}
 use Rattle.word_lines.specs.Commands.{joined, words_of}
@@ -17,7 +17,8 @@ use Rattle.word_lines.specs.Events.{heading_text}
 use Rattle.word_lines.specs.Limits.{IsEvent}
 use Rattle.word_lines.specs.Replies.{reply_words, following_lines}
 use Rattle.word_lines.proofs.JoinedParts.{decimal_all}
-use Rattle.script.specs.Transcripts.{body_at, events_text, transcript_at, transcript_text}
+use Rattle.script.specs.Lines.{Place, lines_of}
+use Rattle.script.specs.Transcripts.{HasHeader, body_at, events_text, left_at, left_of, transcript_at, transcript_text}
 
 -- a text that begins with its header
 pub behind_header : (format : Format) (text : List ℕ) → bytes_eq (take (length (header format)) text) (header format) ≡ true → transcript_at format text ≡ body_at format (drop (length (header format)) text)
@@ -45,6 +46,14 @@ front_found format front text body is e rest = rw (rest, is) (
 -- where it isn't
 pub front_missing : (format : Format) (front text : List ℕ) → front ≡ header format → bytes_eq (take (length front) text) front ≡ false → transcript_at format text ≡ Err (record { line = 1; fault = WordCount })
 front_missing format front text is e = no_header format text (ap (λ (x : List ℕ). bytes_eq (take (length x) text) x) (sym is) ∙ e)
+
+-- what is left behind the header
+pub front_left : (format : Format) (front text body : List ℕ) (p : Place) → front ≡ header format → bytes_eq (take (length front) text) front ≡ true → body ≡ drop (length front) text → p ≡ record { number = 1 + header_lines format; lines = lines_of body }
+    → HasHeader format text × (left_at format p ≡ left_of format text)
+front_left format front text body p is e rest begins = (
+  subst (λ (x : List ℕ). take (length x) text ≡ x) is ((bytes_eq-Decides (take (length front) text) front).0 e),
+  ap (left_at format) (begins ∙ ap (λ (b : List ℕ). record { number = 1 + header_lines format; lines = lines_of b }) (rest ∙ ap (λ (x : List ℕ). drop (length x) text) is)),
+)
 
 -- what is written behind a header stands behind it
 pub header_again : (format : Format) (body : List ℕ) → transcript_at format (header format ++ body) ≡ body_at format body

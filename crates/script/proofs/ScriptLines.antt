@@ -1,6 +1,6 @@
 -- The calls of a script, line by line.
-use Rattle.std.proofs.Common.{◌≡◌, ℕ, ◌+◌, ◌^◌, ◌<◌, List, [], ◌∷◌, ◌++◌, length, Some, None, Result, Ok, Err, refl, sym, ap, subst, ◌∙◌, append_assoc, arith, Vec, Global}
-use Rattle.std.specs.Prelude.{decimal, IfOk}
+use Rattle.std.proofs.Common.{◌≡◌, ℕ, ◌+◌, ◌^◌, ◌<◌, List, [], ◌∷◌, ◌++◌, length, Some, None, Result, Ok, Err, refl, sym, ap, subst, ◌∙◌, inl, inr, append_assoc, arith, Vec, Global}
+use Rattle.std.specs.Prelude.{◌≢◌, decimal, IfOk, IfErr}
 use Rattle.std.specs.List.{All, AllByRecursion, concat}
 use Rattle.std.proofs.lemmas.List.{append-nil}
 use Rattle.std.proofs.lemmas.List.Elements.{All-from_recursion, recursion_from_All}
@@ -12,10 +12,11 @@ use Rattle.script.specs.declared.fault.TranscriptError.TheVariants as errors
 use Rattle.word_lines.specs.Commands.{joined, words_of}
 use Rattle.word_lines.specs.Limits.{IsNumber}
 use Rattle.script.specs.Lines.{Place, lines_of}
+use Rattle.word_lines.specs.Memory.{WantsMemory, verb_at}
 use Rattle.word_lines.specs.Reading.{command_at}
 use Rattle.word_lines.specs.Table.{table}
 use Rattle.script.specs.Transcripts.{Fails, at_line}
-use Rattle.script.specs.Scripts.{Script, onto_script, script_of_lines, script_at, above, IsCall, call_line, script_text, TellsScript}
+use Rattle.script.specs.Scripts.{Script, onto_script, script_of_lines, script_at, above, IsCall, call_line, script_text, TellsScript, ScriptWants}
 use Rattle.word_lines.proofs.ReadCommands.{command_found}
 use Rattle.word_lines.proofs.CommandsAgain.{command_again}
 use Rattle.script.proofs.CutLines.{lines_whole, words_line_again}
@@ -72,6 +73,31 @@ module _ (format : Format) where
   is_done seats front p total none so_far =
       let one : above front (script_from format seats p) ≡ record { calls = front; fault = None } = rw none (ap (λ (cs : List (ℕ × Cmd)). record { calls = cs; fault = None }) (append-nil front)) in
       sym so_far ∙ one
+
+-- ---- want of memory
+
+-- a call that was read is kept
+pub wants_call : (front : List (ℕ × Cmd)) (call : ℕ × Cmd) (below total : Script) → above (front ++ call ∷ []) below ≡ total → total.calls ≢ []
+wants_call [] call below total so_far none = let no : call ∷ below.calls ≡ [] = ap (λ (s : Script). s.calls) so_far ∙ none in cc
+wants_call (first ∷ front) call below total so_far none = let no : first ∷ ((front ++ call ∷ []) ++ below.calls) ≡ [] = ap (λ (s : Script). s.calls) so_far ∙ none in cc
+
+module _ (format : Format) where
+  -- a line that wants memory is the first, or stands below a call
+  pub wants_line : (seats : ℕ) (text : List ℕ) (front : List (ℕ × Cmd)) (p : Place) (line : List ℕ) (others : List (List ℕ)) → above front (script_from format seats p) ≡ script_at format seats text → (front ≡ [] → p.lines ≡ lines_of text)
+      → p.lines ≡ line ∷ others → WantsMemory (verb_at format table seats line) → ScriptWants format seats text
+  wants_line seats text [] p line others so_far whole cut wants = inr (line, others, sym (whole refl) ∙ cut, wants)
+  wants_line seats text (first ∷ front) p line others so_far whole cut wants =
+      inl (λ none. let no : first ∷ (front ++ (script_from format seats p).calls) ≡ [] = ap (λ (s : Script). s.calls) so_far ∙ none in cc)
+
+-- what holds whatever was told
+pub whatever_told : {X : Type 0} (r : Result X TranscriptError) (P : Type 0) → P → IfErr r (λ e. e ≡ errors.NoMemory → P)
+whatever_told (Ok x) P holds = tt
+whatever_told (Err e) P holds = λ _. holds
+
+-- behind a call there is no longer nothing
+pub never_none : {A : Type 0} (front : List A) (x : A) → front ++ x ∷ [] ≢ []
+never_none [] x none = cc
+never_none (first ∷ front) x none = cc
 
 -- ---- what was read is written so
 

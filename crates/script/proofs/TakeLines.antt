@@ -1,6 +1,6 @@
 -- Lines read one after the other, as a loop does.
-use Rattle.std.proofs.Common.{◌≡◌, ℕ, zero, suc, ◌-◌, ◌+◌, ◌<◌, ◌≤◌, List, [], ◌∷◌, ◌++◌, Result, Ok, Err, length, Bool, true, false, cond, Option, Some, None, refl, sym, ap, subst, ◌∙◌, append_assoc, arith}
-use Rattle.std.specs.Prelude.{◌==◌}
+use Rattle.std.proofs.Common.{◌≡◌, ℕ, zero, suc, ◌-◌, ◌+◌, ◌<◌, ◌≤◌, List, [], ◌∷◌, ◌++◌, Result, Ok, Err, length, Bool, true, false, cond, Option, Some, None, refl, sym, ap, subst, ◌∙◌, inl, inr, append_assoc, arith, Vec, Global}
+use Rattle.std.specs.Prelude.{◌≢◌, ◌⊎◌, ◌==◌, IfErr}
 use Rattle.std.specs.List.{onto_first}
 use Rattle.std.proofs.lemmas.Bool.{eqb-false, eq-eqb}
 use Rattle.std.proofs.lemmas.List.{append-nil}
@@ -13,13 +13,14 @@ use Rattle.script.specs.declared.headings.Heading.{Heading}
 use Rattle.script.specs.declared.reply_reading.Shape.{Shape}
 use Rattle.script.specs.declared.reply_reading.Shape.TheVariants as shape
 use Rattle.script.specs.EventLines.{heading_at, row_line_at, message_line_at}
+use Rattle.script.specs.Memory.{event_has_bytes}
 use Rattle.word_lines.specs.declared.fault.LineFault.{LineFault}
 use Rattle.script.specs.declared.fault.TranscriptError.{TranscriptError}
 use Rattle.script.specs.declared.fault.TranscriptError.TheVariants as errors
 use Rattle.word_lines.proofs.ReadWords.{bind_ok, ok_is}
 use Rattle.script.specs.Lines.{Place, is_newline, lines_of}
 use Rattle.word_lines.specs.Reading.{◌>>=◌}
-use Rattle.script.specs.Transcripts.{Fault, Fails, TakesLines, at_line, first_of, next_at, many_at, following_at, event_at, events_at, body_at, Transcript, nothing_left, onto_left, left_within, left_at, outcome_of, outcome, IsFaulty, TakesEvent}
+use Rattle.script.specs.Transcripts.{Fault, Fails, TakesLines, at_line, first_of, next_at, many_at, following_at, event_at, events_at, body_at, Transcript, nothing_left, onto_left, left_within, left_at, outcome_of, outcome, HasHeader, left_of, MayWantAt, MayWantNext, TranscriptWants, IsFaulty, TakesEvent}
 
 -- what was read before, and what is still read
 abbrev pub with_front : {A : Type 0} → List A → Result (List A × Place) Fault → Result (List A × Place) Fault
@@ -140,16 +141,23 @@ module _ (format : Format) where
   some_within zero p enough some = absurd (eqb-false (length p.lines) 0 some (omega arith))
   some_within (suc n) p enough some = rw some (ahead_same (event_at format p) (λ after. left_within format n after) (left_at format) (λ x e. same_within n (length x.1.lines) x.1 (omega (arith, event_fewer format p x e)) (omega arith)))
 
+-- what an event wants, what is left wants
+first_wants : (read : Result (Event × Place) Fault) (below : Place → Transcript) → MayWantAt event_has_bytes read → MayWantNext (onto_left read below)
+first_wants (Ok x) below wants = wants
+first_wants (Err f) below wants = wants
+
 -- the first event of what is left
-event_first : (read : Result (Event × Place) Fault) (below : Place → Transcript) (r : Result Event TranscriptError) (after : Place) → TakesLines (λ x. x) r after read → TakesEvent (Some r) (onto_left read below) (below after)
-event_first read below (Ok e) after takes = rw takes refl
-event_first read below (Err errors.NoMemory) after takes = tt
-event_first read below (Err (errors.Fault line fault)) after takes = rw takes refl
+event_first : (read : Result (Event × Place) Fault) (below : Place → Transcript) (r : Result Event TranscriptError) (after : Place) → TakesLines (λ x. x) r after read → IfErr r (λ e. e ≡ errors.NoMemory → MayWantAt event_has_bytes read)
+    → TakesEvent (Some r) (onto_left read below) (below after)
+event_first read below (Ok e) after takes wants = rw takes refl
+event_first read below (Err errors.NoMemory) after takes wants = (tt, λ is. first_wants read below (wants is))
+event_first read below (Err (errors.Fault line fault)) after takes wants = (rw takes refl, λ is. absurd cc)
 
 module _ (format : Format) where
   -- what is taken where a line is left
-  pub event_taken : (p after : Place) (r : Result Event TranscriptError) → (length p.lines == 0) ≡ false → TakesLines (λ x. x) r after (event_at format p) → TakesEvent (Some r) (left_at format p) (left_at format after)
-  event_taken p after r some takes = rw (some_within format (length p.lines) p (omega arith) some) (event_first (event_at format p) (left_at format) r after takes)
+  pub event_taken : (p after : Place) (r : Result Event TranscriptError) → (length p.lines == 0) ≡ false → TakesLines (λ x. x) r after (event_at format p) → IfErr r (λ e. e ≡ errors.NoMemory → MayWantAt event_has_bytes (event_at format p))
+      → TakesEvent (Some r) (left_at format p) (left_at format after)
+  event_taken p after r some takes wants = rw (some_within format (length p.lines) p (omega arith) some) (event_first (event_at format p) (left_at format) r after takes wants)
 
 -- ---- the whole of it
 
@@ -219,6 +227,24 @@ module _ (format : Format) where
 abbrev pub behind : List Event → Transcript → Result (List Event) Fault
 behind front left = outcome_of (front ++ left.events) left.fault
 
+-- events, and what is left below them
+abbrev pub ahead : List Event → Transcript → Transcript
+ahead front left = record { events = front ++ left.events; fault = left.fault }
+
+-- one event more was read
+pub more_ahead : (front : List Event) (e : Event) (left left' : Transcript) → left ≡ record { events = e ∷ left'.events; fault = left'.fault } → ahead front left ≡ ahead (front ++ e ∷ []) left'
+more_ahead front e left left' is = ap (ahead front) is ∙ ap (λ (es : List Event). record { events = es; fault = left'.fault }) (sym (append_assoc front (e ∷ []) left'.events))
+
+-- an event was read
+pub some_ahead : (front : List Event) (e : Event) (left whole : Transcript) → whole ≡ ahead (front ++ e ∷ []) left → whole.events ≢ []
+some_ahead [] e left whole is none = let no : e ∷ left.events ≡ [] = sym (ap (λ (t : Transcript). t.events) is) ∙ none in cc
+some_ahead (first ∷ front) e left whole is none = let no : first ∷ ((front ++ e ∷ []) ++ left.events) ≡ [] = sym (ap (λ (t : Transcript). t.events) is) ∙ none in cc
+
+-- the next event is the first, or stands below another
+pub wants_ahead : (front : List Event) (left whole : Transcript) → whole ≡ ahead front left → MayWantNext left → (whole.events ≢ []) ⊎ MayWantNext whole
+wants_ahead [] left whole is wants = inr (subst MayWantNext (sym is) wants)
+wants_ahead (first ∷ front) left whole is wants = inl (λ none. let no : first ∷ (front ++ left.events) ≡ [] = sym (ap (λ (t : Transcript). t.events) is) ∙ none in cc)
+
 -- one event more was read
 pub reads_more : (front : List Event) (e : Event) (left left' : Transcript) → left ≡ record { events = e ∷ left'.events; fault = left'.fault } → behind front left ≡ behind (front ++ e ∷ []) left'
 reads_more front e left left' is = ap (behind front) is ∙ ap (λ (es : List Event). outcome_of es left'.fault) (sym (append_assoc front (e ∷ []) left'.events))
@@ -231,3 +257,12 @@ reads_fail (errors.Fault line fault) front left total faulty so_far = so_far ∙
 -- nothing is left
 pub reads_end : (front : List Event) (left : Transcript) (total : Result (List Event) Fault) → left ≡ nothing_left → total ≡ behind front left → total ≡ Ok front
 reads_end front left total none so_far = so_far ∙ ap (behind front) none ∙ ap (λ (es : List Event). Ok es) (append-nil front)
+
+-- ---- a whole text
+
+module _ (format : Format) where
+  -- what the events of a text want, the text wants
+  pub text_wants : (text : List ℕ) (left : Transcript) (r : Result (Vec Event Global) TranscriptError) → HasHeader format text × (left ≡ left_of format text) → IfErr r (λ e. e ≡ errors.NoMemory → (left.events ≢ []) ⊎ MayWantNext left)
+      → IfErr r (λ e. e ≡ errors.NoMemory → TranscriptWants format text)
+  text_wants text left (Ok events) begins wants = tt
+  text_wants text left (Err error) begins wants = λ is. (begins.0, subst (λ (l : Transcript). (l.events ≢ []) ⊎ MayWantNext l) begins.1 (wants is))

@@ -1,5 +1,5 @@
 -- Reading transcripts from the first line to the last: the events, or the first fault with the number of its line.
-use Rattle.std.specs.Prelude.{◌≡◌, ℕ, zero, suc, ◌+◌, ◌==◌, if◌then◌else◌, List, [], ◌∷◌, ◌++◌, length, take, drop, bytes_eq, Option, Some, None, Result, Ok, Err}
+use Rattle.std.specs.Prelude.{◌≡◌, ◌≢◌, ◌⊎◌, Bool, true, ℕ, zero, suc, ◌+◌, ◌==◌, if◌then◌else◌, List, [], ◌∷◌, ◌++◌, length, take, drop, bytes_eq, Option, Some, None, Result, Ok, Err}
 use Rattle.std.specs.List.{flat_map}
 use Rattle.text_format.specs.declared.Format.{Format}
 use Rattle.text_format.specs.Limits.{header, header_lines}
@@ -18,6 +18,7 @@ use Rattle.word_lines.specs.Events.{event_text}
 use Rattle.script.specs.Lines.{Place, lines_of}
 use Rattle.word_lines.specs.Reading.{◌>>=◌}
 use Rattle.script.specs.EventLines.{heading_at, row_line_at, message_line_at}
+use Rattle.script.specs.Memory.{event_has_bytes, MayFollowBytes}
 
 -- the texts of events, one after the other
 abbrev pub events_text : List Event → List ℕ
@@ -32,7 +33,7 @@ pub record Fault : Type 0 where
   pub line : ℕ
   pub fault : LineFault
 
--- what a function returned, seen by view, is what reading gives, unless memory ran out
+-- what a function returned, seen by view, is what reading gives, unless memory ran out; where it may, `MayWantAt` says
 abbrev pub Fails : {Y : Type 0} → TranscriptError → Result Y Fault → Type 0
 Fails errors.NoMemory read = Unit {0}
 Fails (errors.Fault line fault) read = read ≡ Err (record { line = line; fault = fault })
@@ -45,6 +46,11 @@ Tells view (Err e) read = Fails e read
 abbrev pub TakesLines : {X Y : Type 0} → (X → Y) → Result X TranscriptError → Place → Result (Y × Place) Fault → Type 0
 TakesLines view (Ok x) left read = read ≡ Ok (view x, left)
 TakesLines view (Err e) left read = Fails e read
+
+-- what is read at a place has a part to keep, or is a fault that may stand behind one
+abbrev pub MayWantAt : {A : Type 0} → (A → Bool) → Result (A × Place) Fault → Type 0
+MayWantAt has (Ok x) = has x.0 ≡ true
+MayWantAt has (Err f) = MayFollowBytes f.fault
 
 -- what a line says, a fault with the line's number
 abbrev pub at_line : {A : Type 0} → ℕ → Result A LineFault → Result A Fault
@@ -132,6 +138,14 @@ left_within format (suc n) p = if length p.lines == 0 then nothing_left else ont
 abbrev pub left_at : Format → Place → Transcript
 left_at format p = left_within format (length p.lines) p
 
+-- the text begins with the format's header
+abbrev pub HasHeader : Format → List ℕ → Type 0
+HasHeader format text = take (length (header format)) text ≡ header format
+
+-- what is left of a text with its header, before an event is taken
+abbrev pub left_of : Format → List ℕ → Transcript
+left_of format text = left_at format (record { number = 1 + header_lines format; lines = lines_of (drop (length (header format)) text) })
+
 -- what all that is left says: its events, or its fault
 abbrev pub outcome_of : List Event → Option Fault → Result (List Event) Fault
 outcome_of events None = Ok events
@@ -140,13 +154,27 @@ outcome_of events (Some f) = Err f
 abbrev pub outcome : Transcript → Result (List Event) Fault
 outcome left = outcome_of left.events left.fault
 
+-- the first of the events has a part to keep, or the fault in its place may stand behind one
+abbrev pub MayWantFirst : List Event → Option Fault → Type 0
+MayWantFirst (e ∷ es) fault = event_has_bytes e ≡ true
+MayWantFirst [] (Some f) = MayFollowBytes f.fault
+MayWantFirst [] None = ⊥
+
+-- the next event, or the fault in its place, may want memory
+abbrev pub MayWantNext : Transcript → Type 0
+MayWantNext left = MayWantFirst left.events left.fault
+
 -- what is left begins with its fault, unless memory ran out
 abbrev pub IsFaulty : TranscriptError → Transcript → Type 0
 IsFaulty errors.NoMemory left = Unit {0}
 IsFaulty (errors.Fault line fault) left = left ≡ record { events = []; fault = Some (record { line = line; fault = fault }) }
 
--- the first of what was left was taken off, if there was any, or is faulty
+-- the first of what was left was taken off, if there was any, or is faulty; memory ran out only where it may want some
 abbrev pub TakesEvent : Option (Result Event TranscriptError) → Transcript → Transcript → Type 0
 TakesEvent None left left' = (left ≡ nothing_left) × (left' ≡ left)
 TakesEvent (Some (Ok e)) left left' = left ≡ record { events = e ∷ left'.events; fault = left'.fault }
-TakesEvent (Some (Err error)) left left' = IsFaulty error left
+TakesEvent (Some (Err error)) left left' = IsFaulty error left × (error ≡ errors.NoMemory → MayWantNext left)
+
+-- the text has its header, and an event to keep, or its first event, or the fault in its place, may want memory
+abbrev pub TranscriptWants : Format → List ℕ → Type 0
+TranscriptWants format text = HasHeader format text × (((left_of format text).events ≢ []) ⊎ MayWantNext (left_of format text))

@@ -6,9 +6,11 @@
 //! 3  row a 1
 //! 4  2 0 commit                  Some(Err(Fault { line: 4, .. }))
 //! ```
-ghost use Rattle.std.specs.Prelude.{◌≡◌, ◌≤◌, length, IfOk, MatchResult};
+ghost use Rattle.std.specs.Prelude.{◌≡◌, ◌≢◌, ◌≤◌, length, IfOk, IfErr, MatchResult};
 ghost use Rattle.script.specs.EventLines.{heading_at};
-ghost use Rattle.script.specs.Transcripts.{Fails, TakesLines, TakesEvent, next_at, event_at, outcome, transcript_at};
+ghost use Rattle.script.specs.Memory.{event_has_bytes, heading_has_bytes};
+ghost use Rattle.script.specs.Transcripts.{Fails, HasHeader, MayWantAt, TakesLines, TakesEvent, next_at, event_at, left_of, outcome, transcript_at};
+ghost use Rattle.script.specs.declared.fault.TranscriptError.TheVariants.{NoMemory};
 
 use crate::fault::TranscriptError;
 use crate::following::take_following;
@@ -42,6 +44,8 @@ impl<'a> Events<'a> {
         // An event has a byte at least.
         ensures few { IfOk result (λ left. length left.events ≤ length text.now) }
         ensures exact { MatchResult result (λ left. transcript_at format text.now ≡ outcome left) (λ e. Fails e (transcript_at format text.now)) }
+        // What is left is all that stands behind the header. No memory is wanted.
+        ensures left { MatchResult result (λ left. HasHeader format text.now × (left ≡ left_of format text.now)) (λ e. e ≢ NoMemory) }
     {
         match text.strip_prefix(format.header()) {
             Some(body) => Ok(Events {
@@ -55,7 +59,9 @@ impl<'a> Events<'a> {
         }
     }
 
-    /// Takes the next event, if there is one. What is left after an error isn't said.
+    /// Takes the next event, if there is one. What is left after an error isn't said. Memory is wanted only for an event
+    /// with a key, a value, a span, a row or a message, and for none whose fault is `WordCount`, `Session` or
+    /// `UnknownCommand`.
     pub fn next(&mut self, alloc: Global) -> Option<Result<Event, TranscriptError>>
         ensures { TakesEvent result self.old self.new }
     {
@@ -69,7 +75,8 @@ impl<'a> Events<'a> {
 /// Takes the lines of one event.
 #[tactic(auto, unfolding(crate::specs::Transcripts::event_at))]
 fn take_event(alloc: Global, lines: &mut Lines, format: Format) -> Result<Event, TranscriptError>
-    ensures { TakesLines (λ x. x) result lines.new (event_at format lines.old) }
+    ensures exact { TakesLines (λ x. x) result lines.new (event_at format lines.old) }
+    ensures memory { IfErr result (λ e. e ≡ NoMemory → MayWantAt event_has_bytes (event_at format lines.old)) }
 {
     let heading = take_heading(alloc, lines, format)?;
     let reply = take_following(alloc, heading.shape, lines, format)?;
@@ -86,7 +93,8 @@ fn take_heading(
     lines: &mut Lines,
     format: Format,
 ) -> Result<Heading, TranscriptError>
-    ensures { TakesLines (λ x. x) result lines.new (next_at (heading_at format) lines.old) }
+    ensures exact { TakesLines (λ x. x) result lines.new (next_at (heading_at format) lines.old) }
+    ensures memory { IfErr result (λ e. e ≡ NoMemory → MayWantAt heading_has_bytes (next_at (heading_at format) lines.old)) }
 {
     let number = lines.number();
     let Some(line) = lines.take_line() else {

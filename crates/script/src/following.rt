@@ -1,8 +1,10 @@
 //! The lines that follow an event's first line: the rows or the messages of its reply.
-ghost use Rattle.std.specs.Prelude.{◌≡◌};
+ghost use Rattle.std.specs.Prelude.{◌≡◌, ◌<◌, true, IfErr};
 ghost use Rattle.word_lines.specs.Reading.{Gives};
 ghost use Rattle.script.specs.EventLines.{pair_at, pair_of, row_line_at, message_line_at, read_error_of};
+ghost use Rattle.script.specs.Memory.{shape_has_bytes};
 ghost use Rattle.script.specs.Transcripts.{TakesLines, next_at, many_at, following_at};
+ghost use Rattle.script.specs.declared.fault.TranscriptError.TheVariants.{NoMemory};
 
 use crate::fault::TranscriptError;
 use crate::lines::Lines;
@@ -25,7 +27,8 @@ pub(crate) fn take_following(
     lines: &mut Lines,
     format: Format,
 ) -> Result<Reply, TranscriptError>
-    ensures { TakesLines (λ x. x) result lines.new (following_at format shape lines.old) }
+    ensures exact { TakesLines (λ x. x) result lines.new (following_at format shape lines.old) }
+    ensures memory { IfErr result (λ e. e ≡ NoMemory → shape_has_bytes shape ≡ true) }
 {
     match shape {
         Shape::Alone(reply) => Ok(reply),
@@ -47,7 +50,8 @@ fn take_rows(
     lines: &mut Lines,
     format: Format,
 ) -> Result<Vec<(Key, Value)>, TranscriptError>
-    ensures { TakesLines (λ rows. rows.items) result lines.new (many_at (row_line_at format) count lines.old) }
+    ensures exact { TakesLines (λ rows. rows.items) result lines.new (many_at (row_line_at format) count lines.old) }
+    ensures memory { IfErr result (λ e. e ≡ NoMemory → 0 < count) }
 {
     let mut rows = Vec::new(alloc);
     for _ in 0..count {
@@ -64,7 +68,8 @@ fn take_messages(
     lines: &mut Lines,
     format: Format,
 ) -> Result<Vec<Message>, TranscriptError>
-    ensures { TakesLines (λ messages. messages.items) result lines.new (many_at (message_line_at format) count lines.old) }
+    ensures exact { TakesLines (λ messages. messages.items) result lines.new (many_at (message_line_at format) count lines.old) }
+    ensures memory { IfErr result (λ e. e ≡ NoMemory → 0 < count) }
 {
     let mut messages = Vec::new(alloc);
     for _ in 0..count {

@@ -9,6 +9,8 @@
 //! 1. All of the text is read, byte for byte, or its first fault is told, with the number of its line, unless memory
 //!    runs out.
 //! 2. Memory is taken for lines that came, and never for lines that a count promises.
+//! 3. Want of memory hides no fault in front of what is kept: calls and events, and their keys, values, spans, rows and
+//!    messages. An event's words are counted, and its session and command known, before memory is wanted for it.
 //!
 //! ```text
 //! 1  0 0 begin 10 => started       Event { position: 0, seat: 0, cmd: Begin { ts: 10 }, reply: Started }
@@ -27,7 +29,7 @@
 //!   `=>`
 //!
 //! `read_script` and `read_transcript` take memory for all calls or events. `Events::next` takes it for one event at a
-//! time, and `Events::new` takes none.
+//! time, and for an event of numbers alone it takes none. Nor does `Events::new`.
 //!
 //! Facts that no clause states are tested in `text_tests`, by the tables of the format.
 //!

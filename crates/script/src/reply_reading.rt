@@ -1,6 +1,10 @@
 //! Replies read from their words.
+ghost use Rattle.std.specs.Prelude.{◌≡◌, ◌≢◌, true, IfOk, IfErr};
 ghost use Rattle.word_lines.specs.Reading.{Gives, Takes};
+ghost use Rattle.word_lines.specs.declared.fault.ReadError.TheVariants.{NoMemory};
+ghost use Rattle.script.specs.Memory.{shape_has_bytes};
 ghost use Rattle.script.specs.ReplyReading.{stats_at, refusal_at, shape_at, named_at, reply_at};
+ghost use Rattle.script.specs.declared.reply_table.Kind.TheVariants.{Value};
 
 use crate::reply_table::{Kind, REPLIES, Reason, kind_of};
 use spans::calls::{Refusal, Reply};
@@ -27,7 +31,8 @@ pub(crate) fn read_reply(
     words: &mut Words,
     format: Format,
 ) -> Result<Shape, ReadError>
-    ensures { Gives (λ x. x) result (reply_at format words.old) }
+    ensures exact { Gives (λ x. x) result (reply_at format words.old) }
+    ensures memory { IfErr result (λ e. e ≡ NoMemory → IfOk (reply_at format words.old) (λ shape. shape_has_bytes shape ≡ true)) }
 {
     match read_named(alloc, words, format) {
         Err(ReadError::Fault(_)) => Err(ReadError::Fault(LineFault::Reply)),
@@ -35,9 +40,10 @@ pub(crate) fn read_reply(
     }
 }
 
-#[tactic(auto, unfolding(crate::specs::ReplyReading::named_at))]
+#[tactic(auto, using(crate::proofs::WantedMemory::value_wants), unfolding(crate::specs::ReplyReading::named_at))]
 fn read_named(alloc: Global, words: &mut Words, format: Format) -> Result<Shape, ReadError>
-    ensures { Gives (λ x. x) result (named_at format words.old) }
+    ensures exact { Gives (λ x. x) result (named_at format words.old) }
+    ensures memory { IfErr result (λ e. e ≡ NoMemory → IfOk (named_at format words.old) (λ shape. shape_has_bytes shape ≡ true)) }
 {
     let name = words.take_word().ok_or(LineFault::WordCount)?;
     let kind = kind_of(&REPLIES, name).ok_or(LineFault::Reply)?;
@@ -56,7 +62,8 @@ fn take_shape(
     words: &mut Words,
     format: Format,
 ) -> Result<Shape, ReadError>
-    ensures { Takes result words.new (shape_at format kind words.old) }
+    ensures exact { Takes result words.new (shape_at format kind words.old) }
+    ensures memory { IfErr result (λ e. e ≡ NoMemory → kind ≡ Value) }
 {
     let reply = match kind {
         Kind::Rows => return Ok(Shape::Rows(take_number(words)?)),
@@ -93,7 +100,8 @@ fn take_shape(
 
 #[tactic(auto, unfolding(crate::specs::ReplyReading::stats_at))]
 fn take_stats(words: &mut Words) -> Result<Reply, ReadError>
-    ensures { Takes result words.new (stats_at words.old) }
+    ensures exact { Takes result words.new (stats_at words.old) }
+    ensures memory { IfErr result (λ e. e ≢ NoMemory) }
 {
     Ok(Reply::Stats {
         versions: take_number(words)?,
@@ -106,7 +114,8 @@ fn take_stats(words: &mut Words) -> Result<Reply, ReadError>
 
 #[tactic(auto, unfolding(crate::specs::ReplyReading::refusal_at))]
 fn take_refusal(reason: Reason, words: &mut Words) -> Result<Refusal, ReadError>
-    ensures { Takes result words.new (refusal_at reason words.old) }
+    ensures exact { Takes result words.new (refusal_at reason words.old) }
+    ensures memory { IfErr result (λ e. e ≢ NoMemory) }
 {
     let refusal = match reason {
         Reason::BelowClosed => Refusal::BelowClosed {

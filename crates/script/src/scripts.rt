@@ -6,16 +6,19 @@
 //! 3  4 get 10 a                  session at line 3, where there are 4 seats
 //! ```
 //!
-//! A script is read whole, up to its first faulty line, and room is made call by call.
+//! A script is read whole, up to its first faulty line, and room is made call by call. No room is wanted before a call
+//! was read, unless the first line's command has a key, a value or a span.
 //!
 //! Cost: each byte is looked at three times. Keys, values and bounds are copied once, and at most
 //! twice where bytes are escaped.
-ghost use Rattle.std.specs.Prelude.{◌≡◌, IfOk};
+ghost use Rattle.std.specs.Prelude.{◌≡◌, IfOk, IfErr};
 ghost use Rattle.std.specs.List.{All};
+ghost use Rattle.word_lines.specs.Memory.{WantsMemory, verb_at};
 ghost use Rattle.word_lines.specs.Reading.{command_at};
-ghost use Rattle.script.specs.Scripts.{IsCall, TellsScript, script_text, script_at};
+ghost use Rattle.script.specs.Scripts.{IsCall, ScriptWants, TellsScript, script_text, script_at};
 ghost use Rattle.word_lines.specs.Table.{table};
 ghost use Rattle.script.specs.Transcripts.{Tells, at_line};
+ghost use Rattle.script.specs.declared.fault.TranscriptError.TheVariants.{NoMemory};
 
 use crate::fault::TranscriptError;
 use crate::lines::Lines;
@@ -36,6 +39,8 @@ pub fn read_script(
     ensures found { IfOk result (λ calls. (text.now ≡ script_text calls.items) × All (IsCall format seats) calls.items) }
     // Which fault it is, and in which line: the first from the top and from the left.
     ensures exact { TellsScript (λ calls. calls.items) result (script_at format seats text.now) }
+    // Memory is wanted only to keep a call, or for a first line whose command has a key, a value or a span.
+    ensures memory { IfErr result (λ e. e ≡ NoMemory → ScriptWants format seats text.now) }
 {
     calls_of(alloc, text, seats, format)
 }
@@ -46,7 +51,8 @@ fn calls_of(
     seats: u8,
     format: Format,
 ) -> Result<Vec<(u8, Cmd)>, TranscriptError>
-    ensures { TellsScript (λ calls. calls.items) result (script_at format seats text.now) }
+    ensures exact { TellsScript (λ calls. calls.items) result (script_at format seats text.now) }
+    ensures memory { IfErr result (λ e. e ≡ NoMemory → ScriptWants format seats text.now) }
 {
     let mut lines = Lines::of(text);
     let mut calls = Vec::new(alloc);
@@ -68,7 +74,8 @@ fn read_call(
     seats: u8,
     format: Format,
 ) -> Result<(u8, Cmd), TranscriptError>
-    ensures { Tells (λ x. x) result (at_line number (command_at format table seats line.now)) }
+    ensures exact { Tells (λ x. x) result (at_line number (command_at format table seats line.now)) }
+    ensures memory { IfErr result (λ e. e ≡ NoMemory → WantsMemory (verb_at format table seats line.now)) }
 {
     match read_command(alloc, line, seats, format) {
         Ok(call) => Ok(call),

@@ -8,14 +8,16 @@
 //! ```
 //!
 //! The place of `=>` is known from the number of the command's arguments, so a value may be spelled
-//! so. A number of lines that follow asks for no room by itself: it is made line by line.
+//! so. A number of lines that follow asks for no room by itself: it is made line by line. Before an event
+//! was read no room is wanted, unless the first event, or the fault in its place, may want it.
 //!
 //! Cost: each byte is looked at six times at most. Keys, values and bounds are copied once, and at
 //! most twice where bytes are escaped or stand in a line of JSON.
-ghost use Rattle.std.specs.Prelude.{◌≡◌, IfOk};
+ghost use Rattle.std.specs.Prelude.{◌≡◌, ◌≢◌, ◌⊎◌, [], IfOk, IfErr};
 ghost use Rattle.std.specs.List.{All};
 ghost use Rattle.word_lines.specs.Limits.{IsEvent};
-ghost use Rattle.script.specs.Transcripts.{Tells, outcome, transcript_at, transcript_text};
+ghost use Rattle.script.specs.Transcripts.{MayWantNext, Tells, TranscriptWants, outcome, transcript_at, transcript_text};
+ghost use Rattle.script.specs.declared.fault.TranscriptError.TheVariants.{NoMemory};
 
 use crate::events::Events;
 use crate::fault::TranscriptError;
@@ -34,6 +36,8 @@ pub fn read_transcript(
     ensures found { IfOk result (λ events. (text.now ≡ transcript_text format events.items) × All (IsEvent format) events.items) }
     // Which fault it is, and in which line: the first from the top and from the left.
     ensures exact { Tells (λ events. events.items) result (transcript_at format text.now) }
+    // Memory is wanted only to keep an event, or where the first event, or the fault in its place, may want it.
+    ensures memory { IfErr result (λ e. e ≡ NoMemory → TranscriptWants format text.now) }
 {
     match Events::new(text, format) {
         Ok(left) => all_of(alloc, left),
@@ -43,7 +47,8 @@ pub fn read_transcript(
 
 /// Reads all that is left.
 fn all_of(alloc: Global, mut left: Events) -> Result<Vec<Event>, TranscriptError>
-    ensures { Tells (λ events. events.items) result (outcome left.entry) }
+    ensures exact { Tells (λ events. events.items) result (outcome left.entry) }
+    ensures memory { IfErr result (λ e. e ≡ NoMemory → (left.entry.events ≢ []) ⊎ MayWantNext left.entry) }
 {
     let mut events = Vec::new(alloc);
     while let Some(event) = left.next(alloc) {

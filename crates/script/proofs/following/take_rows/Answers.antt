@@ -4,8 +4,8 @@ use Rattle.script.specs.Transcripts.{many_at}
 use Rattle.script.proofs.TakeLines.{goes_on, ends, is_done}
 use Rattle.script.proofs.following.take_rows.Goals as goal
 
-pub returns-in_err-row : goal.returns-in_err-row
-returns-in_err-row c =
+pub returns-in_err-row-clause-exact : goal.returns-in_err-row-clause-exact
+returns-in_err-row-clause-exact c =
     let p = err_from_is_err_and c.from_residual.result c.from_residual.ensures.1 in
     rw (p.1, p.2) (ends (row_line_at c.args.format) c.in_err-row.field-0.0 c.loop.rows.items c.args.count c.loop.counter c.loop.lines (many_at (row_line_at c.args.format) c.args.count c.args.lines.now) c.loop-test.true c.in_err-row.ensures c.loop.invariant)
 
@@ -13,5 +13,5 @@ pub loop-preserved : goal.loop-preserved
 loop-preserved c =
     rw c.in_ok-push.ensures.items (goes_on (row_line_at c.args.format) c.loop.rows.items c.args.count c.loop.counter c.loop.lines c.in_ok-row.row c.take_row.new.lines (many_at (row_line_at c.args.format) c.args.count c.args.lines.now) c.loop-test.true c.in_ok-row.ensures c.loop.invariant)
 
-pub returns : goal.returns
-returns c = is_done (row_line_at c.args.format) c.loop.rows.items c.args.count c.loop.counter c.loop.lines (many_at (row_line_at c.args.format) c.args.count c.args.lines.now) c.loop-test.false c.loop.invariant
+pub returns-clause-exact : goal.returns-clause-exact
+returns-clause-exact c = is_done (row_line_at c.args.format) c.loop.rows.items c.args.count c.loop.counter c.loop.lines (many_at (row_line_at c.args.format) c.args.count c.args.lines.now) c.loop-test.false c.loop.invariant

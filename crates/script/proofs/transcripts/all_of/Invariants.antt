@@ -1,10 +1,9 @@
 use Rattle.std.proofs.Common.{◌≡◌, length}
-use Rattle.script.specs.Transcripts.{outcome}
-use Rattle.script.proofs.TakeLines.{behind}
+use Rattle.script.proofs.TakeLines.{ahead}
 use Rattle.script.proofs.transcripts.all_of.Given as goal
 
 abbrev pub invariant-loop-event : goal.invariant-loop-event
-invariant-loop-event l = outcome l.fn.left ≡ behind l.events.items l.left
+invariant-loop-event l = l.fn.left ≡ ahead l.events.items l.left
 
 abbrev pub decreases-loop-event : goal.decreases-loop-event
 decreases-loop-event l = length l.left.events

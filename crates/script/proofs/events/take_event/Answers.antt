@@ -1,0 +1,13 @@
+use Rattle.std.proofs.lemmas.Result.{err_from_is_err_and}
+use Rattle.script.proofs.WantedMemory.{event_wants, event_wants_reply}
+use Rattle.script.proofs.events.take_event.Goals as goal
+
+pub returns-in_err-heading-clause-memory : goal.returns-in_err-heading-clause-memory
+returns-in_err-heading-clause-memory c =
+    let p = err_from_is_err_and c.from_residual.result c.from_residual.ensures.1 in
+    rw (p.1, p.2) (λ is. event_wants c.args.format c.args.lines.now (c.in_err-heading.ensures.memory is))
+
+pub returns-in_err-reply-clause-memory : goal.returns-in_err-reply-clause-memory
+returns-in_err-reply-clause-memory c =
+    let p = err_from_is_err_and c.from_residual-in_err-reply.result c.from_residual-in_err-reply.ensures.1 in
+    rw (p.1, p.2) (λ is. event_wants_reply c.args.format c.args.lines.now (c.in_ok-heading.heading, c.take_heading.new.lines) c.in_ok-heading.ensures.exact (c.in_err-reply.ensures.memory is))
