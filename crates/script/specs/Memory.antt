@@ -1,4 +1,4 @@
--- Which events may want memory to be read, and which faults it may hide.
+-- Which events may want memory to be read, and which faults it may hide, by their names and not by where they stand.
 use Rattle.std.specs.Prelude.{◌≡◌, nat_lt, Bool, true, false, ◌||◌, length, is_some, Result, Ok, Err}
 use Rattle.spans.specs.declared.calls.commands.Cmd.{Cmd}
 use Rattle.spans.specs.declared.calls.commands.Cmd.TheVariants as cmd

@@ -9,8 +9,8 @@
 //! 1. All of the text is read, byte for byte, or its first fault is told, with the number of its line, unless memory
 //!    runs out.
 //! 2. Memory is taken for lines that came, and never for lines that a count promises.
-//! 3. Want of memory hides no fault in front of what is kept: calls and events, and their keys, values, spans, rows and
-//!    messages. An event's words are counted, and its session and command known, before memory is wanted for it.
+//! 3. Want of memory hides none of these faults of an event: a wrong number of words, an unknown session, an unknown
+//!    command. Nor does it come to an event of numbers alone.
 //!
 //! ```text
 //! 1  0 0 begin 10 => started       Event { position: 0, seat: 0, cmd: Begin { ts: 10 }, reply: Started }

@@ -12,7 +12,7 @@ use crate::replies::put_reply;
 use spans::calls::Event;
 use std::alloc::AllocError;
 
-/// The line of a fault and that of spent positions have no more bytes than this.
+/// With room for so many bytes the line of a fault, and that of spent positions, want no memory.
 pub const LAST_LINE: usize = 64;
 
 /// Writes an event at the end: its position, its session and its command, `=>` and its reply, and
@@ -43,7 +43,7 @@ fn put_event(out: &mut Vec<u8>, event: &Event) -> Result<(), AllocError>
 }
 
 /// Writes the line that names a fault and the line where it stands, counted from 1.
-/// After an error it is as it was. With room for [`LAST_LINE`] bytes more it wants no memory.
+/// After an error it is as it was, and then there was no room for [`LAST_LINE`] bytes.
 #[tactic(auto, using(crate::proofs::Writing::undone))]
 pub fn write_fault(out: &mut Vec<u8>, line: u64, fault: LineFault) -> Result<(), AllocError>
     ensures ok { OnOk result (out.new.items ≡ out.old.items ++ fault_line line fault) }
@@ -72,7 +72,7 @@ fn put_fault(out: &mut Vec<u8>, line: u64, fault: LineFault) -> Result<(), Alloc
 }
 
 /// Writes the line that says that no position was left for a line's command.
-/// After an error it is as it was. With room for [`LAST_LINE`] bytes more it wants no memory.
+/// After an error it is as it was, and then there was no room for [`LAST_LINE`] bytes.
 #[tactic(auto, using(crate::proofs::Writing::undone))]
 pub fn write_spent(out: &mut Vec<u8>, line: u64) -> Result<(), AllocError>
     ensures ok { OnOk result (out.new.items ≡ out.old.items ++ spent_line line) }
