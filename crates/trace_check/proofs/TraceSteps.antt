@@ -98,7 +98,7 @@ pub next_is : (events : List Event) (i : ℕ) (e : Event) → i < length events 
 next_is events i e within is = take_more events i e within ∙ ap (λ (x : Event). take i events ++ x ∷ []) (sym is)
 
 -- a list is what comes before an index, the event there, and what comes after it
-parts_at : (events : List Event) (i : ℕ) (e : Event) → i < length events → e ≡ get_or events i e → events ≡ take i events ++ e ∷ drop (i + 1) events
+pub parts_at : (events : List Event) (i : ℕ) (e : Event) → i < length events → e ≡ get_or events i e → events ≡ take i events ++ e ∷ drop (i + 1) events
 parts_at events i e within is = sym (take-append-drop i events) ∙ ap (λ (l : List Event). take i events ++ l) (rw add-one (drop-cons events i e within ∙ ap (λ (x : Event). x ∷ drop (suc i) events) (sym is)))
 
 -- where the list is no trace with the event at an index, it goes wrong there

@@ -2,7 +2,9 @@
 use Rattle.std.specs.Prelude.{List, [], ◌∷◌, ◌++◌, ◌≡◌, ◌<◌, ◌↔◌, Bool, true, length, reverse}
 use Rattle.spans.specs.declared.calls.events.Event.{Event}
 use Rattle.spans.specs.declared.report.Report.{Report}
+use Rattle.spans.specs.Answer.{answer_of}
 use Rattle.spans.specs.Effects.{effects_of}
+use Rattle.spans.specs.Legal.{is_accepted, may_lack_memory}
 use Rattle.spans.specs.Report.{IsReport, limit_in, limit_of}
 use Rattle.plain_database.specs.Tied as plain
 use Rattle.trace_check.specs.declared.checker.Checker.{Checker}
@@ -21,6 +23,13 @@ JudgesNext c e right = (events : List Event) → StandsFor c events → length e
 -- where it is, the checker has taken the event too
 abbrev pub TakesNext : Checker → Checker → Event → Bool → Type 0
 TakesNext c c' e right = right ≡ true → (events : List Event) → StandsFor c events → length events < 18446744073709551615 → StandsFor c' (events ++ e ∷ [])
+
+-- whatever a checker has taken, the next event's command may lack memory, and the answer to it is no refusal
+abbrev pub MayLackNext : Checker → Event → Type 0
+MayLackNext c e =
+    (events : List Event) → StandsFor c events
+    → (may_lack_memory e.cmd ≡ true)
+    × (length events < 18446744073709551615 → is_accepted (answer_of (effects_of (reverse events)) e.seat e.cmd) ≡ true)
 
 -- whatever events a checker has taken, this is their report, and its limit is that of the definitions
 abbrev pub Reports : Checker → Bool → Report → Type 0

@@ -1,8 +1,9 @@
 -- Which lists of events, the oldest first, one database can have given, and where another list first goes wrong.
 use Rattle.std.specs.Prelude.{ℕ, List, [], ◌∷◌, ◌++◌, ◌≡◌, ◌<◌, ◌↔◌, ◌+◌, Bool, true, Option, Some, None, length, reverse}
 use Rattle.spans.specs.declared.calls.events.Event.{Event}
+use Rattle.spans.specs.Answer.{answer_of}
 use Rattle.spans.specs.Effects.{effects_of}
-use Rattle.spans.specs.Legal.{IsLegal, IsGapless, IsRightEvent}
+use Rattle.spans.specs.Legal.{IsLegal, IsGapless, IsRightEvent, is_accepted, may_lack_memory}
 use Rattle.plain_database.specs.declared.database.Database.{Database}
 use Rattle.plain_database.specs.Tied.{StandsFor}
 
@@ -41,9 +42,27 @@ pub record IsFirstWrong (events : List Event) (position : ℕ) : Type 0 where
   pub stops : ¬ IsTrace (before ++ event ∷ [])
   pub stands : event.position ≡ position
 
+-- what comes before an event is a trace, the event is in its place behind it, its command may lack memory, and the answer
+-- to it is no refusal
+pub record MayLackIn (events : List Event) : Type 0 where
+  pub before : List Event
+  pub event : Event
+  pub after : List Event
+  pub parts : events ≡ before ++ event ∷ after
+  pub right : IsTrace before
+  pub placed : IsInPlace (last_position before) event.position
+  pub may : may_lack_memory event.cmd ≡ true
+  pub accepted : is_accepted (answer_of (effects_of (reverse before)) event.seat event.cmd) ≡ true
+
 -- whatever history the database stands for, this is whether the event is right after it
 abbrev pub Judges : Database → Event → Bool → Type 0
 Judges db e right = (h : List Event) → StandsFor db h → length h < 18446744073709551615 → (right ≡ true) ↔ IsRightEvent (effects_of h) e
+
+-- whatever history the database stands for, the event's command may lack memory, and the answer to it is no refusal
+abbrev pub MayLack : Database → Event → Type 0
+MayLack db e =
+    (h : List Event) → StandsFor db h
+    → (may_lack_memory e.cmd ≡ true) × (length h < 18446744073709551615 → is_accepted (answer_of (effects_of h) e.seat e.cmd) ≡ true)
 
 -- where the event is right, the database stands for the history with it
 abbrev pub TakesIn : Database → Database → Event → Bool → Type 0

@@ -1,8 +1,6 @@
 //! Events checked one at a time.
-ghost use Rattle.std.specs.Prelude.{◌≡◌, ◌↔◌, List, [], true, false, IfOk, OnErr};
-ghost use Rattle.spans.specs.declared.calls.events.Event.{Event};
-ghost use Rattle.spans.specs.Legal.{may_lack_memory};
-ghost use Rattle.trace_check.specs.Checkers.{StandsFor, JudgesNext, Reports, TakesNext};
+ghost use Rattle.std.specs.Prelude.{◌≡◌, ◌↔◌, [], true, false, IfOk, OnErr};
+ghost use Rattle.trace_check.specs.Checkers.{StandsFor, JudgesNext, MayLackNext, Reports, TakesNext};
 ghost use Rattle.trace_check.specs.Traces.{IsInPlace};
 
 use crate::taking::take_in;
@@ -36,7 +34,8 @@ impl Checker {
         ensures taken { IfOk result (TakesNext self.old self.new event.now) }
         ensures refused { IfOk result (λ right. right ≡ false → self.new ≡ self.old) }
         ensures memory { OnErr result (self.new ≡ self.old) }
-        ensures wanting { OnErr result ((events : List Event) → StandsFor self.old events → may_lack_memory event.now.cmd ≡ true) }
+        ensures placed { OnErr result (IsInPlace self.old.last event.now.position) }
+        ensures wanting { OnErr result (MayLackNext self.old event.now) }
     {
         if !is_in_place(self.last, event.position) || !take_in(&mut self.database, event)? {
             return Ok(false);

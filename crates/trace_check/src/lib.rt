@@ -8,8 +8,8 @@
 //! 1. The database stands for the events taken so far, which are legal and have no gap.
 //! 2. An event has to stand one place further than the event before. It is right where its reply is the answer.
 //!    `nomemory` is right too, where the answer is no refusal and the command may want memory.
-//! 3. An event that isn't right, or that finds no memory, leaves the checker as it was. Only an event whose command may
-//!    want memory finds none.
+//! 3. An event that isn't right, or that finds no memory, leaves the checker as it was. Only an event in its place finds
+//!    none, where the answer is no refusal and the command may want memory.
 //!
 //! ```text
 //! 7 0 begin 10 => started           right           10 is undecided
@@ -38,9 +38,9 @@ pub mod checker;
 mod same;
 mod taking;
 
-ghost use Rattle.std.specs.Prelude.{◌≡◌, ◌↔◌, ℕ, IfOk};
+ghost use Rattle.std.specs.Prelude.{◌≡◌, ◌↔◌, ℕ, IfOk, OnErr};
 ghost use Rattle.trace_check.specs.declared.Verdict.TheVariants.{Yes, No};
-ghost use Rattle.trace_check.specs.Traces.{IsTrace, IsFirstWrong};
+ghost use Rattle.trace_check.specs.Traces.{IsTrace, IsFirstWrong, MayLackIn};
 
 use crate::checker::Checker;
 use spans::calls::Event;
@@ -59,6 +59,7 @@ pub enum Verdict {
 pub fn check(alloc: Global, events: &[Event]) -> Result<Verdict, AllocError>
     ensures yes { IfOk result (λ v. (v ≡ Yes) ↔ IsTrace events.now) }
     ensures no { IfOk result (λ v. (position : ℕ) → v ≡ No position → IsFirstWrong events.now position) }
+    ensures memory { OnErr result (MayLackIn events.now) }
 {
     let mut checker = Checker::new(alloc);
     for event in events {

@@ -1,11 +1,9 @@
 //! How the database is asked about one event, and takes it in.
-ghost use Rattle.std.specs.Prelude.{◌≡◌, ◌↔◌, List, true, false, IfOk, OnErr};
-ghost use Rattle.spans.specs.declared.calls.events.Event.{Event};
+ghost use Rattle.std.specs.Prelude.{◌≡◌, ◌↔◌, true, false, IfOk, OnErr};
 ghost use Rattle.spans.specs.declared.calls.replies.Reply.TheVariants.{Refused};
 ghost use Rattle.spans.specs.declared.calls.replies.Refusal.TheVariants.{NoMemory};
 ghost use Rattle.spans.specs.Legal.{is_accepted, may_lack_memory};
-ghost use Rattle.plain_database.specs.Tied.{StandsFor};
-ghost use Rattle.trace_check.specs.Traces.{Judges, TakesIn};
+ghost use Rattle.trace_check.specs.Traces.{Judges, MayLack, TakesIn};
 
 use crate::same::same_reply;
 use plain_database::database::Database;
@@ -18,7 +16,7 @@ pub(crate) fn take_in(database: &mut Database, event: &Event) -> Result<bool, Al
     ensures taken { IfOk result (TakesIn database.old database.new event.now) }
     ensures refused { IfOk result (λ right. right ≡ false → database.new ≡ database.old) }
     ensures memory { OnErr result (database.new ≡ database.old) }
-    ensures wanting { OnErr result ((h : List Event) → StandsFor database.old h → may_lack_memory event.now.cmd ≡ true) }
+    ensures wanting { OnErr result (MayLack database.old event.now) }
 {
     let answer = database.answer(event.seat, &event.cmd)?;
     if same_reply(&event.reply, &answer) {
