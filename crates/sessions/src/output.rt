@@ -75,7 +75,11 @@ impl Output {
 
     /// Writes all that waits, and behind it these bytes, which take no room here. Where it fails a part is written, and
     /// nothing more is to be.
-    pub(crate) fn write_last<K: Sink>(&mut self, sink: &mut K, last: &[u8]) -> Result<(), WriteFailed>
+    pub(crate) fn write_last<K: Sink>(
+        &mut self,
+        sink: &mut K,
+        last: &[u8],
+    ) -> Result<(), WriteFailed>
         ensures written { HasWritten (K.writes sink.old) (K.writes sink.new) (pending_of self.old ++ last.now) [] result }
         ensures all { OnOk result (pending_of self.new ≡ []) }
     {
