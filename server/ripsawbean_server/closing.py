@@ -2,7 +2,8 @@
 
     --close-every after one was decided     close as far as transactions are decided
     each second                             abort transactions that are too old, by their own seat; let go of what
-                                            lags too far; collect what was closed some seconds ago; wake the streams
+                                            lags too far; collect what was closed some seconds ago, where the horizon
+                                            moves by it; wake the streams
 
 A hard closing would abort younger transactions below an old one too, so it isn't used. A collection stays `--history`
 seconds behind closed, so that a timestamp that was just seen can be read.
@@ -22,6 +23,7 @@ class Closing:
         self._loop = asyncio.get_running_loop()
         self._failed = self._loop.create_future()
         self._is_due = False
+        self._aim = 0  # as far as collections may go by now
         self.ledger.on_decided = self.decided
 
     async def run(self):
@@ -77,13 +79,14 @@ class Closing:
                 self.shared.release(number)
 
     def _collect_before(self, then):
-        ledger, to = self.ledger, 0
+        ledger = self.ledger
         while ledger.closings and ledger.closings[0][0] <= then:
-            to = ledger.closings.popleft()[1]
-        limit = ledger.limit()[0]
-        if to:
-            self._collect(to, max(ledger.horizon, min(to, limit)))
-        ledger.rows.forget_below(min(ledger.horizon, limit))
+            self._aim = ledger.closings.popleft()[1]
+        # What held the horizon may go when nothing is closed any more, so each second asks anew.
+        expected = min(self._aim, ledger.limit()[0])
+        if ledger.horizon < expected:
+            self._collect(self._aim, expected)
+        ledger.rows.forget_below(min(ledger.horizon, ledger.limit()[0]))
 
     def _collect(self, to, expected):
         answer = self.shared.ask("collect %d" % to)
