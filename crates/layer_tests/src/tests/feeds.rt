@@ -19,7 +19,7 @@ floor=9223372036854775807
 tell 2 18446744073709551615=
 open 9 10=3
 floor=9
-tell 3 9223372036854775808= row 10 resolved 9223372036854775807
+tell 3 9223372036854775808= version 10 resolved 9223372036854775807
 tell 3 18446744073709551615=
 floor=9223372036854775807
 ";
@@ -77,7 +77,7 @@ fn tell(
     let messages = served.feeds.poll(&served.store, 0, feed, closed, 9).ok()?;
     for message in messages.as_slice() {
         let (word, ts) = match message {
-            Message::Row(row) => (b" row ".as_slice(), row.ts),
+            Message::Row(row) => (b" version ".as_slice(), row.ts),
             Message::Resolved(ts) => (b" resolved ".as_slice(), *ts),
         };
         out.extend_from_slice(word).ok()?;
