@@ -6,8 +6,9 @@ meanwhile. So each crate is proved in a room of its own: a folder with its files
 their finished libraries, which are laid in by links. What a room made moves into the checkout at once, and any later
 `rt` finds it there, also one in another checkout on the machine.
 
-Crates that don't wait for one another are proved at the same time, those with the longest chain behind them first. A
-crate gets a second processor, or up to four, where no other crate waits for one. Memory is shared out too.
+Crates that don't wait for one another are proved at the same time, those with the longest chain behind them first. The
+crate with the longest chain of all is urgent: it gets four jobs, and the others run below its priority. Another crate
+gets a second job, or up to four, where no crate waits for a processor. Memory is shared out too.
 
 A run that is broken off loses nothing: rooms stand in the folder of git, and the next run goes on in them. Without git
 they stand in a temporary folder and go when the run ends. A program is run once on no input, with the words that are
@@ -29,6 +30,15 @@ from dataclasses import dataclass
 TOP = os.path.dirname(os.path.dirname(os.path.abspath(__file__)))
 PARTS = ("src", "specs", "proofs")
 MOST_JOBS = 4
+# Runs a command below the priority of others. Where the system groups processes by session, the group has it too.
+LOWER = """
+for _ in 1 2 3; do
+    { echo 10 >/proc/self/autogroup; } 2>/dev/null && break
+    sleep 0.2
+done
+exec nice -n 10 "$@"
+"""
+GENTLY = ("sh", "-c", LOWER, "sh")
 
 
 @dataclass(frozen=True)
@@ -111,21 +121,36 @@ def behind(crates):
     return found
 
 
-def chosen(waiting, made, running, processors, memory):
-    """The crates to start now, each with its number of jobs, when these are running: pairs of a crate and its jobs."""
-    behind_of, found = behind(waiting), []
+@dataclass(frozen=True)
+class Start:
+    """A crate that is started: its number of jobs, and whether the longest chain of all waits for it."""
+
+    crate: Crate
+    jobs: int
+    is_urgent: bool
+
+    def processors(self):
+        """How many processors it keeps at work: the jobs of an urgent crate wait for one another half of the time."""
+        return max(1, self.jobs // 2) if self.is_urgent else self.jobs
+
+
+def chosen(waiting, made, running, processors, memory, behind_of):
+    """What to start now, when these starts are running. `behind_of` has the seconds of the chain behind each crate."""
+    found = []
     ready = [it for it in waiting if all(dep in made for dep in it.deps)]
     ready.sort(key=lambda it: -behind_of[it.name])
-    idle = processors - sum(jobs for _, jobs in running)
-    room = memory - sum(taken(it, jobs) for it, jobs in running)
+    idle = processors - sum(it.processors() for it in running)
+    room = memory - sum(taken(it.crate, it.jobs) for it in running)
+    longest = max((behind_of[it.crate.name] for it in running), default=0)
     for at, crate in enumerate(ready):
         if idle < 1 or (crate.memory > room and (running or found)):
             break
-        jobs = max(1, min(MOST_JOBS, idle // (len(ready) - at)))
+        is_urgent = not found and behind_of[crate.name] > longest
+        jobs = min(MOST_JOBS, processors if is_urgent else max(1, idle // (len(ready) - at)))
         while jobs > 1 and taken(crate, jobs) > room:
             jobs -= 1
-        found.append((crate, jobs))
-        idle -= jobs
+        found.append(Start(crate, jobs, is_urgent))
+        idle -= found[-1].processors()
         room -= taken(crate, jobs)
     return found
 
@@ -259,28 +284,30 @@ class Build:
         self.name = name
         self.crates = crates_for(top, name)
         self.deps = {it.name: it.deps for it in self.crates}
+        self.behind = behind(self.crates)
         self.processors, self.memory = len(os.sched_getaffinity(0)), free_memory()
         self.waiting, self.made = list(self.crates), set()
-        self.children, self.is_ending = [], False
+        self.children, self.is_ending, self.is_taken = [], False, True
         self.planned, self.spent = 0.0, 0.0
 
     def say(self, text):
         print("%s: %s" % (self.name, text), file=sys.stderr, flush=True)
 
-    def prove(self, crate, jobs):
+    def prove(self, start):
         """Proves one crate in its room. The answer is the crate, its status, its seconds, and what was told."""
+        crate = start.crate
         room = os.path.join(self.rooms, crate.name)
         furnish(self.top, room, crate.name, below(self.deps, crate.name))
         if self.is_ending:
             return crate, 130, 0, ""
-        verb = ["rt", "run" if crate.is_program else "lib", "--jobs", str(jobs)]
+        verb = ["rt", "run" if crate.is_program else "lib", "--jobs", str(start.jobs)]
         verb += ["--", *self.words] if crate.is_program else []
         began, folder = time.monotonic(), os.path.join(room, "crates", crate.name)
-        status, told = self.ran(verb, folder)
+        status, told = self.ran(verb if start.is_urgent else [*GENTLY, *verb], folder)
         seconds = time.monotonic() - began
         if not self.is_ending:
             is_library = os.path.isdir(os.path.join(folder, "out", "rlib")) and not crate.is_program
-            if is_library and not status and is_new(told):
+            if is_library and not status and is_new(told) and self.is_taken:
                 self.hand_over(crate, room)
             clear(self.top, room, crate.name)
         return crate, status, seconds, told
@@ -303,9 +330,10 @@ class Build:
 
     def hand_over(self, crate, room):
         """Has the kit take the library from the room. Other checkouts begin with what was kept where the kit made or
-        took a library, and the room goes. A kit that takes none makes it over what was kept, in a short pass."""
+        took a library, and the room goes. A kit that takes none makes it over what was kept, and isn't asked again."""
         lay_out(self.top, room, crate.name)
-        self.ran(["rt", "lib", "--jobs", "1"], os.path.join(self.top, "crates", crate.name))
+        if is_new(self.ran(["rt", "lib", "--jobs", "1"], os.path.join(self.top, "crates", crate.name))[1]):
+            self.is_taken = False
 
     def end(self, *_):
         """Ends what was begun. The rooms stay for the next run."""
@@ -331,9 +359,9 @@ class Build:
         with ThreadPoolExecutor(self.processors) as pool:
             while self.waiting or running:
                 now = list(running.values())
-                for crate, jobs in chosen(self.waiting, self.made, now, self.processors, self.memory):
-                    self.waiting.remove(crate)
-                    running[pool.submit(self.prove, crate, jobs)] = (crate, jobs)
+                for start in chosen(self.waiting, self.made, now, self.processors, self.memory, self.behind):
+                    self.waiting.remove(start.crate)
+                    running[pool.submit(self.prove, start)] = start
                 for task in wait(running, return_when=FIRST_COMPLETED).done:
                     running.pop(task)
                     if not self.take(*task.result()):

@@ -53,6 +53,9 @@ class Checks(unittest.TestCase):
         script = ["sh", "-c", 'echo 3 tests >"$0/told"; cat "$0/told"']
         check = checks.Check("one", "a check", script, (r"(\d+) tests", "tests"), wants_room=True)
         self.assertEqual(checks.run(check, dict(os.environ), 20)[:2], ("passed", "3 tests"))
+        with tempfile.TemporaryDirectory() as rooms:
+            checks.run(check, dict(os.environ), 20, rooms)
+            self.assertIn("told", os.listdir(os.path.join(rooms, *os.listdir(rooms))))
 
     def test_a_build_has_a_limit_of_time(self):
         for script, why in {"sleep 60": "the program wasn't built in 1 seconds", "exit 3": "couldn't be built"}.items():

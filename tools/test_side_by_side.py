@@ -14,7 +14,7 @@ HERE = os.path.dirname(os.path.abspath(__file__))
 sys.dont_write_bytecode = True
 sys.path.insert(0, HERE)
 import side_by_side  # noqa: E402
-from side_by_side import Crate  # noqa: E402
+from side_by_side import Crate, Start  # noqa: E402
 
 # It makes a library only where those below are made, and notes when it began and ended. It takes one that was made of
 # the same text in the last folder that it knows of. A crate `slow` takes long the first time, and one that is `brief`
@@ -50,29 +50,37 @@ def crate(name, *deps, seconds=10, memory=1):
 
 class Choice(unittest.TestCase):
     def chosen(self, waiting, made=(), running=(), processors=4, memory=100):
-        return [
-            (it.name, jobs) for it, jobs in side_by_side.chosen(waiting, set(made), list(running), processors, memory)
-        ]
+        behind = side_by_side.behind([*[it.crate for it in running], *waiting])
+        starts = side_by_side.chosen(waiting, set(made), running, processors, memory, behind)
+        return [(it.crate.name, it.jobs) for it in starts]
 
     def test_those_with_the_longest_chain_behind_them_come_first(self):
         crates = [crate("a"), crate("b", seconds=5), crate("c", "b", seconds=50)]
-        self.assertEqual(self.chosen(crates, processors=2), [("b", 1), ("a", 1)])
+        self.assertEqual(self.chosen(crates, processors=2), [("b", 2), ("a", 1)])
 
     def test_a_crate_waits_for_those_below(self):
         self.assertEqual(self.chosen([crate("a", "b")]), [])
         self.assertEqual(self.chosen([crate("a", "b")], made={"b"}), [("a", 4)])
 
+    def test_the_urgent_one_gets_all_jobs_beside_others(self):
+        crates = [crate("a", seconds=9), crate("b"), crate("c", seconds=8)]
+        self.assertEqual(self.chosen(crates), [("b", 4), ("a", 1), ("c", 1)])
+        gentle = Start(crate("x", seconds=9), 1, False)
+        self.assertEqual(self.chosen([crate("a")], running=[gentle]), [("a", 4)])
+
     def test_processors_that_nobody_waits_for_are_shared_out(self):
-        self.assertEqual(self.chosen([crate("a"), crate("b")]), [("a", 2), ("b", 2)])
-        self.assertEqual(self.chosen([crate("a")], running=[(crate("x"), 3)]), [("a", 1)])
-        self.assertEqual(self.chosen([crate("a")], running=[(crate("x"), 4)]), [])
+        urgent = Start(crate("x", seconds=30), 4, True)
+        self.assertEqual(self.chosen([crate("a"), crate("b")], running=[urgent]), [("a", 1), ("b", 1)])
+        self.assertEqual(self.chosen([crate("a")], running=[urgent]), [("a", 2)])
+        self.assertEqual(self.chosen([crate("a")], running=[urgent, Start(crate("y"), 2, False)]), [])
 
     def test_memory_bounds_both(self):
         crates = [crate("a", memory=60), crate("b", memory=60)]
         self.assertEqual(self.chosen(crates), [("a", 2)])
         self.assertEqual(self.chosen([crate("a", memory=90)]), [("a", 1)])
         self.assertEqual(self.chosen([crate("a", memory=900)]), [("a", 1)])
-        self.assertEqual(self.chosen([crate("a", memory=90)], running=[(crate("x", memory=20), 1)]), [])
+        running = [Start(crate("x", memory=20), 1, False)]
+        self.assertEqual(self.chosen([crate("a", memory=90)], running=running), [])
 
     def test_what_is_left_is_a_chain_or_the_work_shared_out(self):
         chain = [crate("a"), crate("b", "a"), crate("c", "b")]
@@ -151,9 +159,10 @@ class Builds(unittest.TestCase):
                 self.assertEqual(os.path.realpath(it.read().strip()), os.path.realpath(self.top + "/crates/" + name))
             self.assertEqual(sorted(os.listdir(self.top + "/crates/" + name + "/out")), ["incremental", "rlib"])
 
-    def test_a_kit_that_takes_no_library_makes_it_once_more(self):
+    def test_a_kit_that_takes_no_library_is_asked_once(self):
         self.write("../bin/rt", PLAYER.replace("known=", "known=; : "))
-        self.assertEqual(self.build()[0], 0)
+        status, _, proved = self.build()
+        self.assertEqual((status, sorted(proved)), (0, ["left", "low", "low", "right", "top"]))
         self.assertEqual(self.build()[2], [])
 
     def test_a_crate_that_is_not_proved_ends_the_build(self):
