@@ -18,6 +18,7 @@ given. Lines on standard error say how many crates and about how many minutes ar
 import contextlib
 import fcntl
 import os
+import re
 import shutil
 import signal
 import subprocess
@@ -52,16 +53,20 @@ class Crate:
     memory: float
 
 
-def lines_of(folder, ending):
-    """How many lines the files of that ending have, in a crate's folder."""
+def count_of(pattern, folder, ending):
+    """How often the files of that ending have the pattern, in a crate's folder."""
     count = 0
     for part in PARTS:
         for at, _, names in os.walk(os.path.join(folder, part)):
             for name in names:
                 if name.endswith(ending):
                     with open(os.path.join(at, name), "rb") as it:
-                        count += it.read().count(b"\n")
+                        count += len(re.findall(pattern, it.read()))
     return count
+
+
+def lines_of(folder, ending):
+    return count_of(rb"\n", folder, ending)
 
 
 def listed(text):
@@ -104,8 +109,8 @@ def crates_for(top, name):
                 name=it,
                 deps=tuple(dep for dep in deps[it] if dep in deps),
                 is_program=os.path.isfile(os.path.join(folder, "src", "main.rt")),
-                # Fitted to the minutes that the gate tells of each crate's proof.
-                seconds=20 + 0.1 * code[it] + 0.015 * under,
+                # Fitted to what proofs with one job took on an idle machine.
+                seconds=8 + 1.3 * count_of(rb"\bfn\s+\w", folder, ".rt") + 0.008 * under,
                 memory=1.5e9 + 1e6 * code[it] + 2e5 * lines_of(folder, ".antt") + 8e4 * under,
             )
         )
@@ -141,7 +146,8 @@ def chosen(waiting, made, running, processors, memory, behind_of):
     ready.sort(key=lambda it: -behind_of[it.name])
     idle = processors - sum(it.processors() for it in running)
     room = memory - sum(taken(it.crate, it.jobs) for it in running)
-    longest = max((behind_of[it.crate.name] for it in running), default=0)
+    # Those that run are half done, by and large.
+    longest = max((behind_of[it.crate.name] - it.crate.seconds / 2 for it in running), default=0)
     for at, crate in enumerate(ready):
         if idle < 1 or (crate.memory > room and (running or found)):
             break
@@ -161,8 +167,9 @@ def taken(crate, jobs):
 
 
 def seconds_left(crates, processors):
-    """How long these crates take at least: their longest chain, or their work shared out."""
-    return max(max(behind(crates).values(), default=0), sum(it.seconds for it in crates) / processors)
+    """How long these crates take at least: their longest chain with all jobs, or their work shared out."""
+    pace = 1 + 0.3 * (min(MOST_JOBS, processors) - 1)
+    return max(max(behind(crates).values(), default=0) / pace, sum(it.seconds for it in crates) / processors)
 
 
 def free_memory():

@@ -65,8 +65,9 @@ class Choice(unittest.TestCase):
     def test_the_urgent_one_gets_all_jobs_beside_others(self):
         crates = [crate("a", seconds=9), crate("b"), crate("c", seconds=8)]
         self.assertEqual(self.chosen(crates), [("b", 4), ("a", 1), ("c", 1)])
-        gentle = Start(crate("x", seconds=9), 1, False)
-        self.assertEqual(self.chosen([crate("a")], running=[gentle]), [("a", 4)])
+        for seconds, jobs in {15: 4, 30: 3}.items():
+            gentle = Start(crate("x", seconds=seconds), 1, False)
+            self.assertEqual(self.chosen([crate("a")], running=[gentle]), [("a", jobs)])
 
     def test_processors_that_nobody_waits_for_are_shared_out(self):
         urgent = Start(crate("x", seconds=30), 4, True)
@@ -84,7 +85,8 @@ class Choice(unittest.TestCase):
 
     def test_what_is_left_is_a_chain_or_the_work_shared_out(self):
         chain = [crate("a"), crate("b", "a"), crate("c", "b")]
-        self.assertEqual(side_by_side.seconds_left(chain, 4), 30)
+        self.assertEqual(side_by_side.seconds_left(chain, 1), 30)
+        self.assertAlmostEqual(side_by_side.seconds_left(chain, 4), 30 / 1.9)
         self.assertEqual(side_by_side.seconds_left([crate(it) for it in "abcdefgh"], 2), 40)
         self.assertEqual(side_by_side.seconds_left([], 2), 0)
 
