@@ -20,6 +20,8 @@
 //! - `and`: nothing
 //!
 //! Neither takes memory.
+//!
+//! Tests: none, because none of it runs.
 #![tactic(auto)]
 
 ghost use Rattle.std.specs.Prelude.{◌≡◌, ◌++◌, [], List, ℕ};
