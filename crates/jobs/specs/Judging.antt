@@ -16,7 +16,7 @@ use Rattle.jobs.specs.Verdicts.{IsVerdict}
 
 -- the event stands in front of what is left behind it
 abbrev pub IsAhead : Event → Transcript → Transcript → Type 0
-IsAhead e left left' = left ≡ record { events = e ∷ left'.events; fault = left'.fault }
+IsAhead e left left' = left ≡ record { events = e ∷ left'.events; fault = left'.fault; wants = left.wants }
 
 -- the next event was read, and the checker has taken it, or it isn't right; or there is none
 abbrev pub IsNext : Transcript → Transcript → Checker → Checker → Next → Type 0

@@ -5,7 +5,6 @@ pub mod MessageLines
 pub mod Arrows
 pub mod ReadReplies
 pub mod ReadEvents
-pub mod WantedMemory
 pub mod WrittenReplies
 pub mod EventsAgain
 pub mod ScriptLines

@@ -44,7 +44,7 @@ use Rattle.script.proofs.CutLines.{lines_whole}
 use Rattle.script.proofs.Headers.{behind_header, header_is, no_header}
 
 -- each row of the table says what its command is
-pub table_right : AllByRecursion IsRight table
+table_right : AllByRecursion IsRight table
 table_right = (
   record { name = refl; arguments = refl },
   (
@@ -86,7 +86,7 @@ table_right = (
 -- ---- the first line
 
 -- the word behind the arguments is `=>`
-pub behind_found : (n : ℕ) (words answer : List (List ℕ)) → behind_arrow n words ≡ Ok answer → drop n words ≡ codes "=>" ∷ answer
+behind_found : (n : ℕ) (words answer : List (List ℕ)) → behind_arrow n words ≡ Ok answer → drop n words ≡ codes "=>" ∷ answer
 unfolding behind_arrow
 behind_found n words answer e =
     let g = guarded (bytes_eq (get_or words n []) (codes "=>")) WordCount (drop (n + 1) words) answer e in

@@ -1,5 +1,5 @@
 -- Lines read one after the other, as a loop does.
-use Rattle.std.proofs.Common.{◌≡◌, ℕ, zero, suc, ◌-◌, ◌+◌, ◌<◌, ◌≤◌, List, [], ◌∷◌, ◌++◌, Result, Ok, Err, length, Bool, true, false, cond, Option, Some, None, refl, sym, ap, subst, ◌∙◌, inl, inr, append_assoc, arith, Vec, Global}
+use Rattle.std.proofs.Common.{◌≡◌, ℕ, zero, suc, ◌-◌, ◌+◌, ◌<◌, ◌≤◌, List, [], ◌∷◌, ◌++◌, Result, Ok, Err, length, Bool, true, false, cond, Option, Some, None, refl, sym, ap, subst, ◌∙◌, append_assoc, arith, Vec, Global}
 use Rattle.std.specs.Prelude.{◌≢◌, ◌⊎◌, ◌==◌, IfErr}
 use Rattle.std.specs.List.{onto_first}
 use Rattle.std.proofs.lemmas.Bool.{eqb-false, eq-eqb}
@@ -13,14 +13,14 @@ use Rattle.script.specs.declared.headings.Heading.{Heading}
 use Rattle.script.specs.declared.reply_reading.Shape.{Shape}
 use Rattle.script.specs.declared.reply_reading.Shape.TheVariants as shape
 use Rattle.script.specs.EventLines.{heading_at, row_line_at, message_line_at}
-use Rattle.script.specs.Memory.{event_has_bytes}
+use Rattle.script.specs.Memory.{wants_at}
 use Rattle.word_lines.specs.declared.fault.LineFault.{LineFault}
 use Rattle.script.specs.declared.fault.TranscriptError.{TranscriptError}
 use Rattle.script.specs.declared.fault.TranscriptError.TheVariants as errors
 use Rattle.word_lines.proofs.ReadWords.{bind_ok, ok_is}
 use Rattle.script.specs.Lines.{Place, is_newline, lines_of}
 use Rattle.word_lines.specs.Reading.{◌>>=◌}
-use Rattle.script.specs.Transcripts.{Fault, Fails, TakesLines, at_line, first_of, next_at, many_at, following_at, event_at, events_at, body_at, Transcript, nothing_left, onto_left, left_within, left_at, outcome_of, outcome, HasHeader, left_of, MayWantAt, MayWantNext, TranscriptWants, IsFaulty, TakesEvent}
+use Rattle.script.specs.Transcripts.{Fault, Fails, TakesLines, at_line, first_of, next_at, many_at, following_at, event_at, events_at, body_at, Transcript, nothing_left, onto_left, left_within, left_at, outcome_of, outcome, HasHeader, left_of, TranscriptWants, IsFaulty, TakesEvent}
 
 -- what was read before, and what is still read
 abbrev pub with_front : {A : Type 0} → List A → Result (List A × Place) Fault → Result (List A × Place) Fault
@@ -113,9 +113,9 @@ module _ (format : Format) where
 -- ---- what is left
 
 -- what is read, and what is left, where the first event is known
-ahead_same : (read : Result (Event × Place) Fault) (f g : Place → Transcript) → ((x : Event × Place) → read ≡ Ok x → f x.1 ≡ g x.1) → onto_left read f ≡ onto_left read g
-ahead_same (Ok x) f g same = ap (λ (left : Transcript). record { events = x.0 ∷ left.events; fault = left.fault }) (same x refl)
-ahead_same (Err fault) f g same = refl
+ahead_same : (wants : Bool) (read : Result (Event × Place) Fault) (f g : Place → Transcript) → ((x : Event × Place) → read ≡ Ok x → f x.1 ≡ g x.1) → onto_left wants read f ≡ onto_left wants read g
+ahead_same wants (Ok x) f g same = ap (λ (left : Transcript). record { events = x.0 ∷ left.events; fault = left.fault; wants = wants }) (same x refl)
+ahead_same wants (Err fault) f g same = refl
 
 none_ahead : (b : Bool) (left : Transcript) → b ≡ true → nothing_left ≡ cond b nothing_left left
 none_ahead b left none = rw none refl
@@ -125,7 +125,7 @@ module _ (format : Format) where
   pub none_left : (n : ℕ) (p : Place) → length p.lines ≡ 0 → left_within format n p ≡ nothing_left
   unfolding left_within
   none_left zero p none = refl
-  none_left (suc n) p none = sym (none_ahead (length p.lines == 0) (onto_left (event_at format p) (λ after. left_within format n after)) (eq-eqb (length p.lines) 0 none))
+  none_left (suc n) p none = sym (none_ahead (length p.lines == 0) (onto_left (wants_at format p) (event_at format p) (λ after. left_within format n after)) (eq-eqb (length p.lines) 0 none))
 
   -- as many events as there are lines are enough
   same_within : (n m : ℕ) (p : Place) → length p.lines ≤ n → length p.lines ≤ m → left_within format n p ≡ left_within format m p
@@ -134,30 +134,30 @@ module _ (format : Format) where
   same_within (suc n) zero p n-enough m-enough = none_left (suc n) p (omega arith)
   same_within (suc n) (suc m) p n-enough m-enough =
       ap (λ (left : Transcript). cond (length p.lines == 0) nothing_left left)
-      (ahead_same (event_at format p) (λ after. left_within format n after) (λ after. left_within format m after) (λ x e. same_within n m x.1 (omega (arith, event_fewer format p x e)) (omega (arith, event_fewer format p x e))))
+      (ahead_same (wants_at format p) (event_at format p) (λ after. left_within format n after) (λ after. left_within format m after) (λ x e. same_within n m x.1 (omega (arith, event_fewer format p x e)) (omega (arith, event_fewer format p x e))))
 
-  some_within : (n : ℕ) (p : Place) → length p.lines ≤ n → (length p.lines == 0) ≡ false → left_within format n p ≡ onto_left (event_at format p) (left_at format)
+  some_within : (n : ℕ) (p : Place) → length p.lines ≤ n → (length p.lines == 0) ≡ false → left_within format n p ≡ onto_left (wants_at format p) (event_at format p) (left_at format)
   unfolding left_within
   some_within zero p enough some = absurd (eqb-false (length p.lines) 0 some (omega arith))
-  some_within (suc n) p enough some = rw some (ahead_same (event_at format p) (λ after. left_within format n after) (left_at format) (λ x e. same_within n (length x.1.lines) x.1 (omega (arith, event_fewer format p x e)) (omega arith)))
+  some_within (suc n) p enough some = rw some (ahead_same (wants_at format p) (event_at format p) (λ after. left_within format n after) (left_at format) (λ x e. same_within n (length x.1.lines) x.1 (omega (arith, event_fewer format p x e)) (omega arith)))
 
--- what an event wants, what is left wants
-first_wants : (read : Result (Event × Place) Fault) (below : Place → Transcript) → MayWantAt event_has_bytes read → MayWantNext (onto_left read below)
-first_wants (Ok x) below wants = wants
-first_wants (Err f) below wants = wants
+-- what the first event wants, what is left wants
+first_wants : (wants : Bool) (read : Result (Event × Place) Fault) (below : Place → Transcript) → (onto_left wants read below).wants ≡ wants
+first_wants wants (Ok x) below = refl
+first_wants wants (Err f) below = refl
 
 -- the first event of what is left
-event_first : (read : Result (Event × Place) Fault) (below : Place → Transcript) (r : Result Event TranscriptError) (after : Place) → TakesLines (λ x. x) r after read → IfErr r (λ e. e ≡ errors.NoMemory → MayWantAt event_has_bytes read)
-    → TakesEvent (Some r) (onto_left read below) (below after)
-event_first read below (Ok e) after takes wants = rw takes refl
-event_first read below (Err errors.NoMemory) after takes wants = (tt, λ is. first_wants read below (wants is))
-event_first read below (Err (errors.Fault line fault)) after takes wants = (rw takes refl, λ is. absurd cc)
+event_first : (wants : Bool) (read : Result (Event × Place) Fault) (below : Place → Transcript) (r : Result Event TranscriptError) (after : Place) → TakesLines (λ x. x) r after read → IfErr r (λ e. e ≡ errors.NoMemory → wants ≡ true)
+    → TakesEvent (Some r) (onto_left wants read below) (below after)
+event_first wants read below (Ok e) after takes memory = rw takes refl
+event_first wants read below (Err errors.NoMemory) after takes memory = (tt, λ is. first_wants wants read below ∙ memory is)
+event_first wants read below (Err (errors.Fault line fault)) after takes memory = (rw takes refl, λ is. absurd cc)
 
 module _ (format : Format) where
   -- what is taken where a line is left
-  pub event_taken : (p after : Place) (r : Result Event TranscriptError) → (length p.lines == 0) ≡ false → TakesLines (λ x. x) r after (event_at format p) → IfErr r (λ e. e ≡ errors.NoMemory → MayWantAt event_has_bytes (event_at format p))
+  pub event_taken : (p after : Place) (r : Result Event TranscriptError) → (length p.lines == 0) ≡ false → TakesLines (λ x. x) r after (event_at format p) → IfErr r (λ e. e ≡ errors.NoMemory → wants_at format p ≡ true)
       → TakesEvent (Some r) (left_at format p) (left_at format after)
-  event_taken p after r some takes wants = rw (some_within format (length p.lines) p (omega arith) some) (event_first (event_at format p) (left_at format) r after takes wants)
+  event_taken p after r some takes memory = rw (some_within format (length p.lines) p (omega arith) some) (event_first (wants_at format p) (event_at format p) (left_at format) r after takes memory)
 
 -- ---- the whole of it
 
@@ -165,10 +165,10 @@ onto_outcome : (e : Event) (es : List Event) (fault : Option Fault) → (outcome
 onto_outcome e es None = refl
 onto_outcome e es (Some f) = refl
 
-whole_by : (read : Result (Event × Place) Fault) (read_on : Place → Result (List Event) Fault) (below : Place → Transcript) → ((p : Place) → read_on p ≡ outcome (below p))
-    → (read >>= λ first. read_on first.1 >>= λ others. Ok (first.0 ∷ others)) ≡ outcome (onto_left read below)
-whole_by (Ok x) read_on below same = ap (λ (others : Result (List Event) Fault). others >>= λ es. Ok (x.0 ∷ es)) (same x.1) ∙ onto_outcome x.0 (below x.1).events (below x.1).fault
-whole_by (Err f) read_on below same = refl
+whole_by : (wants : Bool) (read : Result (Event × Place) Fault) (read_on : Place → Result (List Event) Fault) (below : Place → Transcript) → ((p : Place) → read_on p ≡ outcome (below p))
+    → (read >>= λ first. read_on first.1 >>= λ others. Ok (first.0 ∷ others)) ≡ outcome (onto_left wants read below)
+whole_by wants (Ok x) read_on below same = ap (λ (others : Result (List Event) Fault). others >>= λ es. Ok (x.0 ∷ es)) (same x.1) ∙ onto_outcome x.0 (below x.1).events (below x.1).fault
+whole_by wants (Err f) read_on below same = refl
 
 whole_step : (b : Bool) (read : Result (List Event) Fault) (left : Transcript) → read ≡ outcome left → cond b (Ok []) read ≡ outcome (cond b nothing_left left)
 whole_step true read left same = refl
@@ -179,8 +179,8 @@ module _ (format : Format) where
   unfolding events_at left_within
   whole_within zero p = refl
   whole_within (suc n) p =
-      whole_step (length p.lines == 0) (event_at format p >>= λ first. events_at format n first.1 >>= λ others. Ok (first.0 ∷ others)) (onto_left (event_at format p) (λ after. left_within format n after))
-      (whole_by (event_at format p) (events_at format n) (λ after. left_within format n after) (whole_within n))
+      whole_step (length p.lines == 0) (event_at format p >>= λ first. events_at format n first.1 >>= λ others. Ok (first.0 ∷ others)) (onto_left (wants_at format p) (event_at format p) (λ after. left_within format n after))
+      (whole_by (wants_at format p) (event_at format p) (events_at format n) (λ after. left_within format n after) (whole_within n))
 
   -- what is read of a text is what is left at its beginning
   pub whole_left : (text : List ℕ) (p : Place) → p ≡ record { number = 1 + header_lines format; lines = lines_of text } → body_at format text ≡ outcome (left_at format p)
@@ -189,9 +189,9 @@ module _ (format : Format) where
 
 -- ---- how much is left
 
-few_ahead : (n : ℕ) (read : Result (Event × Place) Fault) (below : Place → Transcript) → ((p : Place) → length (below p).events ≤ n) → length (onto_left read below).events ≤ suc n
-few_ahead n (Ok x) below few = omega (arith, few x.1)
-few_ahead n (Err f) below few = omega arith
+few_ahead : (n : ℕ) (wants : Bool) (read : Result (Event × Place) Fault) (below : Place → Transcript) → ((p : Place) → length (below p).events ≤ n) → length (onto_left wants read below).events ≤ suc n
+few_ahead n wants (Ok x) below few = omega (arith, few x.1)
+few_ahead n wants (Err f) below few = omega arith
 
 few_step : (b : Bool) (n : ℕ) (left : Transcript) → length left.events ≤ n → length (cond b nothing_left left).events ≤ n
 few_step true n left few = omega arith
@@ -215,7 +215,7 @@ module _ (format : Format) where
   few_within : (n : ℕ) (p : Place) → length (left_within format n p).events ≤ n
   unfolding left_within
   few_within zero p = omega arith
-  few_within (suc n) p = few_step (length p.lines == 0) (suc n) (onto_left (event_at format p) (λ after. left_within format n after)) (few_ahead n (event_at format p) (λ after. left_within format n after) (few_within n))
+  few_within (suc n) p = few_step (length p.lines == 0) (suc n) (onto_left (wants_at format p) (event_at format p) (λ after. left_within format n after)) (few_ahead n (wants_at format p) (event_at format p) (λ after. left_within format n after) (few_within n))
 
   -- there are no more events than bytes
   pub few_left : (text body : List ℕ) (p : Place) → p.lines ≡ lines_of body → length body ≤ length text → length (left_at format p).events ≤ length text
@@ -227,26 +227,8 @@ module _ (format : Format) where
 abbrev pub behind : List Event → Transcript → Result (List Event) Fault
 behind front left = outcome_of (front ++ left.events) left.fault
 
--- events, and what is left below them
-abbrev pub ahead : List Event → Transcript → Transcript
-ahead front left = record { events = front ++ left.events; fault = left.fault }
-
 -- one event more was read
-pub more_ahead : (front : List Event) (e : Event) (left left' : Transcript) → left ≡ record { events = e ∷ left'.events; fault = left'.fault } → ahead front left ≡ ahead (front ++ e ∷ []) left'
-more_ahead front e left left' is = ap (ahead front) is ∙ ap (λ (es : List Event). record { events = es; fault = left'.fault }) (sym (append_assoc front (e ∷ []) left'.events))
-
--- an event was read
-pub some_ahead : (front : List Event) (e : Event) (left whole : Transcript) → whole ≡ ahead (front ++ e ∷ []) left → whole.events ≢ []
-some_ahead [] e left whole is none = let no : e ∷ left.events ≡ [] = sym (ap (λ (t : Transcript). t.events) is) ∙ none in cc
-some_ahead (first ∷ front) e left whole is none = let no : first ∷ ((front ++ e ∷ []) ++ left.events) ≡ [] = sym (ap (λ (t : Transcript). t.events) is) ∙ none in cc
-
--- the next event is the first, or stands below another
-pub wants_ahead : (front : List Event) (left whole : Transcript) → whole ≡ ahead front left → MayWantNext left → (whole.events ≢ []) ⊎ MayWantNext whole
-wants_ahead [] left whole is wants = inr (subst MayWantNext (sym is) wants)
-wants_ahead (first ∷ front) left whole is wants = inl (λ none. let no : first ∷ (front ++ left.events) ≡ [] = sym (ap (λ (t : Transcript). t.events) is) ∙ none in cc)
-
--- one event more was read
-pub reads_more : (front : List Event) (e : Event) (left left' : Transcript) → left ≡ record { events = e ∷ left'.events; fault = left'.fault } → behind front left ≡ behind (front ++ e ∷ []) left'
+pub reads_more : (front : List Event) (e : Event) (left left' : Transcript) → left ≡ record { events = e ∷ left'.events; fault = left'.fault; wants = left.wants } → behind front left ≡ behind (front ++ e ∷ []) left'
 reads_more front e left left' is = ap (behind front) is ∙ ap (λ (es : List Event). outcome_of es left'.fault) (sym (append_assoc front (e ∷ []) left'.events))
 
 -- an event is faulty
@@ -262,7 +244,7 @@ reads_end front left total none so_far = so_far ∙ ap (behind front) none ∙ a
 
 module _ (format : Format) where
   -- what the events of a text want, the text wants
-  pub text_wants : (text : List ℕ) (left : Transcript) (r : Result (Vec Event Global) TranscriptError) → HasHeader format text × (left ≡ left_of format text) → IfErr r (λ e. e ≡ errors.NoMemory → (left.events ≢ []) ⊎ MayWantNext left)
+  pub text_wants : (text : List ℕ) (left : Transcript) (r : Result (Vec Event Global) TranscriptError) → HasHeader format text × (left ≡ left_of format text) → IfErr r (λ e. e ≡ errors.NoMemory → (left.events ≢ []) ⊎ (left.wants ≡ true))
       → IfErr r (λ e. e ≡ errors.NoMemory → TranscriptWants format text)
   text_wants text left (Ok events) begins wants = tt
-  text_wants text left (Err error) begins wants = λ is. (begins.0, subst (λ (l : Transcript). (l.events ≢ []) ⊎ MayWantNext l) begins.1 (wants is))
+  text_wants text left (Err error) begins wants = λ is. (begins.0, subst (λ (l : Transcript). (l.events ≢ []) ⊎ (l.wants ≡ true)) begins.1 (wants is))

@@ -1,60 +1,69 @@
--- Which events may want memory to be read, and which faults it may hide, by their names and not by where they stand.
-use Rattle.std.specs.Prelude.{◌≡◌, nat_lt, Bool, true, false, ◌||◌, length, is_some, Result, Ok, Err}
-use Rattle.spans.specs.declared.calls.commands.Cmd.{Cmd}
-use Rattle.spans.specs.declared.calls.commands.Cmd.TheVariants as cmd
-use Rattle.spans.specs.declared.calls.events.Event.{Event}
-use Rattle.spans.specs.declared.calls.replies.Reply.{Reply}
-use Rattle.spans.specs.declared.calls.replies.Reply.TheVariants as reply
+-- Which events may want memory to be read: by what their first lines name (this project).
+use Rattle.std.specs.Prelude.{nat_lt, ℕ, Bool, true, false, ◌||◌, List, [], ◌∷◌, Option, Some, None, Result, Ok, Err}
+use Rattle.text_format.specs.declared.Format.{Format}
 use Rattle.word_lines.specs.declared.fault.LineFault.{LineFault}
-use Rattle.word_lines.specs.declared.fault.LineFault.TheVariants as fault
+use Rattle.word_lines.specs.declared.table.Verb.{Verb}
+use Rattle.word_lines.specs.Memory.{has_bytes}
+use Rattle.word_lines.specs.Reading.{◌>>=◌, number_at, session_at, row_at}
+use Rattle.word_lines.specs.Table.{table}
+use Rattle.word_lines.specs.Words.{text_at, words_at}
 use Rattle.script.specs.declared.headings.Heading.{Heading}
 use Rattle.script.specs.declared.reply_reading.Shape.{Shape}
 use Rattle.script.specs.declared.reply_reading.Shape.TheVariants as shape
+use Rattle.script.specs.declared.reply_table.Kind.{Kind}
+use Rattle.script.specs.declared.reply_table.Kind.TheVariants as kind
+use Rattle.script.specs.EventLines.{behind_arrow, heading_at}
+use Rattle.script.specs.Lines.{Place}
+use Rattle.script.specs.ReplyTable.{replies, kind_of}
 
--- the command has a key, a value or a span, and not numbers alone
-abbrev pub command_has_bytes : Cmd → Bool
-command_has_bytes (cmd.Get ts key) = true
-command_has_bytes (cmd.Put ts key value) = true
-command_has_bytes (cmd.Del ts key) = true
-command_has_bytes (cmd.Scan ts span) = true
-command_has_bytes (cmd.ReadAt t key) = true
-command_has_bytes (cmd.ScanAt t span) = true
-command_has_bytes (cmd.Open span cursor) = true
-command_has_bytes (cmd.OpenInitial span cursor) = true
-command_has_bytes (cmd.OpenEvery span cursor gap) = true
-command_has_bytes (cmd.OpenInitialEvery span cursor gap) = true
-command_has_bytes _ = false
+-- the kind of answer that is named first, if one is
+abbrev pub kind_named : List (List ℕ) → Option Kind
+kind_named [] = None
+kind_named (name ∷ words) = kind_of replies name
 
--- the reply has a value, a row or a message
-abbrev pub reply_has_bytes : Reply → Bool
-reply_has_bytes (reply.Found found) = is_some found
-reply_has_bytes (reply.Rows rows) = nat_lt 0 (length rows)
-reply_has_bytes (reply.Messages messages) = nat_lt 0 (length messages)
-reply_has_bytes _ = false
+-- what the first line of an event names, where it is right up to `=>`: the command, and the answer behind that
+unfoldable pub names_of : List (List ℕ) → Result (Verb × Option Kind) LineFault
+names_of words = do
+  position ← number_at words
+  session ← session_at 64 position.1
+  row ← row_at table session.1
+  answer ← behind_arrow row.0.arguments row.1
+  Ok (row.0.verb, kind_named answer)
 
--- the event's command or its reply has such a part
-abbrev pub event_has_bytes : Event → Bool
-event_has_bytes e = command_has_bytes e.cmd || reply_has_bytes e.reply
+unfoldable pub names_at : Format → List ℕ → Result (Verb × Option Kind) LineFault
+names_at format line = do
+  text ← text_at format line
+  words ← words_at text
+  names_of words
 
--- a fault that may stand behind such a part: words are counted, and sessions and commands known, before memory is wanted
-abbrev pub MayFollowBytes : LineFault → Type 0
-MayFollowBytes fault.WordCount = ⊥
-MayFollowBytes fault.Session = ⊥
-MayFollowBytes fault.UnknownCommand = ⊥
-MayFollowBytes _ = Unit {0}
+abbrev pub is_value : Option Kind → Bool
+is_value (Some kind.Value) = true
+is_value _ = false
 
--- ---- an event's first line
+-- the command has a key, a value or a span, or the answer a value
+abbrev pub name_bytes : Verb × Option Kind → Bool
+name_bytes names = has_bytes names.0 || is_value names.1
 
--- a reply of which the lines that follow aren't read yet
-abbrev pub shape_has_bytes : Shape → Bool
-shape_has_bytes (shape.Alone r) = reply_has_bytes r
-shape_has_bytes (shape.Rows n) = nat_lt 0 n
-shape_has_bytes (shape.Messages n) = nat_lt 0 n
+-- lines of rows or of messages follow
+abbrev pub has_lines : Shape → Bool
+has_lines (shape.Alone r) = false
+has_lines (shape.Rows n) = nat_lt 0 n
+has_lines (shape.Messages n) = nat_lt 0 n
 
-abbrev pub heading_has_bytes : Heading → Bool
-heading_has_bytes h = command_has_bytes h.cmd || shape_has_bytes h.shape
+-- it was read, and has this
+abbrev pub ok_has : {A : Type 0} → (A → Bool) → Result A LineFault → Bool
+ok_has has (Ok x) = has x
+ok_has has (Err f) = false
 
--- what is read has such a part, or is a fault that may stand behind one
-abbrev pub MayWant : {A : Type 0} → (A → Bool) → Result A LineFault → Type 0
-MayWant has (Ok x) = has x ≡ true
-MayWant has (Err f) = MayFollowBytes f
+-- the first line of an event names such a command or answer, or says that lines follow
+abbrev pub first_wants : Format → List ℕ → Bool
+first_wants format line = ok_has name_bytes (names_at format line) || ok_has (λ (h : Heading). has_lines h.shape) (heading_at format line)
+
+-- the first of the lines does
+abbrev pub lines_want : Format → List (List ℕ) → Bool
+lines_want format [] = false
+lines_want format (line ∷ lines) = first_wants format line
+
+-- the event at a place may want memory to be read
+abbrev pub wants_at : Format → Place → Bool
+wants_at format p = lines_want format p.lines

@@ -1,5 +1,5 @@
 -- Reading transcripts from the first line to the last: the events, or the first fault with the number of its line.
-use Rattle.std.specs.Prelude.{◌≡◌, ◌≢◌, ◌⊎◌, Bool, true, ℕ, zero, suc, ◌+◌, ◌==◌, if◌then◌else◌, List, [], ◌∷◌, ◌++◌, length, take, drop, bytes_eq, Option, Some, None, Result, Ok, Err}
+use Rattle.std.specs.Prelude.{◌≡◌, ◌≢◌, ◌⊎◌, Bool, true, false, ℕ, zero, suc, ◌+◌, ◌==◌, if◌then◌else◌, List, [], ◌∷◌, ◌++◌, length, take, drop, bytes_eq, Option, Some, None, Result, Ok, Err}
 use Rattle.std.specs.List.{flat_map}
 use Rattle.text_format.specs.declared.Format.{Format}
 use Rattle.text_format.specs.Limits.{header, header_lines}
@@ -18,7 +18,7 @@ use Rattle.word_lines.specs.Events.{event_text}
 use Rattle.script.specs.Lines.{Place, lines_of}
 use Rattle.word_lines.specs.Reading.{◌>>=◌}
 use Rattle.script.specs.EventLines.{heading_at, row_line_at, message_line_at}
-use Rattle.script.specs.Memory.{event_has_bytes, MayFollowBytes}
+use Rattle.script.specs.Memory.{wants_at}
 
 -- the texts of events, one after the other
 abbrev pub events_text : List Event → List ℕ
@@ -33,7 +33,7 @@ pub record Fault : Type 0 where
   pub line : ℕ
   pub fault : LineFault
 
--- what a function returned, seen by view, is what reading gives, unless memory ran out; where it may, `MayWantAt` says
+-- what a function returned, seen by view, is what reading gives, unless memory ran out; where it may, `wants_at` says
 abbrev pub Fails : {Y : Type 0} → TranscriptError → Result Y Fault → Type 0
 Fails errors.NoMemory read = Unit {0}
 Fails (errors.Fault line fault) read = read ≡ Err (record { line = line; fault = fault })
@@ -46,11 +46,6 @@ Tells view (Err e) read = Fails e read
 abbrev pub TakesLines : {X Y : Type 0} → (X → Y) → Result X TranscriptError → Place → Result (Y × Place) Fault → Type 0
 TakesLines view (Ok x) left read = read ≡ Ok (view x, left)
 TakesLines view (Err e) left read = Fails e read
-
--- what is read at a place has a part to keep, or is a fault that may stand behind one
-abbrev pub MayWantAt : {A : Type 0} → (A → Bool) → Result (A × Place) Fault → Type 0
-MayWantAt has (Ok x) = has x.0 ≡ true
-MayWantAt has (Err f) = MayFollowBytes f.fault
 
 -- what a line says, a fault with the line's number
 abbrev pub at_line : {A : Type 0} → ℕ → Result A LineFault → Result A Fault
@@ -119,20 +114,22 @@ transcript_at format text =
 pub record Transcript : Type 0 where
   pub events : List Event
   pub fault : Option Fault
+  -- whether the next event, or the faulty one in its place, may want memory to be read
+  pub wants : Bool
 
 -- nothing is left
 abbrev pub nothing_left : Transcript
-nothing_left = record { events = []; fault = None }
+nothing_left = record { events = []; fault = None; wants = false }
 
 -- an event, and what is left behind it; a fault hides what stands below it
-abbrev pub onto_left : Result (Event × Place) Fault → (Place → Transcript) → Transcript
-onto_left (Ok first) below = let others = below first.1 in record { events = first.0 ∷ others.events; fault = others.fault }
-onto_left (Err f) below = record { events = []; fault = Some f }
+abbrev pub onto_left : Bool → Result (Event × Place) Fault → (Place → Transcript) → Transcript
+onto_left wants (Ok first) below = let others = below first.1 in record { events = first.0 ∷ others.events; fault = others.fault; wants = wants }
+onto_left wants (Err f) below = record { events = []; fault = Some f; wants = wants }
 
 -- what is left at a place, where there are at most so many events
 unfoldable pub left_within : Format → ℕ → Place → Transcript
 left_within format zero p = nothing_left
-left_within format (suc n) p = if length p.lines == 0 then nothing_left else onto_left (event_at format p) (λ after. left_within format n after)
+left_within format (suc n) p = if length p.lines == 0 then nothing_left else onto_left (wants_at format p) (event_at format p) (λ after. left_within format n after)
 
 -- what is left at a place
 abbrev pub left_at : Format → Place → Transcript
@@ -154,27 +151,17 @@ outcome_of events (Some f) = Err f
 abbrev pub outcome : Transcript → Result (List Event) Fault
 outcome left = outcome_of left.events left.fault
 
--- the first of the events has a part to keep, or the fault in its place may stand behind one
-abbrev pub MayWantFirst : List Event → Option Fault → Type 0
-MayWantFirst (e ∷ es) fault = event_has_bytes e ≡ true
-MayWantFirst [] (Some f) = MayFollowBytes f.fault
-MayWantFirst [] None = ⊥
-
--- the next event, or the fault in its place, may want memory
-abbrev pub MayWantNext : Transcript → Type 0
-MayWantNext left = MayWantFirst left.events left.fault
-
 -- what is left begins with its fault, unless memory ran out
 abbrev pub IsFaulty : TranscriptError → Transcript → Type 0
 IsFaulty errors.NoMemory left = Unit {0}
-IsFaulty (errors.Fault line fault) left = left ≡ record { events = []; fault = Some (record { line = line; fault = fault }) }
+IsFaulty (errors.Fault line fault) left = left ≡ record { events = []; fault = Some (record { line = line; fault = fault }); wants = left.wants }
 
 -- the first of what was left was taken off, if there was any, or is faulty; memory ran out only where it may want some
 abbrev pub TakesEvent : Option (Result Event TranscriptError) → Transcript → Transcript → Type 0
 TakesEvent None left left' = (left ≡ nothing_left) × (left' ≡ left)
-TakesEvent (Some (Ok e)) left left' = left ≡ record { events = e ∷ left'.events; fault = left'.fault }
-TakesEvent (Some (Err error)) left left' = IsFaulty error left × (error ≡ errors.NoMemory → MayWantNext left)
+TakesEvent (Some (Ok e)) left left' = left ≡ record { events = e ∷ left'.events; fault = left'.fault; wants = left.wants }
+TakesEvent (Some (Err error)) left left' = IsFaulty error left × (error ≡ errors.NoMemory → left.wants ≡ true)
 
--- the text has its header, and an event to keep, or its first event, or the fault in its place, may want memory
+-- the text has its header, and an event to keep, or what stands first behind the header may want memory to be read
 abbrev pub TranscriptWants : Format → List ℕ → Type 0
-TranscriptWants format text = HasHeader format text × (((left_of format text).events ≢ []) ⊎ MayWantNext (left_of format text))
+TranscriptWants format text = HasHeader format text × (((left_of format text).events ≢ []) ⊎ ((left_of format text).wants ≡ true))

@@ -6,10 +6,10 @@
 //! 3  row a 1
 //! 4  2 0 commit                  Some(Err(Fault { line: 4, .. }))
 //! ```
-ghost use Rattle.std.specs.Prelude.{◌≡◌, ◌≢◌, ◌≤◌, length, IfOk, IfErr, MatchResult};
+ghost use Rattle.std.specs.Prelude.{◌≡◌, ◌≢◌, ◌≤◌, true, length, IfOk, IfErr, MatchResult};
 ghost use Rattle.script.specs.EventLines.{heading_at};
-ghost use Rattle.script.specs.Memory.{event_has_bytes, heading_has_bytes};
-ghost use Rattle.script.specs.Transcripts.{Fails, HasHeader, MayWantAt, TakesLines, TakesEvent, next_at, event_at, left_of, outcome, transcript_at};
+ghost use Rattle.script.specs.Memory.{wants_at};
+ghost use Rattle.script.specs.Transcripts.{Fails, HasHeader, TakesLines, TakesEvent, next_at, event_at, left_of, outcome, transcript_at};
 ghost use Rattle.script.specs.declared.fault.TranscriptError.TheVariants.{NoMemory};
 
 use crate::fault::TranscriptError;
@@ -59,9 +59,9 @@ impl<'a> Events<'a> {
         }
     }
 
-    /// Takes the next event, if there is one. What is left after an error isn't said. Memory is wanted only for an event
-    /// with a key, a value, a span, a row or a message, and for none whose fault is `WordCount`, `Session` or
-    /// `UnknownCommand`.
+    /// Takes the next event, if there is one. What is left after an error isn't said. Memory is wanted only where the
+    /// event's first line, read up to `=>`, names a command with a key, a value or a span, or an answer with a value,
+    /// or where lines follow it.
     pub fn next(&mut self, alloc: Global) -> Option<Result<Event, TranscriptError>>
         ensures { TakesEvent result self.old self.new }
     {
@@ -76,7 +76,7 @@ impl<'a> Events<'a> {
 #[tactic(auto, unfolding(crate::specs::Transcripts::event_at))]
 fn take_event(alloc: Global, lines: &mut Lines, format: Format) -> Result<Event, TranscriptError>
     ensures exact { TakesLines (λ x. x) result lines.new (event_at format lines.old) }
-    ensures memory { IfErr result (λ e. e ≡ NoMemory → MayWantAt event_has_bytes (event_at format lines.old)) }
+    ensures memory { IfErr result (λ e. e ≡ NoMemory → wants_at format lines.old ≡ true) }
 {
     let heading = take_heading(alloc, lines, format)?;
     let reply = take_following(alloc, heading.shape, lines, format)?;
@@ -94,7 +94,7 @@ fn take_heading(
     format: Format,
 ) -> Result<Heading, TranscriptError>
     ensures exact { TakesLines (λ x. x) result lines.new (next_at (heading_at format) lines.old) }
-    ensures memory { IfErr result (λ e. e ≡ NoMemory → MayWantAt heading_has_bytes (next_at (heading_at format) lines.old)) }
+    ensures memory { IfErr result (λ e. e ≡ NoMemory → wants_at format lines.old ≡ true) }
 {
     let number = lines.number();
     let Some(line) = lines.take_line() else {

@@ -2,7 +2,7 @@
 ghost use Rattle.std.specs.Prelude.{◌≡◌, ◌<◌, true, IfErr};
 ghost use Rattle.word_lines.specs.Reading.{Gives};
 ghost use Rattle.script.specs.EventLines.{pair_at, pair_of, row_line_at, message_line_at, read_error_of};
-ghost use Rattle.script.specs.Memory.{shape_has_bytes};
+ghost use Rattle.script.specs.Memory.{has_lines};
 ghost use Rattle.script.specs.Transcripts.{TakesLines, next_at, many_at, following_at};
 ghost use Rattle.script.specs.declared.fault.TranscriptError.TheVariants.{NoMemory};
 
@@ -28,7 +28,7 @@ pub(crate) fn take_following(
     format: Format,
 ) -> Result<Reply, TranscriptError>
     ensures exact { TakesLines (λ x. x) result lines.new (following_at format shape lines.old) }
-    ensures memory { IfErr result (λ e. e ≡ NoMemory → shape_has_bytes shape ≡ true) }
+    ensures memory { IfErr result (λ e. e ≡ NoMemory → has_lines shape ≡ true) }
 {
     match shape {
         Shape::Alone(reply) => Ok(reply),

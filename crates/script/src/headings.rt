@@ -1,9 +1,9 @@
 //! The first line of an event: its position, its session, its command and what its reply's words say.
-ghost use Rattle.std.specs.Prelude.{◌≡◌, drop, IfErr};
+ghost use Rattle.std.specs.Prelude.{◌≡◌, drop, true, IfErr};
 ghost use Rattle.word_lines.specs.Reading.{Gives};
 ghost use Rattle.word_lines.specs.declared.fault.ReadError.TheVariants.{NoMemory};
 ghost use Rattle.script.specs.EventLines.{behind_arrow, heading_of, heading_at};
-ghost use Rattle.script.specs.Memory.{MayWant, heading_has_bytes};
+ghost use Rattle.script.specs.Memory.{name_bytes, names_at, names_of, ok_has};
 
 use crate::reply_reading::{Shape, read_reply};
 use spans::calls::Cmd;
@@ -27,10 +27,10 @@ pub(crate) struct Heading {
 }
 
 /// Reads the first line of an event, with its newline. All commands are known here.
-#[tactic(auto, unfolding(crate::specs::EventLines::heading_at))]
+#[tactic(auto, unfolding(crate::specs::EventLines::heading_at, crate::specs::Memory::names_at))]
 pub(crate) fn read_heading(alloc: Global, line: &[u8], format: Format) -> Result<Heading, ReadError>
     ensures exact { Gives (λ x. x) result (heading_at format line.now) }
-    ensures memory { IfErr result (λ e. e ≡ NoMemory → MayWant heading_has_bytes (heading_at format line.now)) }
+    ensures memory { IfErr result (λ e. e ≡ NoMemory → ok_has name_bytes (names_at format line.now) ≡ true) }
 {
     let text = text_of(line, format)?;
     let mut words = words_of(text)?;
@@ -41,10 +41,10 @@ pub(crate) fn read_heading(alloc: Global, line: &[u8], format: Format) -> Result
 }
 
 /// What the words of an event's first line say.
-#[tactic(auto, unfolding(crate::specs::EventLines::heading_of))]
+#[tactic(auto, unfolding(crate::specs::EventLines::heading_of, crate::specs::Memory::names_of))]
 fn take_heading(alloc: Global, words: &mut Words, format: Format) -> Result<Heading, ReadError>
     ensures exact { Gives (λ x. x) result (heading_of format words.old) }
-    ensures memory { IfErr result (λ e. e ≡ NoMemory → MayWant heading_has_bytes (heading_of format words.old)) }
+    ensures memory { IfErr result (λ e. e ≡ NoMemory → ok_has name_bytes (names_of words.old) ≡ true) }
 {
     let position = take_number(words)?;
     let seat = take_seat(words, SEATS)?;

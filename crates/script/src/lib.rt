@@ -9,8 +9,8 @@
 //! 1. All of the text is read, byte for byte, or its first fault is told, with the number of its line, unless memory
 //!    runs out.
 //! 2. Memory is taken for lines that came, and never for lines that a count promises.
-//! 3. Want of memory hides none of these faults of an event: a wrong number of words, an unknown session, an unknown
-//!    command. Nor does it come to an event of numbers alone.
+//! 3. Memory is wanted for an event only where its first line, read up to `=>`, names a command with a key, a value or
+//!    a span, or an answer with a value, or where lines follow it.
 //!
 //! ```text
 //! 1  0 0 begin 10 => started       Event { position: 0, seat: 0, cmd: Begin { ts: 10 }, reply: Started }

@@ -1,8 +1,8 @@
 //! Replies read from their words.
-ghost use Rattle.std.specs.Prelude.{◌≡◌, ◌≢◌, true, IfOk, IfErr};
+ghost use Rattle.std.specs.Prelude.{◌≡◌, ◌≢◌, Some, IfErr};
 ghost use Rattle.word_lines.specs.Reading.{Gives, Takes};
 ghost use Rattle.word_lines.specs.declared.fault.ReadError.TheVariants.{NoMemory};
-ghost use Rattle.script.specs.Memory.{shape_has_bytes};
+ghost use Rattle.script.specs.Memory.{kind_named};
 ghost use Rattle.script.specs.ReplyReading.{stats_at, refusal_at, shape_at, named_at, reply_at};
 ghost use Rattle.script.specs.declared.reply_table.Kind.TheVariants.{Value};
 
@@ -32,7 +32,7 @@ pub(crate) fn read_reply(
     format: Format,
 ) -> Result<Shape, ReadError>
     ensures exact { Gives (λ x. x) result (reply_at format words.old) }
-    ensures memory { IfErr result (λ e. e ≡ NoMemory → IfOk (reply_at format words.old) (λ shape. shape_has_bytes shape ≡ true)) }
+    ensures memory { IfErr result (λ e. e ≡ NoMemory → kind_named words.old ≡ Some Value) }
 {
     match read_named(alloc, words, format) {
         Err(ReadError::Fault(_)) => Err(ReadError::Fault(LineFault::Reply)),
@@ -40,10 +40,10 @@ pub(crate) fn read_reply(
     }
 }
 
-#[tactic(auto, using(crate::proofs::WantedMemory::value_wants), unfolding(crate::specs::ReplyReading::named_at))]
+#[tactic(auto, unfolding(crate::specs::ReplyReading::named_at))]
 fn read_named(alloc: Global, words: &mut Words, format: Format) -> Result<Shape, ReadError>
     ensures exact { Gives (λ x. x) result (named_at format words.old) }
-    ensures memory { IfErr result (λ e. e ≡ NoMemory → IfOk (named_at format words.old) (λ shape. shape_has_bytes shape ≡ true)) }
+    ensures memory { IfErr result (λ e. e ≡ NoMemory → kind_named words.old ≡ Some Value) }
 {
     let name = words.take_word().ok_or(LineFault::WordCount)?;
     let kind = kind_of(&REPLIES, name).ok_or(LineFault::Reply)?;

@@ -9,14 +9,14 @@
 //!
 //! The place of `=>` is known from the number of the command's arguments, so a value may be spelled
 //! so. A number of lines that follow asks for no room by itself: it is made line by line. Before an event
-//! was read no room is wanted, unless the first event, or the fault in its place, may want it.
+//! was read no room is wanted, unless the first event may want it, whether it is right or faulty.
 //!
 //! Cost: each byte is looked at six times at most. Keys, values and bounds are copied once, and at
 //! most twice where bytes are escaped or stand in a line of JSON.
-ghost use Rattle.std.specs.Prelude.{◌≡◌, ◌≢◌, ◌⊎◌, [], IfOk, IfErr};
+ghost use Rattle.std.specs.Prelude.{◌≡◌, ◌≢◌, ◌⊎◌, true, [], IfOk, IfErr};
 ghost use Rattle.std.specs.List.{All};
 ghost use Rattle.word_lines.specs.Limits.{IsEvent};
-ghost use Rattle.script.specs.Transcripts.{MayWantNext, Tells, TranscriptWants, outcome, transcript_at, transcript_text};
+ghost use Rattle.script.specs.Transcripts.{Tells, TranscriptWants, outcome, transcript_at, transcript_text};
 ghost use Rattle.script.specs.declared.fault.TranscriptError.TheVariants.{NoMemory};
 
 use crate::events::Events;
@@ -26,7 +26,9 @@ use std::alloc::Global;
 use text_format::Format;
 
 /// Reads a transcript of a format: its events, or the first line that is faulty. A text that doesn't begin with the
-/// format's header is faulty in its first line, by `WordCount`.
+/// format's header is faulty in its first line, by `WordCount`. Memory is wanted only to keep an event, or where the
+/// first event's first line, read up to `=>`, names a command with a key, a value or a span, or an answer with a value,
+/// or where lines follow it.
 pub fn read_transcript(
     alloc: Global,
     text: &[u8],
@@ -36,7 +38,7 @@ pub fn read_transcript(
     ensures found { IfOk result (λ events. (text.now ≡ transcript_text format events.items) × All (IsEvent format) events.items) }
     // Which fault it is, and in which line: the first from the top and from the left.
     ensures exact { Tells (λ events. events.items) result (transcript_at format text.now) }
-    // Memory is wanted only to keep an event, or where the first event, or the fault in its place, may want it.
+    // Memory is wanted only to keep an event, or where the first event may want it, whether it is right or faulty.
     ensures memory { IfErr result (λ e. e ≡ NoMemory → TranscriptWants format text.now) }
 {
     match Events::new(text, format) {
@@ -48,7 +50,7 @@ pub fn read_transcript(
 /// Reads all that is left.
 fn all_of(alloc: Global, mut left: Events) -> Result<Vec<Event>, TranscriptError>
     ensures exact { Tells (λ events. events.items) result (outcome left.entry) }
-    ensures memory { IfErr result (λ e. e ≡ NoMemory → (left.entry.events ≢ []) ⊎ MayWantNext left.entry) }
+    ensures memory { IfErr result (λ e. e ≡ NoMemory → (left.entry.events ≢ []) ⊎ (left.entry.wants ≡ true)) }
 {
     let mut events = Vec::new(alloc);
     while let Some(event) = left.next(alloc) {
