@@ -1,5 +1,5 @@
 -- A follower that stopped, once what waited is written.
-use Rattle.std.proofs.Common.{◌≡◌, ◌≢◌, ℕ, zero, suc, ◌+◌, Bool, List, [], ◌∷◌, ◌++◌, refl, sym, ap, ◌∙◌, subst, arith, append-nil, append_assoc, inl, inr}
+use Rattle.std.proofs.Common.{◌≡◌, ◌≢◌, ℕ, zero, suc, ◌+◌, Bool, List, [], ◌++◌, refl, sym, ap, ◌∙◌, subst, arith, append-nil, append_assoc, inl, inr}
 use Rattle.spans.specs.declared.calls.messages.Message.{Message}
 use Rattle.word_lines.specs.Events.{spent_line}
 use Rattle.ticket_lock.specs.Lists.{StartsWith}
@@ -31,7 +31,7 @@ module _ (o : FollowOptions) (input : List ℕ) (ended : Bool) (ms : List Messag
   cut_off ends.Spent whole output h s = record { last = spent_line h.1.0; is_last = inr (inr (h.1.0, h.0, refl)); whole = whole; report = h.1.1; begins = s }
   cut_off ends.Input whole output h s = record { last = []; is_last = inl refl; whole = whole; report = h.1; begins = s }
   cut_off ends.Output whole output h s = record { last = h.last; is_last = h.is_last; whole = h.whole; report = h.report; begins = starts_trans h.whole whole output h.begins s }
-  cut_off ends.Memory whole output h s = record { last = h.last; is_last = h.is_last; whole = h.whole; report = h.report; begins = starts_trans h.whole whole output h.begins s }
+  cut_off ends.Memory whole output h s = record { last = h.0.last; is_last = h.0.is_last; whole = h.0.whole; report = h.0.report; begins = starts_trans h.0.whole whole output h.0.begins s }
 
 kept_else : (e : FollowEnd) (out waits : List ℕ) → e ≢ ends.Output → kept_at e out waits ≡ out ++ waits
 kept_else ends.Done out waits ne = refl
@@ -97,7 +97,7 @@ module _ (o : FollowOptions) (r : Reads) (w : Writes) where
 
   -- memory is wanted
   pub followed_memory : IsFollowed o r r w w ends.Memory
-  followed_memory = followed_nothing ends.Memory w [] (sym (append-nil w.taken)) (record { last = []; is_last = inl refl; whole = []; report = ([], refl, refl); begins = ([], refl) }) (refl, refl)
+  followed_memory = followed_nothing ends.Memory w [] (sym (append-nil w.taken)) (record { last = []; is_last = inl refl; whole = []; report = ([], refl, refl); begins = ([], refl) }, inl refl) (refl, refl)
 
   -- the replica can't begin, and that is told
   pub followed_fault : (w' : Writes) (fault : FollowFault) (text : List ℕ) → IsUnbegun o.span o.start (errors.Fault fault) → text ≡ fault_line 0 fault → HasTaken w.taken w'.taken text [] → w'.failures ≡ w.failures → IsFollowed o r r w w' (ends.Fault 0 fault)

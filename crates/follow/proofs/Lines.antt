@@ -1,6 +1,6 @@
 -- What is followed of an input, line by line.
 use Rattle.std.proofs.Common.{◌≡◌, ℕ, suc, ◌+◌, ◌-◌, ◌<◌, ◌≤◌, ◌⊎◌, ⊎_elim, Bool, true, false, cond, List, [], ◌∷◌, ◌++◌, length, take, drop, Option, Some, None, Result, Ok, Err, refl, sym, ap, subst, ◌∙◌, arith, append-nil, length-append, inl, inr}
-use Rattle.std.specs.Prelude.{not, position}
+use Rattle.std.specs.Prelude.{◌≢◌, is_some, not, position}
 use Rattle.std.specs.List.{position_or_len}
 use Rattle.std.proofs.lemmas.Bool.{lt-ltb}
 use Rattle.std.proofs.lemmas.List.{length-take, length-take-le, take-append-drop, take-append-le}
@@ -9,7 +9,8 @@ use Rattle.std.proofs.Math.Seq.{take-length, take-append_seam, drop-append_seam,
 use Rattle.text_format.specs.declared.Format.{Format}
 use Rattle.text_format.specs.Limits.{line_limit}
 use Rattle.spans.specs.declared.calls.messages.Message.{Message}
-use Rattle.spans.specs.Consumer.{apply_fault}
+use Rattle.spans.specs.Consumer.{ApplyFault, apply_fault}
+use Rattle.json_lines.specs.declared.fault.MessageFault.{MessageFault}
 use Rattle.json_lines.specs.Messages.{IsMessage, message_line}
 use Rattle.json_lines.specs.Tests.{message_at}
 use Rattle.word_lines.specs.declared.fault.LineFault.{LineFault}
@@ -25,7 +26,8 @@ use Rattle.follow.specs.declared.options.FollowOptions.{FollowOptions}
 use Rattle.follow.specs.declared.fault.FollowError.{FollowError}
 use Rattle.follow.specs.Chosen.{is_taking_after}
 use Rattle.follow.specs.Followed.{start_of, is_chosen, error_of_line}
-use Rattle.follow.specs.Following.{chosen_at, said_by, line_at, taking_behind, stopped_at, followed_through, onto_followed, followed_step, followed_lines}
+use Rattle.follow.specs.Following.{Followed, chosen_at, said_by, line_at, taking_behind, error_of_test, stopped_at, followed_through, onto_followed, followed_step, followed_lines}
+use Rattle.follow.specs.Steps.{onto_taken}
 use Rattle.follow.proofs.MessagesRead.{line_is_message}
 
 -- ---- what a line says
@@ -36,12 +38,20 @@ module _ (format : Format) where
   line_misread taking line f e = ap (said_by format taking line) e
 
   -- it is one to take
-  line_chosen : (taking : Bool) (line text : List ℕ) → text_at format line ≡ Ok text → is_chosen taking text ≡ true → line_at format taking line ≡ chosen_at (message_at format line)
+  pub line_chosen : (taking : Bool) (line text : List ℕ) → text_at format line ≡ Ok text → is_chosen taking text ≡ true → line_at format taking line ≡ chosen_at (message_at format line)
   line_chosen taking line text e on = ap (said_by format taking line) e ∙ ap (λ (b : Bool). cond b (chosen_at (message_at format line)) (Ok None)) on
 
   -- it is a message's
   pub line_message : (taking : Bool) (line text : List ℕ) (m : Message) → text_at format line ≡ Ok text → is_chosen taking text ≡ true → (line ≡ message_line m) × IsMessage format m → line_at format taking line ≡ Ok (Some m)
   line_message taking line text m e on is = line_chosen taking line text e on ∙ ap chosen_at (ap (message_at format) is.0 ∙ line_is_message format m is.1)
+
+  -- one to take isn't passed over
+  pub chosen_stays : (taking : Bool) (line text : List ℕ) → text_at format line ≡ Ok text → is_chosen taking text ≡ true → line_at format taking line ≢ Ok None
+  chosen_stays taking line text e on passed = by_message (message_at format line) (sym (line_chosen taking line text e on) ∙ passed)
+    where
+      by_message : (r : Result Message MessageFault) → chosen_at r ≢ Ok None
+      by_message (Ok m) same = cc
+      by_message (Err fault) same = cc
 
 -- ---- the first line of what waits
 
@@ -66,6 +76,48 @@ newline_none xs none = elim (place_cases (position_or_len is_newline xs) (length
 
 no_last : (xs : List ℕ) → None ≡ position is_newline xs → 0 < length xs → has_newline xs ≡ false
 no_last xs none some = let n = newline_none xs none in fails_before_first is_newline xs (length xs - 1) 0 (omega arith)
+
+front_at : (n at : ℕ) (ws : List ℕ) → n ≤ length ws → Some at ≡ position is_newline ws → n ≡ at + 1 → Some at ≡ position is_newline (take n ws)
+front_at n at ws within is next = by_place (position is_newline (take n ws)) refl (position is_newline (drop n ws)) refl
+  where
+    l : length (take n ws) ≡ n
+    l = length-take-le n ws within
+
+    whole : Some at ≡ position is_newline (take n ws ++ drop n ws)
+    whole = is ∙ ap (position is_newline) (sym (take-append-drop n ws))
+
+    by_place : (o : Option ℕ) → o ≡ position is_newline (take n ws) → (p : Option ℕ) → p ≡ position is_newline (drop n ws) → Some at ≡ position is_newline (take n ws)
+    by_place (Some k) here p there = let stays = newline_stays (take n ws) (drop n ws) k here in let same : Some at ≡ Some k = whole ∙ sym stays in same ∙ here
+    by_place None none (Some k) there =
+        let comes = newline_comes (take n ws) (drop n ws) k none there in
+        let same : Some at ≡ Some (length (take n ws) + k) = whole ∙ sym comes in
+        let same' : at ≡ length (take n ws) + k = cc in
+        absurd (omega (arith, l))
+    by_place None none None there = let lacks = newline_lacks (take n ws) (drop n ws) none there in let clash : Some at ≡ None = whole ∙ sym lacks in absurd cc
+
+-- a line ends at its newline, whatever comes behind it
+ends_there : (n at : ℕ) (ws : List ℕ) → n ≤ length ws → Some at ≡ position is_newline ws → n ≡ at + 1 → (more : List ℕ) → lines_of (take n ws ++ more) ≡ take n ws ∷ lines_of more
+ends_there n at ws within is ends more =
+    let next : at + 1 ≡ length (take n ws) = sym ends ∙ sym (length-take-le n ws within) in
+    let cut = lines_first (take n ws ++ more) at (newline_stays (take n ws) more at (front_at n at ws within is ends)) in
+    let front : take (at + 1) (take n ws ++ more) ≡ take n ws = ap (λ (k : ℕ). take k (take n ws ++ more)) next ∙ take-append_seam (take n ws) more in
+    let back : drop (at + 1) (take n ws ++ more) ≡ more = ap (λ (k : ℕ). drop k (take n ws ++ more)) next ∙ drop-append_seam (take n ws) more in
+    cut ∙ λ i. front i ∷ lines_of (back i)
+
+no_lines : lines_of [] ≡ []
+unfolding lines_of
+no_lines = refl
+
+-- a line is one line
+pub line_alone : (n : ℕ) (l : Lines) → n ≤ length (waiting l) → IsLine l n → lines_of (take n (waiting l)) ≡ take n (waiting l) ∷ []
+line_alone n l within (inl h) =
+    let line = take n (waiting l) in
+    ap lines_of (sym (append-nil line)) ∙ (ends_there n h.0 (waiting l) within h.1 h.2 [] ∙ ap (λ (ls : List (List ℕ)). line ∷ ls) no_lines)
+line_alone n l within (inr h) =
+    let ws = waiting l in
+    let some : 0 < length ws = let q = h.1 in let r = h.2 in omega arith in
+    let all : take n ws ≡ ws = ap (λ (k : ℕ). take k ws) h.1 ∙ take-length ws in
+    ap lines_of all ∙ (lines_alone ws some h.0 ∙ λ i. sym all i ∷ no_lines i)
 
 without_step : (limit : ℕ) (s : Bool) (l : List ℕ) → (s ≡ false) ⊎ (suc limit < length l) → limit < length l → limit < length (cond s (take (length l - 1) l) l)
 without_step limit true l (inl e) long = absurd cc
@@ -116,38 +168,10 @@ module _ (format : Format) where
       (ws ++ g.0, g.1, g.2, line_misread format taking (ws ++ g.0) faults.LineTooLong (grown_too_long ws g.0 h.0 big) ∙ sym (line_misread format taking (take n ws) faults.LineTooLong told)))
       h.3
 
-  front_at : (n at : ℕ) (ws : List ℕ) → n ≤ length ws → Some at ≡ position is_newline ws → n ≡ at + 1 → Some at ≡ position is_newline (take n ws)
-  front_at n at ws within is next = by_place (position is_newline (take n ws)) refl (position is_newline (drop n ws)) refl
-    where
-      l : length (take n ws) ≡ n
-      l = length-take-le n ws within
-
-      whole : Some at ≡ position is_newline (take n ws ++ drop n ws)
-      whole = is ∙ ap (position is_newline) (sym (take-append-drop n ws))
-
-      by_place : (o : Option ℕ) → o ≡ position is_newline (take n ws) → (p : Option ℕ) → p ≡ position is_newline (drop n ws) → Some at ≡ position is_newline (take n ws)
-      by_place (Some k) here p there = let stays = newline_stays (take n ws) (drop n ws) k here in let same : Some at ≡ Some k = whole ∙ sym stays in same ∙ here
-      by_place None none (Some k) there =
-          let comes = newline_comes (take n ws) (drop n ws) k none there in
-          let same : Some at ≡ Some (length (take n ws) + k) = whole ∙ sym comes in
-          let same' : at ≡ length (take n ws) + k = cc in
-          absurd (omega (arith, l))
-      by_place None none None there = let lacks = newline_lacks (take n ws) (drop n ws) none there in let clash : Some at ≡ None = whole ∙ sym lacks in absurd cc
-
   -- a line that has its newline ends there, whatever comes behind it
   pub line_ahead : (n : ℕ) (l : Lines) (text : List ℕ) → n ≤ length (waiting l) → IsLine l n → text_at format (take n (waiting l)) ≡ Ok text
       → (0 < n) × ((more : List ℕ) → lines_of (take n (waiting l) ++ more) ≡ take n (waiting l) ∷ lines_of more)
-  line_ahead n l text within (inl h) e =
-      let ws = waiting l in
-      let size : length (take n ws) ≡ n = length-take-le n ws within in
-      let next : h.0 + 1 ≡ length (take n ws) = sym h.2 ∙ sym size in (
-        (let q = h.2 in omega arith),
-        λ more.
-            let cut = lines_first (take n ws ++ more) h.0 (newline_stays (take n ws) more h.0 (front_at n h.0 ws within h.1 h.2)) in
-            let front : take (h.0 + 1) (take n ws ++ more) ≡ take n ws = ap (λ (k : ℕ). take k (take n ws ++ more)) next ∙ take-append_seam (take n ws) more in
-            let back : drop (h.0 + 1) (take n ws ++ more) ≡ more = ap (λ (k : ℕ). drop k (take n ws ++ more)) next ∙ drop-append_seam (take n ws) more in
-            cut ∙ λ i. front i ∷ lines_of (back i),
-      )
+  line_ahead n l text within (inl h) e = ((let q = h.2 in omega arith), ends_there n h.0 (waiting l) within h.1 h.2)
   line_ahead n l text within (inr h) e =
       let ws = waiting l in
       let some : 0 < length ws = let q = h.1 in let r = h.2 in omega arith in
@@ -187,3 +211,27 @@ module _ (o : FollowOptions) where
   followed_message taking taking' ms number m text more line words cut is whole turns =
       ap (followed_lines o taking ms number) cut ∙ (followed_cons taking ms number line (lines_of more) (Ok (Some m)) is
       ∙ ap (λ (b : Bool). onto_followed number (apply_fault o.span (start_of o.span o.start).start ms m) m (followed_lines o b (ms ++ m ∷ []) (number + 1) (lines_of more))) (ap (taking_behind o.feed taking) whole ∙ sym turns))
+
+-- ---- what a line adds that isn't passed over
+
+-- the end
+stop_adds : (ms : List Message) (number : ℕ) (e : FollowError) → onto_taken ms (stopped_at number e) ≢ followed_through ms
+stop_adds ms number e same = let clash : true ≡ false = ap (λ (x : Followed). is_some x.stop) same in cc
+
+-- its message, or the end
+pub message_adds : (ms : List Message) (number : ℕ) (refused : Option ApplyFault) (m : Message) (below : Followed) → onto_taken ms (onto_followed number refused m below) ≢ followed_through ms
+message_adds ms number None m below same =
+    let all : length (ms ++ m ∷ below.messages) ≡ length ms = ap (λ (x : Followed). length x.messages) same in
+    let sum = length-append ms (m ∷ below.messages) in
+    omega arith
+message_adds ms number (Some test) m below same = stop_adds ms number (error_of_test test) same
+
+module _ (o : FollowOptions) where
+  step_adds : (ms : List Message) (number : ℕ) (r : Result (Option Message) FollowError) (below : List Message → Followed) → r ≢ Ok None → onto_taken ms (followed_step o r ms number below) ≢ followed_through ms
+  step_adds ms number (Err e) below stays same = stop_adds ms number e same
+  step_adds ms number (Ok None) below stays same = stays refl
+  step_adds ms number (Ok (Some m)) below stays same = message_adds ms number (apply_fault o.span (start_of o.span o.start).start ms m) m (below (ms ++ m ∷ [])) same
+
+  pub line_adds : (taking : Bool) (ms : List Message) (number : ℕ) (line : List ℕ) → lines_of line ≡ line ∷ [] → line_at o.format taking line ≢ Ok None → onto_taken ms (followed_lines o taking ms number (lines_of line)) ≢ followed_through ms
+  line_adds taking ms number line one stays same =
+      step_adds ms number (line_at o.format taking line) _ stays (sym (ap (onto_taken ms) (ap (followed_lines o taking ms number) one ∙ followed_cons o taking ms number line [] (line_at o.format taking line) refl)) ∙ same)

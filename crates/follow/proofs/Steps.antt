@@ -1,6 +1,6 @@
 -- The steps of a follower.
-use Rattle.std.proofs.Common.{◌≡◌, ℕ, ◌+◌, ◌<◌, ◌≤◌, ◌⊎◌, Bool, true, false, cond, List, [], ◌∷◌, ◌++◌, length, take, Option, Some, None, Ok, Err, refl, sym, ap, ◌∙◌, subst, arith, append-nil, append_assoc, length-append, inl, inr}
-use Rattle.std.specs.Prelude.{codes, position}
+use Rattle.std.proofs.Common.{◌≡◌, ℕ, ◌+◌, ◌<◌, ◌≤◌, ◌⊎◌, Bool, true, cond, List, [], ◌∷◌, ◌++◌, length, take, drop, Option, Some, None, Ok, Err, refl, sym, ap, ◌∙◌, subst, arith, append-nil, append_assoc, length-append, inl, inr}
+use Rattle.std.specs.Prelude.{◌≢◌, codes, position}
 use Rattle.std.proofs.lemmas.List.{length-take-le, take-append-drop}
 use Rattle.text_format.specs.declared.Format.{Format}
 use Rattle.spans.specs.declared.calls.messages.Message.{Message}
@@ -40,14 +40,14 @@ use Rattle.follow.specs.Chosen.{is_taking_after}
 use Rattle.follow.specs.Followed.{start_of, fault_line, error_of_replica}
 use Rattle.follow.specs.Following.{Followed, line_at, error_of_test, followed_at, followed_lines, followed_through, onto_followed, stopped_at}
 use Rattle.follow.specs.Reports.{IsToldAt, IsFollowReport, shown_before, resolved_by, named_with, unless_told}
-use Rattle.follow.specs.Ends.{BeginWith, StopAt, IsEndless, IsPart, EndsBy, FailsAt}
+use Rattle.follow.specs.Ends.{BeginWith, StopAt, IsEndless, IsPart, TakesNext, IsWanting, EndsBy, FailsAt}
 use Rattle.follow.specs.Taking.{HasRead, IsMisreadAt}
 use Rattle.follow.specs.Told.{HasTold, kept_at, IsCutEnd, IsCut}
 use Rattle.follow.specs.Telling.{waits, named_in, KeepsChoice, ready_told, TellsBefore, CutsBefore, TellsBehind, CutsBehind, NamesKey}
-use Rattle.follow.specs.Steps.{onto_taken, named_through, are_some, GoesBy, IsUnderway, lines_ahead, message_ahead, IsGoing, IsHolding, IsStopped, IsFresh, end_at, EndsTold, StopsBy}
+use Rattle.follow.specs.Steps.{onto_taken, named_through, are_some, GoesBy, IsUnderway, lines_ahead, message_ahead, IsGoing, IsBefore, IsHolding, IsStopped, IsFresh, end_at, EndsTold, StopsBy}
 use Rattle.follow.proofs.Told.{CantWrite, told_behind, cut_behind, cut_memory, cut_output}
 use Rattle.follow.proofs.Reports.{told_more, named_more, told_by, resolved_last, shown_row}
-use Rattle.follow.proofs.Lines.{line_comes, line_ahead, followed_none, followed_misread, followed_passed, followed_message}
+use Rattle.follow.proofs.Lines.{chosen_stays, line_alone, line_comes, line_ahead, followed_none, followed_misread, followed_passed, followed_message, message_adds, line_adds}
 
 -- a replica is of the span that its follower was given
 span_kept : (span : Span) (start : Start) → (start_of span start).span ≡ span
@@ -107,14 +107,14 @@ module _ (o : FollowOptions) (next : List ℕ → Followed) (r r' : Reads) (w w'
 part_of : (o : FollowOptions) (input : List ℕ) (ended : Bool) (ms : List Message) (text output : List ℕ) → IsFollowReport o ms text → StartsWith text output → IsPart o input ended ms output
 part_of o input ended ms text output report begins = record { last = []; is_last = inl refl; whole = text; report = (text, report, sym (append-nil text)); begins = begins }
 
-part_ends : (o : FollowOptions) (input : List ℕ) (ended : Bool) (ms : List Message) (output : List ℕ) (e : FollowEnd) (w w' : Writes) → IsCutEnd e w w' → IsPart o input ended ms output → EndsBy o input ended ms output e
-part_ends o input ended ms output ends.Done w w' cut part = absurd cut
-part_ends o input ended ms output ends.NoMessages w w' cut part = absurd cut
-part_ends o input ended ms output (ends.Fault line fault) w w' cut part = absurd cut
-part_ends o input ended ms output ends.Spent w w' cut part = absurd cut
-part_ends o input ended ms output ends.Input w w' cut part = absurd cut
-part_ends o input ended ms output ends.Output w w' cut part = part
-part_ends o input ended ms output ends.Memory w w' cut part = part
+part_ends : (o : FollowOptions) (input : List ℕ) (ended : Bool) (ms : List Message) (output : List ℕ) (e : FollowEnd) (w w' : Writes) → IsCutEnd e w w' → IsWanting o input ms → IsPart o input ended ms output → EndsBy o input ended ms output e
+part_ends o input ended ms output ends.Done w w' cut wants part = absurd cut
+part_ends o input ended ms output ends.NoMessages w w' cut wants part = absurd cut
+part_ends o input ended ms output (ends.Fault line fault) w w' cut wants part = absurd cut
+part_ends o input ended ms output ends.Spent w w' cut wants part = absurd cut
+part_ends o input ended ms output ends.Input w w' cut wants part = absurd cut
+part_ends o input ended ms output ends.Output w w' cut wants part = part
+part_ends o input ended ms output ends.Memory w w' cut wants part = (part, wants)
 
 cut_fails : (e : FollowEnd) (r r' : Reads) (w w' : Writes) → r'.failures ≡ r.failures → IsCutEnd e w w' → FailsAt e r w r' w'
 cut_fails ends.Done r r' w w' read cut = absurd cut
@@ -127,44 +127,44 @@ cut_fails ends.Memory r r' w w' read cut = (read, cut)
 
 module _ (o : FollowOptions) (next : List ℕ → Followed) (r r' : Reads) (w w' : Writes) (f : Follower) (lines : ℕ) (ms : List Message) where
   -- of a report a beginning was told
-  stop_cut : (u : IsUnderway o next r r' w w' f lines ms) (e : FollowEnd) (ms' : List Message) (w'' : Writes) (kept text : List ℕ) → BeginWith o (u.front ++ waiting f.lines) r'.ended ms' → IsFollowReport o ms' text → IsCut e w w'' [] kept text
-      → IsStopped o r r' w w'' kept e
-  stop_cut u e ms' w'' kept text begins report c =
+  stop_cut : (u : IsUnderway o next r r' w w' f lines ms) (e : FollowEnd) (ms' : List Message) (w'' : Writes) (kept text : List ℕ) → BeginWith o (u.front ++ waiting f.lines) r'.ended ms' → IsWanting o (u.front ++ waiting f.lines) ms' → IsFollowReport o ms' text
+      → IsCut e w w'' [] kept text → IsStopped o r r' w w'' kept e
+  stop_cut u e ms' w'' kept text begins wants report c =
       stops_with o next r r' w w' f lines ms u w'' kept c.part e ms' c.took begins
-      (part_ends o (u.front ++ waiting f.lines) r'.ended ms' (kept_at e c.part kept) e w w'' c.early (part_of o (u.front ++ waiting f.lines) r'.ended ms' text (kept_at e c.part kept) report c.begins))
+      (part_ends o (u.front ++ waiting f.lines) r'.ended ms' (kept_at e c.part kept) e w w'' c.early wants (part_of o (u.front ++ waiting f.lines) r'.ended ms' text (kept_at e c.part kept) report c.begins))
       (cut_fails e r r' w w'' u.worked.0 c.early)
 
   -- what was told is a report, and what waits can't be written, or no more memory is there
-  stop_told : (u : IsUnderway o next r r' w w' f lines ms) (e : FollowEnd) (ms' : List Message) (w'' w''' : Writes) (kept kept' text : List ℕ) → BeginWith o (u.front ++ waiting f.lines) r'.ended ms' → IsFollowReport o ms' text → HasTold w w'' [] kept text
-      → IsCut e w'' w''' kept kept' [] → IsStopped o r r' w w''' kept' e
-  stop_told u e ms' w'' w''' kept kept' text begins report told c =
-      stop_cut u e ms' w''' kept' (text ++ []) begins (subst (IsFollowReport o ms') (sym (append-nil text)) report) (cut_behind e w w'' w''' [] kept kept' text [] told c)
+  stop_told : (u : IsUnderway o next r r' w w' f lines ms) (e : FollowEnd) (ms' : List Message) (w'' w''' : Writes) (kept kept' text : List ℕ) → BeginWith o (u.front ++ waiting f.lines) r'.ended ms' → IsWanting o (u.front ++ waiting f.lines) ms' → IsFollowReport o ms' text
+      → HasTold w w'' [] kept text → IsCut e w'' w''' kept kept' [] → IsStopped o r r' w w''' kept' e
+  stop_told u e ms' w'' w''' kept kept' text begins wants report told c =
+      stop_cut u e ms' w''' kept' (text ++ []) begins wants (subst (IsFollowReport o ms') (sym (append-nil text)) report) (cut_behind e w w'' w''' [] kept kept' text [] told c)
 
   -- a line is told last
-  last_told : (u : IsUnderway o next r r' w w' f lines ms) (last : FollowEnd) (w'' : Writes) (kept kept' text line : List ℕ) (e : FollowEnd) → IsFollowReport o ms text → HasTold w w'' [] kept text
+  last_told : (u : IsUnderway o next r r' w w' f lines ms) (last : FollowEnd) (w'' : Writes) (kept kept' text line : List ℕ) (e : FollowEnd) → IsWanting o (u.front ++ waiting f.lines) ms → IsFollowReport o ms text → HasTold w w'' [] kept text
       → ((output : List ℕ) → output ≡ text ++ line → EndsBy o (u.front ++ waiting f.lines) r'.ended ms output last) → ((out : List ℕ) → kept_at last out kept' ≡ out ++ kept')
       → ((r'.failures ≡ r.failures) × (w''.failures ≡ w.failures) → FailsAt last r w r' w'') → EndsTold last line kept kept' e → IsStopped o r r' w w'' kept' e
-  last_told u last w'' kept kept' text line e report told comes all fails (inl is) =
+  last_told u last w'' kept kept' text line e wants report told comes all fails (inl is) =
       subst (IsStopped o r r' w w'' kept') (sym is.0)
       (stops_with o next r r' w w' f lines ms u w'' kept' told.0.part last ms told.0.took (begins_so o next r r' w w' f lines ms u r'.ended)
       (comes (kept_at last told.0.part kept') (all told.0.part ∙ (ap (λ (xs : List ℕ). told.0.part ++ xs) is.1 ∙ (sym (append_assoc told.0.part kept line) ∙ ap (λ (xs : List ℕ). xs ++ line) (sym told.0.left)))))
       (fails (u.worked.0, told.1)))
-  last_told u last w'' kept kept' text line e report told comes all fails (inr is) =
+  last_told u last w'' kept kept' text line e wants report told comes all fails (inr is) =
       subst (IsStopped o r r' w w'' kept') (sym is.0)
-      (stop_told u ends.Memory ms w'' w'' kept kept' text (begins_so o next r r' w w' f lines ms u r'.ended) report told (cut_memory w'' kept kept' [] is.1))
+      (stop_told u ends.Memory ms w'' w'' kept kept' text (begins_so o next r r' w w' f lines ms u r'.ended) wants report told (cut_memory w'' kept kept' [] is.1))
 
   -- the next line can't be followed, and that is told
-  stop_unfollowed : (u : IsUnderway o next r r' w w' f lines ms) (number : ℕ) (fault : FollowFault) (w'' : Writes) (kept kept' text : List ℕ) (e : FollowEnd) → IsFollowReport o ms text → HasTold w w'' [] kept text
+  stop_unfollowed : (u : IsUnderway o next r r' w w' f lines ms) (number : ℕ) (fault : FollowFault) (w'' : Writes) (kept kept' text : List ℕ) (e : FollowEnd) → IsWanting o (u.front ++ waiting f.lines) ms → IsFollowReport o ms text → HasTold w w'' [] kept text
       → StopAt o (u.front ++ waiting f.lines) r'.ended ms number fault → EndsTold (ends.Fault number fault) (fault_line number fault) kept kept' e → IsStopped o r r' w w'' kept' e
-  stop_unfollowed u number fault w'' kept kept' text e report told stop is =
-      last_told u (ends.Fault number fault) w'' kept kept' text (fault_line number fault) e report told (λ output whole. (inr stop, (text, report, whole))) (λ out. refl) (λ none. none) is
+  stop_unfollowed u number fault w'' kept kept' text e wants report told stop is =
+      last_told u (ends.Fault number fault) w'' kept kept' text (fault_line number fault) e wants report told (λ output whole. (inr stop, (text, report, whole))) (λ out. refl) (λ none. none) is
 
   -- no further line can be counted
   pub stop_spent : (number : ℕ) (kept' : List ℕ) (e : FollowEnd) → 18446744073709551615 ≤ lines → EndsTold ends.Spent (spent_line number) (waits f.telling) kept' e → IsUnderway o next r r' w w' f lines ms
       → IsStopped o r r' w w' kept' e
   stop_spent number kept' e many is u =
       let endless : IsEndless (u.front ++ waiting f.lines) = let size = length-append u.front (waiting f.lines) in let few = u.counted in omega arith in
-      last_told u ends.Spent w' (waits f.telling) kept' u.told (spent_line number) e u.report (told_so_far o next r r' w w' f lines ms u) (λ output whole. (endless, (number, (u.told, u.report, whole)))) (λ out. refl) (λ none. none) is
+      last_told u ends.Spent w' (waits f.telling) kept' u.told (spent_line number) e (inr (inl endless)) u.report (told_so_far o next r r' w w' f lines ms u) (λ output whole. (endless, (number, (u.told, u.report, whole)))) (λ out. refl) (λ none. none) is
 
 -- ---- the next line is looked for, or there is none
 
@@ -260,28 +260,30 @@ stop_done o r r' w w' f lines ms e none found is u =
 module _ (o : FollowOptions) (r r' : Reads) (w w' : Writes) (f f' : Follower) (lines n : ℕ) (ms : List Message) (m : Option Message) where
   -- a line was taken off the front
   go_line : (next : List ℕ → Followed) → n ≤ length (waiting f.lines) → 0 < n → f'.format ≡ f.format → f'.replica ≡ f.replica → f'.telling ≡ f.telling → f'.started ≡ f.started → HasRead f f' n m
-      → ((more : List ℕ) → lines_ahead o f ms lines (take n (waiting f.lines) ++ more) ≡ next more) → IsGoing o r r' w w' f lines ms → IsUnderway o next r r' w w' f' (lines + 1) ms
+      → ((more : List ℕ) → lines_ahead o f ms lines (take n (waiting f.lines) ++ more) ≡ next more) → (u : IsGoing o r r' w w' f lines ms) → (v : IsUnderway o next r r' w w' f' (lines + 1) ms) × (v.front ≡ u.front ++ take n (waiting f.lines))
   go_line next within some format replica telling started h step u =
       let line = take n (waiting f.lines) in
       let whole : waiting f.lines ≡ line ++ waiting f'.lines = sym (take-append-drop n (waiting f.lines)) ∙ ap (λ (xs : List ℕ). line ++ xs) (sym h.left) in
-      let size : length line ≡ n = length-take-le n (waiting f.lines) within in
-      record {
-        by = record { format = format ∙ u.by.format; feed = h.feed ∙ u.by.feed; shown = ap (λ (t : Telling). t.shown) telling ∙ u.by.shown; complete = ap (λ (t : Telling). t.complete) telling ∙ u.by.complete };
-        follows = subst (λ (p : Replica). Follows p (start_of o.span o.start) ms) (sym replica) u.follows;
-        started = started ∙ u.started;
-        named = λ changes. ap named_in telling ∙ u.named changes;
-        front = u.front ++ line;
-        read = u.read ∙ ap (λ (xs : List ℕ). r.given ++ xs) (ap (λ (xs : List ℕ). u.front ++ xs) whole ∙ sym (append_assoc u.front line (waiting f'.lines)));
-        found = λ e. u.found (sym h.ended ∙ e);
-        followed = λ more. ap (followed_at o) (append_assoc u.front line more) ∙ (u.followed (line ++ more) ∙ ap (onto_taken ms) (step more));
-        counted = let longer = length-append u.front line in let few = u.counted in omega arith;
-        told = u.told;
-        report = u.report;
-        out = u.out;
-        wrote = u.wrote;
-        keeps = ap (λ (t : Telling). u.out ++ waits t) telling ∙ u.keeps;
-        worked = u.worked;
-      }
+      let size : length line ≡ n = length-take-le n (waiting f.lines) within in (
+        record {
+          by = record { format = format ∙ u.by.format; feed = h.feed ∙ u.by.feed; shown = ap (λ (t : Telling). t.shown) telling ∙ u.by.shown; complete = ap (λ (t : Telling). t.complete) telling ∙ u.by.complete };
+          follows = subst (λ (p : Replica). Follows p (start_of o.span o.start) ms) (sym replica) u.follows;
+          started = started ∙ u.started;
+          named = λ changes. ap named_in telling ∙ u.named changes;
+          front = u.front ++ line;
+          read = u.read ∙ ap (λ (xs : List ℕ). r.given ++ xs) (ap (λ (xs : List ℕ). u.front ++ xs) whole ∙ sym (append_assoc u.front line (waiting f'.lines)));
+          found = λ e. u.found (sym h.ended ∙ e);
+          followed = λ more. ap (followed_at o) (append_assoc u.front line more) ∙ (u.followed (line ++ more) ∙ ap (onto_taken ms) (step more));
+          counted = let longer = length-append u.front line in let few = u.counted in omega arith;
+          told = u.told;
+          report = u.report;
+          out = u.out;
+          wrote = u.wrote;
+          keeps = ap (λ (t : Telling). u.out ++ waits t) telling ∙ u.keeps;
+          worked = u.worked;
+        },
+        refl,
+      )
 
 module _ (o : FollowOptions) (f f' : Follower) (n : ℕ) (m : Option Message) where
   -- what a line says by the options, it says to the follower
@@ -295,23 +297,41 @@ module _ (o : FollowOptions) (f f' : Follower) (n : ℕ) (m : Option Message) wh
   turns_so by h = h.taking ∙ ap (λ (x : Option ℕ). is_taking_after x f.choice.taking h.text) by.feed
 
 module _ (o : FollowOptions) (r r' : Reads) (w w' : Writes) (f f' : Follower) (lines number n : ℕ) (ms : List Message) where
+  -- the line stands behind the messages
+  next_line : (u : IsGoing o r r' w w' f lines ms) (rest input : List ℕ) → n ≤ length (waiting f.lines) → IsLine f.lines n → input ≡ u.front ++ (take n (waiting f.lines) ++ rest) → TakesNext o input ms (followed_at o (u.front ++ take n (waiting f.lines)))
+  next_line u rest input within is parts =
+      record { lines = u.front; line = take n (waiting f.lines); rest = rest; parts = parts; one = line_alone n f.lines within is; before = all_followed o r r' w w' f lines ms u; behind = refl }
+
+  -- memory is wanted for it, which isn't passed over
+  wants_line : (u : IsGoing o r r' w w' f lines ms) → n ≤ length (waiting f.lines) → IsLine f.lines n → line_at f.format f.choice.taking (take n (waiting f.lines)) ≢ Ok None → IsWanting o (u.front ++ waiting f.lines) ms
+  wants_line u within is stays =
+      let line = take n (waiting f.lines) in
+      inr (inr (inl (
+        followed_at o (u.front ++ line),
+        next_line u (drop n (waiting f.lines)) (u.front ++ waiting f.lines) within is (ap (λ (xs : List ℕ). u.front ++ xs) (sym (take-append-drop n (waiting f.lines)))),
+        λ same. line_adds o f.choice.taking ms (lines + 1) line (line_alone n f.lines within is)
+            (λ passed. stays (ap (λ (x : Format). line_at x f.choice.taking line) u.by.format ∙ passed)) (sym (u.followed line) ∙ same),
+      )))
+
   -- a line was passed over
   pub go_passed : number ≡ lines + 1 → n ≤ length (waiting f.lines) → IsLine f.lines n → f'.format ≡ f.format → f'.replica ≡ f.replica → f'.telling ≡ f.telling → f'.started ≡ f.started → HasRead f f' n None
       → IsGoing o r r' w w' f lines ms → IsGoing o r r' w w' f' number ms
   go_passed numbered within is format replica telling started h u =
       let cut = line_ahead o.format n f.lines h.text within is (spells o f f' n None u.by h) in
       subst (λ (k : ℕ). IsGoing o r r' w w' f' k ms) (sym numbered)
-      (go_line o r r' w w' f f' lines n ms None (lines_ahead o f' ms (lines + 1)) within cut.0 format replica telling started h
-      (λ more. followed_passed o f.choice.taking f'.choice.taking ms (lines + 1) (take n (waiting f.lines) ++ more) more (take n (waiting f.lines)) h.text (cut.1 more) (says o f f' n None u.by h) (spells o f f' n None u.by h) (turns_so o f f' n None u.by h)) u)
+      ((go_line o r r' w w' f f' lines n ms None (lines_ahead o f' ms (lines + 1)) within cut.0 format replica telling started h
+      (λ more. followed_passed o f.choice.taking f'.choice.taking ms (lines + 1) (take n (waiting f.lines) ++ more) more (take n (waiting f.lines)) h.text (cut.1 more) (says o f f' n None u.by h) (spells o f f' n None u.by h) (turns_so o f f' n None u.by h)) u).0)
 
   -- a line's message is in hand
   pub go_holding : (m : Message) → number ≡ lines + 1 → n ≤ length (waiting f.lines) → IsLine f.lines n → f'.format ≡ f.format → f'.replica ≡ f.replica → f'.telling ≡ f.telling → f'.started ≡ f.started → HasRead f f' n (Some m)
       → IsGoing o r r' w w' f lines ms → IsHolding o r r' w w' f' number ms m
   go_holding m numbered within is format replica telling started h u =
+      let line = take n (waiting f.lines) in
       let cut = line_ahead o.format n f.lines h.text within is (spells o f f' n (Some m) u.by h) in
+      let v = go_line o r r' w w' f f' lines n ms (Some m) (message_ahead o f' ms (lines + 1) m) within cut.0 format replica telling started h
+      (λ more. followed_message o f.choice.taking f'.choice.taking ms (lines + 1) m (line ++ more) more line h.text (cut.1 more) (says o f f' n (Some m) u.by h) (spells o f f' n (Some m) u.by h) (turns_so o f f' n (Some m) u.by h)) u in
       subst (λ (k : ℕ). IsHolding o r r' w w' f' k ms m) (sym numbered)
-      (go_line o r r' w w' f f' lines n ms (Some m) (message_ahead o f' ms (lines + 1) m) within cut.0 format replica telling started h
-      (λ more. followed_message o f.choice.taking f'.choice.taking ms (lines + 1) m (take n (waiting f.lines) ++ more) more (take n (waiting f.lines)) h.text (cut.1 more) (says o f f' n (Some m) u.by h) (spells o f f' n (Some m) u.by h) (turns_so o f f' n (Some m) u.by h)) u)
+      (v.0, subst (λ (xs : List ℕ). TakesNext o xs ms (followed_at o xs)) (sym v.1) (next_line u [] (u.front ++ line) within is (ap (λ (xs : List ℕ). u.front ++ xs) (sym (append-nil line)))))
 
   -- a line can't be read, and that is told unless memory was wanted
   pub stop_misread : (kept kept' : List ℕ) (e : FollowError) (end : FollowEnd) → number ≡ lines + 1 → n ≤ length (waiting f.lines) → IsLine f.lines n → f.lines.format ≡ f.format → IsMisreadAt f n e → kept ≡ waits f.telling → StopsBy e number kept kept' end
@@ -319,20 +339,32 @@ module _ (o : FollowOptions) (r r' : Reads) (w w' : Writes) (f f' : Follower) (l
   stop_misread kept kept' errors.NoMemory end numbered within is same misread still stop u =
       subst (IsStopped o r r' w w' kept') (sym stop.0)
       (stop_told o (lines_ahead o f ms lines) r r' w w' f lines ms u ends.Memory ms w' w' (waits f.telling) kept' u.told
-      (begins_so o (lines_ahead o f ms lines) r r' w w' f lines ms u r'.ended) u.report (told_so_far o (lines_ahead o f ms lines) r r' w w' f lines ms u)
+      (begins_so o (lines_ahead o f ms lines) r r' w w' f lines ms u r'.ended) (wants_line u within is (chosen_stays f.format f.choice.taking (take n (waiting f.lines)) misread.0 misread.1 misread.2)) u.report (told_so_far o (lines_ahead o f ms lines) r r' w w' f lines ms u)
       (cut_memory w' (waits f.telling) kept' [] (stop.1 ∙ still)))
   stop_misread kept kept' (errors.Fault fault) end numbered within is same misread still stop u =
       let next = lines_ahead o f ms lines in
-      let told : line_at f.format f.choice.taking (take n (waiting f.lines)) ≡ Err (errors.Fault fault) = misread (λ none. absurd cc) in
+      let wants = wants_line u within is (λ passed. let clash : Err (errors.Fault fault) ≡ Ok None = sym misread ∙ passed in cc) in
       let stops : StopAt o (u.front ++ waiting f.lines) r'.ended ms number fault = stops_so o next r r' w w' f lines ms u number fault (λ rest over.
       let first = line_comes o.format f.choice.taking n f.lines rest (same ∙ u.by.format) within is (λ found. over (u.found found)) in
       followed_misread o f.choice.taking ms (lines + 1) (waiting f.lines ++ rest) first.0 first.1 (errors.Fault fault) first.2
-      (first.3 ∙ (ap (λ (x : Format). line_at x f.choice.taking (take n (waiting f.lines))) (sym u.by.format) ∙ told))
+      (first.3 ∙ (ap (λ (x : Format). line_at x f.choice.taking (take n (waiting f.lines))) (sym u.by.format) ∙ misread))
       ∙ ap (λ (k : ℕ). stopped_at k (errors.Fault fault)) (sym numbered)) in
-      stop_unfollowed o next r r' w w' f lines ms u number fault w' (waits f.telling) kept' u.told end u.report (told_so_far o next r r' w w' f lines ms u) stops
+      stop_unfollowed o next r r' w w' f lines ms u number fault w' (waits f.telling) kept' u.told end wants u.report (told_so_far o next r r' w w' f lines ms u) stops
       (subst (λ (k : List ℕ). EndsTold (ends.Fault number fault) (fault_line number fault) k kept' end) still stop)
 
 -- ---- a message in hand
+
+-- the line stands there too where more comes behind it
+takes_more : (o : FollowOptions) (input : List ℕ) (ms : List Message) (after : Followed) (more : List ℕ) → TakesNext o input ms after → TakesNext o (input ++ more) ms after
+takes_more o input ms after more t = record {
+  lines = t.lines;
+  line = t.line;
+  rest = t.rest ++ more;
+  parts = ap (λ (xs : List ℕ). xs ++ more) t.parts ∙ (append_assoc t.lines (t.line ++ t.rest) more ∙ ap (λ (xs : List ℕ). t.lines ++ xs) (append_assoc t.line t.rest more));
+  one = t.one;
+  before = t.before;
+  behind = t.behind;
+}
 
 -- why a replica refuses a message, as the fault that is told
 refused_as : (fault : Fault) (told : FollowFault) → error_of_replica fault ≡ errors.Fault told → (test : ApplyFault) × (test_of fault ≡ Some test) × (error_of_test test ≡ errors.Fault told)
@@ -340,12 +372,6 @@ refused_as replica_faults.NotAfter told is = (consumer.NotAfter, refl, is)
 refused_as replica_faults.OutsideSpan told is = (consumer.OutsideSpan, refl, is)
 refused_as replica_faults.ResolvedBack told is = (consumer.ResolvedBack, refl, is)
 refused_as replica_faults.NoMemory told is = absurd cc
-
-memory_only : (fault : Fault) → error_of_replica fault ≡ errors.NoMemory → test_of fault ≡ None
-memory_only replica_faults.NotAfter is = absurd cc
-memory_only replica_faults.OutsideSpan is = absurd cc
-memory_only replica_faults.ResolvedBack is = absurd cc
-memory_only replica_faults.NoMemory is = refl
 
 -- before the message, that the rows are complete was told where it shows that
 record HasShown (o : FollowOptions) (ms : List Message) (m : Message) (told : List ℕ) (w w' : Writes) (kept : List ℕ) : Type 0 where
@@ -359,7 +385,7 @@ some_of (x ∷ ms) m = refl
 
 module _ (o : FollowOptions) (r r' : Reads) (w w' : Writes) (f : Follower) (number : ℕ) (ms : List Message) (m : Message) where
   -- the test of the message, in the words of the definitions
-  tested : (test : Option ApplyFault) → IsUnderway o (message_ahead o f ms number m) r r' w w' f number ms → IsFaultAt f.replica m test → apply_fault o.span (start_of o.span o.start).start ms m ≡ test
+  tested : (test : Option ApplyFault) → IsBefore o r r' w w' f number ms m → IsFaultAt f.replica m test → apply_fault o.span (start_of o.span o.start).start ms m ≡ test
   tested test u fault = ap (λ (s : Span). apply_fault s (start_of o.span o.start).start ms m) (sym (span_kept o.span o.start)) ∙ fault (start_of o.span o.start) ms u.follows
 
   -- what a message shows before it is taken, by the options and by the follower
@@ -367,7 +393,7 @@ module _ (o : FollowOptions) (r r' : Reads) (w w' : Writes) (f : Follower) (numb
   shown_so by = λ i. cond (by.complete i) (ready_after (span_kept o.span o.start i) (start_of o.span o.start).start (start_of o.span o.start).cursor ms m) None
 
   -- where the replica takes the message, it is the next one
-  begins_more : (u : IsHolding o r r' w w' f number ms m) → apply_fault o.span (start_of o.span o.start).start ms m ≡ None → BeginWith o (u.front ++ waiting f.lines) r'.ended (ms ++ m ∷ [])
+  begins_more : (u : IsBefore o r r' w w' f number ms m) → apply_fault o.span (start_of o.span o.start).start ms m ≡ None → BeginWith o (u.front ++ waiting f.lines) r'.ended (ms ++ m ∷ [])
   begins_more u passes = λ whole may.
       let below = followed_lines o f.choice.taking (ms ++ m ∷ []) (number + 1) (lines_of (waiting f.lines ++ may.rest)) in
       let all = followed_whole o (message_ahead o f ms number m) r r' w w' f number ms u whole r'.ended may in (
@@ -375,7 +401,27 @@ module _ (o : FollowOptions) (r r' : Reads) (w w' : Writes) (f : Follower) (numb
         ap (λ (x : Followed). x.messages) all ∙ (ap (λ (t : Option ApplyFault). ms ++ (onto_followed number t m below).messages) passes ∙ sym (append_assoc ms (m ∷ []) below.messages)),
       )
 
-  has_shown : (u : IsHolding o r r' w w' f number ms m) (t : Telling) (w'' : Writes) (kept : List ℕ) → TellsBefore f.telling t f.replica m w' w'' → kept ≡ waits t → HasShown o ms m u.told w w'' kept
+  -- memory is wanted for the line that is in hand
+  wants_held : (h : IsHolding o r r' w w' f number ms m) → IsWanting o (h.0.front ++ waiting f.lines) ms
+  wants_held h =
+      let u = h.0 in
+      inr (inr (inl (
+        followed_at o u.front,
+        takes_more o u.front ms (followed_at o u.front) (waiting f.lines) h.1,
+        λ same. message_adds ms number (apply_fault o.span (start_of o.span o.start).start ms m) m (followed_lines o f.choice.taking (ms ++ m ∷ []) (number + 1) (lines_of []))
+            (sym (u.followed []) ∙ (ap (followed_at o) (append-nil u.front) ∙ same)),
+      )))
+
+  -- or for its message, which the replica takes
+  wants_latest : (h : IsHolding o r r' w w' f number ms m) → apply_fault o.span (start_of o.span o.start).start ms m ≡ None → IsWanting o (h.0.front ++ waiting f.lines) (ms ++ m ∷ [])
+  wants_latest h passes =
+      let u = h.0 in
+      let below = followed_lines o f.choice.taking (ms ++ m ∷ []) (number + 1) (lines_of []) in
+      let all : followed_at o u.front ≡ followed_through (ms ++ m ∷ []) = ap (followed_at o) (sym (append-nil u.front)) ∙ (u.followed [] ∙ (ap (λ (t : Option ApplyFault). onto_taken ms (onto_followed number t m below)) passes
+      ∙ ap (λ (x : Followed). onto_taken ms (onto_followed number None m x)) (followed_none o f.choice.taking (ms ++ m ∷ []) (number + 1)))) in
+      inr (inr (inr (ms, m, refl, takes_more o u.front ms (followed_through (ms ++ m ∷ [])) (waiting f.lines) (subst (TakesNext o u.front ms) all h.1))))
+
+  has_shown : (u : IsBefore o r r' w w' f number ms m) (t : Telling) (w'' : Writes) (kept : List ℕ) → TellsBefore f.telling t f.replica m w' w'' → kept ≡ waits t → HasShown o ms m u.told w w'' kept
   has_shown u t w'' kept tells still =
       let told = tells (start_of o.span o.start) ms u.follows in
       record {
@@ -387,22 +433,24 @@ module _ (o : FollowOptions) (r r' : Reads) (w w' : Writes) (f : Follower) (numb
       }
 
   -- what was shown belongs to the report: of the messages before it where that is nothing, or else of this one too
-  shown_part : (u : IsHolding o r r' w w' f number ms m) (text : List ℕ) → IsToldAt o.shown (codes "complete") (shown_before o ms m) (view_of (start_of o.span o.start).rows ms) (named_through o [] [] ms) text
-      → (ms' : List Message) × BeginWith o (u.front ++ waiting f.lines) r'.ended ms' × IsFollowReport o ms' (u.told ++ text)
-  shown_part u text is = by_time (shown_before o ms m) refl is
+  shown_part : (h : IsHolding o r r' w w' f number ms m) (text : List ℕ) → IsToldAt o.shown (codes "complete") (shown_before o ms m) (view_of (start_of o.span o.start).rows ms) (named_through o [] [] ms) text
+      → (ms' : List Message) × BeginWith o (h.0.front ++ waiting f.lines) r'.ended ms' × IsWanting o (h.0.front ++ waiting f.lines) ms' × IsFollowReport o ms' (h.0.told ++ text)
+  shown_part h text is = by_time (shown_before o ms m) refl is
     where
       by_time : (at : Option ℕ) → shown_before o ms m ≡ at → IsToldAt o.shown (codes "complete") at (view_of (start_of o.span o.start).rows ms) (named_through o [] [] ms) text
-          → (ms' : List Message) × BeginWith o (u.front ++ waiting f.lines) r'.ended ms' × IsFollowReport o ms' (u.told ++ text)
+          → (ms' : List Message) × BeginWith o (h.0.front ++ waiting f.lines) r'.ended ms' × IsWanting o (h.0.front ++ waiting f.lines) ms' × IsFollowReport o ms' (h.0.told ++ text)
       by_time None none told = (
         ms,
-        begins_so o (message_ahead o f ms number m) r r' w w' f number ms u r'.ended,
-        subst (IsFollowReport o ms) (sym (ap (λ (xs : List ℕ). u.told ++ xs) told ∙ append-nil u.told)) u.report,
+        begins_so o (message_ahead o f ms number m) r r' w w' f number ms h.0 r'.ended,
+        wants_held h,
+        subst (IsFollowReport o ms) (sym (ap (λ (xs : List ℕ). h.0.told ++ xs) told ∙ append-nil h.0.told)) h.0.report,
       )
       by_time (Some at) shows told =
           let row = shown_row o ms m at shows in (
             ms ++ m ∷ [],
-            begins_more u row.0,
-            told_more o [] [] ms m u.told text u.report (record {
+            begins_more h.0 row.0,
+            wants_latest h row.0,
+            told_more o [] [] ms m h.0.told text h.0.report (record {
               first = text;
               second = [];
               ready = is;
@@ -413,37 +461,39 @@ module _ (o : FollowOptions) (r r' : Reads) (w w' : Writes) (f : Follower) (numb
 
   -- what it shows can't be told
   pub stop_before : (t : Telling) (w'' : Writes) (e : FollowEnd) → CutsBefore f.telling t f.replica m w' w'' e → IsHolding o r r' w w' f number ms m → IsStopped o r r' w w'' (waits t) e
-  stop_before t w'' e cuts u =
+  stop_before t w'' e cuts h =
+      let u = h.0 in
       let next = message_ahead o f ms number m in
       let cut = cuts (start_of o.span o.start) ms u.follows in
       let is = subst (λ (at : Option ℕ). IsToldAt o.shown (codes "complete") at (view_of (start_of o.span o.start).rows ms) (named_through o [] [] ms) cut.text) (shown_so u.by)
       (told_by f.telling.shown o.shown (codes "complete") (ready_told f.telling.complete (start_of o.span o.start) ms m) (view_of (start_of o.span o.start).rows ms) (named_in f.telling) (named_through o [] [] ms) cut.text u.by.shown u.named cut.is) in
-      let part = shown_part u cut.text is in
-      stop_cut o next r r' w w' f number ms u e part.0 w'' (waits t) (u.told ++ cut.text) part.1 part.2
+      let part = shown_part h cut.text is in
+      stop_cut o next r r' w w' f number ms u e part.0 w'' (waits t) (u.told ++ cut.text) part.1 part.2 part.3
       (cut_behind e w w' w'' [] (waits f.telling) (waits t) u.told cut.text (told_so_far o next r r' w w' f number ms u) cut.cut)
 
   -- memory is wanted, after what it shows was told
-  stop_shown : (u : IsHolding o r r' w w' f number ms m) (w'' : Writes) (kept kept' : List ℕ) → HasShown o ms m u.told w w'' kept → kept' ≡ kept → IsStopped o r r' w w'' kept' ends.Memory
-  stop_shown u w'' kept kept' h still =
-      let part = shown_part u h.text h.is in
-      stop_told o (message_ahead o f ms number m) r r' w w' f number ms u ends.Memory part.0 w'' w'' kept kept' (u.told ++ h.text) part.1 part.2 h.so_far (cut_memory w'' kept kept' [] still)
+  stop_shown : (h : IsHolding o r r' w w' f number ms m) (w'' : Writes) (kept kept' : List ℕ) → HasShown o ms m h.0.told w w'' kept → kept' ≡ kept → IsStopped o r r' w w'' kept' ends.Memory
+  stop_shown h w'' kept kept' told still =
+      let part = shown_part h told.text told.is in
+      stop_told o (message_ahead o f ms number m) r r' w w' f number ms h.0 ends.Memory part.0 w'' w'' kept kept' (h.0.told ++ told.text) part.1 part.2 part.3 told.so_far (cut_memory w'' kept kept' [] still)
 
   -- memory is wanted for its key
   pub stop_unnamed : (t : Telling) (w'' : Writes) (kept : List ℕ) → TellsBefore f.telling t f.replica m w' w'' → kept ≡ waits t → IsHolding o r r' w w' f number ms m → IsStopped o r r' w w'' kept ends.Memory
-  stop_unnamed t w'' kept tells still u = stop_shown u w'' (waits t) kept (has_shown u t w'' (waits t) tells refl) still
+  stop_unnamed t w'' kept tells still h = stop_shown h w'' (waits t) kept (has_shown h.0 t w'' (waits t) tells refl) still
 
-  refused : (u : IsHolding o r r' w w' f number ms m) (fault : Fault) (error : FollowError) (w'' : Writes) (kept kept' : List ℕ) (e : FollowEnd) → HasShown o ms m u.told w w'' kept → IsFaultAt f.replica m (test_of fault) → error_of_replica fault ≡ error
+  refused : (h : IsHolding o r r' w w' f number ms m) (fault : Fault) (error : FollowError) (w'' : Writes) (kept kept' : List ℕ) (e : FollowEnd) → HasShown o ms m h.0.told w w'' kept → IsFaultAt f.replica m (test_of fault) → error_of_replica fault ≡ error
       → StopsBy error number kept kept' e → IsStopped o r r' w w'' kept' e
-  refused u fault errors.NoMemory w'' kept kept' e h tests is stop = subst (IsStopped o r r' w w'' kept') (sym stop.0) (stop_shown u w'' kept kept' h stop.1)
-  refused u fault (errors.Fault told) w'' kept kept' e h tests is stop =
+  refused h fault errors.NoMemory w'' kept kept' e ready tests is stop = subst (IsStopped o r r' w w'' kept') (sym stop.0) (stop_shown h w'' kept kept' ready stop.1)
+  refused h fault (errors.Fault told) w'' kept kept' e ready tests is stop =
+      let u = h.0 in
       let next = message_ahead o f ms number m in
       let why = refused_as fault told is in
       let test : apply_fault o.span (start_of o.span o.start).start ms m ≡ Some why.0 = tested (test_of fault) u tests ∙ why.1 in
-      let silent : h.text ≡ [] = by_time (shown_before o ms m) refl why.0 test h.text h.is in
+      let silent : ready.text ≡ [] = by_time (shown_before o ms m) refl why.0 test ready.text ready.is in
       let stops : StopAt o (u.front ++ waiting f.lines) r'.ended ms number told = stops_so o next r r' w w' f number ms u number told (λ rest over.
       ap (λ (t : Option ApplyFault). onto_followed number t m (followed_lines o f.choice.taking (ms ++ m ∷ []) (number + 1) (lines_of (waiting f.lines ++ rest)))) test ∙ ap (stopped_at number) why.2) in
-      stop_unfollowed o next r r' w w' f number ms u number told w'' kept kept' u.told e u.report
-      (subst (HasTold w w'' [] kept) (ap (λ (xs : List ℕ). u.told ++ xs) silent ∙ append-nil u.told) h.so_far) stops stop
+      stop_unfollowed o next r r' w w' f number ms u number told w'' kept kept' u.told e (wants_held h) u.report
+      (subst (HasTold w w'' [] kept) (ap (λ (xs : List ℕ). u.told ++ xs) silent ∙ append-nil u.told) ready.so_far) stops stop
     where
       by_time : (at : Option ℕ) → shown_before o ms m ≡ at → (test : ApplyFault) → apply_fault o.span (start_of o.span o.start).start ms m ≡ Some test → (text : List ℕ)
           → IsToldAt o.shown (codes "complete") (shown_before o ms m) (view_of (start_of o.span o.start).rows ms) (named_through o [] [] ms) text → text ≡ []
@@ -453,7 +503,7 @@ module _ (o : FollowOptions) (r r' : Reads) (w w' : Writes) (f : Follower) (numb
   -- the replica refuses it, and that is told, or memory is wanted for it
   pub stop_refused : (t : Telling) (fault : Fault) (error : FollowError) (w'' : Writes) (kept kept' : List ℕ) (e : FollowEnd) → TellsBefore f.telling t f.replica m w' w'' → kept ≡ waits t → IsFaultAt f.replica m (test_of fault) → error ≡ error_of_replica fault
       → StopsBy error number kept kept' e → IsHolding o r r' w w' f number ms m → IsStopped o r r' w w'' kept' e
-  stop_refused t fault error w'' kept kept' e tells still tests is stop u = refused u fault error w'' kept kept' e (has_shown u t w'' kept tells still) tests (sym is) stop
+  stop_refused t fault error w'' kept kept' e tells still tests is stop h = refused h fault error w'' kept kept' e (has_shown h.0 t w'' kept tells still) tests (sym is) stop
 
   -- ---- it is taken
 
@@ -461,7 +511,7 @@ module _ (o : FollowOptions) (r r' : Reads) (w w' : Writes) (f : Follower) (numb
   first before = resolved_at (start_of o.span o.start).first before
 
   -- which keys are named before what it resolves is told
-  named_so : (u : IsHolding o r r' w w' f number ms m) (t t' : Telling) (w'' : Writes) → TellsBefore f.telling t f.replica m w' w'' → KeepsChoice f.telling t → NamesKey t t' m → o.shown ≡ shown.Changes
+  named_so : (u : IsBefore o r r' w w' f number ms m) (t t' : Telling) (w'' : Writes) → TellsBefore f.telling t f.replica m w' w'' → KeepsChoice f.telling t → NamesKey t t' m → o.shown ≡ shown.Changes
       → named_in t' ≡ named_with (unless_told (shown_before o ms m) (named_through o [] [] ms)) m
   named_so u t t' w'' tells keeps names changes =
       let told = tells (start_of o.span o.start) ms u.follows in
@@ -469,7 +519,7 @@ module _ (o : FollowOptions) (r r' : Reads) (w w' : Writes) (f : Follower) (numb
       ∙ ap (λ (xs : List (List ℕ)). named_with xs m) (told.named ∙ (λ i. unless_told (shown_so u.by i) (u.named changes i)))
 
   -- what it resolves was told, or a part of that
-  told_last : (u : IsHolding o r r' w w' f number ms m) (t t' : Telling) (w'' : Writes) (text : List ℕ) → TellsBefore f.telling t f.replica m w' w'' → KeepsChoice f.telling t → NamesKey t t' m → KeepsChoice t t'
+  told_last : (u : IsBefore o r r' w w' f number ms m) (t t' : Telling) (w'' : Writes) (text : List ℕ) → TellsBefore f.telling t f.replica m w' w'' → KeepsChoice f.telling t → NamesKey t t' m → KeepsChoice t t'
       → IsToldAt t'.shown (codes "resolved") (first (ms ++ m ∷ [])) (view_of (start_of o.span o.start).rows (ms ++ m ∷ [])) (named_in t') text
       → IsToldAt o.shown (codes "resolved") (resolved_by m) (view_of (start_of o.span o.start).rows (ms ++ m ∷ [])) (named_with (unless_told (shown_before o ms m) (named_through o [] [] ms)) m) text
   told_last u t t' w'' text tells keeps names keeps' is =
@@ -479,18 +529,19 @@ module _ (o : FollowOptions) (r r' : Reads) (w w' : Writes) (f : Follower) (numb
       (named_so u t t' w'' tells keeps names) is)
 
   -- the report with this message
-  report_more : (u : IsHolding o r r' w w' f number ms m) (text last : List ℕ) → IsToldAt o.shown (codes "complete") (shown_before o ms m) (view_of (start_of o.span o.start).rows ms) (named_through o [] [] ms) text
+  report_more : (u : IsBefore o r r' w w' f number ms m) (text last : List ℕ) → IsToldAt o.shown (codes "complete") (shown_before o ms m) (view_of (start_of o.span o.start).rows ms) (named_through o [] [] ms) text
       → IsToldAt o.shown (codes "resolved") (resolved_by m) (view_of (start_of o.span o.start).rows (ms ++ m ∷ [])) (named_with (unless_told (shown_before o ms m) (named_through o [] [] ms)) m) last → IsFollowReport o (ms ++ m ∷ []) (u.told ++ (text ++ last))
   report_more u text last ready resolved = told_more o [] [] ms m u.told (text ++ last) u.report (record { first = text; second = last; ready = ready; resolved = resolved; text_is = refl })
 
   -- what it resolves can't be told
   pub stop_behind : (t t' t'' : Telling) (p : Replica) (w'' w''' : Writes) (kept : List ℕ) (e : FollowEnd) → TellsBefore f.telling t f.replica m w' w'' → KeepsChoice f.telling t → NamesKey t t' m → KeepsChoice t t' → waits t' ≡ waits t
       → IsFaultAt f.replica m None → Takes f.replica p m → CutsBehind t' t'' p w'' w''' e → kept ≡ waits t'' → IsHolding o r r' w w' f number ms m → IsStopped o r r' w w''' kept e
-  stop_behind t t' t'' p w'' w''' kept e tells keeps names keeps' still passes takes cuts same u =
+  stop_behind t t' t'' p w'' w''' kept e tells keeps names keeps' still passes takes cuts same held =
+      let u = held.0 in
       let h = has_shown u t w'' (waits t') tells still in
       let cut = cuts (start_of o.span o.start) (ms ++ m ∷ []) (takes (start_of o.span o.start) ms u.follows) in
       let c = cut_behind e w w'' w''' [] (waits t') (waits t'') (u.told ++ h.text) cut.text h.so_far cut.cut in
-      stop_cut o (message_ahead o f ms number m) r r' w w' f number ms u e (ms ++ m ∷ []) w''' kept (u.told ++ (h.text ++ cut.text)) (begins_more u (tested None u passes))
+      stop_cut o (message_ahead o f ms number m) r r' w w' f number ms u e (ms ++ m ∷ []) w''' kept (u.told ++ (h.text ++ cut.text)) (begins_more u (tested None u passes)) (wants_latest held (tested None u passes))
       (report_more u h.text cut.text h.is (told_last u t t' w'' cut.text tells keeps names keeps' cut.is))
       (subst (λ (k : List ℕ). IsCut e w w''' [] k (u.told ++ (h.text ++ cut.text))) (sym same) (subst (IsCut e w w''' [] (waits t'')) (append_assoc u.told h.text cut.text) c))
 
@@ -498,7 +549,8 @@ module _ (o : FollowOptions) (r r' : Reads) (w w' : Writes) (f : Follower) (numb
   pub go_taken : (f' : Follower) (t t' : Telling) (w'' w''' : Writes) → TellsBefore f.telling t f.replica m w' w'' → KeepsChoice f.telling t → NamesKey t t' m → KeepsChoice t t' → waits t' ≡ waits t → IsFaultAt f.replica m None
       → Takes f.replica f'.replica m → TellsBehind t' f'.telling f'.replica w'' w''' → KeepsChoice t' f'.telling → f'.format ≡ f.format → f'.choice ≡ f.choice → f'.lines ≡ f.lines → f'.started ≡ true
       → IsHolding o r r' w w' f number ms m → IsGoing o r r' w w''' f' number (ms ++ m ∷ [])
-  go_taken f' t t' w'' w''' tells keeps names keeps' still passes takes behind keeps'' format choice lines begun u =
+  go_taken f' t t' w'' w''' tells keeps names keeps' still passes takes behind keeps'' format choice lines begun held =
+      let u = held.0 in
       let h = has_shown u t w'' (waits t') tells still in
       let follows = takes (start_of o.span o.start) ms u.follows in
       let told = behind (start_of o.span o.start) (ms ++ m ∷ []) follows in

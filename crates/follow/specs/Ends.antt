@@ -1,8 +1,8 @@
 -- How following a feed ends: what was taken of the input, and what was told of it (this project).
-use Rattle.std.specs.Prelude.{ℕ, zero, ◌+◌, ◌≡◌, ◌≢◌, ◌≤◌, ◌⊎◌, Bool, true, List, [], ◌++◌, length, position, Some, None}
+use Rattle.std.specs.Prelude.{ℕ, zero, ◌+◌, ◌≡◌, ◌≢◌, ◌≤◌, ◌⊎◌, Bool, true, List, [], ◌∷◌, ◌++◌, length, position, Some, None}
 use Rattle.spans.specs.declared.calls.messages.Message.{Message}
 use Rattle.word_lines.specs.Events.{spent_line}
-use Rattle.script.specs.Lines.{is_newline}
+use Rattle.script.specs.Lines.{is_newline, lines_of}
 use Rattle.ticket_lock.specs.Lists.{StartsWith}
 use Rattle.sessions.specs.Devices.{Reads, Writes}
 use Rattle.sessions.specs.Runs.{MayHold}
@@ -12,7 +12,7 @@ use Rattle.follow.specs.declared.options.FollowOptions.{FollowOptions}
 use Rattle.follow.specs.declared.fault.FollowFault.{FollowFault}
 use Rattle.follow.specs.declared.fault.FollowError.TheVariants as errors
 use Rattle.follow.specs.Followed.{IsUnbegun, MayStart, fault_line}
-use Rattle.follow.specs.Following.{followed_at, followed_through}
+use Rattle.follow.specs.Following.{Followed, followed_at, followed_through}
 use Rattle.follow.specs.Reports.{IsFollowReport}
 
 -- whatever the source holds, its first messages are these
@@ -60,6 +60,25 @@ pub record IsPart (o : FollowOptions) (input : List ℕ) (ended : Bool) (ms : Li
   pub report : IsReportWith o ms last whole
   pub begins : StartsWith whole output
 
+-- behind these messages stands one line that isn't passed over, and this is followed with it
+pub record TakesNext (o : FollowOptions) (input : List ℕ) (ms : List Message) (after : Followed) : Type 0 where
+  pub lines : List ℕ
+  pub line : List ℕ
+  pub rest : List ℕ
+  pub parts : input ≡ lines ++ (line ++ rest)
+  pub one : lines_of line ≡ line ∷ []
+  pub before : followed_at o lines ≡ followed_through ms
+  pub behind : followed_at o (lines ++ line) ≡ after
+
+-- memory was wanted before anything was read, or where lines can't be counted; or for the next line, which is one to take or is at
+-- fault; or for what is told of the latest message, which stands in the latest line
+abbrev pub IsWanting : FollowOptions → List ℕ → List Message → Type 0
+IsWanting o input ms =
+    (input ≡ [])
+    ⊎ IsEndless input
+    ⊎ ((after : Followed) × TakesNext o input ms after × (after ≢ followed_through ms))
+    ⊎ ((before : List Message) × (m : Message) × (ms ≡ before ++ m ∷ []) × TakesNext o input before (followed_through ms))
+
 -- how each end comes, after these messages and with this output
 abbrev pub EndsBy : FollowOptions → List ℕ → Bool → List Message → List ℕ → FollowEnd → Type 0
 EndsBy o input ended ms output ends.Done = (ended ≡ true) × (followed_at o input ≡ followed_through ms) × (ms ≢ []) × IsReportWith o ms [] output
@@ -68,7 +87,7 @@ EndsBy o input ended ms output (ends.Fault line fault) = IsFaultAt o input ended
 EndsBy o input ended ms output ends.Spent = IsEndless input × ((line : ℕ) × IsReportWith o ms (spent_line line) output)
 EndsBy o input ended ms output ends.Input = AreMessages o input ms × IsReportWith o ms [] output
 EndsBy o input ended ms output ends.Output = IsPart o input ended ms output
-EndsBy o input ended ms output ends.Memory = IsPart o input ended ms output
+EndsBy o input ended ms output ends.Memory = IsPart o input ended ms output × IsWanting o input ms
 
 -- how often reads and writes failed: what waits is written also where a read has failed
 abbrev pub FailsAt : FollowEnd → Reads → Writes → Reads → Writes → Type 0

@@ -16,7 +16,7 @@ use Rattle.follow.specs.declared.follower.Follower.{Follower}
 use Rattle.follow.specs.Followed.{start_of, fault_line}
 use Rattle.follow.specs.Following.{Followed, followed_at, followed_lines, onto_followed}
 use Rattle.follow.specs.Reports.{IsFollowReport, named_after}
-use Rattle.follow.specs.Ends.{BeginWith, EndsBy, FailsAt, IsFollowed}
+use Rattle.follow.specs.Ends.{BeginWith, TakesNext, EndsBy, FailsAt, IsFollowed}
 use Rattle.follow.specs.Told.{kept_at}
 use Rattle.follow.specs.Telling.{waits, named_in}
 
@@ -74,9 +74,13 @@ message_ahead o f ms number m more =
 abbrev pub IsGoing : FollowOptions → Reads → Reads → Writes → Writes → Follower → ℕ → List Message → Type 0
 IsGoing o r r' w w' f lines ms = IsUnderway o (lines_ahead o f ms lines) r r' w w' f lines ms
 
--- so many lines were taken, and the last one's message is still to be
+-- the same, while the last one's message is still to be
+abbrev pub IsBefore : FollowOptions → Reads → Reads → Writes → Writes → Follower → ℕ → List Message → Message → Type 0
+IsBefore o r r' w w' f lines ms m = IsUnderway o (message_ahead o f ms lines m) r r' w w' f lines ms
+
+-- and this line stands behind those of the other messages
 abbrev pub IsHolding : FollowOptions → Reads → Reads → Writes → Writes → Follower → ℕ → List Message → Message → Type 0
-IsHolding o r r' w w' f lines ms m = IsUnderway o (message_ahead o f ms lines m) r r' w w' f lines ms
+IsHolding o r r' w w' f lines ms m = (u : IsBefore o r r' w w' f lines ms m) × TakesNext o u.front ms (followed_at o u.front)
 
 -- why no line follows, before what waits is written
 pub record IsStopped (o : FollowOptions) (r r' : Reads) (w w' : Writes) (kept : List ℕ) (e : FollowEnd) : Type 0 where

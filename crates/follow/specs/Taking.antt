@@ -1,5 +1,5 @@
 -- What a follower takes of the bytes that wait.
-use Rattle.std.specs.Prelude.{◌≡◌, ◌≢◌, ℕ, List, take, drop, Option, Ok, Err}
+use Rattle.std.specs.Prelude.{◌≡◌, ℕ, true, List, take, drop, Option, Ok, Err}
 use Rattle.spans.specs.declared.calls.messages.Message.{Message}
 use Rattle.word_lines.specs.Words.{text_at}
 use Rattle.sessions.specs.Waiting.{waiting, has_ended, format_of}
@@ -7,6 +7,7 @@ use Rattle.follow.specs.declared.follower.Follower.{Follower}
 use Rattle.follow.specs.declared.fault.FollowError.{FollowError}
 use Rattle.follow.specs.declared.fault.FollowError.TheVariants as errors
 use Rattle.follow.specs.Chosen.{is_taking_after}
+use Rattle.follow.specs.Followed.{is_chosen}
 use Rattle.follow.specs.Following.{line_at}
 
 -- the bytes that wait in front, so many of them
@@ -24,6 +25,7 @@ pub record HasRead (f f' : Follower) (count : ℕ) (taken : Option Message) : Ty
   pub ended : has_ended f'.lines ≡ has_ended f.lines
   pub formed : format_of f'.lines ≡ format_of f.lines
 
--- so many bytes can't be read, unless memory was wanted
+-- so many bytes can't be read; where memory was wanted they are a line that is one to take
 abbrev pub IsMisreadAt : Follower → ℕ → FollowError → Type 0
-IsMisreadAt f count e = e ≢ errors.NoMemory → line_at f.format f.choice.taking (front_of f count) ≡ Err e
+IsMisreadAt f count errors.NoMemory = (text : List ℕ) × (text_at f.format (front_of f count) ≡ Ok text) × (is_chosen f.choice.taking text ≡ true)
+IsMisreadAt f count (errors.Fault fault) = line_at f.format f.choice.taking (front_of f count) ≡ Err (errors.Fault fault)

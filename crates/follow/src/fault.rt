@@ -1,5 +1,6 @@
 //! Why a line can't be followed.
-ghost use Rattle.std.specs.Prelude.{◌≡◌};
+ghost use Rattle.std.specs.Prelude.{◌≡◌, ◌≢◌};
+ghost use Rattle.follow.specs.declared.fault.FollowError.TheVariants.{NoMemory};
 ghost use Rattle.follow.specs.Followed.{error_of_line, error_of_message, error_of_replica};
 
 use json_lines::MessageFault;
@@ -83,7 +84,9 @@ impl From<AllocError> for FollowError {
 
 /// Why a line was not taken whose length or end is wrong.
 pub(crate) fn of_line(fault: LineFault) -> FollowError
-    ensures { result ≡ error_of_line fault }
+    ensures same { result ≡ error_of_line fault }
+    // A line's length and end are looked at without memory.
+    ensures faulty { result ≢ NoMemory }
 {
     match fault {
         LineFault::LineTooLong => FollowError::Fault(FollowFault::LineTooLong),
