@@ -77,48 +77,6 @@ newline_none xs none = elim (place_cases (position_or_len is_newline xs) (length
 no_last : (xs : List ℕ) → None ≡ position is_newline xs → 0 < length xs → has_newline xs ≡ false
 no_last xs none some = let n = newline_none xs none in fails_before_first is_newline xs (length xs - 1) 0 (omega arith)
 
-front_at : (n at : ℕ) (ws : List ℕ) → n ≤ length ws → Some at ≡ position is_newline ws → n ≡ at + 1 → Some at ≡ position is_newline (take n ws)
-front_at n at ws within is next = by_place (position is_newline (take n ws)) refl (position is_newline (drop n ws)) refl
-  where
-    l : length (take n ws) ≡ n
-    l = length-take-le n ws within
-
-    whole : Some at ≡ position is_newline (take n ws ++ drop n ws)
-    whole = is ∙ ap (position is_newline) (sym (take-append-drop n ws))
-
-    by_place : (o : Option ℕ) → o ≡ position is_newline (take n ws) → (p : Option ℕ) → p ≡ position is_newline (drop n ws) → Some at ≡ position is_newline (take n ws)
-    by_place (Some k) here p there = let stays = newline_stays (take n ws) (drop n ws) k here in let same : Some at ≡ Some k = whole ∙ sym stays in same ∙ here
-    by_place None none (Some k) there =
-        let comes = newline_comes (take n ws) (drop n ws) k none there in
-        let same : Some at ≡ Some (length (take n ws) + k) = whole ∙ sym comes in
-        let same' : at ≡ length (take n ws) + k = cc in
-        absurd (omega (arith, l))
-    by_place None none None there = let lacks = newline_lacks (take n ws) (drop n ws) none there in let clash : Some at ≡ None = whole ∙ sym lacks in absurd cc
-
--- a line ends at its newline, whatever comes behind it
-ends_there : (n at : ℕ) (ws : List ℕ) → n ≤ length ws → Some at ≡ position is_newline ws → n ≡ at + 1 → (more : List ℕ) → lines_of (take n ws ++ more) ≡ take n ws ∷ lines_of more
-ends_there n at ws within is ends more =
-    let next : at + 1 ≡ length (take n ws) = sym ends ∙ sym (length-take-le n ws within) in
-    let cut = lines_first (take n ws ++ more) at (newline_stays (take n ws) more at (front_at n at ws within is ends)) in
-    let front : take (at + 1) (take n ws ++ more) ≡ take n ws = ap (λ (k : ℕ). take k (take n ws ++ more)) next ∙ take-append_seam (take n ws) more in
-    let back : drop (at + 1) (take n ws ++ more) ≡ more = ap (λ (k : ℕ). drop k (take n ws ++ more)) next ∙ drop-append_seam (take n ws) more in
-    cut ∙ λ i. front i ∷ lines_of (back i)
-
-no_lines : lines_of [] ≡ []
-unfolding lines_of
-no_lines = refl
-
--- a line is one line
-pub line_alone : (n : ℕ) (l : Lines) → n ≤ length (waiting l) → IsLine l n → lines_of (take n (waiting l)) ≡ take n (waiting l) ∷ []
-line_alone n l within (inl h) =
-    let line = take n (waiting l) in
-    ap lines_of (sym (append-nil line)) ∙ (ends_there n h.0 (waiting l) within h.1 h.2 [] ∙ ap (λ (ls : List (List ℕ)). line ∷ ls) no_lines)
-line_alone n l within (inr h) =
-    let ws = waiting l in
-    let some : 0 < length ws = let q = h.1 in let r = h.2 in omega arith in
-    let all : take n ws ≡ ws = ap (λ (k : ℕ). take k ws) h.1 ∙ take-length ws in
-    ap lines_of all ∙ (lines_alone ws some h.0 ∙ λ i. sym all i ∷ no_lines i)
-
 without_step : (limit : ℕ) (s : Bool) (l : List ℕ) → (s ≡ false) ⊎ (suc limit < length l) → limit < length l → limit < length (cond s (take (length l - 1) l) l)
 without_step limit true l (inl e) long = absurd cc
 without_step limit true l (inr e) long = let q = length-take (length l - 1) l in omega arith
@@ -168,10 +126,38 @@ module _ (format : Format) where
       (ws ++ g.0, g.1, g.2, line_misread format taking (ws ++ g.0) faults.LineTooLong (grown_too_long ws g.0 h.0 big) ∙ sym (line_misread format taking (take n ws) faults.LineTooLong told)))
       h.3
 
+  front_at : (n at : ℕ) (ws : List ℕ) → n ≤ length ws → Some at ≡ position is_newline ws → n ≡ at + 1 → Some at ≡ position is_newline (take n ws)
+  front_at n at ws within is next = by_place (position is_newline (take n ws)) refl (position is_newline (drop n ws)) refl
+    where
+      l : length (take n ws) ≡ n
+      l = length-take-le n ws within
+
+      whole : Some at ≡ position is_newline (take n ws ++ drop n ws)
+      whole = is ∙ ap (position is_newline) (sym (take-append-drop n ws))
+
+      by_place : (o : Option ℕ) → o ≡ position is_newline (take n ws) → (p : Option ℕ) → p ≡ position is_newline (drop n ws) → Some at ≡ position is_newline (take n ws)
+      by_place (Some k) here p there = let stays = newline_stays (take n ws) (drop n ws) k here in let same : Some at ≡ Some k = whole ∙ sym stays in same ∙ here
+      by_place None none (Some k) there =
+          let comes = newline_comes (take n ws) (drop n ws) k none there in
+          let same : Some at ≡ Some (length (take n ws) + k) = whole ∙ sym comes in
+          let same' : at ≡ length (take n ws) + k = cc in
+          absurd (omega (arith, l))
+      by_place None none None there = let lacks = newline_lacks (take n ws) (drop n ws) none there in let clash : Some at ≡ None = whole ∙ sym lacks in absurd cc
+
   -- a line that has its newline ends there, whatever comes behind it
   pub line_ahead : (n : ℕ) (l : Lines) (text : List ℕ) → n ≤ length (waiting l) → IsLine l n → text_at format (take n (waiting l)) ≡ Ok text
       → (0 < n) × ((more : List ℕ) → lines_of (take n (waiting l) ++ more) ≡ take n (waiting l) ∷ lines_of more)
-  line_ahead n l text within (inl h) e = ((let q = h.2 in omega arith), ends_there n h.0 (waiting l) within h.1 h.2)
+  line_ahead n l text within (inl h) e =
+      let ws = waiting l in
+      let size : length (take n ws) ≡ n = length-take-le n ws within in
+      let next : h.0 + 1 ≡ length (take n ws) = sym h.2 ∙ sym size in (
+        (let q = h.2 in omega arith),
+        λ more.
+            let cut = lines_first (take n ws ++ more) h.0 (newline_stays (take n ws) more h.0 (front_at n h.0 ws within h.1 h.2)) in
+            let front : take (h.0 + 1) (take n ws ++ more) ≡ take n ws = ap (λ (k : ℕ). take k (take n ws ++ more)) next ∙ take-append_seam (take n ws) more in
+            let back : drop (h.0 + 1) (take n ws ++ more) ≡ more = ap (λ (k : ℕ). drop k (take n ws ++ more)) next ∙ drop-append_seam (take n ws) more in
+            cut ∙ λ i. front i ∷ lines_of (back i),
+      )
   line_ahead n l text within (inr h) e =
       let ws = waiting l in
       let some : 0 < length ws = let q = h.1 in let r = h.2 in omega arith in
@@ -179,6 +165,16 @@ module _ (format : Format) where
       let ended : has_newline ws ≡ true = subst (λ (xs : List ℕ). has_newline xs ≡ true) all (has_end (take n ws) text e) in
       let lacks = no_last ws h.0 some in
       absurd (let clash : true ≡ false = sym ended ∙ lacks in cc)
+
+  no_lines : lines_of [] ≡ []
+  unfolding lines_of
+  no_lines = refl
+
+  -- it is one whole line
+  pub line_whole : (n : ℕ) (l : Lines) (text : List ℕ) → n ≤ length (waiting l) → IsLine l n → text_at format (take n (waiting l)) ≡ Ok text → (lines_of (take n (waiting l)) ≡ take n (waiting l) ∷ []) × (has_newline (take n (waiting l)) ≡ true)
+  line_whole n l text within is e =
+      let line = take n (waiting l) in
+      (ap lines_of (sym (append-nil line)) ∙ ((line_ahead n l text within is e).1 [] ∙ ap (λ (ls : List (List ℕ)). line ∷ ls) no_lines), has_end line text e)
 
 -- ---- what is followed from a line on
 

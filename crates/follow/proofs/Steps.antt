@@ -37,17 +37,17 @@ use Rattle.follow.specs.declared.fault.FollowError.TheVariants as errors
 use Rattle.follow.specs.declared.follower.Follower.{Follower}
 use Rattle.follow.specs.declared.telling.Telling.{Telling}
 use Rattle.follow.specs.Chosen.{is_taking_after}
-use Rattle.follow.specs.Followed.{start_of, fault_line, error_of_replica}
+use Rattle.follow.specs.Followed.{start_of, is_chosen, fault_line, error_of_replica}
 use Rattle.follow.specs.Following.{Followed, line_at, error_of_test, followed_at, followed_lines, followed_through, onto_followed, stopped_at}
 use Rattle.follow.specs.Reports.{IsToldAt, IsFollowReport, shown_before, resolved_by, named_with, unless_told}
-use Rattle.follow.specs.Ends.{BeginWith, StopAt, IsEndless, IsPart, TakesNext, IsWanting, EndsBy, FailsAt}
+use Rattle.follow.specs.Ends.{BeginWith, StopAt, IsEndless, IsPart, TakesNext, IsUntold, IsWanting, EndsBy, FailsAt}
 use Rattle.follow.specs.Taking.{HasRead, IsMisreadAt}
 use Rattle.follow.specs.Told.{HasTold, kept_at, IsCutEnd, IsCut}
 use Rattle.follow.specs.Telling.{waits, named_in, KeepsChoice, ready_told, TellsBefore, CutsBefore, TellsBehind, CutsBehind, NamesKey}
 use Rattle.follow.specs.Steps.{onto_taken, named_through, are_some, GoesBy, IsUnderway, lines_ahead, message_ahead, IsGoing, IsBefore, IsHolding, IsStopped, IsFresh, end_at, EndsTold, StopsBy}
-use Rattle.follow.proofs.Told.{CantWrite, told_behind, cut_behind, cut_memory, cut_output}
+use Rattle.follow.proofs.Told.{CantWrite, told_behind, cut_behind, cut_output}
 use Rattle.follow.proofs.Reports.{told_more, named_more, told_by, resolved_last, shown_row}
-use Rattle.follow.proofs.Lines.{chosen_stays, line_alone, line_comes, line_ahead, followed_none, followed_misread, followed_passed, followed_message, message_adds, line_adds}
+use Rattle.follow.proofs.Lines.{chosen_stays, line_whole, line_comes, line_ahead, followed_none, followed_misread, followed_passed, followed_message, message_adds, line_adds}
 
 -- a replica is of the span that its follower was given
 span_kept : (span : Span) (start : Start) → (start_of span start).span ≡ span
@@ -107,14 +107,15 @@ module _ (o : FollowOptions) (next : List ℕ → Followed) (r r' : Reads) (w w'
 part_of : (o : FollowOptions) (input : List ℕ) (ended : Bool) (ms : List Message) (text output : List ℕ) → IsFollowReport o ms text → StartsWith text output → IsPart o input ended ms output
 part_of o input ended ms text output report begins = record { last = []; is_last = inl refl; whole = text; report = (text, report, sym (append-nil text)); begins = begins }
 
-part_ends : (o : FollowOptions) (input : List ℕ) (ended : Bool) (ms : List Message) (output : List ℕ) (e : FollowEnd) (w w' : Writes) → IsCutEnd e w w' → IsWanting o input ms → IsPart o input ended ms output → EndsBy o input ended ms output e
+part_ends : (o : FollowOptions) (input : List ℕ) (ended : Bool) (ms : List Message) (output : List ℕ) (e : FollowEnd) (w w' : Writes) → IsCutEnd e w w' → (e ≡ ends.Memory → IsWanting o input ended ms output) → IsPart o input ended ms output
+    → EndsBy o input ended ms output e
 part_ends o input ended ms output ends.Done w w' cut wants part = absurd cut
 part_ends o input ended ms output ends.NoMessages w w' cut wants part = absurd cut
 part_ends o input ended ms output (ends.Fault line fault) w w' cut wants part = absurd cut
 part_ends o input ended ms output ends.Spent w w' cut wants part = absurd cut
 part_ends o input ended ms output ends.Input w w' cut wants part = absurd cut
 part_ends o input ended ms output ends.Output w w' cut wants part = part
-part_ends o input ended ms output ends.Memory w w' cut wants part = (part, wants)
+part_ends o input ended ms output ends.Memory w w' cut wants part = (part, wants refl)
 
 cut_fails : (e : FollowEnd) (r r' : Reads) (w w' : Writes) → r'.failures ≡ r.failures → IsCutEnd e w w' → FailsAt e r w r' w'
 cut_fails ends.Done r r' w w' read cut = absurd cut
@@ -127,22 +128,25 @@ cut_fails ends.Memory r r' w w' read cut = (read, cut)
 
 module _ (o : FollowOptions) (next : List ℕ → Followed) (r r' : Reads) (w w' : Writes) (f : Follower) (lines : ℕ) (ms : List Message) where
   -- of a report a beginning was told
-  stop_cut : (u : IsUnderway o next r r' w w' f lines ms) (e : FollowEnd) (ms' : List Message) (w'' : Writes) (kept text : List ℕ) → BeginWith o (u.front ++ waiting f.lines) r'.ended ms' → IsWanting o (u.front ++ waiting f.lines) ms' → IsFollowReport o ms' text
-      → IsCut e w w'' [] kept text → IsStopped o r r' w w'' kept e
-  stop_cut u e ms' w'' kept text begins wants report c =
+  stop_cut : (u : IsUnderway o next r r' w w' f lines ms) (e : FollowEnd) (ms' : List Message) (w'' : Writes) (kept text : List ℕ) → BeginWith o (u.front ++ waiting f.lines) r'.ended ms' → IsFollowReport o ms' text → (c : IsCut e w w'' [] kept text)
+      → (e ≡ ends.Memory → IsWanting o (u.front ++ waiting f.lines) r'.ended ms' (kept_at e c.part kept)) → IsStopped o r r' w w'' kept e
+  stop_cut u e ms' w'' kept text begins report c wants =
       stops_with o next r r' w w' f lines ms u w'' kept c.part e ms' c.took begins
       (part_ends o (u.front ++ waiting f.lines) r'.ended ms' (kept_at e c.part kept) e w w'' c.early wants (part_of o (u.front ++ waiting f.lines) r'.ended ms' text (kept_at e c.part kept) report c.begins))
       (cut_fails e r r' w w'' u.worked.0 c.early)
 
-  -- what was told is a report, and what waits can't be written, or no more memory is there
-  stop_told : (u : IsUnderway o next r r' w w' f lines ms) (e : FollowEnd) (ms' : List Message) (w'' w''' : Writes) (kept kept' text : List ℕ) → BeginWith o (u.front ++ waiting f.lines) r'.ended ms' → IsWanting o (u.front ++ waiting f.lines) ms' → IsFollowReport o ms' text
-      → HasTold w w'' [] kept text → IsCut e w'' w''' kept kept' [] → IsStopped o r r' w w''' kept' e
-  stop_told u e ms' w'' w''' kept kept' text begins wants report told c =
-      stop_cut u e ms' w''' kept' (text ++ []) begins wants (subst (IsFollowReport o ms') (sym (append-nil text)) report) (cut_behind e w w'' w''' [] kept kept' text [] told c)
+  -- what was told is a report, and no more memory is there
+  stop_told : (u : IsUnderway o next r r' w w' f lines ms) (ms' : List Message) (w'' : Writes) (kept kept' text : List ℕ) → BeginWith o (u.front ++ waiting f.lines) r'.ended ms'
+      → ((output : List ℕ) → IsWanting o (u.front ++ waiting f.lines) r'.ended ms' output) → IsFollowReport o ms' text → HasTold w w'' [] kept text → kept' ≡ kept → IsStopped o r r' w w'' kept' ends.Memory
+  stop_told u ms' w'' kept kept' text begins wants report told same =
+      let output = told.0.part ++ kept' in
+      stops_with o next r r' w w' f lines ms u w'' kept' told.0.part ends.Memory ms' told.0.took begins
+      (part_of o (u.front ++ waiting f.lines) r'.ended ms' text output report ([], told.0.left ∙ (ap (λ (xs : List ℕ). told.0.part ++ xs) (sym same) ∙ sym (append-nil output))), wants output)
+      (u.worked.0, told.1)
 
   -- a line is told last
-  last_told : (u : IsUnderway o next r r' w w' f lines ms) (last : FollowEnd) (w'' : Writes) (kept kept' text line : List ℕ) (e : FollowEnd) → IsWanting o (u.front ++ waiting f.lines) ms → IsFollowReport o ms text → HasTold w w'' [] kept text
-      → ((output : List ℕ) → output ≡ text ++ line → EndsBy o (u.front ++ waiting f.lines) r'.ended ms output last) → ((out : List ℕ) → kept_at last out kept' ≡ out ++ kept')
+  last_told : (u : IsUnderway o next r r' w w' f lines ms) (last : FollowEnd) (w'' : Writes) (kept kept' text line : List ℕ) (e : FollowEnd) → ((output : List ℕ) → IsWanting o (u.front ++ waiting f.lines) r'.ended ms output) → IsFollowReport o ms text
+      → HasTold w w'' [] kept text → ((output : List ℕ) → output ≡ text ++ line → EndsBy o (u.front ++ waiting f.lines) r'.ended ms output last) → ((out : List ℕ) → kept_at last out kept' ≡ out ++ kept')
       → ((r'.failures ≡ r.failures) × (w''.failures ≡ w.failures) → FailsAt last r w r' w'') → EndsTold last line kept kept' e → IsStopped o r r' w w'' kept' e
   last_told u last w'' kept kept' text line e wants report told comes all fails (inl is) =
       subst (IsStopped o r r' w w'' kept') (sym is.0)
@@ -151,20 +155,20 @@ module _ (o : FollowOptions) (next : List ℕ → Followed) (r r' : Reads) (w w'
       (fails (u.worked.0, told.1)))
   last_told u last w'' kept kept' text line e wants report told comes all fails (inr is) =
       subst (IsStopped o r r' w w'' kept') (sym is.0)
-      (stop_told u ends.Memory ms w'' w'' kept kept' text (begins_so o next r r' w w' f lines ms u r'.ended) wants report told (cut_memory w'' kept kept' [] is.1))
+      (stop_told u ms w'' kept kept' text (begins_so o next r r' w w' f lines ms u r'.ended) wants report told is.1)
 
   -- the next line can't be followed, and that is told
-  stop_unfollowed : (u : IsUnderway o next r r' w w' f lines ms) (number : ℕ) (fault : FollowFault) (w'' : Writes) (kept kept' text : List ℕ) (e : FollowEnd) → IsWanting o (u.front ++ waiting f.lines) ms → IsFollowReport o ms text → HasTold w w'' [] kept text
+  stop_unfollowed : (u : IsUnderway o next r r' w w' f lines ms) (number : ℕ) (fault : FollowFault) (w'' : Writes) (kept kept' text : List ℕ) (e : FollowEnd) → IsFollowReport o ms text → HasTold w w'' [] kept text
       → StopAt o (u.front ++ waiting f.lines) r'.ended ms number fault → EndsTold (ends.Fault number fault) (fault_line number fault) kept kept' e → IsStopped o r r' w w'' kept' e
-  stop_unfollowed u number fault w'' kept kept' text e wants report told stop is =
-      last_told u (ends.Fault number fault) w'' kept kept' text (fault_line number fault) e wants report told (λ output whole. (inr stop, (text, report, whole))) (λ out. refl) (λ none. none) is
+  stop_unfollowed u number fault w'' kept kept' text e report told stop is =
+      last_told u (ends.Fault number fault) w'' kept kept' text (fault_line number fault) e (λ output. inr (inr (inl (number, fault, stop)))) report told (λ output whole. (inr stop, (text, report, whole))) (λ out. refl) (λ none. none) is
 
   -- no further line can be counted
   pub stop_spent : (number : ℕ) (kept' : List ℕ) (e : FollowEnd) → 18446744073709551615 ≤ lines → EndsTold ends.Spent (spent_line number) (waits f.telling) kept' e → IsUnderway o next r r' w w' f lines ms
       → IsStopped o r r' w w' kept' e
   stop_spent number kept' e many is u =
       let endless : IsEndless (u.front ++ waiting f.lines) = let size = length-append u.front (waiting f.lines) in let few = u.counted in omega arith in
-      last_told u ends.Spent w' (waits f.telling) kept' u.told (spent_line number) e (inr (inl endless)) u.report (told_so_far o next r r' w w' f lines ms u) (λ output whole. (endless, (number, (u.told, u.report, whole)))) (λ out. refl) (λ none. none) is
+      last_told u ends.Spent w' (waits f.telling) kept' u.told (spent_line number) e (λ output. inr (inl endless)) u.report (told_so_far o next r r' w w' f lines ms u) (λ output whole. (endless, (number, (u.told, u.report, whole)))) (λ out. refl) (λ none. none) is
 
 -- ---- the next line is looked for, or there is none
 
@@ -298,20 +302,23 @@ module _ (o : FollowOptions) (f f' : Follower) (n : ℕ) (m : Option Message) wh
 
 module _ (o : FollowOptions) (r r' : Reads) (w w' : Writes) (f f' : Follower) (lines number n : ℕ) (ms : List Message) where
   -- the line stands behind the messages
-  next_line : (u : IsGoing o r r' w w' f lines ms) (rest input : List ℕ) → n ≤ length (waiting f.lines) → IsLine f.lines n → input ≡ u.front ++ (take n (waiting f.lines) ++ rest) → TakesNext o input ms (followed_at o (u.front ++ take n (waiting f.lines)))
-  next_line u rest input within is parts =
-      record { lines = u.front; line = take n (waiting f.lines); rest = rest; parts = parts; one = line_alone n f.lines within is; before = all_followed o r r' w w' f lines ms u; behind = refl }
+  next_line : (u : IsGoing o r r' w w' f lines ms) (text rest input : List ℕ) → n ≤ length (waiting f.lines) → IsLine f.lines n → text_at o.format (take n (waiting f.lines)) ≡ Ok text → input ≡ u.front ++ (take n (waiting f.lines) ++ rest)
+      → TakesNext o input ms (followed_at o (u.front ++ take n (waiting f.lines)))
+  next_line u text rest input within is e parts =
+      let one = line_whole o.format n f.lines text within is e in
+      record { lines = u.front; line = take n (waiting f.lines); rest = rest; parts = parts; one = one.0; whole = one.1; before = all_followed o r r' w w' f lines ms u; behind = refl }
 
-  -- memory is wanted for it, which isn't passed over
-  wants_line : (u : IsGoing o r r' w w' f lines ms) → n ≤ length (waiting f.lines) → IsLine f.lines n → line_at f.format f.choice.taking (take n (waiting f.lines)) ≢ Ok None → IsWanting o (u.front ++ waiting f.lines) ms
-  wants_line u within is stays =
+  -- memory is wanted for it, which is one to take
+  wants_line : (u : IsGoing o r r' w w' f lines ms) (text output : List ℕ) → n ≤ length (waiting f.lines) → IsLine f.lines n → text_at f.format (take n (waiting f.lines)) ≡ Ok text → is_chosen f.choice.taking text ≡ true
+      → IsWanting o (u.front ++ waiting f.lines) r'.ended ms output
+  wants_line u text output within is e on =
       let line = take n (waiting f.lines) in
-      inr (inr (inl (
+      let whole : text_at o.format line ≡ Ok text = ap (λ (x : Format). text_at x line) (sym u.by.format) ∙ e in
+      inr (inr (inr (inl (
         followed_at o (u.front ++ line),
-        next_line u (drop n (waiting f.lines)) (u.front ++ waiting f.lines) within is (ap (λ (xs : List ℕ). u.front ++ xs) (sym (take-append-drop n (waiting f.lines)))),
-        λ same. line_adds o f.choice.taking ms (lines + 1) line (line_alone n f.lines within is)
-            (λ passed. stays (ap (λ (x : Format). line_at x f.choice.taking line) u.by.format ∙ passed)) (sym (u.followed line) ∙ same),
-      )))
+        next_line u text (drop n (waiting f.lines)) (u.front ++ waiting f.lines) within is whole (ap (λ (xs : List ℕ). u.front ++ xs) (sym (take-append-drop n (waiting f.lines)))),
+        λ same. line_adds o f.choice.taking ms (lines + 1) line (line_whole o.format n f.lines text within is whole).0 (chosen_stays o.format f.choice.taking line text whole on) (sym (u.followed line) ∙ same),
+      ))))
 
   -- a line was passed over
   pub go_passed : number ≡ lines + 1 → n ≤ length (waiting f.lines) → IsLine f.lines n → f'.format ≡ f.format → f'.replica ≡ f.replica → f'.telling ≡ f.telling → f'.started ≡ f.started → HasRead f f' n None
@@ -331,25 +338,23 @@ module _ (o : FollowOptions) (r r' : Reads) (w w' : Writes) (f f' : Follower) (l
       let v = go_line o r r' w w' f f' lines n ms (Some m) (message_ahead o f' ms (lines + 1) m) within cut.0 format replica telling started h
       (λ more. followed_message o f.choice.taking f'.choice.taking ms (lines + 1) m (line ++ more) more line h.text (cut.1 more) (says o f f' n (Some m) u.by h) (spells o f f' n (Some m) u.by h) (turns_so o f f' n (Some m) u.by h)) u in
       subst (λ (k : ℕ). IsHolding o r r' w w' f' k ms m) (sym numbered)
-      (v.0, subst (λ (xs : List ℕ). TakesNext o xs ms (followed_at o xs)) (sym v.1) (next_line u [] (u.front ++ line) within is (ap (λ (xs : List ℕ). u.front ++ xs) (sym (append-nil line)))))
+      (v.0, subst (λ (xs : List ℕ). TakesNext o xs ms (followed_at o xs)) (sym v.1) (next_line u h.text [] (u.front ++ line) within is (spells o f f' n (Some m) u.by h) (ap (λ (xs : List ℕ). u.front ++ xs) (sym (append-nil line)))))
 
   -- a line can't be read, and that is told unless memory was wanted
   pub stop_misread : (kept kept' : List ℕ) (e : FollowError) (end : FollowEnd) → number ≡ lines + 1 → n ≤ length (waiting f.lines) → IsLine f.lines n → f.lines.format ≡ f.format → IsMisreadAt f n e → kept ≡ waits f.telling → StopsBy e number kept kept' end
       → IsGoing o r r' w w' f lines ms → IsStopped o r r' w w' kept' end
   stop_misread kept kept' errors.NoMemory end numbered within is same misread still stop u =
       subst (IsStopped o r r' w w' kept') (sym stop.0)
-      (stop_told o (lines_ahead o f ms lines) r r' w w' f lines ms u ends.Memory ms w' w' (waits f.telling) kept' u.told
-      (begins_so o (lines_ahead o f ms lines) r r' w w' f lines ms u r'.ended) (wants_line u within is (chosen_stays f.format f.choice.taking (take n (waiting f.lines)) misread.0 misread.1 misread.2)) u.report (told_so_far o (lines_ahead o f ms lines) r r' w w' f lines ms u)
-      (cut_memory w' (waits f.telling) kept' [] (stop.1 ∙ still)))
+      (stop_told o (lines_ahead o f ms lines) r r' w w' f lines ms u ms w' (waits f.telling) kept' u.told
+      (begins_so o (lines_ahead o f ms lines) r r' w w' f lines ms u r'.ended) (λ output. wants_line u misread.0 output within is misread.1 misread.2) u.report (told_so_far o (lines_ahead o f ms lines) r r' w w' f lines ms u) (stop.1 ∙ still))
   stop_misread kept kept' (errors.Fault fault) end numbered within is same misread still stop u =
       let next = lines_ahead o f ms lines in
-      let wants = wants_line u within is (λ passed. let clash : Err (errors.Fault fault) ≡ Ok None = sym misread ∙ passed in cc) in
       let stops : StopAt o (u.front ++ waiting f.lines) r'.ended ms number fault = stops_so o next r r' w w' f lines ms u number fault (λ rest over.
       let first = line_comes o.format f.choice.taking n f.lines rest (same ∙ u.by.format) within is (λ found. over (u.found found)) in
       followed_misread o f.choice.taking ms (lines + 1) (waiting f.lines ++ rest) first.0 first.1 (errors.Fault fault) first.2
       (first.3 ∙ (ap (λ (x : Format). line_at x f.choice.taking (take n (waiting f.lines))) (sym u.by.format) ∙ misread))
       ∙ ap (λ (k : ℕ). stopped_at k (errors.Fault fault)) (sym numbered)) in
-      stop_unfollowed o next r r' w w' f lines ms u number fault w' (waits f.telling) kept' u.told end wants u.report (told_so_far o next r r' w w' f lines ms u) stops
+      stop_unfollowed o next r r' w w' f lines ms u number fault w' (waits f.telling) kept' u.told end u.report (told_so_far o next r r' w w' f lines ms u) stops
       (subst (λ (k : List ℕ). EndsTold (ends.Fault number fault) (fault_line number fault) k kept' end) still stop)
 
 -- ---- a message in hand
@@ -362,6 +367,7 @@ takes_more o input ms after more t = record {
   rest = t.rest ++ more;
   parts = ap (λ (xs : List ℕ). xs ++ more) t.parts ∙ (append_assoc t.lines (t.line ++ t.rest) more ∙ ap (λ (xs : List ℕ). t.lines ++ xs) (append_assoc t.line t.rest more));
   one = t.one;
+  whole = t.whole;
   before = t.before;
   behind = t.behind;
 }
@@ -402,24 +408,24 @@ module _ (o : FollowOptions) (r r' : Reads) (w w' : Writes) (f : Follower) (numb
       )
 
   -- memory is wanted for the line that is in hand
-  wants_held : (h : IsHolding o r r' w w' f number ms m) → IsWanting o (h.0.front ++ waiting f.lines) ms
-  wants_held h =
+  wants_held : (h : IsHolding o r r' w w' f number ms m) (output : List ℕ) → IsWanting o (h.0.front ++ waiting f.lines) r'.ended ms output
+  wants_held h output =
       let u = h.0 in
-      inr (inr (inl (
+      inr (inr (inr (inl (
         followed_at o u.front,
         takes_more o u.front ms (followed_at o u.front) (waiting f.lines) h.1,
         λ same. message_adds ms number (apply_fault o.span (start_of o.span o.start).start ms m) m (followed_lines o f.choice.taking (ms ++ m ∷ []) (number + 1) (lines_of []))
             (sym (u.followed []) ∙ (ap (followed_at o) (append-nil u.front) ∙ same)),
-      )))
+      ))))
 
-  -- or for its message, which the replica takes
-  wants_latest : (h : IsHolding o r r' w w' f number ms m) → apply_fault o.span (start_of o.span o.start).start ms m ≡ None → IsWanting o (h.0.front ++ waiting f.lines) (ms ++ m ∷ [])
-  wants_latest h passes =
+  -- or for what is told of its message, which the replica takes
+  wants_latest : (h : IsHolding o r r' w w' f number ms m) (output : List ℕ) → apply_fault o.span (start_of o.span o.start).start ms m ≡ None → IsUntold o ms m output → IsWanting o (h.0.front ++ waiting f.lines) r'.ended (ms ++ m ∷ []) output
+  wants_latest h output passes untold =
       let u = h.0 in
       let below = followed_lines o f.choice.taking (ms ++ m ∷ []) (number + 1) (lines_of []) in
       let all : followed_at o u.front ≡ followed_through (ms ++ m ∷ []) = ap (followed_at o) (sym (append-nil u.front)) ∙ (u.followed [] ∙ (ap (λ (t : Option ApplyFault). onto_taken ms (onto_followed number t m below)) passes
       ∙ ap (λ (x : Followed). onto_taken ms (onto_followed number None m x)) (followed_none o f.choice.taking (ms ++ m ∷ []) (number + 1)))) in
-      inr (inr (inr (ms, m, refl, takes_more o u.front ms (followed_through (ms ++ m ∷ [])) (waiting f.lines) (subst (TakesNext o u.front ms) all h.1))))
+      inr (inr (inr (inr (ms, m, refl, takes_more o u.front ms (followed_through (ms ++ m ∷ [])) (waiting f.lines) (subst (TakesNext o u.front ms) all h.1), untold))))
 
   has_shown : (u : IsBefore o r r' w w' f number ms m) (t : Telling) (w'' : Writes) (kept : List ℕ) → TellsBefore f.telling t f.replica m w' w'' → kept ≡ waits t → HasShown o ms m u.told w w'' kept
   has_shown u t w'' kept tells still =
@@ -434,11 +440,11 @@ module _ (o : FollowOptions) (r r' : Reads) (w w' : Writes) (f : Follower) (numb
 
   -- what was shown belongs to the report: of the messages before it where that is nothing, or else of this one too
   shown_part : (h : IsHolding o r r' w w' f number ms m) (text : List ℕ) → IsToldAt o.shown (codes "complete") (shown_before o ms m) (view_of (start_of o.span o.start).rows ms) (named_through o [] [] ms) text
-      → (ms' : List Message) × BeginWith o (h.0.front ++ waiting f.lines) r'.ended ms' × IsWanting o (h.0.front ++ waiting f.lines) ms' × IsFollowReport o ms' (h.0.told ++ text)
+      → (ms' : List Message) × BeginWith o (h.0.front ++ waiting f.lines) r'.ended ms' × ((output : List ℕ) → IsWanting o (h.0.front ++ waiting f.lines) r'.ended ms' output) × IsFollowReport o ms' (h.0.told ++ text)
   shown_part h text is = by_time (shown_before o ms m) refl is
     where
       by_time : (at : Option ℕ) → shown_before o ms m ≡ at → IsToldAt o.shown (codes "complete") at (view_of (start_of o.span o.start).rows ms) (named_through o [] [] ms) text
-          → (ms' : List Message) × BeginWith o (h.0.front ++ waiting f.lines) r'.ended ms' × IsWanting o (h.0.front ++ waiting f.lines) ms' × IsFollowReport o ms' (h.0.told ++ text)
+          → (ms' : List Message) × BeginWith o (h.0.front ++ waiting f.lines) r'.ended ms' × ((output : List ℕ) → IsWanting o (h.0.front ++ waiting f.lines) r'.ended ms' output) × IsFollowReport o ms' (h.0.told ++ text)
       by_time None none told = (
         ms,
         begins_so o (message_ahead o f ms number m) r r' w w' f number ms h.0 r'.ended,
@@ -449,7 +455,7 @@ module _ (o : FollowOptions) (r r' : Reads) (w w' : Writes) (f : Follower) (numb
           let row = shown_row o ms m at shows in (
             ms ++ m ∷ [],
             begins_more h.0 row.0,
-            wants_latest h row.0,
+            λ output. wants_latest h output row.0 (inr (at, shows)),
             told_more o [] [] ms m h.0.told text h.0.report (record {
               first = text;
               second = [];
@@ -468,14 +474,14 @@ module _ (o : FollowOptions) (r r' : Reads) (w w' : Writes) (f : Follower) (numb
       let is = subst (λ (at : Option ℕ). IsToldAt o.shown (codes "complete") at (view_of (start_of o.span o.start).rows ms) (named_through o [] [] ms) cut.text) (shown_so u.by)
       (told_by f.telling.shown o.shown (codes "complete") (ready_told f.telling.complete (start_of o.span o.start) ms m) (view_of (start_of o.span o.start).rows ms) (named_in f.telling) (named_through o [] [] ms) cut.text u.by.shown u.named cut.is) in
       let part = shown_part h cut.text is in
-      stop_cut o next r r' w w' f number ms u e part.0 w'' (waits t) (u.told ++ cut.text) part.1 part.2 part.3
-      (cut_behind e w w' w'' [] (waits f.telling) (waits t) u.told cut.text (told_so_far o next r r' w w' f number ms u) cut.cut)
+      stop_cut o next r r' w w' f number ms u e part.0 w'' (waits t) (u.told ++ cut.text) part.1 part.3
+      (cut_behind e w w' w'' [] (waits f.telling) (waits t) u.told cut.text (told_so_far o next r r' w w' f number ms u) cut.cut) (λ is. part.2 _)
 
   -- memory is wanted, after what it shows was told
   stop_shown : (h : IsHolding o r r' w w' f number ms m) (w'' : Writes) (kept kept' : List ℕ) → HasShown o ms m h.0.told w w'' kept → kept' ≡ kept → IsStopped o r r' w w'' kept' ends.Memory
   stop_shown h w'' kept kept' told still =
       let part = shown_part h told.text told.is in
-      stop_told o (message_ahead o f ms number m) r r' w w' f number ms h.0 ends.Memory part.0 w'' w'' kept kept' (h.0.told ++ told.text) part.1 part.2 part.3 told.so_far (cut_memory w'' kept kept' [] still)
+      stop_told o (message_ahead o f ms number m) r r' w w' f number ms h.0 part.0 w'' kept kept' (h.0.told ++ told.text) part.1 part.2 part.3 told.so_far still
 
   -- memory is wanted for its key
   pub stop_unnamed : (t : Telling) (w'' : Writes) (kept : List ℕ) → TellsBefore f.telling t f.replica m w' w'' → kept ≡ waits t → IsHolding o r r' w w' f number ms m → IsStopped o r r' w w'' kept ends.Memory
@@ -492,7 +498,7 @@ module _ (o : FollowOptions) (r r' : Reads) (w w' : Writes) (f : Follower) (numb
       let silent : ready.text ≡ [] = by_time (shown_before o ms m) refl why.0 test ready.text ready.is in
       let stops : StopAt o (u.front ++ waiting f.lines) r'.ended ms number told = stops_so o next r r' w w' f number ms u number told (λ rest over.
       ap (λ (t : Option ApplyFault). onto_followed number t m (followed_lines o f.choice.taking (ms ++ m ∷ []) (number + 1) (lines_of (waiting f.lines ++ rest)))) test ∙ ap (stopped_at number) why.2) in
-      stop_unfollowed o next r r' w w' f number ms u number told w'' kept kept' u.told e (wants_held h) u.report
+      stop_unfollowed o next r r' w w' f number ms u number told w'' kept kept' u.told e u.report
       (subst (HasTold w w'' [] kept) (ap (λ (xs : List ℕ). u.told ++ xs) silent ∙ append-nil u.told) ready.so_far) stops stop
     where
       by_time : (at : Option ℕ) → shown_before o ms m ≡ at → (test : ApplyFault) → apply_fault o.span (start_of o.span o.start).start ms m ≡ Some test → (text : List ℕ)
@@ -533,6 +539,12 @@ module _ (o : FollowOptions) (r r' : Reads) (w w' : Writes) (f : Follower) (numb
       → IsToldAt o.shown (codes "resolved") (resolved_by m) (view_of (start_of o.span o.start).rows (ms ++ m ∷ [])) (named_with (unless_told (shown_before o ms m) (named_through o [] [] ms)) m) last → IsFollowReport o (ms ++ m ∷ []) (u.told ++ (text ++ last))
   report_more u text last ready resolved = told_more o [] [] ms m u.told (text ++ last) u.report (record { first = text; second = last; ready = ready; resolved = resolved; text_is = refl })
 
+  -- of the report with this message a beginning was told
+  stop_latest : (h : IsHolding o r r' w w' f number ms m) (e : FollowEnd) (w'' : Writes) (kept text : List ℕ) → apply_fault o.span (start_of o.span o.start).start ms m ≡ None → IsFollowReport o (ms ++ m ∷ []) text → IsCut e w w'' [] kept text → IsStopped o r r' w w'' kept e
+  stop_latest h e w'' kept text passes report c =
+      stop_cut o (message_ahead o f ms number m) r r' w w' f number ms h.0 e (ms ++ m ∷ []) w'' kept text (begins_more h.0 passes) report c
+      (λ is. wants_latest h (kept_at e c.part kept) passes (inl (c.begins.0, c.lacks is, subst (IsFollowReport o (ms ++ m ∷ [])) c.begins.1 report)))
+
   -- what it resolves can't be told
   pub stop_behind : (t t' t'' : Telling) (p : Replica) (w'' w''' : Writes) (kept : List ℕ) (e : FollowEnd) → TellsBefore f.telling t f.replica m w' w'' → KeepsChoice f.telling t → NamesKey t t' m → KeepsChoice t t' → waits t' ≡ waits t
       → IsFaultAt f.replica m None → Takes f.replica p m → CutsBehind t' t'' p w'' w''' e → kept ≡ waits t'' → IsHolding o r r' w w' f number ms m → IsStopped o r r' w w''' kept e
@@ -540,10 +552,9 @@ module _ (o : FollowOptions) (r r' : Reads) (w w' : Writes) (f : Follower) (numb
       let u = held.0 in
       let h = has_shown u t w'' (waits t') tells still in
       let cut = cuts (start_of o.span o.start) (ms ++ m ∷ []) (takes (start_of o.span o.start) ms u.follows) in
-      let c = cut_behind e w w'' w''' [] (waits t') (waits t'') (u.told ++ h.text) cut.text h.so_far cut.cut in
-      stop_cut o (message_ahead o f ms number m) r r' w w' f number ms u e (ms ++ m ∷ []) w''' kept (u.told ++ (h.text ++ cut.text)) (begins_more u (tested None u passes)) (wants_latest held (tested None u passes))
-      (report_more u h.text cut.text h.is (told_last u t t' w'' cut.text tells keeps names keeps' cut.is))
-      (subst (λ (k : List ℕ). IsCut e w w''' [] k (u.told ++ (h.text ++ cut.text))) (sym same) (subst (IsCut e w w''' [] (waits t'')) (append_assoc u.told h.text cut.text) c))
+      stop_latest held e w''' kept (u.told ++ (h.text ++ cut.text)) (tested None u passes) (report_more u h.text cut.text h.is (told_last u t t' w'' cut.text tells keeps names keeps' cut.is))
+      (subst (λ (k : List ℕ). IsCut e w w''' [] k (u.told ++ (h.text ++ cut.text))) (sym same)
+      (subst (IsCut e w w''' [] (waits t'')) (append_assoc u.told h.text cut.text) (cut_behind e w w'' w''' [] (waits t') (waits t'') (u.told ++ h.text) cut.text h.so_far cut.cut)))
 
   -- it is taken, and what it resolves is told
   pub go_taken : (f' : Follower) (t t' : Telling) (w'' w''' : Writes) → TellsBefore f.telling t f.replica m w' w'' → KeepsChoice f.telling t → NamesKey t t' m → KeepsChoice t t' → waits t' ≡ waits t → IsFaultAt f.replica m None

@@ -1,6 +1,6 @@
 -- What is told at a timestamp, and before and behind a message.
 use Rattle.std.proofs.Common.{◌≡◌, ℕ, true, cond, List, [], ◌∷◌, ◌++◌, length, Option, Some, None, Result, Ok, Err, OnOk, refl, sym, ap, ◌∙◌, subst}
-use Rattle.std.specs.Prelude.{IfErr, codes}
+use Rattle.std.specs.Prelude.{IfErr, codes, decimal}
 use Rattle.std.specs.List.{flat_map}
 use Rattle.std.specs.BTreeSet as sets
 use Rattle.std.specs.Ordering.{match_ordering}
@@ -11,6 +11,7 @@ use Rattle.spans.specs.declared.calls.messages.Message.{Message}
 use Rattle.spans.specs.Completeness.{ready_after}
 use Rattle.spans.specs.Keys.{insert_key, insert_where}
 use Rattle.spans.specs.Serial.{Map}
+use Rattle.word_lines.specs.Commands.{joined}
 use Rattle.word_lines.specs.Replies.{row_line}
 use Rattle.replica.specs.declared.replica.Replica.{Replica}
 use Rattle.replica.specs.Replicas.{Follows, view_in}
@@ -27,7 +28,7 @@ use Rattle.follow.specs.Reports.{IsToldAt, shown_lines}
 use Rattle.follow.specs.Told.{HasTold, IsCut}
 use Rattle.follow.specs.Telling.{waits, named_in, ShowsRows, ShowsPart, TellsAt, CutsAt, TellsBefore, CutsBefore, TellsBehind, CutsBehind}
 use Rattle.follow.proofs.Reports.{only_rows}
-use Rattle.follow.proofs.Told.{told_kept, cut_behind, cut_memory}
+use Rattle.follow.proofs.Told.{told_kept, cut_behind, line_is_some, cut_memory}
 
 -- ---- of results
 
@@ -77,7 +78,8 @@ module _ (t : Telling) (word : List ℕ) (at n : ℕ) (m : Map) where
   cut_untold t' w c same = record {
     text = count_line word at n ++ shown_lines t.shown m c.rows (named_in t);
     is = told_rows c.rows c.all c.count;
-    cut = cut_memory w (waits t) (waits t') (count_line word at n ++ shown_lines t.shown m c.rows (named_in t)) same;
+    cut = cut_memory w (waits t) (waits t') (count_line word at n ++ shown_lines t.shown m c.rows (named_in t))
+        (line_is_some (joined (word ∷ decimal at ∷ decimal n ∷ [])) (shown_lines t.shown m c.rows (named_in t))) same;
   }
 
   -- what is shown can't be told

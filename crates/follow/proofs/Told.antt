@@ -1,10 +1,15 @@
 -- What was told, piece by piece.
-use Rattle.std.proofs.Common.{◌≡◌, ℕ, ◌+◌, List, [], ◌∷◌, ◌++◌, Ok, refl, sym, ap, ◌∙◌, subst, append-nil, append_assoc}
+use Rattle.std.proofs.Common.{◌≡◌, ℕ, ◌+◌, List, [], ◌∷◌, ◌++◌, Option, Some, None, Ok, refl, sym, ap, ◌∙◌, subst, append-nil, append_assoc}
+use Rattle.std.specs.Prelude.{◌≢◌, codes}
 use Rattle.std.specs.List.{flat_map}
 use Rattle.sessions.specs.Devices.{Writes}
 use Rattle.sessions.specs.Writing.{HasWritten, HasBegun}
 use Rattle.follow.specs.declared.ending.FollowEnd.{FollowEnd}
 use Rattle.follow.specs.declared.ending.FollowEnd.TheVariants as ends
+use Rattle.word_lines.specs.Commands.{joined}
+use Rattle.word_lines.specs.Replies.{row_line}
+use Rattle.word_lines.specs.Spelling.{spelling}
+use Rattle.follow.specs.Reports.{change_line}
 use Rattle.follow.specs.Told.{HasTold, kept_at, IsCutEnd, IsCut}
 
 -- what waited can't be written
@@ -70,11 +75,24 @@ cut_behind e w w' w'' waits waits' waits'' text more h c = record {
         ∙ (ap (λ (xs : List ℕ). h.0.part ++ xs) c.begins.1
         ∙ (sym (append_assoc h.0.part (kept_at e c.part waits'') c.begins.0) ∙ ap (λ (xs : List ℕ). xs ++ c.begins.0) (sym (kept_front e h.0.part c.part waits'')))))),
   );
+  lacks = c.lacks;
 }
 
+-- a line has a byte at least
+pub line_is_some : (line more : List ℕ) → (line ++ 10 ∷ []) ++ more ≢ []
+line_is_some [] more none = let clash : 10 ∷ more ≡ [] = none in cc
+line_is_some (b ∷ line) more none = let clash : b ∷ ((line ++ 10 ∷ []) ++ more) ≡ [] = none in cc
+
+pub row_is_some : (row : List ℕ × List ℕ) (more : List ℕ) → row_line row ++ more ≢ []
+row_is_some row more = line_is_some (joined (codes "row" ∷ spelling row.0 ∷ spelling row.1 ∷ [])) more
+
+pub change_is_some : (x : List ℕ) (v : Option (List ℕ)) (more : List ℕ) → change_line x v ++ more ≢ []
+change_is_some x (Some v) more = row_is_some (x, v) more
+change_is_some x None more = line_is_some (joined (codes "gone" ∷ spelling x ∷ [])) more
+
 -- memory was wanted for a line
-pub cut_memory : (w : Writes) (waits waits' text : List ℕ) → waits' ≡ waits → IsCut ends.Memory w w waits waits' text
-cut_memory w waits waits' text same = record { early = refl; part = []; took = sym (append-nil w.taken); begins = (text, ap (λ (xs : List ℕ). xs ++ text) (sym same)) }
+pub cut_memory : (w : Writes) (waits waits' text : List ℕ) → text ≢ [] → waits' ≡ waits → IsCut ends.Memory w w waits waits' text
+cut_memory w waits waits' text some same = record { early = refl; part = []; took = sym (append-nil w.taken); begins = (text, ap (λ (xs : List ℕ). xs ++ text) (sym same)); lacks = λ is. some }
 
 -- what waits can't be written
 pub cut_output : (w w' : Writes) (waits waits' text : List ℕ) → CantWrite w w' waits → IsCut ends.Output w w' waits waits' text
@@ -83,6 +101,7 @@ cut_output w w' waits waits' text t = record {
   part = t.0.1.part;
   took = t.0.1.took;
   begins = (t.0.0 ++ text, ap (λ (xs : List ℕ). xs ++ text) t.0.1.left ∙ append_assoc t.0.1.part t.0.0 text);
+  lacks = λ is. absurd cc;
 }
 
 -- nor with a line behind it
@@ -94,6 +113,7 @@ cut_line w w' waits kept waits' line more keeps t =
       part = c.part;
       took = c.took;
       begins = (c.begins.0, sym (append_assoc waits line more) ∙ (ap (λ (xs : List ℕ). xs ++ more) (sym keeps) ∙ c.begins.1));
+      lacks = c.lacks;
     }
 
 -- ---- lines of a list, one after the other
@@ -116,6 +136,10 @@ module _ {A : Type 0} (line : A → List ℕ) where
     told = told_line w w' w'' waits waits' kept waits'' t.text (line x) t.told keeps wrote;
     rest = append_assoc t.text (line x) (flat_map line left') ∙ (ap (λ (xs : List A). t.text ++ flat_map line xs) (sym next) ∙ t.rest);
   }
+
+  -- some are left
+  pub some_left : (left left' : List A) (x : A) → left ≡ x ∷ left' → ((more : List ℕ) → line x ++ more ≢ []) → flat_map line left ≢ []
+  some_left left left' x next some none = some (flat_map line left') (ap (flat_map line) (sym next) ∙ none)
 
   -- all were told
   pub telling_ends : (all left : List A) (w w' : Writes) (waits waits' : List ℕ) → IsTelling all left w w' waits waits' → left ≡ [] → HasTold w w' waits waits' (flat_map line all)

@@ -2,6 +2,7 @@
 use Rattle.std.specs.Prelude.{ℕ, zero, ◌+◌, ◌≡◌, ◌≢◌, ◌≤◌, ◌⊎◌, Bool, true, List, [], ◌∷◌, ◌++◌, length, position, Some, None}
 use Rattle.spans.specs.declared.calls.messages.Message.{Message}
 use Rattle.word_lines.specs.Events.{spent_line}
+use Rattle.word_lines.specs.Words.{has_newline}
 use Rattle.script.specs.Lines.{is_newline, lines_of}
 use Rattle.ticket_lock.specs.Lists.{StartsWith}
 use Rattle.sessions.specs.Devices.{Reads, Writes}
@@ -13,7 +14,7 @@ use Rattle.follow.specs.declared.fault.FollowFault.{FollowFault}
 use Rattle.follow.specs.declared.fault.FollowError.TheVariants as errors
 use Rattle.follow.specs.Followed.{IsUnbegun, MayStart, fault_line}
 use Rattle.follow.specs.Following.{Followed, followed_at, followed_through}
-use Rattle.follow.specs.Reports.{IsFollowReport}
+use Rattle.follow.specs.Reports.{IsFollowReport, shown_before}
 
 -- whatever the source holds, its first messages are these
 abbrev pub BeginWith : FollowOptions → List ℕ → Bool → List Message → Type 0
@@ -60,24 +61,32 @@ pub record IsPart (o : FollowOptions) (input : List ℕ) (ended : Bool) (ms : Li
   pub report : IsReportWith o ms last whole
   pub begins : StartsWith whole output
 
--- behind these messages stands one line that isn't passed over, and this is followed with it
+-- behind these messages stands one whole line, and this is followed with it
 pub record TakesNext (o : FollowOptions) (input : List ℕ) (ms : List Message) (after : Followed) : Type 0 where
   pub lines : List ℕ
   pub line : List ℕ
   pub rest : List ℕ
   pub parts : input ≡ lines ++ (line ++ rest)
   pub one : lines_of line ≡ line ∷ []
+  pub whole : has_newline line ≡ true
   pub before : followed_at o lines ≡ followed_through ms
   pub behind : followed_at o (lines ++ line) ≡ after
 
--- memory was wanted before anything was read, or where lines can't be counted; or for the next line, which is one to take or is at
--- fault; or for what is told of the latest message, which stands in the latest line
-abbrev pub IsWanting : FollowOptions → List ℕ → List Message → Type 0
-IsWanting o input ms =
+-- of what is told of this message a part is missing in the output, or some is told before it is taken
+abbrev pub IsUntold : FollowOptions → List Message → Message → List ℕ → Type 0
+IsUntold o before m output =
+    ((rest : List ℕ) × (rest ≢ []) × IsFollowReport o (before ++ m ∷ []) (output ++ rest))
+    ⊎ ((at : ℕ) × (shown_before o before m ≡ Some at))
+
+-- memory was wanted before anything was read, or where lines can't be counted; or for the next line, which is at fault, or isn't passed
+-- over; or for what is told of the latest message
+abbrev pub IsWanting : FollowOptions → List ℕ → Bool → List Message → List ℕ → Type 0
+IsWanting o input ended ms output =
     (input ≡ [])
     ⊎ IsEndless input
+    ⊎ ((line : ℕ) × (fault : FollowFault) × StopAt o input ended ms line fault)
     ⊎ ((after : Followed) × TakesNext o input ms after × (after ≢ followed_through ms))
-    ⊎ ((before : List Message) × (m : Message) × (ms ≡ before ++ m ∷ []) × TakesNext o input before (followed_through ms))
+    ⊎ ((before : List Message) × (m : Message) × (ms ≡ before ++ m ∷ []) × TakesNext o input before (followed_through ms) × IsUntold o before m output)
 
 -- how each end comes, after these messages and with this output
 abbrev pub EndsBy : FollowOptions → List ℕ → Bool → List Message → List ℕ → FollowEnd → Type 0
@@ -87,7 +96,7 @@ EndsBy o input ended ms output (ends.Fault line fault) = IsFaultAt o input ended
 EndsBy o input ended ms output ends.Spent = IsEndless input × ((line : ℕ) × IsReportWith o ms (spent_line line) output)
 EndsBy o input ended ms output ends.Input = AreMessages o input ms × IsReportWith o ms [] output
 EndsBy o input ended ms output ends.Output = IsPart o input ended ms output
-EndsBy o input ended ms output ends.Memory = IsPart o input ended ms output × IsWanting o input ms
+EndsBy o input ended ms output ends.Memory = IsPart o input ended ms output × IsWanting o input ended ms output
 
 -- how often reads and writes failed: what waits is written also where a read has failed
 abbrev pub FailsAt : FollowEnd → Reads → Writes → Reads → Writes → Type 0

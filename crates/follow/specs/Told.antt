@@ -1,5 +1,5 @@
 -- What was told to a sink: by bytes that it took, and by bytes that wait to be written.
-use Rattle.std.specs.Prelude.{◌≡◌, ℕ, ◌+◌, List, ◌++◌, Ok}
+use Rattle.std.specs.Prelude.{◌≡◌, ◌≢◌, ℕ, ◌+◌, List, [], ◌++◌, Ok}
 use Rattle.ticket_lock.specs.Lists.{StartsWith}
 use Rattle.sessions.specs.Devices.{Writes}
 use Rattle.sessions.specs.Writing.{HasWritten}
@@ -27,3 +27,5 @@ pub record IsCut (e : FollowEnd) (w w' : Writes) (waits waits' text : List ℕ) 
   pub part : List ℕ
   pub took : w'.taken ≡ w.taken ++ part
   pub begins : StartsWith (waits ++ text) (kept_at e part waits')
+  -- where memory was wanted, not all
+  pub lacks : e ≡ ends.Memory → begins.0 ≢ []

@@ -5,7 +5,7 @@ use Rattle.sessions.specs.Writing.{pending_of}
 use Rattle.replica.specs.Replicas.{view_in}
 use Rattle.follow.specs.declared.ending.FollowEnd.TheVariants as ends
 use Rattle.follow.specs.Reports.{change_line}
-use Rattle.follow.proofs.Told.{IsTelling, begin_telling, telling_more, telling_ends, telling_cut, telling_stops, cut_memory}
+use Rattle.follow.proofs.Told.{IsTelling, begin_telling, telling_more, telling_ends, telling_cut, telling_stops, some_left, change_is_some, cut_memory}
 use Rattle.follow.proofs.telling.tell_changes.Goals as goal
 
 pub loop-key-init : goal.loop-key-init
@@ -19,7 +19,8 @@ pub returns-in_err-tell_change-clause-err : goal.returns-in_err-tell_change-clau
 returns-in_err-tell_change-clause-err g c = let K = g.K.Sink in let l = c.loop-key in let line = λ (x : List ℕ). change_line x (view_in c.args.replica.now x) in
     let p = err_from_is_err_and c.from_residual.result c.from_residual.ensures.1 in
     rw (p.1, p.2) (telling_cut line ends.Memory c.args.changed.now.keys l.key-iterator (K.writes c.args.output.now) (K.writes l.output) (K.writes l.output) (pending_of c.args.report.now.kept) (pending_of l.report.kept) (pending_of c.tell_change.new.report.kept) l.invariant
-    (cut_memory (K.writes l.output) (pending_of l.report.kept) (pending_of c.tell_change.new.report.kept) (flat_map line l.key-iterator) c.in_err-tell_change.ensures.err))
+    (cut_memory (K.writes l.output) (pending_of l.report.kept) (pending_of c.tell_change.new.report.kept) (flat_map line l.key-iterator)
+    (some_left line l.key-iterator c.next.new.self c.in-Some.key.now c.in-Some.ensures.steps (change_is_some c.in-Some.key.now (view_in c.args.replica.now c.in-Some.key.now))) c.in_err-tell_change.ensures.err))
 
 pub loop-key-preserved : goal.loop-key-preserved
 loop-key-preserved g c = let K = g.K.Sink in let l = c.loop-key in let line = λ (x : List ℕ). change_line x (view_in c.args.replica.now x) in

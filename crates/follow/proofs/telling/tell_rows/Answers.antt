@@ -4,7 +4,7 @@ use Rattle.std.specs.List.{flat_map}
 use Rattle.sessions.specs.Writing.{pending_of}
 use Rattle.word_lines.specs.Replies.{row_line}
 use Rattle.follow.specs.declared.ending.FollowEnd.TheVariants as ends
-use Rattle.follow.proofs.Told.{IsTelling, begin_telling, telling_more, telling_ends, telling_cut, telling_stops, cut_memory}
+use Rattle.follow.proofs.Told.{IsTelling, begin_telling, telling_more, telling_ends, telling_cut, telling_stops, some_left, row_is_some, cut_memory}
 use Rattle.follow.proofs.telling.tell_rows.Goals as goal
 
 pub loop-key-init : goal.loop-key-init
@@ -16,7 +16,8 @@ pub returns-in_err-tell_row-clause-err : goal.returns-in_err-tell_row-clause-err
 returns-in_err-tell_row-clause-err g c = let K = g.K.Sink in let l = c.loop-key in
     let p = err_from_is_err_and c.from_residual.result c.from_residual.ensures.1 in
     rw (p.1, p.2) (telling_cut row_line ends.Memory c.args.rows l.key-iterator (K.writes c.args.output.now) (K.writes l.output) (K.writes l.output) (pending_of c.args.report.now.kept) (pending_of l.report.kept) (pending_of c.tell_row.new.self.kept) l.invariant
-    (cut_memory (K.writes l.output) (pending_of l.report.kept) (pending_of c.tell_row.new.self.kept) (flat_map row_line l.key-iterator) c.in_err-tell_row.ensures.err))
+    (cut_memory (K.writes l.output) (pending_of l.report.kept) (pending_of c.tell_row.new.self.kept) (flat_map row_line l.key-iterator)
+    (some_left row_line l.key-iterator c.next.new.self (c.in-Some.key.now, c.in-Some.value.now) c.in-Some.ensures.steps (row_is_some (c.in-Some.key.now, c.in-Some.value.now))) c.in_err-tell_row.ensures.err))
 
 pub loop-key-preserved : goal.loop-key-preserved
 loop-key-preserved g c = let K = g.K.Sink in let l = c.loop-key in
