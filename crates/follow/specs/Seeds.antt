@@ -1,5 +1,5 @@
 -- What a follower may begin with: the rows that the last scan of a transcript found.
-use Rattle.std.specs.Prelude.{◌≡◌, ◌≢◌, ◌⊎◌, ℕ, List, [], ◌∷◌, Option, Some, None, option_map, Result, Ok, Err}
+use Rattle.std.specs.Prelude.{◌≡◌, ◌≢◌, ◌⊎◌, ℕ, true, List, [], ◌∷◌, Option, Some, None, option_map, Result, Ok, Err}
 use Rattle.text_format.specs.Limits.{format_of}
 use Rattle.spans.specs.declared.span.Span.{Span}
 use Rattle.spans.specs.declared.calls.commands.Cmd.{Cmd}
@@ -9,7 +9,7 @@ use Rattle.spans.specs.declared.calls.replies.Reply.TheVariants as reply
 use Rattle.spans.specs.declared.calls.events.Event.{Event}
 use Rattle.script.specs.declared.fault.TranscriptError.{TranscriptError}
 use Rattle.script.specs.declared.fault.TranscriptError.TheVariants as read_errors
-use Rattle.script.specs.Transcripts.{Fault, MayWantNext, Transcript, TranscriptWants, outcome, transcript_at}
+use Rattle.script.specs.Transcripts.{Fault, Transcript, TranscriptWants, outcome, transcript_at}
 use Rattle.follow.specs.declared.seed.Seed.{Seed}
 use Rattle.follow.specs.declared.seed.Scan.{Scan}
 use Rattle.follow.specs.declared.seed.SeedError.{SeedError}
@@ -65,7 +65,7 @@ IsLastScan left s = IsLastOf (outcome left) (Some (scan_parts s))
 abbrev pub IsUnscanned : Transcript → SeedError → Type 0
 IsUnscanned left (errors.Fault line fault) = outcome left ≡ Err (record { line = line; fault = fault })
 IsUnscanned left errors.NoScan = IsLastOf (outcome left) None
-IsUnscanned left errors.NoMemory = (left.events ≢ []) ⊎ MayWantNext left
+IsUnscanned left errors.NoMemory = (left.events ≢ []) ⊎ (left.wants ≡ true)
 
 -- why a text that can't be read has no seed
 abbrev pub refusal_of : TranscriptError → SeedError
