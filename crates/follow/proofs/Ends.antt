@@ -1,5 +1,5 @@
 -- A follower that stopped, once what waited is written.
-use Rattle.std.proofs.Common.{◌≡◌, ◌≢◌, ℕ, zero, suc, ◌+◌, Bool, List, [], ◌++◌, refl, sym, ap, ◌∙◌, subst, arith, append-nil, append_assoc, inl, inr}
+use Rattle.std.proofs.Common.{◌≡◌, ◌≢◌, ℕ, zero, suc, ◌+◌, Bool, List, [], ◌∷◌, ◌++◌, refl, sym, ap, ◌∙◌, subst, arith, append-nil, append_assoc, inl, inr}
 use Rattle.spans.specs.declared.calls.messages.Message.{Message}
 use Rattle.word_lines.specs.Events.{spent_line}
 use Rattle.ticket_lock.specs.Lists.{StartsWith}
@@ -13,7 +13,7 @@ use Rattle.follow.specs.declared.fault.FollowError.TheVariants as errors
 use Rattle.follow.specs.Followed.{IsUnbegun, MayStart, fault_line}
 use Rattle.follow.specs.Following.{followed_at}
 use Rattle.follow.specs.Reports.{IsFollowReport}
-use Rattle.follow.specs.Ends.{IsPart, EndsBy, FailsAt, IsFollowed, CouldBegin}
+use Rattle.follow.specs.Ends.{IsReportWith, IsPart, EndsBy, FailsAt, IsFollowed, CouldBegin}
 use Rattle.follow.specs.Told.{kept_at}
 use Rattle.follow.specs.Steps.{IsStopped}
 use Rattle.follow.proofs.Told.{CantWrite}
@@ -22,16 +22,28 @@ use Rattle.follow.proofs.Told.{CantWrite}
 starts_trans : (whole part less : List ℕ) → StartsWith whole part → StartsWith part less → StartsWith whole less
 starts_trans whole part less a b = (b.0 ++ a.0, a.1 ∙ (ap (λ (xs : List ℕ). xs ++ a.0) b.1 ∙ append_assoc less b.0 a.0))
 
+-- the report, and no line behind it
+pub whole_told : (o : FollowOptions) (ms : List Message) (text : List ℕ) → IsFollowReport o ms text → IsReportWith o ms [] text
+whole_told o ms text report = (text, report, sym (append-nil text))
+
 module _ (o : FollowOptions) (input : List ℕ) (ended : Bool) (ms : List Message) where
+  -- what begins the report is a part
+  pub part_of : (whole output : List ℕ) → IsReportWith o ms [] whole → StartsWith whole output → IsPart o input ended ms output
+  part_of whole output report s = record { last = []; is_last = inl refl; whole = whole; report = report; begins = s }
+
   -- where the rest can't be written, what was is a part
   cut_off : (e : FollowEnd) (whole output : List ℕ) → EndsBy o input ended ms whole e → StartsWith whole output → IsPart o input ended ms output
-  cut_off ends.Done whole output h s = record { last = []; is_last = inl refl; whole = whole; report = h.3; begins = s }
-  cut_off ends.NoMessages whole output h s = record { last = []; is_last = inl refl; whole = whole; report = ([], subst (λ (xs : List Message). IsFollowReport o xs []) (sym h.2) refl, h.3); begins = s }
+  cut_off ends.Done whole output h s = part_of whole output h.3 s
+  cut_off ends.NoMessages whole output h s = part_of whole output ([], subst (λ (xs : List Message). IsFollowReport o xs []) (sym h.2) refl, h.3) s
   cut_off (ends.Fault line fault) whole output h s = record { last = fault_line line fault; is_last = inr (inl (line, fault, h.0, refl)); whole = whole; report = h.1; begins = s }
   cut_off ends.Spent whole output h s = record { last = spent_line h.1.0; is_last = inr (inr (h.1.0, h.0, refl)); whole = whole; report = h.1.1; begins = s }
-  cut_off ends.Input whole output h s = record { last = []; is_last = inl refl; whole = whole; report = h.1; begins = s }
+  cut_off ends.Input whole output h s = part_of whole output h.1 s
   cut_off ends.Output whole output h s = record { last = h.last; is_last = h.is_last; whole = h.whole; report = h.report; begins = starts_trans h.whole whole output h.begins s }
-  cut_off ends.Memory whole output h s = record { last = h.0.last; is_last = h.0.is_last; whole = h.0.whole; report = h.0.report; begins = starts_trans h.0.whole whole output h.0.begins s }
+  cut_off ends.Memory whole output (inl h) s = part_of whole output h.0 s
+  cut_off ends.Memory whole output (inr (before, m, is, next, inl untold)) s =
+      part_of (whole ++ untold.2) output (subst (λ (xs : List Message). IsReportWith o xs [] (whole ++ untold.2)) (sym is) (whole_told o (before ++ m ∷ []) (whole ++ untold.2) untold.6))
+      (starts_trans (whole ++ untold.2) whole output (untold.2, refl) s)
+  cut_off ends.Memory whole output (inr (before, m, is, next, inr told)) s = part_of whole output (subst (λ (xs : List Message). IsReportWith o xs [] whole) (sym is) told.3) s
 
 kept_else : (e : FollowEnd) (out waits : List ℕ) → e ≢ ends.Output → kept_at e out waits ≡ out ++ waits
 kept_else ends.Done out waits ne = refl
@@ -97,7 +109,7 @@ module _ (o : FollowOptions) (r : Reads) (w : Writes) where
 
   -- memory is wanted
   pub followed_memory : IsFollowed o r r w w ends.Memory
-  followed_memory = followed_nothing ends.Memory w [] (sym (append-nil w.taken)) (record { last = []; is_last = inl refl; whole = []; report = ([], refl, refl); begins = ([], refl) }, inl refl) (refl, refl)
+  followed_memory = followed_nothing ends.Memory w [] (sym (append-nil w.taken)) (inl (([], refl, refl), inl refl)) (refl, refl)
 
   -- the replica can't begin, and that is told
   pub followed_fault : (w' : Writes) (fault : FollowFault) (text : List ℕ) → IsUnbegun o.span o.start (errors.Fault fault) → text ≡ fault_line 0 fault → HasTaken w.taken w'.taken text [] → w'.failures ≡ w.failures → IsFollowed o r r w w' (ends.Fault 0 fault)

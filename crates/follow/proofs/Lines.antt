@@ -1,5 +1,5 @@
 -- What is followed of an input, line by line.
-use Rattle.std.proofs.Common.{◌≡◌, ℕ, suc, ◌+◌, ◌-◌, ◌<◌, ◌≤◌, ◌⊎◌, ⊎_elim, Bool, true, false, cond, List, [], ◌∷◌, ◌++◌, length, take, drop, Option, Some, None, Result, Ok, Err, refl, sym, ap, subst, ◌∙◌, arith, append-nil, length-append, inl, inr}
+use Rattle.std.proofs.Common.{◌≡◌, ℕ, suc, ◌+◌, ◌-◌, ◌<◌, ◌≤◌, ◌⊎◌, ⊎_elim, Bool, true, false, cond, List, [], ◌∷◌, ◌++◌, length, take, drop, Option, Some, None, Result, Ok, Err, refl, sym, ap, subst, ◌∙◌, arith, append-nil, append_assoc, length-append, inl, inr}
 use Rattle.std.specs.Prelude.{◌≢◌, is_some, not, position}
 use Rattle.std.specs.List.{position_or_len}
 use Rattle.std.proofs.lemmas.Bool.{lt-ltb}
@@ -10,6 +10,7 @@ use Rattle.text_format.specs.declared.Format.{Format}
 use Rattle.text_format.specs.Limits.{line_limit}
 use Rattle.spans.specs.declared.calls.messages.Message.{Message}
 use Rattle.spans.specs.Consumer.{ApplyFault, apply_fault}
+use Rattle.spans.specs.Consumer as consumer
 use Rattle.json_lines.specs.declared.fault.MessageFault.{MessageFault}
 use Rattle.json_lines.specs.Messages.{IsMessage, message_line}
 use Rattle.json_lines.specs.Tests.{message_at}
@@ -22,10 +23,16 @@ use Rattle.script.proofs.CutLines.{lines_alone, lines_first}
 use Rattle.sessions.specs.declared.lines.Lines.{Lines}
 use Rattle.sessions.specs.Waiting.{waiting, IsLine}
 use Rattle.sessions.proofs.Finding.{newline_stays, newline_comes, newline_lacks}
+use Rattle.replica.specs.declared.fault.Fault.{Fault}
+use Rattle.replica.specs.declared.fault.Fault.TheVariants as replica_faults
+use Rattle.replica.specs.Replicas.{test_of}
 use Rattle.follow.specs.declared.options.FollowOptions.{FollowOptions}
+use Rattle.follow.specs.Ends.{TakesNext}
+use Rattle.follow.specs.declared.fault.FollowFault.{FollowFault}
 use Rattle.follow.specs.declared.fault.FollowError.{FollowError}
+use Rattle.follow.specs.declared.fault.FollowError.TheVariants as errors
 use Rattle.follow.specs.Chosen.{is_taking_after}
-use Rattle.follow.specs.Followed.{start_of, is_chosen, error_of_line}
+use Rattle.follow.specs.Followed.{start_of, is_chosen, error_of_line, error_of_replica}
 use Rattle.follow.specs.Following.{Followed, chosen_at, said_by, line_at, taking_behind, error_of_test, stopped_at, followed_through, onto_followed, followed_step, followed_lines}
 use Rattle.follow.specs.Steps.{onto_taken}
 use Rattle.follow.proofs.MessagesRead.{line_is_message}
@@ -231,3 +238,32 @@ module _ (o : FollowOptions) where
   pub line_adds : (taking : Bool) (ms : List Message) (number : ℕ) (line : List ℕ) → lines_of line ≡ line ∷ [] → line_at o.format taking line ≢ Ok None → onto_taken ms (followed_lines o taking ms number (lines_of line)) ≢ followed_through ms
   line_adds taking ms number line one stays same =
       step_adds ms number (line_at o.format taking line) _ stays (sym (ap (onto_taken ms) (ap (followed_lines o taking ms number) one ∙ followed_cons o taking ms number line [] (line_at o.format taking line) refl)) ∙ same)
+
+-- the line stands there too where more comes behind it
+pub takes_more : (o : FollowOptions) (input : List ℕ) (ms : List Message) (after : Followed) (more : List ℕ) → TakesNext o input ms after → TakesNext o (input ++ more) ms after
+takes_more o input ms after more t = record {
+  lines = t.lines;
+  line = t.line;
+  rest = t.rest ++ more;
+  parts = ap (λ (xs : List ℕ). xs ++ more) t.parts ∙ (append_assoc t.lines (t.line ++ t.rest) more ∙ ap (λ (xs : List ℕ). t.lines ++ xs) (append_assoc t.line t.rest more));
+  one = t.one;
+  whole = t.whole;
+  before = t.before;
+  behind = t.behind;
+}
+
+-- ---- why a replica refuses a message
+
+-- the fault that is told
+pub refused_as : (fault : Fault) (told : FollowFault) → error_of_replica fault ≡ errors.Fault told → (test : ApplyFault) × (test_of fault ≡ Some test) × (error_of_test test ≡ errors.Fault told)
+refused_as replica_faults.NotAfter told is = (consumer.NotAfter, refl, is)
+refused_as replica_faults.OutsideSpan told is = (consumer.OutsideSpan, refl, is)
+refused_as replica_faults.ResolvedBack told is = (consumer.ResolvedBack, refl, is)
+refused_as replica_faults.NoMemory told is = absurd cc
+
+-- of the faults that a replica tells, the want of memory is one
+pub is_memory : (fault : Fault) → error_of_replica fault ≡ errors.NoMemory → fault ≡ replica_faults.NoMemory
+is_memory replica_faults.NotAfter is = absurd cc
+is_memory replica_faults.OutsideSpan is = absurd cc
+is_memory replica_faults.ResolvedBack is = absurd cc
+is_memory replica_faults.NoMemory is = refl

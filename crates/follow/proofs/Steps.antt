@@ -1,5 +1,5 @@
 -- The steps of a follower.
-use Rattle.std.proofs.Common.{◌≡◌, ℕ, ◌+◌, ◌<◌, ◌≤◌, ◌⊎◌, Bool, true, cond, List, [], ◌∷◌, ◌++◌, length, take, drop, Option, Some, None, Ok, Err, refl, sym, ap, ◌∙◌, subst, arith, append-nil, append_assoc, length-append, inl, inr}
+use Rattle.std.proofs.Common.{◌≡◌, ℕ, ◌+◌, ◌<◌, ◌≤◌, ◌⊎◌, Bool, true, cond, List, [], ◌∷◌, ◌++◌, length, take, drop, Option, Some, None, Ok, refl, sym, ap, ◌∙◌, subst, arith, append-nil, append_assoc, length-append, inl, inr}
 use Rattle.std.specs.Prelude.{◌≢◌, codes, position}
 use Rattle.std.proofs.lemmas.List.{length-take-le, take-append-drop}
 use Rattle.text_format.specs.declared.Format.{Format}
@@ -7,15 +7,14 @@ use Rattle.spans.specs.declared.calls.messages.Message.{Message}
 use Rattle.spans.specs.declared.span.Span.{Span}
 use Rattle.spans.specs.Completeness.{ready_after}
 use Rattle.spans.specs.Consumer.{ApplyFault, apply_fault, view_of}
-use Rattle.spans.specs.Consumer as consumer
 use Rattle.word_lines.specs.Events.{spent_line}
 use Rattle.word_lines.specs.Words.{text_at}
 use Rattle.script.specs.Lines.{is_newline, lines_of}
-use Rattle.ticket_lock.specs.Lists.{StartsWith}
 use Rattle.replica.specs.declared.fault.Fault.{Fault}
 use Rattle.replica.specs.declared.fault.Fault.TheVariants as replica_faults
 use Rattle.replica.specs.declared.replica.Replica.{Replica}
 use Rattle.replica.specs.Replicas.{Follows, Takes, IsFaultAt, test_of}
+use Rattle.replica.specs.Faults.{AddsValue}
 use Rattle.replica.specs.Starts.{resolved_at}
 use Rattle.sessions.specs.declared.lines.Lines.{Lines}
 use Rattle.sessions.specs.Runs.{MayHold}
@@ -38,16 +37,17 @@ use Rattle.follow.specs.declared.follower.Follower.{Follower}
 use Rattle.follow.specs.declared.telling.Telling.{Telling}
 use Rattle.follow.specs.Chosen.{is_taking_after}
 use Rattle.follow.specs.Followed.{start_of, is_chosen, fault_line, error_of_replica}
-use Rattle.follow.specs.Following.{Followed, line_at, error_of_test, followed_at, followed_lines, followed_through, onto_followed, stopped_at}
+use Rattle.follow.specs.Following.{Followed, line_at, followed_at, followed_lines, followed_through, onto_followed, stopped_at}
 use Rattle.follow.specs.Reports.{IsToldAt, IsFollowReport, shown_before, resolved_by, named_with, unless_told}
-use Rattle.follow.specs.Ends.{BeginWith, StopAt, IsEndless, IsPart, TakesNext, IsUntold, IsWanting, EndsBy, FailsAt}
+use Rattle.follow.specs.Ends.{BeginWith, StopAt, IsEndless, TakesNext, IsUntold, IsWanting, EndsBy, FailsAt}
 use Rattle.follow.specs.Taking.{HasRead, IsMisreadAt}
-use Rattle.follow.specs.Told.{HasTold, kept_at, IsCutEnd, IsCut}
+use Rattle.follow.specs.Told.{HasTold, kept_at, IsCut}
 use Rattle.follow.specs.Telling.{waits, named_in, KeepsChoice, ready_told, TellsBefore, CutsBefore, TellsBehind, CutsBehind, NamesKey}
 use Rattle.follow.specs.Steps.{onto_taken, named_through, are_some, GoesBy, IsUnderway, lines_ahead, message_ahead, IsGoing, IsBefore, IsHolding, IsStopped, IsFresh, end_at, EndsTold, StopsBy}
-use Rattle.follow.proofs.Told.{CantWrite, told_behind, cut_behind, cut_output}
+use Rattle.follow.proofs.Told.{CantWrite, told_behind, cut_behind, cut_output, none_left}
+use Rattle.follow.proofs.Ends.{whole_told, part_of}
 use Rattle.follow.proofs.Reports.{told_more, named_more, told_by, resolved_last, shown_row}
-use Rattle.follow.proofs.Lines.{chosen_stays, line_whole, line_comes, line_ahead, followed_none, followed_misread, followed_passed, followed_message, message_adds, line_adds}
+use Rattle.follow.proofs.Lines.{chosen_stays, line_whole, line_comes, line_ahead, followed_none, followed_misread, followed_passed, followed_message, message_adds, line_adds, takes_more, refused_as, is_memory}
 
 -- a replica is of the span that its follower was given
 span_kept : (span : Span) (start : Start) → (start_of span start).span ≡ span
@@ -104,71 +104,59 @@ module _ (o : FollowOptions) (next : List ℕ → Followed) (r r' : Reads) (w w'
 
 -- ---- where it stops early
 
-part_of : (o : FollowOptions) (input : List ℕ) (ended : Bool) (ms : List Message) (text output : List ℕ) → IsFollowReport o ms text → StartsWith text output → IsPart o input ended ms output
-part_of o input ended ms text output report begins = record { last = []; is_last = inl refl; whole = text; report = (text, report, sym (append-nil text)); begins = begins }
-
-part_ends : (o : FollowOptions) (input : List ℕ) (ended : Bool) (ms : List Message) (output : List ℕ) (e : FollowEnd) (w w' : Writes) → IsCutEnd e w w' → (e ≡ ends.Memory → IsWanting o input ended ms output) → IsPart o input ended ms output
-    → EndsBy o input ended ms output e
-part_ends o input ended ms output ends.Done w w' cut wants part = absurd cut
-part_ends o input ended ms output ends.NoMessages w w' cut wants part = absurd cut
-part_ends o input ended ms output (ends.Fault line fault) w w' cut wants part = absurd cut
-part_ends o input ended ms output ends.Spent w w' cut wants part = absurd cut
-part_ends o input ended ms output ends.Input w w' cut wants part = absurd cut
-part_ends o input ended ms output ends.Output w w' cut wants part = part
-part_ends o input ended ms output ends.Memory w w' cut wants part = (part, wants refl)
-
-cut_fails : (e : FollowEnd) (r r' : Reads) (w w' : Writes) → r'.failures ≡ r.failures → IsCutEnd e w w' → FailsAt e r w r' w'
-cut_fails ends.Done r r' w w' read cut = absurd cut
-cut_fails ends.NoMessages r r' w w' read cut = absurd cut
-cut_fails (ends.Fault line fault) r r' w w' read cut = absurd cut
-cut_fails ends.Spent r r' w w' read cut = absurd cut
-cut_fails ends.Input r r' w w' read cut = absurd cut
-cut_fails ends.Output r r' w w' read cut = (omega arith, omega arith, cut)
-cut_fails ends.Memory r r' w w' read cut = (read, cut)
-
 module _ (o : FollowOptions) (next : List ℕ → Followed) (r r' : Reads) (w w' : Writes) (f : Follower) (lines : ℕ) (ms : List Message) where
-  -- of a report a beginning was told
-  stop_cut : (u : IsUnderway o next r r' w w' f lines ms) (e : FollowEnd) (ms' : List Message) (w'' : Writes) (kept text : List ℕ) → BeginWith o (u.front ++ waiting f.lines) r'.ended ms' → IsFollowReport o ms' text → (c : IsCut e w w'' [] kept text)
-      → (e ≡ ends.Memory → IsWanting o (u.front ++ waiting f.lines) r'.ended ms' (kept_at e c.part kept)) → IsStopped o r r' w w'' kept e
-  stop_cut u e ms' w'' kept text begins report c wants =
-      stops_with o next r r' w w' f lines ms u w'' kept c.part e ms' c.took begins
-      (part_ends o (u.front ++ waiting f.lines) r'.ended ms' (kept_at e c.part kept) e w w'' c.early wants (part_of o (u.front ++ waiting f.lines) r'.ended ms' text (kept_at e c.part kept) report c.begins))
-      (cut_fails e r r' w w'' u.worked.0 c.early)
-
   -- what was told is a report, and no more memory is there
   stop_told : (u : IsUnderway o next r r' w w' f lines ms) (ms' : List Message) (w'' : Writes) (kept kept' text : List ℕ) → BeginWith o (u.front ++ waiting f.lines) r'.ended ms'
-      → ((output : List ℕ) → IsWanting o (u.front ++ waiting f.lines) r'.ended ms' output) → IsFollowReport o ms' text → HasTold w w'' [] kept text → kept' ≡ kept → IsStopped o r r' w w'' kept' ends.Memory
-  stop_told u ms' w'' kept kept' text begins wants report told same =
-      let output = told.0.part ++ kept' in
+      → IsWanting o (u.front ++ waiting f.lines) r'.ended ms' text → HasTold w w'' [] kept text → kept' ≡ kept → IsStopped o r r' w w'' kept' ends.Memory
+  stop_told u ms' w'' kept kept' text begins wants told same =
       stops_with o next r r' w w' f lines ms u w'' kept' told.0.part ends.Memory ms' told.0.took begins
-      (part_of o (u.front ++ waiting f.lines) r'.ended ms' text output report ([], told.0.left ∙ (ap (λ (xs : List ℕ). told.0.part ++ xs) (sym same) ∙ sym (append-nil output))), wants output)
+      (subst (IsWanting o (u.front ++ waiting f.lines) r'.ended ms') (told.0.left ∙ ap (λ (xs : List ℕ). told.0.part ++ xs) (sym same)) wants)
       (u.worked.0, told.1)
 
+  -- behind the report so far a text was to come, and it ends early
+  stop_cut : (u : IsUnderway o next r r' w w' f lines ms) (e : FollowEnd) (ms' : List Message) (w'' : Writes) (kept text : List ℕ) → BeginWith o (u.front ++ waiting f.lines) r'.ended ms' → IsFollowReport o ms' (u.told ++ text)
+      → ((part rest : List ℕ) → text ≡ part ++ rest → rest ≢ [] → IsWanting o (u.front ++ waiting f.lines) r'.ended ms' (u.told ++ part)) → IsCut e w' w'' (waits f.telling) kept text → IsStopped o r r' w w'' kept e
+  stop_cut u ends.Done ms' w'' kept text begins report wants c = absurd c
+  stop_cut u ends.NoMessages ms' w'' kept text begins report wants c = absurd c
+  stop_cut u (ends.Fault line fault) ms' w'' kept text begins report wants c = absurd c
+  stop_cut u ends.Spent ms' w'' kept text begins report wants c = absurd c
+  stop_cut u ends.Input ms' w'' kept text begins report wants c = absurd c
+  stop_cut u ends.Output ms' w'' kept text begins report wants c =
+      let cut = cut_behind ends.Output w w' w'' [] (waits f.telling) kept u.told text (told_so_far o next r r' w w' f lines ms u) c in
+      let part = cut.0.1 in
+      let reads = u.worked.0 in
+      stops_with o next r r' w w' f lines ms u w'' kept part.part ends.Output ms' part.took begins
+      (part_of o (u.front ++ waiting f.lines) r'.ended ms' (u.told ++ text) part.part (whole_told o ms' (u.told ++ text) report) (cut.0.0, part.left))
+      (omega arith, omega arith, cut.1)
+  stop_cut u ends.Memory ms' w'' kept text begins report wants c =
+      stop_told u ms' w'' kept kept (u.told ++ c.0) begins (wants c.0 c.1 c.2 c.3)
+      (told_behind w w' w'' [] (waits f.telling) kept u.told c.0 (told_so_far o next r r' w w' f lines ms u) c.4) refl
+
   -- a line is told last
-  last_told : (u : IsUnderway o next r r' w w' f lines ms) (last : FollowEnd) (w'' : Writes) (kept kept' text line : List ℕ) (e : FollowEnd) → ((output : List ℕ) → IsWanting o (u.front ++ waiting f.lines) r'.ended ms output) → IsFollowReport o ms text
+  last_told : (u : IsUnderway o next r r' w w' f lines ms) (last : FollowEnd) (w'' : Writes) (kept kept' text line : List ℕ) (e : FollowEnd) → IsWanting o (u.front ++ waiting f.lines) r'.ended ms text
       → HasTold w w'' [] kept text → ((output : List ℕ) → output ≡ text ++ line → EndsBy o (u.front ++ waiting f.lines) r'.ended ms output last) → ((out : List ℕ) → kept_at last out kept' ≡ out ++ kept')
       → ((r'.failures ≡ r.failures) × (w''.failures ≡ w.failures) → FailsAt last r w r' w'') → EndsTold last line kept kept' e → IsStopped o r r' w w'' kept' e
-  last_told u last w'' kept kept' text line e wants report told comes all fails (inl is) =
+  last_told u last w'' kept kept' text line e wants told comes all fails (inl is) =
       subst (IsStopped o r r' w w'' kept') (sym is.0)
       (stops_with o next r r' w w' f lines ms u w'' kept' told.0.part last ms told.0.took (begins_so o next r r' w w' f lines ms u r'.ended)
       (comes (kept_at last told.0.part kept') (all told.0.part ∙ (ap (λ (xs : List ℕ). told.0.part ++ xs) is.1 ∙ (sym (append_assoc told.0.part kept line) ∙ ap (λ (xs : List ℕ). xs ++ line) (sym told.0.left)))))
       (fails (u.worked.0, told.1)))
-  last_told u last w'' kept kept' text line e wants report told comes all fails (inr is) =
+  last_told u last w'' kept kept' text line e wants told comes all fails (inr is) =
       subst (IsStopped o r r' w w'' kept') (sym is.0)
-      (stop_told u ms w'' kept kept' text (begins_so o next r r' w w' f lines ms u r'.ended) wants report told is.1)
+      (stop_told u ms w'' kept kept' text (begins_so o next r r' w w' f lines ms u r'.ended) wants told is.1)
 
   -- the next line can't be followed, and that is told
   stop_unfollowed : (u : IsUnderway o next r r' w w' f lines ms) (number : ℕ) (fault : FollowFault) (w'' : Writes) (kept kept' text : List ℕ) (e : FollowEnd) → IsFollowReport o ms text → HasTold w w'' [] kept text
       → StopAt o (u.front ++ waiting f.lines) r'.ended ms number fault → EndsTold (ends.Fault number fault) (fault_line number fault) kept kept' e → IsStopped o r r' w w'' kept' e
   stop_unfollowed u number fault w'' kept kept' text e report told stop is =
-      last_told u (ends.Fault number fault) w'' kept kept' text (fault_line number fault) e (λ output. inr (inr (inl (number, fault, stop)))) report told (λ output whole. (inr stop, (text, report, whole))) (λ out. refl) (λ none. none) is
+      last_told u (ends.Fault number fault) w'' kept kept' text (fault_line number fault) e (inl (whole_told o ms text report, inr (inr (inl (number, fault, stop))))) told (λ output whole. (inr stop, (text, report, whole))) (λ out. refl) (λ none. none) is
 
   -- no further line can be counted
   pub stop_spent : (number : ℕ) (kept' : List ℕ) (e : FollowEnd) → 18446744073709551615 ≤ lines → EndsTold ends.Spent (spent_line number) (waits f.telling) kept' e → IsUnderway o next r r' w w' f lines ms
       → IsStopped o r r' w w' kept' e
   stop_spent number kept' e many is u =
       let endless : IsEndless (u.front ++ waiting f.lines) = let size = length-append u.front (waiting f.lines) in let few = u.counted in omega arith in
-      last_told u ends.Spent w' (waits f.telling) kept' u.told (spent_line number) e (λ output. inr (inl endless)) u.report (told_so_far o next r r' w w' f lines ms u) (λ output whole. (endless, (number, (u.told, u.report, whole)))) (λ out. refl) (λ none. none) is
+      last_told u ends.Spent w' (waits f.telling) kept' u.told (spent_line number) e (inl (whole_told o ms u.told u.report, inr (inl endless))) (told_so_far o next r r' w w' f lines ms u) (λ output whole. (endless, (number, (u.told, u.report, whole)))) (λ out. refl) (λ none. none) is
 
 -- ---- the next line is looked for, or there is none
 
@@ -199,11 +187,11 @@ module _ (o : FollowOptions) (r r' r'' : Reads) (w w' : Writes) (f : Follower) (
         messages = ms;
         input = u.front ++ waiting l;
         read = read_on u x;
-        out = c.part;
-        wrote = c.took;
+        out = c.0.1.part;
+        wrote = c.0.1.took;
         begins = begins_on u x;
-        ends = part_of o (u.front ++ waiting l) r''.ended ms u.told c.part u.report (subst (λ (xs : List ℕ). StartsWith xs c.part) (append-nil u.told) c.begins);
-        failed = cut_fails ends.Output r r'' w w'' (worked ∙ u.worked.0) c.early;
+        ends = part_of o (u.front ++ waiting l) r''.ended ms u.told c.0.1.part (whole_told o ms u.told u.report) (c.0.0, sym (append-nil u.told) ∙ c.0.1.left);
+        failed = let reads = worked ∙ u.worked.0 in (omega arith, omega arith, c.1);
       }
 
   -- a read failed, after what waited was written
@@ -309,16 +297,19 @@ module _ (o : FollowOptions) (r r' : Reads) (w w' : Writes) (f f' : Follower) (l
       record { lines = u.front; line = take n (waiting f.lines); rest = rest; parts = parts; one = one.0; whole = one.1; before = all_followed o r r' w w' f lines ms u; behind = refl }
 
   -- memory is wanted for it, which is one to take
-  wants_line : (u : IsGoing o r r' w w' f lines ms) (text output : List ℕ) → n ≤ length (waiting f.lines) → IsLine f.lines n → text_at f.format (take n (waiting f.lines)) ≡ Ok text → is_chosen f.choice.taking text ≡ true
-      → IsWanting o (u.front ++ waiting f.lines) r'.ended ms output
-  wants_line u text output within is e on =
+  wants_line : (u : IsGoing o r r' w w' f lines ms) (text : List ℕ) → n ≤ length (waiting f.lines) → IsLine f.lines n → text_at f.format (take n (waiting f.lines)) ≡ Ok text → is_chosen f.choice.taking text ≡ true
+      → IsWanting o (u.front ++ waiting f.lines) r'.ended ms u.told
+  wants_line u text within is e on =
       let line = take n (waiting f.lines) in
       let whole : text_at o.format line ≡ Ok text = ap (λ (x : Format). text_at x line) (sym u.by.format) ∙ e in
-      inr (inr (inr (inl (
-        followed_at o (u.front ++ line),
-        next_line u text (drop n (waiting f.lines)) (u.front ++ waiting f.lines) within is whole (ap (λ (xs : List ℕ). u.front ++ xs) (sym (take-append-drop n (waiting f.lines)))),
-        λ same. line_adds o f.choice.taking ms (lines + 1) line (line_whole o.format n f.lines text within is whole).0 (chosen_stays o.format f.choice.taking line text whole on) (sym (u.followed line) ∙ same),
-      ))))
+      inl (
+        whole_told o ms u.told u.report,
+        inr (inr (inr (
+          followed_at o (u.front ++ line),
+          next_line u text (drop n (waiting f.lines)) (u.front ++ waiting f.lines) within is whole (ap (λ (xs : List ℕ). u.front ++ xs) (sym (take-append-drop n (waiting f.lines)))),
+          λ same. line_adds o f.choice.taking ms (lines + 1) line (line_whole o.format n f.lines text within is whole).0 (chosen_stays o.format f.choice.taking line text whole on) (sym (u.followed line) ∙ same),
+        ))),
+      )
 
   -- a line was passed over
   pub go_passed : number ≡ lines + 1 → n ≤ length (waiting f.lines) → IsLine f.lines n → f'.format ≡ f.format → f'.replica ≡ f.replica → f'.telling ≡ f.telling → f'.started ≡ f.started → HasRead f f' n None
@@ -346,7 +337,7 @@ module _ (o : FollowOptions) (r r' : Reads) (w w' : Writes) (f f' : Follower) (l
   stop_misread kept kept' errors.NoMemory end numbered within is same misread still stop u =
       subst (IsStopped o r r' w w' kept') (sym stop.0)
       (stop_told o (lines_ahead o f ms lines) r r' w w' f lines ms u ms w' (waits f.telling) kept' u.told
-      (begins_so o (lines_ahead o f ms lines) r r' w w' f lines ms u r'.ended) (λ output. wants_line u misread.0 output within is misread.1 misread.2) u.report (told_so_far o (lines_ahead o f ms lines) r r' w w' f lines ms u) (stop.1 ∙ still))
+      (begins_so o (lines_ahead o f ms lines) r r' w w' f lines ms u r'.ended) (wants_line u misread.0 within is misread.1 misread.2) (told_so_far o (lines_ahead o f ms lines) r r' w w' f lines ms u) (stop.1 ∙ still))
   stop_misread kept kept' (errors.Fault fault) end numbered within is same misread still stop u =
       let next = lines_ahead o f ms lines in
       let stops : StopAt o (u.front ++ waiting f.lines) r'.ended ms number fault = stops_so o next r r' w w' f lines ms u number fault (λ rest over.
@@ -359,31 +350,11 @@ module _ (o : FollowOptions) (r r' : Reads) (w w' : Writes) (f f' : Follower) (l
 
 -- ---- a message in hand
 
--- the line stands there too where more comes behind it
-takes_more : (o : FollowOptions) (input : List ℕ) (ms : List Message) (after : Followed) (more : List ℕ) → TakesNext o input ms after → TakesNext o (input ++ more) ms after
-takes_more o input ms after more t = record {
-  lines = t.lines;
-  line = t.line;
-  rest = t.rest ++ more;
-  parts = ap (λ (xs : List ℕ). xs ++ more) t.parts ∙ (append_assoc t.lines (t.line ++ t.rest) more ∙ ap (λ (xs : List ℕ). t.lines ++ xs) (append_assoc t.line t.rest more));
-  one = t.one;
-  whole = t.whole;
-  before = t.before;
-  behind = t.behind;
-}
-
--- why a replica refuses a message, as the fault that is told
-refused_as : (fault : Fault) (told : FollowFault) → error_of_replica fault ≡ errors.Fault told → (test : ApplyFault) × (test_of fault ≡ Some test) × (error_of_test test ≡ errors.Fault told)
-refused_as replica_faults.NotAfter told is = (consumer.NotAfter, refl, is)
-refused_as replica_faults.OutsideSpan told is = (consumer.OutsideSpan, refl, is)
-refused_as replica_faults.ResolvedBack told is = (consumer.ResolvedBack, refl, is)
-refused_as replica_faults.NoMemory told is = absurd cc
-
 -- before the message, that the rows are complete was told where it shows that
-record HasShown (o : FollowOptions) (ms : List Message) (m : Message) (told : List ℕ) (w w' : Writes) (kept : List ℕ) : Type 0 where
+record HasShown (o : FollowOptions) (ms : List Message) (m : Message) (w w' : Writes) (kept kept' : List ℕ) : Type 0 where
   text : List ℕ
   is : IsToldAt o.shown (codes "complete") (shown_before o ms m) (view_of (start_of o.span o.start).rows ms) (named_through o [] [] ms) text
-  so_far : HasTold w w' [] kept (told ++ text)
+  told : HasTold w w' kept kept' text
 
 some_of : (ms : List Message) (m : Message) → true ≡ are_some (ms ++ m ∷ [])
 some_of [] m = refl
@@ -408,15 +379,18 @@ module _ (o : FollowOptions) (r r' : Reads) (w w' : Writes) (f : Follower) (numb
       )
 
   -- memory is wanted for the line that is in hand
-  wants_held : (h : IsHolding o r r' w w' f number ms m) (output : List ℕ) → IsWanting o (h.0.front ++ waiting f.lines) r'.ended ms output
-  wants_held h output =
+  wants_held : (h : IsHolding o r r' w w' f number ms m) (text : List ℕ) → IsFollowReport o ms text → IsWanting o (h.0.front ++ waiting f.lines) r'.ended ms text
+  wants_held h text report =
       let u = h.0 in
-      inr (inr (inr (inl (
-        followed_at o u.front,
-        takes_more o u.front ms (followed_at o u.front) (waiting f.lines) h.1,
-        λ same. message_adds ms number (apply_fault o.span (start_of o.span o.start).start ms m) m (followed_lines o f.choice.taking (ms ++ m ∷ []) (number + 1) (lines_of []))
-            (sym (u.followed []) ∙ (ap (followed_at o) (append-nil u.front) ∙ same)),
-      ))))
+      inl (
+        whole_told o ms text report,
+        inr (inr (inr (
+          followed_at o u.front,
+          takes_more o u.front ms (followed_at o u.front) (waiting f.lines) h.1,
+          λ same. message_adds ms number (apply_fault o.span (start_of o.span o.start).start ms m) m (followed_lines o f.choice.taking (ms ++ m ∷ []) (number + 1) (lines_of []))
+              (sym (u.followed []) ∙ (ap (followed_at o) (append-nil u.front) ∙ same)),
+        ))),
+      )
 
   -- or for what is told of its message, which the replica takes
   wants_latest : (h : IsHolding o r r' w w' f number ms m) (output : List ℕ) → apply_fault o.span (start_of o.span o.start).start ms m ≡ None → IsUntold o ms m output → IsWanting o (h.0.front ++ waiting f.lines) r'.ended (ms ++ m ∷ []) output
@@ -425,38 +399,41 @@ module _ (o : FollowOptions) (r r' : Reads) (w w' : Writes) (f : Follower) (numb
       let below = followed_lines o f.choice.taking (ms ++ m ∷ []) (number + 1) (lines_of []) in
       let all : followed_at o u.front ≡ followed_through (ms ++ m ∷ []) = ap (followed_at o) (sym (append-nil u.front)) ∙ (u.followed [] ∙ (ap (λ (t : Option ApplyFault). onto_taken ms (onto_followed number t m below)) passes
       ∙ ap (λ (x : Followed). onto_taken ms (onto_followed number None m x)) (followed_none o f.choice.taking (ms ++ m ∷ []) (number + 1)))) in
-      inr (inr (inr (inr (ms, m, refl, takes_more o u.front ms (followed_through (ms ++ m ∷ [])) (waiting f.lines) (subst (TakesNext o u.front ms) all h.1), untold))))
+      inr (ms, m, refl, takes_more o u.front ms (followed_through (ms ++ m ∷ [])) (waiting f.lines) (subst (TakesNext o u.front ms) all h.1), untold)
 
-  has_shown : (u : IsBefore o r r' w w' f number ms m) (t : Telling) (w'' : Writes) (kept : List ℕ) → TellsBefore f.telling t f.replica m w' w'' → kept ≡ waits t → HasShown o ms m u.told w w'' kept
+  -- what was told with this text behind it
+  so_far : (u : IsBefore o r r' w w' f number ms m) (w'' : Writes) (kept text : List ℕ) → HasTold w' w'' (waits f.telling) kept text → HasTold w w'' [] kept (u.told ++ text)
+  so_far u w'' kept text told = told_behind w w' w'' [] (waits f.telling) kept u.told text (told_so_far o (message_ahead o f ms number m) r r' w w' f number ms u) told
+
+  abbrev IsShown : List ℕ → Type 0
+  IsShown text = IsToldAt o.shown (codes "complete") (shown_before o ms m) (view_of (start_of o.span o.start).rows ms) (named_through o [] [] ms) text
+
+  -- what the follower tells of it, by the options
+  shows_so : (u : IsBefore o r r' w w' f number ms m) (text : List ℕ) → IsToldAt f.telling.shown (codes "complete") (ready_told f.telling.complete (start_of o.span o.start) ms m) (view_of (start_of o.span o.start).rows ms) (named_in f.telling) text → IsShown text
+  shows_so u text is =
+      subst (λ (at : Option ℕ). IsToldAt o.shown (codes "complete") at (view_of (start_of o.span o.start).rows ms) (named_through o [] [] ms) text) (shown_so u.by)
+      (told_by f.telling.shown o.shown (codes "complete") (ready_told f.telling.complete (start_of o.span o.start) ms m) (view_of (start_of o.span o.start).rows ms) (named_in f.telling) (named_through o [] [] ms) text u.by.shown u.named is)
+
+  has_shown : (u : IsBefore o r r' w w' f number ms m) (t : Telling) (w'' : Writes) (kept : List ℕ) → TellsBefore f.telling t f.replica m w' w'' → kept ≡ waits t → HasShown o ms m w' w'' (waits f.telling) kept
   has_shown u t w'' kept tells still =
       let told = tells (start_of o.span o.start) ms u.follows in
-      record {
-        text = told.text;
-        is = subst (λ (at : Option ℕ). IsToldAt o.shown (codes "complete") at (view_of (start_of o.span o.start).rows ms) (named_through o [] [] ms) told.text) (shown_so u.by)
-            (told_by f.telling.shown o.shown (codes "complete") (ready_told f.telling.complete (start_of o.span o.start) ms m) (view_of (start_of o.span o.start).rows ms) (named_in f.telling) (named_through o [] [] ms) told.text u.by.shown u.named told.is);
-        so_far = subst (λ (k : List ℕ). HasTold w w'' [] k (u.told ++ told.text)) (sym still)
-            (told_behind w w' w'' [] (waits f.telling) (waits t) u.told told.text (told_so_far o (message_ahead o f ms number m) r r' w w' f number ms u) told.told);
-      }
+      record { text = told.text; is = shows_so u told.text told.is; told = subst (λ (k : List ℕ). HasTold w' w'' (waits f.telling) k told.text) (sym still) told.told }
 
-  -- what was shown belongs to the report: of the messages before it where that is nothing, or else of this one too
-  shown_part : (h : IsHolding o r r' w w' f number ms m) (text : List ℕ) → IsToldAt o.shown (codes "complete") (shown_before o ms m) (view_of (start_of o.span o.start).rows ms) (named_through o [] [] ms) text
-      → (ms' : List Message) × BeginWith o (h.0.front ++ waiting f.lines) r'.ended ms' × ((output : List ℕ) → IsWanting o (h.0.front ++ waiting f.lines) r'.ended ms' output) × IsFollowReport o ms' (h.0.told ++ text)
-  shown_part h text is = by_time (shown_before o ms m) refl is
+  -- where it shows that the rows are complete, the replica takes it, and what was shown belongs to the report with it
+  abbrev IsShownBy : List ℕ → List ℕ → Type 0
+  IsShownBy told text = (at : ℕ) × (shown_before o ms m ≡ Some at) × (apply_fault o.span (start_of o.span o.start).start ms m ≡ None) × IsFollowReport o (ms ++ m ∷ []) (told ++ text)
+
+  shown_part : (u : IsBefore o r r' w w' f number ms m) (text : List ℕ) → IsShown text → (text ≡ []) ⊎ IsShownBy u.told text
+  shown_part u text is = by_time (shown_before o ms m) refl is
     where
-      by_time : (at : Option ℕ) → shown_before o ms m ≡ at → IsToldAt o.shown (codes "complete") at (view_of (start_of o.span o.start).rows ms) (named_through o [] [] ms) text
-          → (ms' : List Message) × BeginWith o (h.0.front ++ waiting f.lines) r'.ended ms' × ((output : List ℕ) → IsWanting o (h.0.front ++ waiting f.lines) r'.ended ms' output) × IsFollowReport o ms' (h.0.told ++ text)
-      by_time None none told = (
-        ms,
-        begins_so o (message_ahead o f ms number m) r r' w w' f number ms h.0 r'.ended,
-        wants_held h,
-        subst (IsFollowReport o ms) (sym (ap (λ (xs : List ℕ). h.0.told ++ xs) told ∙ append-nil h.0.told)) h.0.report,
-      )
+      by_time : (at : Option ℕ) → shown_before o ms m ≡ at → IsToldAt o.shown (codes "complete") at (view_of (start_of o.span o.start).rows ms) (named_through o [] [] ms) text → (text ≡ []) ⊎ IsShownBy u.told text
+      by_time None none told = inl told
       by_time (Some at) shows told =
-          let row = shown_row o ms m at shows in (
-            ms ++ m ∷ [],
-            begins_more h.0 row.0,
-            λ output. wants_latest h output row.0 (inr (at, shows)),
-            told_more o [] [] ms m h.0.told text h.0.report (record {
+          let row = shown_row o ms m at shows in inr (
+            at,
+            shows,
+            row.0,
+            told_more o [] [] ms m u.told text u.report (record {
               first = text;
               second = [];
               ready = is;
@@ -465,51 +442,75 @@ module _ (o : FollowOptions) (r r' : Reads) (w w' : Writes) (f : Follower) (numb
             }),
           )
 
+  -- of what is told of it, which the replica takes, a part was told
+  stop_latest : (h : IsHolding o r r' w w' f number ms m) (e : FollowEnd) (w'' : Writes) (kept text : List ℕ) → apply_fault o.span (start_of o.span o.start).start ms m ≡ None → IsFollowReport o (ms ++ m ∷ []) (h.0.told ++ text)
+      → IsCut e w' w'' (waits f.telling) kept text → IsStopped o r r' w w'' kept e
+  stop_latest h e w'' kept text passes report c =
+      let u = h.0 in
+      stop_cut o (message_ahead o f ms number m) r r' w w' f number ms u e (ms ++ m ∷ []) w'' kept text (begins_more u passes) report
+      (λ part rest parts some. wants_latest h (u.told ++ part) passes (inl (
+        u.told,
+        part,
+        rest,
+        u.report,
+        refl,
+        some,
+        subst (IsFollowReport o (ms ++ m ∷ [])) (ap (λ (xs : List ℕ). u.told ++ xs) parts ∙ sym (append_assoc u.told part rest)) report,
+      ))) c
+
   -- what it shows can't be told
   pub stop_before : (t : Telling) (w'' : Writes) (e : FollowEnd) → CutsBefore f.telling t f.replica m w' w'' e → IsHolding o r r' w w' f number ms m → IsStopped o r r' w w'' (waits t) e
   stop_before t w'' e cuts h =
       let u = h.0 in
       let next = message_ahead o f ms number m in
       let cut = cuts (start_of o.span o.start) ms u.follows in
-      let is = subst (λ (at : Option ℕ). IsToldAt o.shown (codes "complete") at (view_of (start_of o.span o.start).rows ms) (named_through o [] [] ms) cut.text) (shown_so u.by)
-      (told_by f.telling.shown o.shown (codes "complete") (ready_told f.telling.complete (start_of o.span o.start) ms m) (view_of (start_of o.span o.start).rows ms) (named_in f.telling) (named_through o [] [] ms) cut.text u.by.shown u.named cut.is) in
-      let part = shown_part h cut.text is in
-      stop_cut o next r r' w w' f number ms u e part.0 w'' (waits t) (u.told ++ cut.text) part.1 part.3
-      (cut_behind e w w' w'' [] (waits f.telling) (waits t) u.told cut.text (told_so_far o next r r' w w' f number ms u) cut.cut) (λ is. part.2 _)
+      elim (shown_part u cut.text (shows_so u cut.text cut.is)) [
+        | inl none ↦ stop_cut o next r r' w w' f number ms u e ms w'' (waits t) cut.text (begins_so o next r r' w w' f number ms u r'.ended)
+            (subst (IsFollowReport o ms) (sym (ap (λ (xs : List ℕ). u.told ++ xs) none ∙ append-nil u.told)) u.report)
+            (λ part rest parts some. absurd (some (none_left part rest (sym parts ∙ none)))) cut.cut
+        | inr by ↦ stop_latest h e w'' (waits t) cut.text by.2 by.3 cut.cut
+      ]
 
-  -- memory is wanted, after what it shows was told
-  stop_shown : (h : IsHolding o r r' w w' f number ms m) (w'' : Writes) (kept kept' : List ℕ) → HasShown o ms m h.0.told w w'' kept → kept' ≡ kept → IsStopped o r r' w w'' kept' ends.Memory
-  stop_shown h w'' kept kept' told still =
-      let part = shown_part h told.text told.is in
-      stop_told o (message_ahead o f ms number m) r r' w w' f number ms h.0 part.0 w'' kept kept' (h.0.told ++ told.text) part.1 part.2 part.3 told.so_far still
+  -- memory is wanted for the message, after what it shows was told
+  stop_shown : (h : IsHolding o r r' w w' f number ms m) (w'' : Writes) (kept kept' : List ℕ) → HasShown o ms m w' w'' (waits f.telling) kept → (o.shown ≡ shown.Changes) ⊎ AddsValue m → kept' ≡ kept → IsStopped o r r' w w'' kept' ends.Memory
+  stop_shown h w'' kept kept' ready why still =
+      let u = h.0 in
+      let next = message_ahead o f ms number m in
+      let text = u.told ++ ready.text in
+      let told = so_far u w'' kept ready.text ready.told in
+      elim (shown_part u ready.text ready.is) [
+        | inl none ↦ stop_told o next r r' w w' f number ms u ms w'' kept kept' text (begins_so o next r r' w w' f number ms u r'.ended)
+            (wants_held h text (subst (IsFollowReport o ms) (sym (ap (λ (xs : List ℕ). u.told ++ xs) none ∙ append-nil u.told)) u.report)) told still
+        | inr by ↦ stop_told o next r r' w w' f number ms u (ms ++ m ∷ []) w'' kept kept' text (begins_more u by.2)
+            (wants_latest h text by.2 (inr (by.0, by.1, why, whole_told o (ms ++ m ∷ []) text by.3))) told still
+      ]
 
   -- memory is wanted for its key
-  pub stop_unnamed : (t : Telling) (w'' : Writes) (kept : List ℕ) → TellsBefore f.telling t f.replica m w' w'' → kept ≡ waits t → IsHolding o r r' w w' f number ms m → IsStopped o r r' w w'' kept ends.Memory
-  stop_unnamed t w'' kept tells still h = stop_shown h w'' (waits t) kept (has_shown h.0 t w'' (waits t) tells refl) still
+  pub stop_unnamed : (t : Telling) (w'' : Writes) (kept : List ℕ) → TellsBefore f.telling t f.replica m w' w'' → KeepsChoice f.telling t → t.shown ≡ shown.Changes → kept ≡ waits t → IsHolding o r r' w w' f number ms m → IsStopped o r r' w w'' kept ends.Memory
+  stop_unnamed t w'' kept tells keeps changes still h =
+      stop_shown h w'' (waits t) kept (has_shown h.0 t w'' (waits t) tells refl) (inl (sym (keeps.0 ∙ h.0.by.shown) ∙ changes)) still
 
-  refused : (h : IsHolding o r r' w w' f number ms m) (fault : Fault) (error : FollowError) (w'' : Writes) (kept kept' : List ℕ) (e : FollowEnd) → HasShown o ms m h.0.told w w'' kept → IsFaultAt f.replica m (test_of fault) → error_of_replica fault ≡ error
-      → StopsBy error number kept kept' e → IsStopped o r r' w w'' kept' e
-  refused h fault errors.NoMemory w'' kept kept' e ready tests is stop = subst (IsStopped o r r' w w'' kept') (sym stop.0) (stop_shown h w'' kept kept' ready stop.1)
-  refused h fault (errors.Fault told) w'' kept kept' e ready tests is stop =
+  refused : (h : IsHolding o r r' w w' f number ms m) (fault : Fault) (error : FollowError) (w'' : Writes) (kept kept' : List ℕ) (e : FollowEnd) → HasShown o ms m w' w'' (waits f.telling) kept → IsFaultAt f.replica m (test_of fault)
+      → (fault ≡ replica_faults.NoMemory → AddsValue m) → error_of_replica fault ≡ error → StopsBy error number kept kept' e → IsStopped o r r' w w'' kept' e
+  refused h fault errors.NoMemory w'' kept kept' e ready tests adds is stop = subst (IsStopped o r r' w w'' kept') (sym stop.0) (stop_shown h w'' kept kept' ready (inr (adds (is_memory fault is))) stop.1)
+  refused h fault (errors.Fault told) w'' kept kept' e ready tests adds is stop =
       let u = h.0 in
       let next = message_ahead o f ms number m in
       let why = refused_as fault told is in
       let test : apply_fault o.span (start_of o.span o.start).start ms m ≡ Some why.0 = tested (test_of fault) u tests ∙ why.1 in
-      let silent : ready.text ≡ [] = by_time (shown_before o ms m) refl why.0 test ready.text ready.is in
+      let silent : ready.text ≡ [] = elim (shown_part u ready.text ready.is) [
+        | inl none ↦ none
+        | inr by ↦ absurd (let clash : None ≡ Some why.0 = sym by.2 ∙ test in cc)
+      ] in
       let stops : StopAt o (u.front ++ waiting f.lines) r'.ended ms number told = stops_so o next r r' w w' f number ms u number told (λ rest over.
       ap (λ (t : Option ApplyFault). onto_followed number t m (followed_lines o f.choice.taking (ms ++ m ∷ []) (number + 1) (lines_of (waiting f.lines ++ rest)))) test ∙ ap (stopped_at number) why.2) in
       stop_unfollowed o next r r' w w' f number ms u number told w'' kept kept' u.told e u.report
-      (subst (HasTold w w'' [] kept) (ap (λ (xs : List ℕ). u.told ++ xs) silent ∙ append-nil u.told) ready.so_far) stops stop
-    where
-      by_time : (at : Option ℕ) → shown_before o ms m ≡ at → (test : ApplyFault) → apply_fault o.span (start_of o.span o.start).start ms m ≡ Some test → (text : List ℕ)
-          → IsToldAt o.shown (codes "complete") (shown_before o ms m) (view_of (start_of o.span o.start).rows ms) (named_through o [] [] ms) text → text ≡ []
-      by_time None none test tests text told = subst (λ (at : Option ℕ). IsToldAt o.shown (codes "complete") at (view_of (start_of o.span o.start).rows ms) (named_through o [] [] ms) text) none told
-      by_time (Some at) shows test tests text told = absurd (let row = shown_row o ms m at shows in let clash : None ≡ Some test = sym row.0 ∙ tests in cc)
+      (subst (HasTold w w'' [] kept) (ap (λ (xs : List ℕ). u.told ++ xs) silent ∙ append-nil u.told) (so_far u w'' kept ready.text ready.told)) stops stop
 
   -- the replica refuses it, and that is told, or memory is wanted for it
-  pub stop_refused : (t : Telling) (fault : Fault) (error : FollowError) (w'' : Writes) (kept kept' : List ℕ) (e : FollowEnd) → TellsBefore f.telling t f.replica m w' w'' → kept ≡ waits t → IsFaultAt f.replica m (test_of fault) → error ≡ error_of_replica fault
-      → StopsBy error number kept kept' e → IsHolding o r r' w w' f number ms m → IsStopped o r r' w w'' kept' e
-  stop_refused t fault error w'' kept kept' e tells still tests is stop h = refused h fault error w'' kept kept' e (has_shown h.0 t w'' kept tells still) tests (sym is) stop
+  pub stop_refused : (t : Telling) (fault : Fault) (error : FollowError) (w'' : Writes) (kept kept' : List ℕ) (e : FollowEnd) → TellsBefore f.telling t f.replica m w' w'' → kept ≡ waits t → IsFaultAt f.replica m (test_of fault)
+      → (fault ≡ replica_faults.NoMemory → AddsValue m) → error ≡ error_of_replica fault → StopsBy error number kept kept' e → IsHolding o r r' w w' f number ms m → IsStopped o r r' w w'' kept' e
+  stop_refused t fault error w'' kept kept' e tells still tests adds is stop h = refused h fault error w'' kept kept' e (has_shown h.0 t w'' kept tells still) tests adds (sym is) stop
 
   -- ---- it is taken
 
@@ -539,12 +540,6 @@ module _ (o : FollowOptions) (r r' : Reads) (w w' : Writes) (f : Follower) (numb
       → IsToldAt o.shown (codes "resolved") (resolved_by m) (view_of (start_of o.span o.start).rows (ms ++ m ∷ [])) (named_with (unless_told (shown_before o ms m) (named_through o [] [] ms)) m) last → IsFollowReport o (ms ++ m ∷ []) (u.told ++ (text ++ last))
   report_more u text last ready resolved = told_more o [] [] ms m u.told (text ++ last) u.report (record { first = text; second = last; ready = ready; resolved = resolved; text_is = refl })
 
-  -- of the report with this message a beginning was told
-  stop_latest : (h : IsHolding o r r' w w' f number ms m) (e : FollowEnd) (w'' : Writes) (kept text : List ℕ) → apply_fault o.span (start_of o.span o.start).start ms m ≡ None → IsFollowReport o (ms ++ m ∷ []) text → IsCut e w w'' [] kept text → IsStopped o r r' w w'' kept e
-  stop_latest h e w'' kept text passes report c =
-      stop_cut o (message_ahead o f ms number m) r r' w w' f number ms h.0 e (ms ++ m ∷ []) w'' kept text (begins_more h.0 passes) report c
-      (λ is. wants_latest h (kept_at e c.part kept) passes (inl (c.begins.0, c.lacks is, subst (IsFollowReport o (ms ++ m ∷ [])) c.begins.1 report)))
-
   -- what it resolves can't be told
   pub stop_behind : (t t' t'' : Telling) (p : Replica) (w'' w''' : Writes) (kept : List ℕ) (e : FollowEnd) → TellsBefore f.telling t f.replica m w' w'' → KeepsChoice f.telling t → NamesKey t t' m → KeepsChoice t t' → waits t' ≡ waits t
       → IsFaultAt f.replica m None → Takes f.replica p m → CutsBehind t' t'' p w'' w''' e → kept ≡ waits t'' → IsHolding o r r' w w' f number ms m → IsStopped o r r' w w''' kept e
@@ -552,9 +547,9 @@ module _ (o : FollowOptions) (r r' : Reads) (w w' : Writes) (f : Follower) (numb
       let u = held.0 in
       let h = has_shown u t w'' (waits t') tells still in
       let cut = cuts (start_of o.span o.start) (ms ++ m ∷ []) (takes (start_of o.span o.start) ms u.follows) in
-      stop_latest held e w''' kept (u.told ++ (h.text ++ cut.text)) (tested None u passes) (report_more u h.text cut.text h.is (told_last u t t' w'' cut.text tells keeps names keeps' cut.is))
-      (subst (λ (k : List ℕ). IsCut e w w''' [] k (u.told ++ (h.text ++ cut.text))) (sym same)
-      (subst (IsCut e w w''' [] (waits t'')) (append_assoc u.told h.text cut.text) (cut_behind e w w'' w''' [] (waits t') (waits t'') (u.told ++ h.text) cut.text h.so_far cut.cut)))
+      stop_latest held e w''' kept (h.text ++ cut.text) (tested None u passes) (report_more u h.text cut.text h.is (told_last u t t' w'' cut.text tells keeps names keeps' cut.is))
+      (subst (λ (k : List ℕ). IsCut e w' w''' (waits f.telling) k (h.text ++ cut.text)) (sym same)
+      (cut_behind e w' w'' w''' (waits f.telling) (waits t') (waits t'') h.text cut.text h.told cut.cut))
 
   -- it is taken, and what it resolves is told
   pub go_taken : (f' : Follower) (t t' : Telling) (w'' w''' : Writes) → TellsBefore f.telling t f.replica m w' w'' → KeepsChoice f.telling t → NamesKey t t' m → KeepsChoice t t' → waits t' ≡ waits t → IsFaultAt f.replica m None
@@ -565,7 +560,7 @@ module _ (o : FollowOptions) (r r' : Reads) (w w' : Writes) (f : Follower) (numb
       let h = has_shown u t w'' (waits t') tells still in
       let follows = takes (start_of o.span o.start) ms u.follows in
       let told = behind (start_of o.span o.start) (ms ++ m ∷ []) follows in
-      let last = told_behind w w'' w''' [] (waits t') (waits f'.telling) (u.told ++ h.text) told.text h.so_far told.told in
+      let last = so_far u w''' (waits f'.telling) (h.text ++ told.text) (told_behind w' w'' w''' (waits f.telling) (waits t') (waits f'.telling) h.text told.text h.told told.told) in
       record {
         by = record { format = format ∙ u.by.format; feed = ap (λ (c : Choice). c.feed) choice ∙ u.by.feed; shown = keeps''.0 ∙ (keeps'.0 ∙ (keeps.0 ∙ u.by.shown)); complete = keeps''.1 ∙ (keeps'.1 ∙ (keeps.1 ∙ u.by.complete)) };
         follows = follows;
@@ -584,6 +579,6 @@ module _ (o : FollowOptions) (r r' : Reads) (w w' : Writes) (f : Follower) (numb
         report = report_more u h.text told.text h.is (told_last u t t' w'' told.text tells keeps names keeps' told.is);
         out = last.0.part;
         wrote = last.0.took;
-        keeps = sym last.0.left ∙ append_assoc u.told h.text told.text;
+        keeps = sym last.0.left;
         worked = (u.worked.0, last.1);
       }

@@ -3,14 +3,14 @@ use Rattle.std.proofs.Common.{◌≡◌, ℕ, ◌+◌, List, [], ◌∷◌, ◌+
 use Rattle.std.specs.Prelude.{◌≢◌, codes}
 use Rattle.std.specs.List.{flat_map}
 use Rattle.sessions.specs.Devices.{Writes}
-use Rattle.sessions.specs.Writing.{HasWritten, HasBegun}
+use Rattle.sessions.specs.Writing.{HasWritten, HasBegun, HasTaken}
 use Rattle.follow.specs.declared.ending.FollowEnd.{FollowEnd}
 use Rattle.follow.specs.declared.ending.FollowEnd.TheVariants as ends
 use Rattle.word_lines.specs.Commands.{joined}
 use Rattle.word_lines.specs.Replies.{row_line}
 use Rattle.word_lines.specs.Spelling.{spelling}
 use Rattle.follow.specs.Reports.{change_line}
-use Rattle.follow.specs.Told.{HasTold, kept_at, IsCutEnd, IsCut}
+use Rattle.follow.specs.Told.{HasTold, IsCut}
 
 -- what waited can't be written
 abbrev pub CantWrite : Writes → Writes → List ℕ → Type 0
@@ -20,19 +20,19 @@ CantWrite w w' bytes = HasBegun w.taken w'.taken bytes × (w'.failures ≡ w.fai
 pub told_nothing : (w : Writes) (waits waits' : List ℕ) → waits' ≡ waits → HasTold w w waits waits' []
 told_nothing w waits waits' same = (record { part = []; took = sym (append-nil w.taken); left = append-nil waits ∙ sym same }, refl)
 
--- a line came behind what was told, and perhaps some of it was written
+-- a line came behind what was told, and perhaps some of it was taken
+taken_line : (taken taken' taken'' waits waits' kept waits'' text line : List ℕ) → HasTaken taken taken' (waits ++ text) waits' → kept ≡ waits' ++ line → HasTaken taken' taken'' kept waits'' → HasTaken taken taken'' (waits ++ (text ++ line)) waits''
+taken_line taken taken' taken'' waits waits' kept waits'' text line h keeps t = record {
+  part = h.part ++ t.part;
+  took = t.took ∙ (ap (λ (xs : List ℕ). xs ++ t.part) h.took ∙ append_assoc taken h.part t.part);
+  left = sym (append_assoc waits text line)
+      ∙ (ap (λ (xs : List ℕ). xs ++ line) h.left
+      ∙ (append_assoc h.part waits' line
+      ∙ (ap (λ (xs : List ℕ). h.part ++ xs) (sym keeps ∙ t.left) ∙ sym (append_assoc h.part t.part waits''))));
+}
+
 pub told_line : (w w' w'' : Writes) (waits waits' kept waits'' text line : List ℕ) → HasTold w w' waits waits' text → kept ≡ waits' ++ line → HasWritten w' w'' kept waits'' (Ok tt) → HasTold w w'' waits waits'' (text ++ line)
-told_line w w' w'' waits waits' kept waits'' text line h keeps t = (
-  record {
-    part = h.0.part ++ t.0.part;
-    took = t.0.took ∙ (ap (λ (xs : List ℕ). xs ++ t.0.part) h.0.took ∙ append_assoc w.taken h.0.part t.0.part);
-    left = sym (append_assoc waits text line)
-        ∙ (ap (λ (xs : List ℕ). xs ++ line) h.0.left
-        ∙ (append_assoc h.0.part waits' line
-        ∙ (ap (λ (xs : List ℕ). h.0.part ++ xs) (sym keeps ∙ t.0.left) ∙ sym (append_assoc h.0.part t.0.part waits''))));
-  },
-  t.1 ∙ h.1,
-)
+told_line w w' w'' waits waits' kept waits'' text line h keeps t = (taken_line w.taken w'.taken w''.taken waits waits' kept waits'' text line h.0 keeps t.0, t.1 ∙ h.1)
 
 -- one text behind another
 pub told_behind : (w w' w'' : Writes) (waits waits' waits'' text more : List ℕ) → HasTold w w' waits waits' text → HasTold w' w'' waits' waits'' more → HasTold w w'' waits waits'' (text ++ more)
@@ -42,41 +42,21 @@ told_behind w w' w'' waits waits' waits'' text more h t = told_line w w' w'' wai
 pub told_kept : (w : Writes) (waits waits' line : List ℕ) → waits' ≡ waits ++ line → HasTold w w waits waits' line
 told_kept w waits waits' line is = (record { part = []; took = sym (append-nil w.taken); left = sym is }, refl)
 
-kept_front : (e : FollowEnd) (part out waits : List ℕ) → kept_at e (part ++ out) waits ≡ part ++ kept_at e out waits
-kept_front ends.Done part out waits = append_assoc part out waits
-kept_front ends.NoMessages part out waits = append_assoc part out waits
-kept_front (ends.Fault line fault) part out waits = append_assoc part out waits
-kept_front ends.Spent part out waits = append_assoc part out waits
-kept_front ends.Input part out waits = append_assoc part out waits
-kept_front ends.Output part out waits = refl
-kept_front ends.Memory part out waits = append_assoc part out waits
-
--- no write had failed before
-cut_end : (e : FollowEnd) (w w' w'' : Writes) → w'.failures ≡ w.failures → IsCutEnd e w' w'' → IsCutEnd e w w''
-cut_end ends.Done w w' w'' same cut = absurd cut
-cut_end ends.NoMessages w w' w'' same cut = absurd cut
-cut_end (ends.Fault line fault) w w' w'' same cut = absurd cut
-cut_end ends.Spent w w' w'' same cut = absurd cut
-cut_end ends.Input w w' w'' same cut = absurd cut
-cut_end ends.Output w w' w'' same cut = cut ∙ ap (λ (n : ℕ). n + 1) same
-cut_end ends.Memory w w' w'' same cut = cut ∙ same
-
--- of a text that comes behind what was told a beginning was told
+-- of a text that comes behind what was told a part was told
 pub cut_behind : (e : FollowEnd) (w w' w'' : Writes) (waits waits' waits'' text more : List ℕ) → HasTold w w' waits waits' text → IsCut e w' w'' waits' waits'' more → IsCut e w w'' waits waits'' (text ++ more)
-cut_behind e w w' w'' waits waits' waits'' text more h c = record {
-  early = cut_end e w w' w'' h.1 c.early;
-  part = h.0.part ++ c.part;
-  took = c.took ∙ (ap (λ (xs : List ℕ). xs ++ c.part) h.0.took ∙ append_assoc w.taken h.0.part c.part);
-  begins = (
-    c.begins.0,
-    sym (append_assoc waits text more)
-        ∙ (ap (λ (xs : List ℕ). xs ++ more) h.0.left
-        ∙ (append_assoc h.0.part waits' more
-        ∙ (ap (λ (xs : List ℕ). h.0.part ++ xs) c.begins.1
-        ∙ (sym (append_assoc h.0.part (kept_at e c.part waits'') c.begins.0) ∙ ap (λ (xs : List ℕ). xs ++ c.begins.0) (sym (kept_front e h.0.part c.part waits'')))))),
-  );
-  lacks = c.lacks;
-}
+cut_behind ends.Done w w' w'' waits waits' waits'' text more h c = absurd c
+cut_behind ends.NoMessages w w' w'' waits waits' waits'' text more h c = absurd c
+cut_behind (ends.Fault line fault) w w' w'' waits waits' waits'' text more h c = absurd c
+cut_behind ends.Spent w w' w'' waits waits' waits'' text more h c = absurd c
+cut_behind ends.Input w w' w'' waits waits' waits'' text more h c = absurd c
+cut_behind ends.Output w w' w'' waits waits' waits'' text more h c = ((c.0.0, taken_line w.taken w'.taken w''.taken waits waits' (waits' ++ more) c.0.0 text more h.0 refl c.0.1), c.1 ∙ ap (λ (n : ℕ). n + 1) h.1)
+cut_behind ends.Memory w w' w'' waits waits' waits'' text more h c =
+    (text ++ c.0, c.1, ap (λ (xs : List ℕ). text ++ xs) c.2 ∙ sym (append_assoc text c.0 c.1), c.3, told_behind w w' w'' waits waits' waits'' text c.0 h c.4)
+
+-- nothing is left of nothing
+pub none_left : (part rest : List ℕ) → part ++ rest ≡ [] → rest ≡ []
+none_left [] rest none = none
+none_left (b ∷ part) rest none = absurd cc
 
 -- a line has a byte at least
 pub line_is_some : (line more : List ℕ) → (line ++ 10 ∷ []) ++ more ≢ []
@@ -92,29 +72,19 @@ change_is_some x None more = line_is_some (joined (codes "gone" ∷ spelling x �
 
 -- memory was wanted for a line
 pub cut_memory : (w : Writes) (waits waits' text : List ℕ) → text ≢ [] → waits' ≡ waits → IsCut ends.Memory w w waits waits' text
-cut_memory w waits waits' text some same = record { early = refl; part = []; took = sym (append-nil w.taken); begins = (text, ap (λ (xs : List ℕ). xs ++ text) (sym same)); lacks = λ is. some }
+cut_memory w waits waits' text some same = ([], text, refl, some, told_nothing w waits waits' same)
 
 -- what waits can't be written
 pub cut_output : (w w' : Writes) (waits waits' text : List ℕ) → CantWrite w w' waits → IsCut ends.Output w w' waits waits' text
-cut_output w w' waits waits' text t = record {
-  early = t.1;
-  part = t.0.1.part;
-  took = t.0.1.took;
-  begins = (t.0.0 ++ text, ap (λ (xs : List ℕ). xs ++ text) t.0.1.left ∙ append_assoc t.0.1.part t.0.0 text);
-  lacks = λ is. absurd cc;
-}
+cut_output w w' waits waits' text t = (
+  (t.0.0 ++ text, record { part = t.0.1.part; took = t.0.1.took; left = ap (λ (xs : List ℕ). xs ++ text) t.0.1.left ∙ append_assoc t.0.1.part t.0.0 text }),
+  t.1,
+)
 
 -- nor with a line behind it
 pub cut_line : (w w' : Writes) (waits kept waits' line more : List ℕ) → kept ≡ waits ++ line → CantWrite w w' kept → IsCut ends.Output w w' waits waits' (line ++ more)
 cut_line w w' waits kept waits' line more keeps t =
-    let c = cut_output w w' kept waits' more t in
-    record {
-      early = c.early;
-      part = c.part;
-      took = c.took;
-      begins = (c.begins.0, sym (append_assoc waits line more) ∙ (ap (λ (xs : List ℕ). xs ++ more) (sym keeps) ∙ c.begins.1));
-      lacks = c.lacks;
-    }
+    subst (CantWrite w w') (ap (λ (xs : List ℕ). xs ++ more) keeps ∙ append_assoc waits line more) (cut_output w w' kept waits' more t)
 
 -- ---- lines of a list, one after the other
 

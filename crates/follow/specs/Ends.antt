@@ -1,6 +1,7 @@
 -- How following a feed ends: what was taken of the input, and what was told of it (this project).
 use Rattle.std.specs.Prelude.{ℕ, zero, ◌+◌, ◌≡◌, ◌≢◌, ◌≤◌, ◌⊎◌, Bool, true, List, [], ◌∷◌, ◌++◌, length, position, Some, None}
 use Rattle.spans.specs.declared.calls.messages.Message.{Message}
+use Rattle.replica.specs.Faults.{AddsValue}
 use Rattle.word_lines.specs.Events.{spent_line}
 use Rattle.word_lines.specs.Words.{has_newline}
 use Rattle.script.specs.Lines.{is_newline, lines_of}
@@ -10,6 +11,7 @@ use Rattle.sessions.specs.Runs.{MayHold}
 use Rattle.follow.specs.declared.ending.FollowEnd.{FollowEnd}
 use Rattle.follow.specs.declared.ending.FollowEnd.TheVariants as ends
 use Rattle.follow.specs.declared.options.FollowOptions.{FollowOptions}
+use Rattle.follow.specs.declared.options.Shown.TheVariants as shown
 use Rattle.follow.specs.declared.fault.FollowFault.{FollowFault}
 use Rattle.follow.specs.declared.fault.FollowError.TheVariants as errors
 use Rattle.follow.specs.Followed.{IsUnbegun, MayStart, fault_line}
@@ -72,20 +74,22 @@ pub record TakesNext (o : FollowOptions) (input : List ℕ) (ms : List Message) 
   pub before : followed_at o lines ≡ followed_through ms
   pub behind : followed_at o (lines ++ line) ≡ after
 
--- of what is told of this message a part is missing in the output, or some is told before it is taken
+-- the output has all that was told of the messages before this one, and of what is told of it a part is missing; or what is shown
+-- before it is taken is told, and then it is one for which memory is wanted
 abbrev pub IsUntold : FollowOptions → List Message → Message → List ℕ → Type 0
 IsUntold o before m output =
-    ((rest : List ℕ) × (rest ≢ []) × IsFollowReport o (before ++ m ∷ []) (output ++ rest))
-    ⊎ ((at : ℕ) × (shown_before o before m ≡ Some at))
+    ((told part rest : List ℕ) × IsFollowReport o before told × (output ≡ told ++ part) × (rest ≢ []) × IsFollowReport o (before ++ m ∷ []) (output ++ rest))
+    ⊎ ((at : ℕ) × (shown_before o before m ≡ Some at) × ((o.shown ≡ shown.Changes) ⊎ AddsValue m) × IsReportWith o (before ++ m ∷ []) [] output)
 
--- memory was wanted before anything was read, or where lines can't be counted; or for the next line, which is at fault, or isn't passed
--- over; or for what is told of the latest message
+-- memory was wanted before any byte was read, or where lines can't be counted; or for the next line, which is at fault, or isn't passed
+-- over: then the output is the whole report. Or it was wanted for what is told of the latest message
 abbrev pub IsWanting : FollowOptions → List ℕ → Bool → List Message → List ℕ → Type 0
 IsWanting o input ended ms output =
-    (input ≡ [])
+    (IsReportWith o ms [] output
+    × ((input ≡ [])
     ⊎ IsEndless input
     ⊎ ((line : ℕ) × (fault : FollowFault) × StopAt o input ended ms line fault)
-    ⊎ ((after : Followed) × TakesNext o input ms after × (after ≢ followed_through ms))
+    ⊎ ((after : Followed) × TakesNext o input ms after × (after ≢ followed_through ms))))
     ⊎ ((before : List Message) × (m : Message) × (ms ≡ before ++ m ∷ []) × TakesNext o input before (followed_through ms) × IsUntold o before m output)
 
 -- how each end comes, after these messages and with this output
@@ -96,7 +100,7 @@ EndsBy o input ended ms output (ends.Fault line fault) = IsFaultAt o input ended
 EndsBy o input ended ms output ends.Spent = IsEndless input × ((line : ℕ) × IsReportWith o ms (spent_line line) output)
 EndsBy o input ended ms output ends.Input = AreMessages o input ms × IsReportWith o ms [] output
 EndsBy o input ended ms output ends.Output = IsPart o input ended ms output
-EndsBy o input ended ms output ends.Memory = IsPart o input ended ms output × IsWanting o input ended ms output
+EndsBy o input ended ms output ends.Memory = IsWanting o input ended ms output
 
 -- how often reads and writes failed: what waits is written also where a read has failed
 abbrev pub FailsAt : FollowEnd → Reads → Writes → Reads → Writes → Type 0

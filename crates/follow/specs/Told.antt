@@ -1,8 +1,7 @@
 -- What was told to a sink: by bytes that it took, and by bytes that wait to be written.
 use Rattle.std.specs.Prelude.{◌≡◌, ◌≢◌, ℕ, ◌+◌, List, [], ◌++◌, Ok}
-use Rattle.ticket_lock.specs.Lists.{StartsWith}
 use Rattle.sessions.specs.Devices.{Writes}
-use Rattle.sessions.specs.Writing.{HasWritten}
+use Rattle.sessions.specs.Writing.{HasBegun, HasWritten}
 use Rattle.follow.specs.declared.ending.FollowEnd.{FollowEnd}
 use Rattle.follow.specs.declared.ending.FollowEnd.TheVariants as ends
 
@@ -15,17 +14,9 @@ abbrev pub kept_at : FollowEnd → List ℕ → List ℕ → List ℕ
 kept_at ends.Output out waits = out
 kept_at _ out waits = out ++ waits
 
--- it ends early: a write failed, or memory was wanted
-abbrev pub IsCutEnd : FollowEnd → Writes → Writes → Type 0
-IsCutEnd ends.Output w w' = w'.failures ≡ w.failures + 1
-IsCutEnd ends.Memory w w' = w'.failures ≡ w.failures
-IsCutEnd _ w w' = ⊥
-
--- a text was to come behind the bytes that waited, and of them all a beginning was told
-pub record IsCut (e : FollowEnd) (w w' : Writes) (waits waits' text : List ℕ) : Type 0 where
-  pub early : IsCutEnd e w w'
-  pub part : List ℕ
-  pub took : w'.taken ≡ w.taken ++ part
-  pub begins : StartsWith (waits ++ text) (kept_at e part waits')
-  -- where memory was wanted, not all
-  pub lacks : e ≡ ends.Memory → begins.0 ≢ []
+-- it ends early. A write failed: of what waited, with a text behind it, a beginning was written. Or memory was wanted: of the text a
+-- part was told, and not all
+abbrev pub IsCut : FollowEnd → Writes → Writes → List ℕ → List ℕ → List ℕ → Type 0
+IsCut ends.Output w w' waits waits' text = HasBegun w.taken w'.taken (waits ++ text) × (w'.failures ≡ w.failures + 1)
+IsCut ends.Memory w w' waits waits' text = (part rest : List ℕ) × (text ≡ part ++ rest) × (rest ≢ []) × HasTold w w' waits waits' part
+IsCut _ w w' waits waits' text = ⊥

@@ -26,7 +26,7 @@ use std::alloc::Global;
 /// the end, and before each read, since a read may wait.
 ///
 /// It ends for want of memory only before it reads, for a line that is one to take or at fault, for what it tells of the
-/// latest message, or where no further line can be counted.
+/// latest message, or where no further line can be counted. Then what it told before stands.
 ///
 /// `IsFollowed` in `specs/Ends.antt` says how each end comes, from the bytes read to the bytes written, and
 /// `CouldBegin` that rows which a replica can't begin with are a fault.

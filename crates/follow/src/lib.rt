@@ -7,8 +7,8 @@
 //!
 //! 1. What a replica refuses ends it, so what is told is never wrong. `followed_at` in `specs/Following.antt` says which
 //!    messages are taken of an input, and at which line that ends.
-//! 2. A message is told of only once it was applied, and rows only where the replica is complete. `IsFollowReport` in
-//!    `specs/Reports.antt` says what is told of the messages, byte for byte.
+//! 2. What a message resolves is told once it was applied, and rows only where the replica is complete. `IsFollowReport`
+//!    in `specs/Reports.antt` says what is told of the messages, byte for byte.
 //! 3. The bytes read, the bytes written and the end say together how it went: `IsFollowed` in `specs/Ends.antt`. A read
 //!    that failed is the end `Input`, a write that failed is `Output`, and no other end comes of either.
 //! 4. What waits is written before each read, since a read may wait; tests say so, and no clause can.

@@ -19,6 +19,7 @@ ghost use Rattle.follow.specs.Followed.{fault_line};
 ghost use Rattle.follow.specs.Reports.{change_line};
 ghost use Rattle.follow.specs.Told.{HasTold, IsCut};
 ghost use Rattle.sessions.specs.Writing.{pending_of};
+ghost use Rattle.follow.specs.declared.options.Shown.TheVariants.{Changes};
 
 use crate::ending::FollowEnd;
 use crate::fault::FollowFault;
@@ -86,6 +87,7 @@ impl Telling {
     /// Remembers the key of a row whose change is to be told.
     pub(crate) fn note(&mut self, message: &Message) -> Result<(), AllocError>
         ensures ok { OnOk result (NamesKey self.old self.new message.now) }
+        ensures err { OnErr result (self.old.shown ≡ Changes) }
         ensures choice { OnOk result (KeepsChoice self.old self.new) }
         ensures waits { waits self.new ≡ waits self.old }
     {

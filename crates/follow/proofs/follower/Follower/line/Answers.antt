@@ -1,4 +1,4 @@
-use Rattle.std.proofs.Common.{◌++◌, ◌∷◌, [], Ok, ap}
+use Rattle.std.proofs.Common.{◌++◌, ◌∷◌, [], ap}
 use Rattle.follow.specs.Telling.{waits}
 use Rattle.follow.proofs.Steps.{go_passed, go_holding, stop_misread}
 use Rattle.follow.proofs.Tellings.{if_ok, if_err}

@@ -13,12 +13,12 @@ returns-in_err-tell_before-clause-err g c = let K = g.K.Sink in let p = err_from
 pub returns-in_err-note-clause-err : goal.returns-in_err-note-clause-err
 returns-in_err-note-clause-err g c = let K = g.K.Sink in let p = err_from_is_err_and c.from_residual-in_err-note.result c.from_residual-in_err-note.ensures.1 in
     rw (p.1, p.2) (λ o r r' w ms u.
-    stop_unnamed o r r' w (K.writes c.args.output.now) c.args.self.now c.args.number ms c.args.message c.tell_before.new.self (K.writes c.tell_before.new.output) (waits c.note.new.self) c.in_ok-tell_before.ensures.ok c.note.ensures.waits u)
+    stop_unnamed o r r' w (K.writes c.args.output.now) c.args.self.now c.args.number ms c.args.message c.tell_before.new.self (K.writes c.tell_before.new.output) (waits c.note.new.self) c.in_ok-tell_before.ensures.ok c.in_ok-tell_before.ensures.choice c.in_err-note.ensures.err c.note.ensures.waits u)
 
 pub returns-in-Err-clause-err : goal.returns-in-Err-clause-err
 returns-in-Err-clause-err g c = let K = g.K.Sink in λ o r r' w ms u.
     stop_refused o r r' w (K.writes c.args.output.now) c.args.self.now c.args.number ms c.args.message c.tell_before.new.self c.in-Err.fault c.of_replica.result (K.writes c.tell_before.new.output) (waits c.note.new.self) (waits c.stopped.new.self.telling) c.stopped.result
-    c.in_ok-tell_before.ensures.ok c.note.ensures.waits c.in-Err.ensures.refused c.of_replica.ensures c.stopped.ensures u
+    c.in_ok-tell_before.ensures.ok c.note.ensures.waits c.in-Err.ensures.refused c.in-Err.ensures.memory c.of_replica.ensures c.stopped.ensures u
 
 pub returns-clause-ok : goal.returns-clause-ok
 returns-clause-ok g c = let K = g.K.Sink in on_ok c.tell_behind.result (λ tells keeps. λ o r r' w ms u.
