@@ -1,5 +1,5 @@
 -- What a follower may begin with: the rows that the last scan of a transcript found.
-use Rattle.std.specs.Prelude.{◌≡◌, ◌≢◌, ◌⊎◌, ℕ, true, List, [], ◌∷◌, Option, Some, None, option_map, Result, Ok, Err}
+use Rattle.std.specs.Prelude.{◌≡◌, ◌⊎◌, ℕ, List, [], ◌∷◌, Option, Some, None, Result, Ok, Err}
 use Rattle.text_format.specs.Limits.{format_of}
 use Rattle.spans.specs.declared.span.Span.{Span}
 use Rattle.spans.specs.declared.calls.commands.Cmd.{Cmd}
@@ -9,7 +9,7 @@ use Rattle.spans.specs.declared.calls.replies.Reply.TheVariants as reply
 use Rattle.spans.specs.declared.calls.events.Event.{Event}
 use Rattle.script.specs.declared.fault.TranscriptError.{TranscriptError}
 use Rattle.script.specs.declared.fault.TranscriptError.TheVariants as read_errors
-use Rattle.script.specs.Transcripts.{Fault, Transcript, TranscriptWants, outcome, transcript_at}
+use Rattle.script.specs.Transcripts.{Fault, HasHeader, Transcript, WantsAny, left_of, outcome, transcript_at}
 use Rattle.follow.specs.declared.seed.Seed.{Seed}
 use Rattle.follow.specs.declared.seed.Scan.{Scan}
 use Rattle.follow.specs.declared.seed.SeedError.{SeedError}
@@ -52,11 +52,13 @@ abbrev pub IsSeedOf : List ℕ → Seed → Type 0
 IsSeedOf text s = IsLastOf (transcript_at (format_of text) text) (Some (seed_parts s))
 
 -- why a text has no seed: its first fault, or that none of its events is a scan at a timestamp that was answered with rows; or memory
--- was wanted, for an event or for a copy of the rows
+-- was wanted, to read an event that may want it, or for a copy of the last scan's rows
 abbrev pub IsUnseeded : List ℕ → SeedError → Type 0
 IsUnseeded text (errors.Fault line fault) = transcript_at (format_of text) text ≡ Err (record { line = line; fault = fault })
 IsUnseeded text errors.NoScan = IsLastOf (transcript_at (format_of text) text) None
-IsUnseeded text errors.NoMemory = TranscriptWants (format_of text) text
+IsUnseeded text errors.NoMemory =
+    (HasHeader (format_of text) text × WantsAny (left_of (format_of text) text))
+    ⊎ ((found : Found) × IsLastOf (transcript_at (format_of text) text) (Some found))
 
 -- the same of what is left of a transcript
 abbrev pub IsLastScan : Transcript → Scan → Type 0
@@ -65,7 +67,7 @@ IsLastScan left s = IsLastOf (outcome left) (Some (scan_parts s))
 abbrev pub IsUnscanned : Transcript → SeedError → Type 0
 IsUnscanned left (errors.Fault line fault) = outcome left ≡ Err (record { line = line; fault = fault })
 IsUnscanned left errors.NoScan = IsLastOf (outcome left) None
-IsUnscanned left errors.NoMemory = (left.events ≢ []) ⊎ (left.wants ≡ true)
+IsUnscanned left errors.NoMemory = WantsAny left
 
 -- why a text that can't be read has no seed
 abbrev pub refusal_of : TranscriptError → SeedError

@@ -47,8 +47,8 @@ struct Scan {
 }
 
 /// The seed of a transcript, in the format that its first line says: what its last scan at a timestamp found. That the
-/// transcript is right isn't looked at. Memory is wanted only where it has an event, or where the fault in the first
-/// one's place may want it.
+/// transcript is right isn't looked at. No event is kept, so memory is wanted only to read one that may want it, as
+/// [`Events::next`] says, or to copy the rows of the last scan.
 pub fn seed_of(alloc: Global, text: &[u8]) -> Result<Seed, SeedError>
     ensures found { IfOk result (IsSeedOf text.now) }
     ensures refused { IfErr result (IsUnseeded text.now) }

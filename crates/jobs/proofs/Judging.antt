@@ -40,7 +40,7 @@ judging_fails error total left checker faulty judging = reads_fail error judging
 few_front : (taken : List Event) (e : Event) (left left' : Transcript) → IsAhead e left left' → length taken + length left.events < 18446744073709551615
     → (length taken < 18446744073709551615) × (length (taken ++ e ∷ []) + length left'.events < 18446744073709551615)
 few_front taken e left left' is few =
-    let all : length left.events ≡ length (e ∷ left'.events) = ap (λ (t : Transcript). length t.events) is in
+    let all : length left.events ≡ length (e ∷ left'.events) = ap (λ (t : Transcript). length t.events) is.1 in
     (omega (arith, all), omega (arith, all, length-append taken (e ∷ [])))
 
 -- the next event was right
@@ -69,7 +69,7 @@ judging_stops total left left' checker checker' e is judges whole judging =
       stops = λ trace. (let clash : false ≡ true = (judges judging.taken judging.trace few.0).1 trace in cc);
       stands = refl;
     } in
-    (judging.taken ++ e ∷ left'.events, judging.so_far ∙ ap (behind judging.taken) is ∙ ap (outcome_of (judging.taken ++ e ∷ left'.events)) whole, wrong)
+    (judging.taken ++ e ∷ left'.events, judging.so_far ∙ ap (behind judging.taken) is.1 ∙ ap (outcome_of (judging.taken ++ e ∷ left'.events)) whole, wrong)
 
 -- a fault is told whatever stands above it
 told_behind : (es others : List Event) (fault : Option Fault) (f : Fault) → outcome_of es fault ≡ Err f → outcome_of others fault ≡ Err f
@@ -84,7 +84,7 @@ fault_behind (errors.Fault line what) es others fault fails = told_behind es oth
 pub judging_fails_behind : (error : TranscriptError) (total : Result (List Event) Fault) (left left' : Transcript) (checker : Checker) (e : Event) → IsAhead e left left' → Fails error (outcome left')
     → IsJudging total left checker → Fails error total
 judging_fails_behind error total left left' checker e is fails judging =
-    subst (Fails error) (sym (judging.so_far ∙ ap (behind judging.taken) is)) (fault_behind error left'.events (judging.taken ++ e ∷ left'.events) left'.fault fails)
+    subst (Fails error) (sym (judging.so_far ∙ ap (behind judging.taken) is.1)) (fault_behind error left'.events (judging.taken ++ e ∷ left'.events) left'.fault fails)
 
 -- what is left begins with the fault of the whole
 pub fault_left : (error : TranscriptError) (whole left : Transcript) → whole.fault ≡ left.fault → IsFaulty error left → Fails error (outcome whole)

@@ -1,5 +1,5 @@
 -- What a checker says of a transcript, event by event and at its end.
-use Rattle.std.specs.Prelude.{◌≡◌, ◌≢◌, ◌<◌, ℕ, List, ◌∷◌, length, true, false, Result, Ok}
+use Rattle.std.specs.Prelude.{◌≡◌, ◌≢◌, ◌<◌, ℕ, Bool, List, ◌∷◌, length, true, false, Result, Ok}
 use Rattle.text_format.specs.Limits.{format_of}
 use Rattle.spans.specs.declared.calls.events.Event.{Event}
 use Rattle.script.specs.Transcripts.{Fault, Transcript, nothing_left, transcript_at}
@@ -16,7 +16,7 @@ use Rattle.jobs.specs.Verdicts.{IsVerdict}
 
 -- the event stands in front of what is left behind it
 abbrev pub IsAhead : Event → Transcript → Transcript → Type 0
-IsAhead e left left' = left ≡ record { events = e ∷ left'.events; fault = left'.fault; wants = left.wants }
+IsAhead e left left' = (w : Bool) × (left ≡ record { events = e ∷ left'.events; fault = left'.fault; wants = w ∷ left'.wants })
 
 -- the next event was read, and the checker has taken it, or it isn't right; or there is none
 abbrev pub IsNext : Transcript → Transcript → Checker → Checker → Next → Type 0

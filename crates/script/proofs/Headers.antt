@@ -47,6 +47,12 @@ front_found format front text body is e rest = rw (rest, is) (
 pub front_missing : (format : Format) (front text : List ℕ) → front ≡ header format → bytes_eq (take (length front) text) front ≡ false → transcript_at format text ≡ Err (record { line = 1; fault = WordCount })
 front_missing format front text is e = no_header format text (ap (λ (x : List ℕ). bytes_eq (take (length x) text) x) (sym is) ∙ e)
 
+-- then the text has no header
+pub no_front : (format : Format) (front text : List ℕ) → front ≡ header format → bytes_eq (take (length front) text) front ≡ false → HasHeader format text → ⊥
+no_front format front text is e begins =
+    let found : bytes_eq (take (length front) text) front ≡ true = (bytes_eq-Decides (take (length front) text) front).1 (subst (λ (x : List ℕ). take (length x) text ≡ x) (sym is) begins) in
+    (let clash : false ≡ true = sym e ∙ found in cc)
+
 -- what is left behind the header
 pub front_left : (format : Format) (front text body : List ℕ) (p : Place) → front ≡ header format → bytes_eq (take (length front) text) front ≡ true → body ≡ drop (length front) text → p ≡ record { number = 1 + header_lines format; lines = lines_of body }
     → HasHeader format text × (left_at format p ≡ left_of format text)

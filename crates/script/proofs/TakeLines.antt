@@ -1,8 +1,8 @@
 -- Lines read one after the other, as a loop does.
 use Rattle.std.proofs.Common.{◌≡◌, ℕ, zero, suc, ◌-◌, ◌+◌, ◌<◌, ◌≤◌, List, [], ◌∷◌, ◌++◌, Result, Ok, Err, length, Bool, true, false, cond, Option, Some, None, refl, sym, ap, subst, ◌∙◌, append_assoc, arith, Vec, Global}
-use Rattle.std.specs.Prelude.{◌≢◌, ◌⊎◌, ◌==◌, IfErr}
+use Rattle.std.specs.Prelude.{◌≢◌, ◌⊎◌, ◌==◌, ◌&&◌, nat_lt, IfErr}
 use Rattle.std.specs.List.{onto_first}
-use Rattle.std.proofs.lemmas.Bool.{eqb-false, eq-eqb}
+use Rattle.std.proofs.lemmas.Bool.{eqb-false, eq-eqb, lt-ltb, or_right}
 use Rattle.std.proofs.lemmas.List.{append-nil}
 use Rattle.text_format.specs.declared.Format.{Format}
 use Rattle.text_format.specs.Limits.{header_lines}
@@ -13,14 +13,14 @@ use Rattle.script.specs.declared.headings.Heading.{Heading}
 use Rattle.script.specs.declared.reply_reading.Shape.{Shape}
 use Rattle.script.specs.declared.reply_reading.Shape.TheVariants as shape
 use Rattle.script.specs.EventLines.{heading_at, row_line_at, message_line_at}
-use Rattle.script.specs.Memory.{wants_at}
+use Rattle.script.specs.Memory.{names_want, ok_has, has_lines, counts_lines, lines_want, wants_at}
 use Rattle.word_lines.specs.declared.fault.LineFault.{LineFault}
 use Rattle.script.specs.declared.fault.TranscriptError.{TranscriptError}
 use Rattle.script.specs.declared.fault.TranscriptError.TheVariants as errors
 use Rattle.word_lines.proofs.ReadWords.{bind_ok, ok_is}
 use Rattle.script.specs.Lines.{Place, is_newline, lines_of}
 use Rattle.word_lines.specs.Reading.{◌>>=◌}
-use Rattle.script.specs.Transcripts.{Fault, Fails, TakesLines, at_line, first_of, next_at, many_at, following_at, event_at, events_at, body_at, Transcript, nothing_left, onto_left, left_within, left_at, outcome_of, outcome, HasHeader, left_of, TranscriptWants, IsFaulty, TakesEvent}
+use Rattle.script.specs.Transcripts.{Fault, Fails, TakesLines, at_line, first_of, next_at, many_at, following_at, event_at, events_at, body_at, Transcript, nothing_left, onto_left, left_within, left_at, outcome_of, outcome, HasHeader, left_of, TranscriptWants, WantsNext, IsFaulty, TakesEvent}
 
 -- what was read before, and what is still read
 abbrev pub with_front : {A : Type 0} → List A → Result (List A × Place) Fault → Result (List A × Place) Fault
@@ -75,6 +75,10 @@ next_by read number (line ∷ lines) x e =
 pub next_found : {A : Type 0} (read : List ℕ → Result A LineFault) (p : Place) (x : A × Place) → next_at read p ≡ Ok x → (line : List ℕ) × (p.lines ≡ line ∷ x.1.lines) × (read line ≡ Ok x.0)
 next_found read p x e = next_by read p.number p.lines x e
 
+-- then a line was left
+pub next_some : {A : Type 0} (read : List ℕ → Result A LineFault) (p : Place) (x : A × Place) → next_at read p ≡ Ok x → length x.1.lines < length p.lines
+next_some read p x e = let line = next_found read p x e in omega (arith, ap length line.1)
+
 -- no line is put back
 many_fewer : {A : Type 0} (read : List ℕ → Result A LineFault) (n : ℕ) (p : Place) (x : List A × Place) → many_at read n p ≡ Ok x → length x.1.lines ≤ length p.lines
 unfolding many_at
@@ -110,11 +114,19 @@ module _ (format : Format) where
       let line = next_found (heading_at format) p h.0 h.1 in
       subst (λ (y : Event × Place). length y.1.lines < length p.lines) (ok_is (made h.0.0 r.0.0, r.0.1) x r.2) (omega (arith, ap length line.1, following_fewer format h.0.0.shape h.0.1 r.0 r.1))
 
+module _ (format : Format) where
+  -- an event whose first line counts lines may want memory where one of them is there
+  pub following_wants : (p : Place) (h : Heading × Place) → next_at (heading_at format) p ≡ Ok h → (has_lines h.0.shape ≡ true) × (0 < length h.1.lines) → wants_at format p ≡ true
+  following_wants p h e some =
+      let line = next_found (heading_at format) p h e in
+      let counts : counts_lines format line.0 ≡ true = ap (ok_has (λ (x : Heading). has_lines x.shape)) line.2 ∙ some.0 in
+      ap (lines_want format) line.1 ∙ or_right (names_want format line.0) (counts_lines format line.0 && nat_lt 0 (length h.1.lines)) (rw (counts, lt-ltb 0 (length h.1.lines) some.1) refl)
+
 -- ---- what is left
 
 -- what is read, and what is left, where the first event is known
 ahead_same : (wants : Bool) (read : Result (Event × Place) Fault) (f g : Place → Transcript) → ((x : Event × Place) → read ≡ Ok x → f x.1 ≡ g x.1) → onto_left wants read f ≡ onto_left wants read g
-ahead_same wants (Ok x) f g same = ap (λ (left : Transcript). record { events = x.0 ∷ left.events; fault = left.fault; wants = wants }) (same x refl)
+ahead_same wants (Ok x) f g same = ap (λ (left : Transcript). record { events = x.0 ∷ left.events; fault = left.fault; wants = wants ∷ left.wants }) (same x refl)
 ahead_same wants (Err fault) f g same = refl
 
 none_ahead : (b : Bool) (left : Transcript) → b ≡ true → nothing_left ≡ cond b nothing_left left
@@ -141,16 +153,16 @@ module _ (format : Format) where
   some_within zero p enough some = absurd (eqb-false (length p.lines) 0 some (omega arith))
   some_within (suc n) p enough some = rw some (ahead_same (wants_at format p) (event_at format p) (λ after. left_within format n after) (left_at format) (λ x e. same_within n (length x.1.lines) x.1 (omega (arith, event_fewer format p x e)) (omega arith)))
 
--- what the first event wants, what is left wants
-first_wants : (wants : Bool) (read : Result (Event × Place) Fault) (below : Place → Transcript) → (onto_left wants read below).wants ≡ wants
-first_wants wants (Ok x) below = refl
-first_wants wants (Err f) below = refl
+-- what the first event wants, what is left wants next
+first_wants : (wants : Bool) (read : Result (Event × Place) Fault) (below : Place → Transcript) → wants ≡ true → WantsNext (onto_left wants read below)
+first_wants wants (Ok x) below is = ((below x.1).wants, ap (λ (w : Bool). w ∷ (below x.1).wants) is)
+first_wants wants (Err f) below is = ([], ap (λ (w : Bool). w ∷ []) is)
 
 -- the first event of what is left
 event_first : (wants : Bool) (read : Result (Event × Place) Fault) (below : Place → Transcript) (r : Result Event TranscriptError) (after : Place) → TakesLines (λ x. x) r after read → IfErr r (λ e. e ≡ errors.NoMemory → wants ≡ true)
     → TakesEvent (Some r) (onto_left wants read below) (below after)
-event_first wants read below (Ok e) after takes memory = rw takes refl
-event_first wants read below (Err errors.NoMemory) after takes memory = (tt, λ is. first_wants wants read below ∙ memory is)
+event_first wants read below (Ok e) after takes memory = (wants, rw takes refl)
+event_first wants read below (Err errors.NoMemory) after takes memory = (tt, λ is. first_wants wants read below (memory is))
 event_first wants read below (Err (errors.Fault line fault)) after takes memory = (rw takes refl, λ is. absurd cc)
 
 module _ (format : Format) where
@@ -228,8 +240,8 @@ abbrev pub behind : List Event → Transcript → Result (List Event) Fault
 behind front left = outcome_of (front ++ left.events) left.fault
 
 -- one event more was read
-pub reads_more : (front : List Event) (e : Event) (left left' : Transcript) → left ≡ record { events = e ∷ left'.events; fault = left'.fault; wants = left.wants } → behind front left ≡ behind (front ++ e ∷ []) left'
-reads_more front e left left' is = ap (behind front) is ∙ ap (λ (es : List Event). outcome_of es left'.fault) (sym (append_assoc front (e ∷ []) left'.events))
+pub reads_more : (front : List Event) (e : Event) (left left' : Transcript) → (w : Bool) × (left ≡ record { events = e ∷ left'.events; fault = left'.fault; wants = w ∷ left'.wants }) → behind front left ≡ behind (front ++ e ∷ []) left'
+reads_more front e left left' is = ap (behind front) is.1 ∙ ap (λ (es : List Event). outcome_of es left'.fault) (sym (append_assoc front (e ∷ []) left'.events))
 
 -- an event is faulty
 pub reads_fail : (error : TranscriptError) (front : List Event) (left : Transcript) (total : Result (List Event) Fault) → IsFaulty error left → total ≡ behind front left → Fails error total
@@ -244,7 +256,7 @@ reads_end front left total none so_far = so_far ∙ ap (behind front) none ∙ a
 
 module _ (format : Format) where
   -- what the events of a text want, the text wants
-  pub text_wants : (text : List ℕ) (left : Transcript) (r : Result (Vec Event Global) TranscriptError) → HasHeader format text × (left ≡ left_of format text) → IfErr r (λ e. e ≡ errors.NoMemory → (left.events ≢ []) ⊎ (left.wants ≡ true))
+  pub text_wants : (text : List ℕ) (left : Transcript) (r : Result (Vec Event Global) TranscriptError) → HasHeader format text × (left ≡ left_of format text) → IfErr r (λ e. e ≡ errors.NoMemory → (left.events ≢ []) ⊎ WantsNext left)
       → IfErr r (λ e. e ≡ errors.NoMemory → TranscriptWants format text)
   text_wants text left (Ok events) begins wants = tt
-  text_wants text left (Err error) begins wants = λ is. (begins.0, subst (λ (l : Transcript). (l.events ≢ []) ⊎ (l.wants ≡ true)) begins.1 (wants is))
+  text_wants text left (Err error) begins wants = λ is. (begins.0, subst (λ (l : Transcript). (l.events ≢ []) ⊎ WantsNext l) begins.1 (wants is))

@@ -1,5 +1,5 @@
 -- Which events may want memory to be read: by what their first lines name (this project).
-use Rattle.std.specs.Prelude.{nat_lt, ℕ, Bool, true, false, ◌||◌, List, [], ◌∷◌, Option, Some, None, Result, Ok, Err}
+use Rattle.std.specs.Prelude.{nat_lt, ℕ, Bool, true, false, ◌&&◌, ◌||◌, length, List, [], ◌∷◌, Option, Some, None, Result, Ok, Err}
 use Rattle.text_format.specs.declared.Format.{Format}
 use Rattle.word_lines.specs.declared.fault.LineFault.{LineFault}
 use Rattle.word_lines.specs.declared.table.Verb.{Verb}
@@ -55,14 +55,18 @@ abbrev pub ok_has : {A : Type 0} → (A → Bool) → Result A LineFault → Boo
 ok_has has (Ok x) = has x
 ok_has has (Err f) = false
 
--- the first line of an event names such a command or answer, or says that lines follow
-abbrev pub first_wants : Format → List ℕ → Bool
-first_wants format line = ok_has name_bytes (names_at format line) || ok_has (λ (h : Heading). has_lines h.shape) (heading_at format line)
+-- the first line of an event names such a command or answer
+abbrev pub names_want : Format → List ℕ → Bool
+names_want format line = ok_has name_bytes (names_at format line)
 
--- the first of the lines does
+-- it counts lines that follow
+abbrev pub counts_lines : Format → List ℕ → Bool
+counts_lines format line = ok_has (λ (h : Heading). has_lines h.shape) (heading_at format line)
+
+-- the first of the lines names such a part, or counts lines of which one is there
 abbrev pub lines_want : Format → List (List ℕ) → Bool
 lines_want format [] = false
-lines_want format (line ∷ lines) = first_wants format line
+lines_want format (line ∷ lines) = names_want format line || (counts_lines format line && nat_lt 0 (length lines))
 
 -- the event at a place may want memory to be read
 abbrev pub wants_at : Format → Place → Bool

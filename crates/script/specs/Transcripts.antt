@@ -1,6 +1,6 @@
 -- Reading transcripts from the first line to the last: the events, or the first fault with the number of its line.
-use Rattle.std.specs.Prelude.{◌≡◌, ◌≢◌, ◌⊎◌, Bool, true, false, ℕ, zero, suc, ◌+◌, ◌==◌, if◌then◌else◌, List, [], ◌∷◌, ◌++◌, length, take, drop, bytes_eq, Option, Some, None, Result, Ok, Err}
-use Rattle.std.specs.List.{flat_map}
+use Rattle.std.specs.Prelude.{◌≡◌, ◌≢◌, ◌⊎◌, Bool, true, ℕ, zero, suc, ◌+◌, ◌==◌, if◌then◌else◌, List, [], ◌∷◌, ◌++◌, length, take, drop, bytes_eq, Option, Some, None, Result, Ok, Err}
+use Rattle.std.specs.List.{flat_map, list_any}
 use Rattle.text_format.specs.declared.Format.{Format}
 use Rattle.text_format.specs.Limits.{header, header_lines}
 use Rattle.spans.specs.declared.calls.events.Event.{Event}
@@ -114,17 +114,17 @@ transcript_at format text =
 pub record Transcript : Type 0 where
   pub events : List Event
   pub fault : Option Fault
-  -- whether the next event, or the faulty one in its place, may want memory to be read
-  pub wants : Bool
+  -- of each event, and of the faulty one behind them, whether it may want memory to be read
+  pub wants : List Bool
 
 -- nothing is left
 abbrev pub nothing_left : Transcript
-nothing_left = record { events = []; fault = None; wants = false }
+nothing_left = record { events = []; fault = None; wants = [] }
 
 -- an event, and what is left behind it; a fault hides what stands below it
 abbrev pub onto_left : Bool → Result (Event × Place) Fault → (Place → Transcript) → Transcript
-onto_left wants (Ok first) below = let others = below first.1 in record { events = first.0 ∷ others.events; fault = others.fault; wants = wants }
-onto_left wants (Err f) below = record { events = []; fault = Some f; wants = wants }
+onto_left wants (Ok first) below = let others = below first.1 in record { events = first.0 ∷ others.events; fault = others.fault; wants = wants ∷ others.wants }
+onto_left wants (Err f) below = record { events = []; fault = Some f; wants = wants ∷ [] }
 
 -- what is left at a place, where there are at most so many events
 unfoldable pub left_within : Format → ℕ → Place → Transcript
@@ -156,12 +156,20 @@ abbrev pub IsFaulty : TranscriptError → Transcript → Type 0
 IsFaulty errors.NoMemory left = Unit {0}
 IsFaulty (errors.Fault line fault) left = left ≡ record { events = []; fault = Some (record { line = line; fault = fault }); wants = left.wants }
 
+-- the next event, or the faulty one in its place, may want memory to be read
+abbrev pub WantsNext : Transcript → Type 0
+WantsNext left = (others : List Bool) × (left.wants ≡ true ∷ others)
+
+-- one of the events, or the faulty one behind them, may
+abbrev pub WantsAny : Transcript → Type 0
+WantsAny left = list_any (λ (w : Bool). w) left.wants ≡ true
+
 -- the first of what was left was taken off, if there was any, or is faulty; memory ran out only where it may want some
 abbrev pub TakesEvent : Option (Result Event TranscriptError) → Transcript → Transcript → Type 0
 TakesEvent None left left' = (left ≡ nothing_left) × (left' ≡ left)
-TakesEvent (Some (Ok e)) left left' = left ≡ record { events = e ∷ left'.events; fault = left'.fault; wants = left.wants }
-TakesEvent (Some (Err error)) left left' = IsFaulty error left × (error ≡ errors.NoMemory → left.wants ≡ true)
+TakesEvent (Some (Ok e)) left left' = (w : Bool) × (left ≡ record { events = e ∷ left'.events; fault = left'.fault; wants = w ∷ left'.wants })
+TakesEvent (Some (Err error)) left left' = IsFaulty error left × (error ≡ errors.NoMemory → WantsNext left)
 
 -- the text has its header, and an event to keep, or what stands first behind the header may want memory to be read
 abbrev pub TranscriptWants : Format → List ℕ → Type 0
-TranscriptWants format text = HasHeader format text × (((left_of format text).events ≢ []) ⊎ ((left_of format text).wants ≡ true))
+TranscriptWants format text = HasHeader format text × (((left_of format text).events ≢ []) ⊎ WantsNext (left_of format text))

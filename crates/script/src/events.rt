@@ -44,8 +44,8 @@ impl<'a> Events<'a> {
         // An event has a byte at least.
         ensures few { IfOk result (λ left. length left.events ≤ length text.now) }
         ensures exact { MatchResult result (λ left. transcript_at format text.now ≡ outcome left) (λ e. Fails e (transcript_at format text.now)) }
-        // What is left is all that stands behind the header. No memory is wanted.
-        ensures left { MatchResult result (λ left. HasHeader format text.now × (left ≡ left_of format text.now)) (λ e. e ≢ NoMemory) }
+        // What is left is all that stands behind the header, and only a missing header is refused. No memory is wanted.
+        ensures left { MatchResult result (λ left. HasHeader format text.now × (left ≡ left_of format text.now)) (λ e. (e ≢ NoMemory) × (HasHeader format text.now → ⊥)) }
     {
         match text.strip_prefix(format.header()) {
             Some(body) => Ok(Events {
@@ -61,7 +61,7 @@ impl<'a> Events<'a> {
 
     /// Takes the next event, if there is one. What is left after an error isn't said. Memory is wanted only where the
     /// event's first line, read up to `=>`, names a command with a key, a value or a span, or an answer with a value,
-    /// or where lines follow it.
+    /// or where a line follows that it counts. That holds of each event alike, the first or a later one.
     pub fn next(&mut self, alloc: Global) -> Option<Result<Event, TranscriptError>>
         ensures { TakesEvent result self.old self.new }
     {

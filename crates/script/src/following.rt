@@ -1,5 +1,5 @@
 //! The lines that follow an event's first line: the rows or the messages of its reply.
-ghost use Rattle.std.specs.Prelude.{◌≡◌, ◌<◌, true, IfErr};
+ghost use Rattle.std.specs.Prelude.{◌≡◌, ◌<◌, true, length, IfErr};
 ghost use Rattle.word_lines.specs.Reading.{Gives};
 ghost use Rattle.script.specs.EventLines.{pair_at, pair_of, row_line_at, message_line_at, read_error_of};
 ghost use Rattle.script.specs.Memory.{has_lines};
@@ -28,7 +28,8 @@ pub(crate) fn take_following(
     format: Format,
 ) -> Result<Reply, TranscriptError>
     ensures exact { TakesLines (λ x. x) result lines.new (following_at format shape lines.old) }
-    ensures memory { IfErr result (λ e. e ≡ NoMemory → has_lines shape ≡ true) }
+    // Memory is wanted only where lines are counted, and one is there.
+    ensures memory { IfErr result (λ e. e ≡ NoMemory → (has_lines shape ≡ true) × (0 < length lines.old.lines)) }
 {
     match shape {
         Shape::Alone(reply) => Ok(reply),
@@ -43,7 +44,7 @@ pub(crate) fn take_following(
     }
 }
 
-/// Takes so many rows. Room is made for those alone that came.
+/// Takes so many rows. Room is made for those alone that came, and a first line is looked for before any is made.
 fn take_rows(
     alloc: Global,
     count: u64,
@@ -51,7 +52,7 @@ fn take_rows(
     format: Format,
 ) -> Result<Vec<(Key, Value)>, TranscriptError>
     ensures exact { TakesLines (λ rows. rows.items) result lines.new (many_at (row_line_at format) count lines.old) }
-    ensures memory { IfErr result (λ e. e ≡ NoMemory → 0 < count) }
+    ensures memory { IfErr result (λ e. e ≡ NoMemory → (0 < count) × (0 < length lines.old.lines)) }
 {
     let mut rows = Vec::new(alloc);
     for _ in 0..count {
@@ -61,7 +62,7 @@ fn take_rows(
     Ok(rows)
 }
 
-/// Takes so many messages. Room is made for those alone that came.
+/// Takes so many messages. Room is made for those alone that came, and a first line is looked for before any is made.
 fn take_messages(
     alloc: Global,
     count: u64,
@@ -69,7 +70,7 @@ fn take_messages(
     format: Format,
 ) -> Result<Vec<Message>, TranscriptError>
     ensures exact { TakesLines (λ messages. messages.items) result lines.new (many_at (message_line_at format) count lines.old) }
-    ensures memory { IfErr result (λ e. e ≡ NoMemory → 0 < count) }
+    ensures memory { IfErr result (λ e. e ≡ NoMemory → (0 < count) × (0 < length lines.old.lines)) }
 {
     let mut messages = Vec::new(alloc);
     for _ in 0..count {
@@ -84,7 +85,8 @@ fn take_row(
     lines: &mut Lines,
     format: Format,
 ) -> Result<(Key, Value), TranscriptError>
-    ensures { TakesLines (λ x. x) result lines.new (next_at (row_line_at format) lines.old) }
+    ensures exact { TakesLines (λ x. x) result lines.new (next_at (row_line_at format) lines.old) }
+    ensures memory { IfErr result (λ e. e ≡ NoMemory → 0 < length lines.old.lines) }
 {
     let number = lines.number();
     let Some(line) = lines.take_line() else {
@@ -101,7 +103,8 @@ fn take_message(
     lines: &mut Lines,
     format: Format,
 ) -> Result<Message, TranscriptError>
-    ensures { TakesLines (λ x. x) result lines.new (next_at (message_line_at format) lines.old) }
+    ensures exact { TakesLines (λ x. x) result lines.new (next_at (message_line_at format) lines.old) }
+    ensures memory { IfErr result (λ e. e ≡ NoMemory → 0 < length lines.old.lines) }
 {
     let number = lines.number();
     let Some(line) = lines.take_line() else {

@@ -10,7 +10,7 @@
 //!    runs out.
 //! 2. Memory is taken for lines that came, and never for lines that a count promises.
 //! 3. Memory is wanted for an event only where its first line, read up to `=>`, names a command with a key, a value or
-//!    a span, or an answer with a value, or where lines follow it.
+//!    a span, or an answer with a value, or where a line follows that it counts.
 //!
 //! ```text
 //! 1  0 0 begin 10 => started       Event { position: 0, seat: 0, cmd: Begin { ts: 10 }, reply: Started }

@@ -13,10 +13,10 @@
 //!
 //! Cost: each byte is looked at six times at most. Keys, values and bounds are copied once, and at
 //! most twice where bytes are escaped or stand in a line of JSON.
-ghost use Rattle.std.specs.Prelude.{◌≡◌, ◌≢◌, ◌⊎◌, true, [], IfOk, IfErr};
+ghost use Rattle.std.specs.Prelude.{◌≡◌, ◌≢◌, ◌⊎◌, [], IfOk, IfErr};
 ghost use Rattle.std.specs.List.{All};
 ghost use Rattle.word_lines.specs.Limits.{IsEvent};
-ghost use Rattle.script.specs.Transcripts.{Tells, TranscriptWants, outcome, transcript_at, transcript_text};
+ghost use Rattle.script.specs.Transcripts.{Tells, TranscriptWants, WantsNext, outcome, transcript_at, transcript_text};
 ghost use Rattle.script.specs.declared.fault.TranscriptError.TheVariants.{NoMemory};
 
 use crate::events::Events;
@@ -28,7 +28,7 @@ use text_format::Format;
 /// Reads a transcript of a format: its events, or the first line that is faulty. A text that doesn't begin with the
 /// format's header is faulty in its first line, by `WordCount`. Memory is wanted only to keep an event, or where the
 /// first event's first line, read up to `=>`, names a command with a key, a value or a span, or an answer with a value,
-/// or where lines follow it.
+/// or where a line follows that it counts.
 pub fn read_transcript(
     alloc: Global,
     text: &[u8],
@@ -50,7 +50,7 @@ pub fn read_transcript(
 /// Reads all that is left.
 fn all_of(alloc: Global, mut left: Events) -> Result<Vec<Event>, TranscriptError>
     ensures exact { Tells (λ events. events.items) result (outcome left.entry) }
-    ensures memory { IfErr result (λ e. e ≡ NoMemory → (left.entry.events ≢ []) ⊎ (left.entry.wants ≡ true)) }
+    ensures memory { IfErr result (λ e. e ≡ NoMemory → (left.entry.events ≢ []) ⊎ WantsNext left.entry) }
 {
     let mut events = Vec::new(alloc);
     while let Some(event) = left.next(alloc) {

@@ -1,17 +1,19 @@
+use Rattle.std.proofs.Common.{arith}
 use Rattle.std.proofs.lemmas.Result.{err_from_is_err_and}
 use Rattle.script.specs.EventLines.{row_line_at}
 use Rattle.script.specs.Transcripts.{many_at}
-use Rattle.script.proofs.TakeLines.{goes_on, ends, is_done}
+use Rattle.script.proofs.TakeLines.{goes_on, ends, is_done, next_some}
 use Rattle.script.proofs.following.take_rows.Goals as goal
 
 pub returns-in_err-row-clause-exact : goal.returns-in_err-row-clause-exact
 returns-in_err-row-clause-exact c =
     let p = err_from_is_err_and c.from_residual.result c.from_residual.ensures.1 in
-    rw (p.1, p.2) (ends (row_line_at c.args.format) c.in_err-row.field-0.0 c.loop.rows.items c.args.count c.loop.counter c.loop.lines (many_at (row_line_at c.args.format) c.args.count c.args.lines.now) c.loop-test.true c.in_err-row.ensures c.loop.invariant)
+    rw (p.1, p.2) (ends (row_line_at c.args.format) c.in_err-row.field-0.0 c.loop.rows.items c.args.count c.loop.counter c.loop.lines (many_at (row_line_at c.args.format) c.args.count c.args.lines.now) c.loop-test.true c.in_err-row.ensures.exact c.loop.invariant.0)
 
 pub loop-preserved : goal.loop-preserved
 loop-preserved c =
-    rw c.in_ok-push.ensures.items (goes_on (row_line_at c.args.format) c.loop.rows.items c.args.count c.loop.counter c.loop.lines c.in_ok-row.row c.take_row.new.lines (many_at (row_line_at c.args.format) c.args.count c.args.lines.now) c.loop-test.true c.in_ok-row.ensures c.loop.invariant)
+    let fewer = next_some (row_line_at c.args.format) c.loop.lines (c.in_ok-row.row, c.take_row.new.lines) c.in_ok-row.ensures.exact in
+    (rw c.in_ok-push.ensures.items (goes_on (row_line_at c.args.format) c.loop.rows.items c.args.count c.loop.counter c.loop.lines c.in_ok-row.row c.take_row.new.lines (many_at (row_line_at c.args.format) c.args.count c.args.lines.now) c.loop-test.true c.in_ok-row.ensures.exact c.loop.invariant.0), omega (arith, fewer, c.loop.invariant.1))
 
 pub returns-clause-exact : goal.returns-clause-exact
-returns-clause-exact c = is_done (row_line_at c.args.format) c.loop.rows.items c.args.count c.loop.counter c.loop.lines (many_at (row_line_at c.args.format) c.args.count c.args.lines.now) c.loop-test.false c.loop.invariant
+returns-clause-exact c = is_done (row_line_at c.args.format) c.loop.rows.items c.args.count c.loop.counter c.loop.lines (many_at (row_line_at c.args.format) c.args.count c.args.lines.now) c.loop-test.false c.loop.invariant.0

@@ -2,7 +2,7 @@ use Rattle.std.proofs.Common.{◌≡◌, ℕ, ◌+◌, ◌≤◌, length, arith,
 use Rattle.std.proofs.lemmas.List.{length-drop}
 use Rattle.text_format.specs.Limits.{header_lines}
 use Rattle.script.specs.Lines.{Place, lines_of}
-use Rattle.script.proofs.Headers.{front_found, front_left, front_missing}
+use Rattle.script.proofs.Headers.{front_found, front_left, front_missing, no_front}
 use Rattle.script.proofs.TakeLines.{few_left, whole_left}
 use Rattle.script.proofs.events.Events.new.Goals as goal
 
@@ -23,3 +23,6 @@ pub returns-in-Some-clause-left : goal.returns-in-Some-clause-left
 returns-in-Some-clause-left c =
     let begins : c.below.result ≡ record { number = 1 + header_lines c.args.format; lines = lines_of c.in-Some.body.now } = c.below.ensures ∙ ap (λ (n : ℕ). record { number = 1 + n; lines = lines_of c.in-Some.body.now }) c.header_lines.ensures.lines in
     front_left c.args.format c.header.result.now c.args.text.now c.in-Some.body.now c.below.result c.header.ensures c.in-Some.ensures.cases.0 c.in-Some.ensures.cases.1 begins
+
+pub returns-in-None-clause-left : goal.returns-in-None-clause-left
+returns-in-None-clause-left c = (λ is. absurd cc, no_front c.args.format c.header.result.now c.args.text.now c.header.ensures c.in-None.ensures.cases)
