@@ -25,6 +25,10 @@ pub record HasBegunAnswer (answers : List ℕ → End → List ℕ → Type 0) (
   pub right : answers text end out
   pub begun : HasBegun w.taken w'.taken out
 
+-- where memory ran out nothing was written
+abbrev pub IsSilentAt : End → Writes → Writes → Type 0
+IsSilentAt e w w' = e ≡ ends.Memory → w'.taken ≡ w.taken
+
 -- what is known of the job at its end, where this was known of its source and its sink before it, and that after it
 pub record IsAnswered (answers : List ℕ → End → List ℕ → Type 0) (r r' : Reads) (w w' : Writes) (e : End) : Type 0 where
   pub answered :

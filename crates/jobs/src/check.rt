@@ -1,5 +1,5 @@
 //! A transcript is checked.
-ghost use Rattle.jobs.specs.Answers.{IsAnswered};
+ghost use Rattle.jobs.specs.Answers.{IsAnswered, IsSilentAt};
 ghost use Rattle.jobs.specs.Ends.{end_of};
 ghost use Rattle.jobs.specs.Verdicts.{IsVerdict};
 
@@ -10,9 +10,10 @@ use std::alloc::Global;
 
 /// Reads a transcript, and writes `yes` where it is one that the database could have written, else `no P`
 /// with the position of the first event where it isn't. A transcript that can't be read gets its fault
-/// line, and no verdict.
+/// line, and no verdict. Where memory runs out, nothing is written.
 pub fn check_io<S: Source, K: Sink>(alloc: Global, input: &mut S, output: &mut K) -> End
-    ensures { IsAnswered IsVerdict (S.reads input.old) (S.reads input.new) (K.writes output.old) (K.writes output.new) result }
+    ensures answered { IsAnswered IsVerdict (S.reads input.old) (S.reads input.new) (K.writes output.old) (K.writes output.new) result }
+    ensures memory { IsSilentAt result (K.writes output.old) (K.writes output.new) }
 {
     match checked(alloc, input, output) {
         Ok(end) | Err(end) => end,
@@ -20,7 +21,8 @@ pub fn check_io<S: Source, K: Sink>(alloc: Global, input: &mut S, output: &mut K
 }
 
 fn checked<S: Source, K: Sink>(alloc: Global, input: &mut S, output: &mut K) -> Result<End, End>
-    ensures { IsAnswered IsVerdict (S.reads input.old) (S.reads input.new) (K.writes output.old) (K.writes output.new) (end_of result) }
+    ensures answered { IsAnswered IsVerdict (S.reads input.old) (S.reads input.new) (K.writes output.old) (K.writes output.new) (end_of result) }
+    ensures memory { IsSilentAt (end_of result) (K.writes output.old) (K.writes output.new) }
 {
     let text = read_whole(alloc, input)?;
     let (end, answer) = verdict(alloc, text.as_slice())?;

@@ -1,6 +1,6 @@
 //! The state after a transcript is told.
 ghost use Rattle.std.specs.Prelude.{◌≡◌, IfOk};
-ghost use Rattle.jobs.specs.Answers.{IsAnswered};
+ghost use Rattle.jobs.specs.Answers.{IsAnswered, IsSilentAt};
 ghost use Rattle.jobs.specs.Ends.{end_of};
 ghost use Rattle.jobs.specs.States.{IsState, is_whole};
 
@@ -32,14 +32,16 @@ impl Detail {
 }
 
 /// Reads a transcript, and writes the state after its last event: lines of JSON, whole or live. Where it isn't one that the
-/// database could have written it answers as `check` does: `no P`, or the fault line.
+/// database could have written it answers as `check` does: `no P`, or the fault line. Where memory runs out, nothing is
+/// written.
 pub fn state_io<S: Source, K: Sink>(
     alloc: Global,
     detail: Detail,
     input: &mut S,
     output: &mut K,
 ) -> End
-    ensures { IsAnswered (IsState detail) (S.reads input.old) (S.reads input.new) (K.writes output.old) (K.writes output.new) result }
+    ensures answered { IsAnswered (IsState detail) (S.reads input.old) (S.reads input.new) (K.writes output.old) (K.writes output.new) result }
+    ensures memory { IsSilentAt result (K.writes output.old) (K.writes output.new) }
 {
     match told(alloc, detail, input, output) {
         Ok(end) | Err(end) => end,
@@ -52,7 +54,8 @@ fn told<S: Source, K: Sink>(
     input: &mut S,
     output: &mut K,
 ) -> Result<End, End>
-    ensures { IsAnswered (IsState detail) (S.reads input.old) (S.reads input.new) (K.writes output.old) (K.writes output.new) (end_of result) }
+    ensures answered { IsAnswered (IsState detail) (S.reads input.old) (S.reads input.new) (K.writes output.old) (K.writes output.new) (end_of result) }
+    ensures memory { IsSilentAt (end_of result) (K.writes output.old) (K.writes output.new) }
 {
     let text = read_whole(alloc, input)?;
     let (end, answer) = state_text(alloc, detail, text.as_slice())?;
