@@ -65,13 +65,14 @@ class Checks(unittest.TestCase):
 
     def test_the_gate_s_row_is_the_last_count_of_its_log(self):
         for text, told in {
-            "3 passed, 0 failed\n": "passed",
-            "3 passed, 0 failed\n9 passed, 1 failed (a)\n": "failed",
+            "3 passed, 0 failed\n": ("passed", "3 passed, 0 failed", ""),
+            "3 passed, 0 failed\n\nreal\t2m3.4s\nuser\t7m1.0s\n": ("passed", "3 passed, 0 failed", "123"),
+            "3 passed, 0 failed\n9 passed, 1 failed (a)\n": ("failed", "9 passed, 1 failed", ""),
         }.items():
             with tempfile.NamedTemporaryFile("w") as log:
                 log.write("rt: low proved\n" + text)
                 log.flush()
-                self.assertEqual(checks.from_log(log.name)[0], told)
+                self.assertEqual(checks.from_log(log.name), told)
 
     def test_rows_of_other_checks_stay(self):
         with tempfile.TemporaryDirectory() as room:
