@@ -19,7 +19,7 @@ use Rattle.word_lines.specs.Words.{text_at, words, words_at}
 use Rattle.word_lines.specs.Commands.{joined, bound_word, words_of, command_line}
 use Rattle.json_lines.specs.Messages.{IsKey}
 use Rattle.word_lines.specs.Limits.{IsNumber, IsValue, IsBound, IsSpan, IsCommand}
-use Rattle.word_lines.specs.Reading.{◌>>=◌, number_at, session_at, bytes_at, key_at, value_at, bound_at, span_at, row_at, arguments_at, command_of, command_at}
+use Rattle.word_lines.specs.Reading.{◌>>=◌, number_at, session_at, bytes_at, key_at, value_at, bound_at, span_at, number_and_key_at, number_and_span_at, opening_at, opening_every_at, row_at, arguments_at, command_of, command_at}
 use Rattle.word_lines.proofs.NumberWords.{number_only}
 use Rattle.word_lines.proofs.SpelledWords.{some_of, some_is, not_true, spelled_only}
 use Rattle.word_lines.proofs.Joining.{some_words}
@@ -69,6 +69,25 @@ module _ (format : Format) where
   unfolding span_at
   span_again span rest is = rw (bound_again span.lo (bound_word span.hi ∷ rest) is.0, bound_again span.hi rest is.1) refl
 
+  -- ---- the parts of a command
+
+  number_and_key_again : (n : ℕ) (key : List ℕ) (rest : List (List ℕ)) → IsNumber n → IsKey format key → number_and_key_at format (decimal n ∷ spelling key ∷ rest) ≡ Ok ((n, key), rest)
+  unfolding number_and_key_at
+  number_and_key_again n key rest is lawful = rw (number_again n (spelling key ∷ rest) is, key_again format key rest lawful) refl
+
+  number_and_span_again : (n : ℕ) (span : Span) (rest : List (List ℕ)) → IsNumber n → IsSpan format span → number_and_span_at format (decimal n ∷ bound_word span.lo ∷ bound_word span.hi ∷ rest) ≡ Ok ((n, span), rest)
+  unfolding number_and_span_at
+  number_and_span_again n span rest is lawful = rw (number_again n (bound_word span.lo ∷ bound_word span.hi ∷ rest) is, span_again span rest lawful) refl
+
+  opening_again : (span : Span) (n : ℕ) (rest : List (List ℕ)) → IsSpan format span → IsNumber n → opening_at format (bound_word span.lo ∷ bound_word span.hi ∷ decimal n ∷ rest) ≡ Ok ((span, n), rest)
+  unfolding opening_at
+  opening_again span n rest lawful is = rw (span_again span (decimal n ∷ rest) lawful, number_again n rest is) refl
+
+  opening_every_again : (span : Span) (n gap : ℕ) (rest : List (List ℕ)) → IsSpan format span → IsNumber n → IsNumber gap
+      → opening_every_at format (bound_word span.lo ∷ bound_word span.hi ∷ decimal n ∷ decimal gap ∷ rest) ≡ Ok ((span, n, gap), rest)
+  unfolding opening_every_at
+  opening_every_again span n gap rest lawful is apart = rw (opening_again span n (decimal gap ∷ rest) lawful is, number_again gap rest apart) refl
+
   -- ---- commands
 
   -- the row of a command, and the words of its arguments, are read as this command
@@ -86,37 +105,37 @@ module _ (format : Format) where
 
   -- a command of a number and a key
   key_read : (c : Cmd) (row : Row) (make : ℕ → List ℕ → Cmd) (n : ℕ) (key : List ℕ) (rest : List (List ℕ)) → c ≡ make n key → row_at table (words_of c ++ rest) ≡ Ok (row, decimal n ∷ spelling key ∷ rest) → 2 ≡ row.arguments
-      → arguments_at format row.verb (decimal n ∷ spelling key ∷ rest) ≡ (number_at (decimal n ∷ spelling key ∷ rest) >>= λ n. key_at format n.1 >>= λ k. Ok (make n.0 k.0, k.1)) → IsNumber n → IsKey format key → IsRead c rest
+      → arguments_at format row.verb (decimal n ∷ spelling key ∷ rest) ≡ (number_and_key_at format (decimal n ∷ spelling key ∷ rest) >>= λ k. Ok (make k.0.0 k.0.1, k.1)) → IsNumber n → IsKey format key → IsRead c rest
   key_read c row make n key rest made named count read is lawful =
-      record { row = row; front = decimal n ∷ spelling key ∷ []; named = named; count = count; read = read ∙ rw (number_again n (spelling key ∷ rest) is, key_again format key rest lawful) (ap (λ (x : Cmd). Ok (x, rest)) (sym made)) }
+      record { row = row; front = decimal n ∷ spelling key ∷ []; named = named; count = count; read = read ∙ rw (number_and_key_again n key rest is lawful) (ap (λ (x : Cmd). Ok (x, rest)) (sym made)) }
 
   -- a command of a number and a span
   span_read : (c : Cmd) (row : Row) (make : ℕ → Span → Cmd) (n : ℕ) (span : Span) (rest : List (List ℕ)) → c ≡ make n span → row_at table (words_of c ++ rest) ≡ Ok (row, decimal n ∷ bound_word span.lo ∷ bound_word span.hi ∷ rest) → 3 ≡ row.arguments
-      → arguments_at format row.verb (decimal n ∷ bound_word span.lo ∷ bound_word span.hi ∷ rest) ≡ (number_at (decimal n ∷ bound_word span.lo ∷ bound_word span.hi ∷ rest) >>= λ n. span_at format n.1 >>= λ s. Ok (make n.0 s.0, s.1)) → IsNumber n → IsSpan format span → IsRead c rest
+      → arguments_at format row.verb (decimal n ∷ bound_word span.lo ∷ bound_word span.hi ∷ rest) ≡ (number_and_span_at format (decimal n ∷ bound_word span.lo ∷ bound_word span.hi ∷ rest) >>= λ s. Ok (make s.0.0 s.0.1, s.1)) → IsNumber n → IsSpan format span → IsRead c rest
   span_read c row make n span rest made named count read is lawful =
       record {
         row = row;
         front = decimal n ∷ bound_word span.lo ∷ bound_word span.hi ∷ [];
         named = named;
         count = count;
-        read = read ∙ rw (number_again n (bound_word span.lo ∷ bound_word span.hi ∷ rest) is, span_again span rest lawful) (ap (λ (x : Cmd). Ok (x, rest)) (sym made));
+        read = read ∙ rw (number_and_span_again n span rest is lawful) (ap (λ (x : Cmd). Ok (x, rest)) (sym made));
       }
 
   -- a command of a span and a cursor
   cursor_read : (c : Cmd) (row : Row) (make : Span → ℕ → Cmd) (span : Span) (n : ℕ) (rest : List (List ℕ)) → c ≡ make span n → row_at table (words_of c ++ rest) ≡ Ok (row, bound_word span.lo ∷ bound_word span.hi ∷ decimal n ∷ rest) → 3 ≡ row.arguments
-      → arguments_at format row.verb (bound_word span.lo ∷ bound_word span.hi ∷ decimal n ∷ rest) ≡ (span_at format (bound_word span.lo ∷ bound_word span.hi ∷ decimal n ∷ rest) >>= λ s. number_at s.1 >>= λ n. Ok (make s.0 n.0, n.1)) → IsSpan format span → IsNumber n → IsRead c rest
+      → arguments_at format row.verb (bound_word span.lo ∷ bound_word span.hi ∷ decimal n ∷ rest) ≡ (opening_at format (bound_word span.lo ∷ bound_word span.hi ∷ decimal n ∷ rest) >>= λ o. Ok (make o.0.0 o.0.1, o.1)) → IsSpan format span → IsNumber n → IsRead c rest
   cursor_read c row make span n rest made named count read lawful is =
       record {
         row = row;
         front = bound_word span.lo ∷ bound_word span.hi ∷ decimal n ∷ [];
         named = named;
         count = count;
-        read = read ∙ rw (span_again span (decimal n ∷ rest) lawful, number_again n rest is) (ap (λ (x : Cmd). Ok (x, rest)) (sym made));
+        read = read ∙ rw (opening_again span n rest lawful is) (ap (λ (x : Cmd). Ok (x, rest)) (sym made));
       }
 
   -- a command of a span, a cursor and a gap
   gap_read : (c : Cmd) (row : Row) (make : Span → ℕ → ℕ → Cmd) (span : Span) (n gap : ℕ) (rest : List (List ℕ)) → c ≡ make span n gap → row_at table (words_of c ++ rest) ≡ Ok (row, bound_word span.lo ∷ bound_word span.hi ∷ decimal n ∷ decimal gap ∷ rest) → 4 ≡ row.arguments
-      → arguments_at format row.verb (bound_word span.lo ∷ bound_word span.hi ∷ decimal n ∷ decimal gap ∷ rest) ≡ (span_at format (bound_word span.lo ∷ bound_word span.hi ∷ decimal n ∷ decimal gap ∷ rest) >>= λ s. number_at s.1 >>= λ n. number_at n.1 >>= λ gap. Ok (make s.0 n.0 gap.0, gap.1))
+      → arguments_at format row.verb (bound_word span.lo ∷ bound_word span.hi ∷ decimal n ∷ decimal gap ∷ rest) ≡ (opening_every_at format (bound_word span.lo ∷ bound_word span.hi ∷ decimal n ∷ decimal gap ∷ rest) >>= λ o. Ok (make o.0.0 o.0.1 o.0.2, o.1))
       → IsSpan format span → IsNumber n → IsNumber gap → IsRead c rest
   gap_read c row make span n gap rest made named count read lawful is apart =
       record {
@@ -124,7 +143,7 @@ module _ (format : Format) where
         front = bound_word span.lo ∷ bound_word span.hi ∷ decimal n ∷ decimal gap ∷ [];
         named = named;
         count = count;
-        read = read ∙ rw (span_again span (decimal n ∷ decimal gap ∷ rest) lawful, number_again n (decimal gap ∷ rest) is, number_again gap rest apart) (ap (λ (x : Cmd). Ok (x, rest)) (sym made));
+        read = read ∙ rw (opening_every_again span n gap rest lawful is apart) (ap (λ (x : Cmd). Ok (x, rest)) (sym made));
       }
 
   -- each command is read from its words, whatever stands behind them
@@ -139,7 +158,7 @@ module _ (format : Format) where
         front = decimal ts ∷ spelling key ∷ spelling value ∷ [];
         named = refl;
         count = refl;
-        read = rw (number_again ts (spelling key ∷ spelling value ∷ rest) is.0, key_again format key (spelling value ∷ rest) is.1, value_again format value rest is.2) refl;
+        read = rw (number_and_key_again ts key (spelling value ∷ rest) is.0 is.1, value_again format value rest is.2) refl;
       }
   read_again (cmd.Del ts key) rest is = key_read (cmd.Del ts key) (record { name = codes "del"; verb = verb.Del; arguments = 2 }) cmd.Del ts key rest refl refl refl refl is.0 is.1
   read_again (cmd.Commit ts) rest is = number_read (cmd.Commit ts) (record { name = codes "commit"; verb = verb.Commit; arguments = 1 }) cmd.Commit ts rest refl refl refl refl is

@@ -21,8 +21,8 @@ use Rattle.word_lines.specs.Table.{Row, row_of, table}
 use Rattle.word_lines.specs.Commands.{joined, bound_word, words_of, command_line}
 use Rattle.json_lines.specs.Messages.{IsKey}
 use Rattle.word_lines.specs.Limits.{IsNumber, IsSpan, IsCommand}
-use Rattle.word_lines.specs.Reading.{◌>>=◌, word_at, number_at, session_at, key_at, value_at, span_at, row_at, arguments_at, command_of, command_at}
-use Rattle.word_lines.proofs.ReadWords.{bind_ok, refused, some_ok, ok_is, pure, number_word, session_word, key_word, value_word, span_words, word_found}
+use Rattle.word_lines.specs.Reading.{◌>>=◌, word_at, number_at, session_at, value_at, number_and_key_at, number_and_span_at, opening_at, opening_every_at, row_at, arguments_at, command_of, command_at}
+use Rattle.word_lines.proofs.ReadWords.{bind_ok, refused, some_ok, ok_is, pure, number_word, session_word, value_word, number_and_key_words, number_and_span_words, opening_words, opening_every_words, word_found}
 
 -- the name of a verb, and how many arguments it takes
 abbrev pub name_of : Verb → List ℕ
@@ -88,60 +88,48 @@ module _ (format : Format) where
       (record { text = ap (λ (v : List (List ℕ)). name ∷ v) w.0 ∙ ap (λ (v : List (List ℕ)). v ++ n.0.1) (sym (text n.0.0)); count = ap length (text n.0.0) ∙ omega arith; lawful = lawful n.0.0 w.1 })
 
   with_key : (name : List ℕ) (make : ℕ → List ℕ → Cmd) (words : List (List ℕ)) (x : Cmd × List (List ℕ)) → ((n : ℕ) (k : List ℕ) → words_of (make n k) ≡ name ∷ decimal n ∷ spelling k ∷ []) → ((n : ℕ) (k : List ℕ) → IsNumber n → IsKey format k → IsCommand format (make n k))
-      → (number_at words >>= λ n. key_at format n.1 >>= λ key. Ok (make n.0 key.0, key.1)) ≡ Ok x → Begins name 2 words x
+      → (number_and_key_at format words >>= λ k. Ok (make k.0.0 k.0.1, k.1)) ≡ Ok x → Begins name 2 words x
   with_key name make words x text lawful e =
-      let n = bind_ok (number_at words) (λ n. key_at format n.1 >>= λ key. Ok (make n.0 key.0, key.1)) x e in
-      let k = bind_ok (key_at format n.0.1) (λ key. Ok (make n.0.0 key.0, key.1)) x n.2 in
-      let w = number_word words n.0 n.1 in
-      let v = key_word format n.0.1 k.0 k.1 in
-      subst (λ (y : Cmd × List (List ℕ)). Begins name 2 words y) (ok_is (make n.0.0 k.0.0, k.0.1) x k.2)
-      (record { text = ap (λ (z : List (List ℕ)). name ∷ z) (w.0 ∙ ap (λ (z : List (List ℕ)). decimal n.0.0 ∷ z) v.0) ∙ ap (λ (z : List (List ℕ)). z ++ k.0.1) (sym (text n.0.0 k.0.0)); count = ap length (text n.0.0 k.0.0) ∙ omega arith; lawful = lawful n.0.0 k.0.0 w.1 v.1 })
+      let k = bind_ok (number_and_key_at format words) (λ k. Ok (make k.0.0 k.0.1, k.1)) x e in
+      let w = number_and_key_words format words k.0 k.1 in
+      subst (λ (y : Cmd × List (List ℕ)). Begins name 2 words y) (ok_is (make k.0.0.0 k.0.0.1, k.0.1) x k.2)
+      (record { text = ap (λ (z : List (List ℕ)). name ∷ z) w.0 ∙ ap (λ (z : List (List ℕ)). z ++ k.0.1) (sym (text k.0.0.0 k.0.0.1)); count = ap length (text k.0.0.0 k.0.0.1) ∙ omega arith; lawful = lawful k.0.0.0 k.0.0.1 w.1 w.2 })
 
   with_span : (name : List ℕ) (make : ℕ → Span → Cmd) (words : List (List ℕ)) (x : Cmd × List (List ℕ)) → ((n : ℕ) (s : Span) → words_of (make n s) ≡ name ∷ decimal n ∷ bound_word s.lo ∷ bound_word s.hi ∷ []) → ((n : ℕ) (s : Span) → IsNumber n → IsSpan format s → IsCommand format (make n s))
-      → (number_at words >>= λ n. span_at format n.1 >>= λ span. Ok (make n.0 span.0, span.1)) ≡ Ok x → Begins name 3 words x
+      → (number_and_span_at format words >>= λ s. Ok (make s.0.0 s.0.1, s.1)) ≡ Ok x → Begins name 3 words x
   with_span name make words x text lawful e =
-      let n = bind_ok (number_at words) (λ n. span_at format n.1 >>= λ span. Ok (make n.0 span.0, span.1)) x e in
-      let k = bind_ok (span_at format n.0.1) (λ span. Ok (make n.0.0 span.0, span.1)) x n.2 in
-      let w = number_word words n.0 n.1 in
-      let v = span_words format n.0.1 k.0 k.1 in
-      subst (λ (y : Cmd × List (List ℕ)). Begins name 3 words y) (ok_is (make n.0.0 k.0.0, k.0.1) x k.2)
-      (record { text = ap (λ (z : List (List ℕ)). name ∷ z) (w.0 ∙ ap (λ (z : List (List ℕ)). decimal n.0.0 ∷ z) v.0) ∙ ap (λ (z : List (List ℕ)). z ++ k.0.1) (sym (text n.0.0 k.0.0)); count = ap length (text n.0.0 k.0.0) ∙ omega arith; lawful = lawful n.0.0 k.0.0 w.1 v.1 })
+      let s = bind_ok (number_and_span_at format words) (λ s. Ok (make s.0.0 s.0.1, s.1)) x e in
+      let w = number_and_span_words format words s.0 s.1 in
+      subst (λ (y : Cmd × List (List ℕ)). Begins name 3 words y) (ok_is (make s.0.0.0 s.0.0.1, s.0.1) x s.2)
+      (record { text = ap (λ (z : List (List ℕ)). name ∷ z) w.0 ∙ ap (λ (z : List (List ℕ)). z ++ s.0.1) (sym (text s.0.0.0 s.0.0.1)); count = ap length (text s.0.0.0 s.0.0.1) ∙ omega arith; lawful = lawful s.0.0.0 s.0.0.1 w.1 w.2 })
 
   with_cursor : (name : List ℕ) (make : Span → ℕ → Cmd) (words : List (List ℕ)) (x : Cmd × List (List ℕ)) → ((s : Span) (n : ℕ) → words_of (make s n) ≡ name ∷ bound_word s.lo ∷ bound_word s.hi ∷ decimal n ∷ []) → ((s : Span) (n : ℕ) → IsSpan format s → IsNumber n → IsCommand format (make s n))
-      → (span_at format words >>= λ span. number_at span.1 >>= λ n. Ok (make span.0 n.0, n.1)) ≡ Ok x → Begins name 3 words x
+      → (opening_at format words >>= λ o. Ok (make o.0.0 o.0.1, o.1)) ≡ Ok x → Begins name 3 words x
   with_cursor name make words x text lawful e =
-      let s = bind_ok (span_at format words) (λ span. number_at span.1 >>= λ n. Ok (make span.0 n.0, n.1)) x e in
-      let n = bind_ok (number_at s.0.1) (λ n. Ok (make s.0.0 n.0, n.1)) x s.2 in
-      let a = span_words format words s.0 s.1 in
-      let b = number_word s.0.1 n.0 n.1 in
-      subst (λ (y : Cmd × List (List ℕ)). Begins name 3 words y) (ok_is (make s.0.0 n.0.0, n.0.1) x n.2)
-      (record { text = ap (λ (z : List (List ℕ)). name ∷ z) (a.0 ∙ ap (λ (z : List (List ℕ)). bound_word s.0.0.lo ∷ bound_word s.0.0.hi ∷ z) b.0) ∙ ap (λ (z : List (List ℕ)). z ++ n.0.1) (sym (text s.0.0 n.0.0)); count = ap length (text s.0.0 n.0.0) ∙ omega arith; lawful = lawful s.0.0 n.0.0 a.1 b.1 })
+      let o = bind_ok (opening_at format words) (λ o. Ok (make o.0.0 o.0.1, o.1)) x e in
+      let w = opening_words format words o.0 o.1 in
+      subst (λ (y : Cmd × List (List ℕ)). Begins name 3 words y) (ok_is (make o.0.0.0 o.0.0.1, o.0.1) x o.2)
+      (record { text = ap (λ (z : List (List ℕ)). name ∷ z) w.0 ∙ ap (λ (z : List (List ℕ)). z ++ o.0.1) (sym (text o.0.0.0 o.0.0.1)); count = ap length (text o.0.0.0 o.0.0.1) ∙ omega arith; lawful = lawful o.0.0.0 o.0.0.1 w.1 w.2 })
 
   with_gap : (name : List ℕ) (make : Span → ℕ → ℕ → Cmd) (words : List (List ℕ)) (x : Cmd × List (List ℕ)) → ((s : Span) (n g : ℕ) → words_of (make s n g) ≡ name ∷ bound_word s.lo ∷ bound_word s.hi ∷ decimal n ∷ decimal g ∷ []) → ((s : Span) (n g : ℕ) → IsSpan format s → IsNumber n → IsNumber g → IsCommand format (make s n g))
-      → (span_at format words >>= λ span. number_at span.1 >>= λ n. number_at n.1 >>= λ gap. Ok (make span.0 n.0 gap.0, gap.1)) ≡ Ok x → Begins name 4 words x
+      → (opening_every_at format words >>= λ o. Ok (make o.0.0 o.0.1 o.0.2, o.1)) ≡ Ok x → Begins name 4 words x
   with_gap name make words x text lawful e =
-      let s = bind_ok (span_at format words) (λ span. number_at span.1 >>= λ n. number_at n.1 >>= λ gap. Ok (make span.0 n.0 gap.0, gap.1)) x e in
-      let n = bind_ok (number_at s.0.1) (λ n. number_at n.1 >>= λ gap. Ok (make s.0.0 n.0 gap.0, gap.1)) x s.2 in
-      let g = bind_ok (number_at n.0.1) (λ gap. Ok (make s.0.0 n.0.0 gap.0, gap.1)) x n.2 in
-      let a = span_words format words s.0 s.1 in
-      let b = number_word s.0.1 n.0 n.1 in
-      let d = number_word n.0.1 g.0 g.1 in
-      subst (λ (y : Cmd × List (List ℕ)). Begins name 4 words y) (ok_is (make s.0.0 n.0.0 g.0.0, g.0.1) x g.2)
-      (record { text = ap (λ (z : List (List ℕ)). name ∷ z) (a.0 ∙ ap (λ (z : List (List ℕ)). bound_word s.0.0.lo ∷ bound_word s.0.0.hi ∷ z) (b.0 ∙ ap (λ (z : List (List ℕ)). decimal n.0.0 ∷ z) d.0)) ∙ ap (λ (z : List (List ℕ)). z ++ g.0.1) (sym (text s.0.0 n.0.0 g.0.0)); count = ap length (text s.0.0 n.0.0 g.0.0) ∙ omega arith; lawful = lawful s.0.0 n.0.0 g.0.0 a.1 b.1 d.1 })
+      let o = bind_ok (opening_every_at format words) (λ o. Ok (make o.0.0 o.0.1 o.0.2, o.1)) x e in
+      let w = opening_every_words format words o.0 o.1 in
+      subst (λ (y : Cmd × List (List ℕ)). Begins name 4 words y) (ok_is (make o.0.0.0 o.0.0.1 o.0.0.2, o.0.1) x o.2)
+      (record { text = ap (λ (z : List (List ℕ)). name ∷ z) w.0 ∙ ap (λ (z : List (List ℕ)). z ++ o.0.1) (sym (text o.0.0.0 o.0.0.1 o.0.0.2)); count = ap length (text o.0.0.0 o.0.0.1 o.0.0.2) ∙ omega arith; lawful = lawful o.0.0.0 o.0.0.1 o.0.0.2 w.1 w.2 w.3 })
 
   pub arguments_found : (v : Verb) (ws : List (List ℕ)) (x : Cmd × List (List ℕ)) → arguments_at format v ws ≡ Ok x → Begins (name_of v) (arity_of v) ws x
   unfolding arguments_at words_of IsCommand
   arguments_found verb.Begin ws x e = with_number (codes "begin") cmd.Begin ws x (λ n. refl) (λ n h. h) e
   arguments_found verb.Get ws x e = with_key (codes "get") cmd.Get ws x (λ n k. refl) (λ n k h i. (h, i)) e
   arguments_found verb.Put ws x e =
-      let n = bind_ok (number_at ws) (λ n. key_at format n.1 >>= λ key. value_at format key.1 >>= λ value. Ok (cmd.Put n.0 key.0 value.0, value.1)) x e in
-      let k = bind_ok (key_at format n.0.1) (λ key. value_at format key.1 >>= λ value. Ok (cmd.Put n.0.0 key.0 value.0, value.1)) x n.2 in
-      let v = bind_ok (value_at format k.0.1) (λ value. Ok (cmd.Put n.0.0 k.0.0 value.0, value.1)) x k.2 in
-      let a = number_word ws n.0 n.1 in
-      let b = key_word format n.0.1 k.0 k.1 in
-      let c = value_word format k.0.1 v.0 v.1 in
-      subst (λ (y : Cmd × List (List ℕ)). Begins (codes "put") 3 ws y) (ok_is (cmd.Put n.0.0 k.0.0 v.0.0, v.0.1) x v.2)
-      (record { text = ap (λ (z : List (List ℕ)). codes "put" ∷ z) (a.0 ∙ ap (λ (z : List (List ℕ)). decimal n.0.0 ∷ z) (b.0 ∙ ap (λ (z : List (List ℕ)). spelling k.0.0 ∷ z) c.0)); count = omega arith; lawful = (a.1, b.1, c.1) })
+      let k = bind_ok (number_and_key_at format ws) (λ k. value_at format k.1 >>= λ value. Ok (cmd.Put k.0.0 k.0.1 value.0, value.1)) x e in
+      let v = bind_ok (value_at format k.0.1) (λ value. Ok (cmd.Put k.0.0.0 k.0.0.1 value.0, value.1)) x k.2 in
+      let a = number_and_key_words format ws k.0 k.1 in
+      let b = value_word format k.0.1 v.0 v.1 in
+      subst (λ (y : Cmd × List (List ℕ)). Begins (codes "put") 3 ws y) (ok_is (cmd.Put k.0.0.0 k.0.0.1 v.0.0, v.0.1) x v.2)
+      (record { text = ap (λ (z : List (List ℕ)). codes "put" ∷ z) (a.0 ∙ ap (λ (z : List (List ℕ)). decimal k.0.0.0 ∷ spelling k.0.0.1 ∷ z) b.0); count = omega arith; lawful = (a.1, a.2, b.1) })
   arguments_found verb.Del ws x e = with_key (codes "del") cmd.Del ws x (λ n k. refl) (λ n k h i. (h, i)) e
   arguments_found verb.Commit ws x e = with_number (codes "commit") cmd.Commit ws x (λ n. refl) (λ n h. h) e
   arguments_found verb.Abort ws x e = with_number (codes "abort") cmd.Abort ws x (λ n. refl) (λ n h. h) e

@@ -13,7 +13,7 @@ use Rattle.word_lines.specs.Spelling.{spelling, bytes_of, AreBytes}
 use Rattle.word_lines.specs.Commands.{bound_word}
 use Rattle.json_lines.specs.Messages.{IsKey}
 use Rattle.word_lines.specs.Limits.{IsNumber, IsValue, IsBound, IsSpan}
-use Rattle.word_lines.specs.Reading.{◌>>=◌, word_at, number_at, session_at, bytes_at, key_at, value_at, bound_at, span_at}
+use Rattle.word_lines.specs.Reading.{◌>>=◌, word_at, number_at, session_at, bytes_at, key_at, value_at, bound_at, span_at, number_and_key_at, number_and_span_at, opening_at, opening_every_at}
 use Rattle.word_lines.proofs.NumberWords.{number_found}
 use Rattle.word_lines.proofs.SpelledWords.{spelled_found}
 use Rattle.word_lines.proofs.Spellings.{both}
@@ -107,3 +107,47 @@ module _ (format : Format) where
       let h = bound_found lo.0.1 hi.0 hi.1 in
       let made : Span × List (List ℕ) = (record { lo = lo.0.0; hi = hi.0.0 }, hi.0.1) in
       subst (λ (y : Span × List (List ℕ)). (words ≡ bound_word y.0.lo ∷ bound_word y.0.hi ∷ y.1) × IsSpan format y.0) (ok_is made x hi.2) (l.0 ∙ ap (λ (v : List (List ℕ)). bound_word lo.0.0 ∷ v) h.0, (l.1, h.1))
+
+  pub number_and_key_words : (words : List (List ℕ)) (x : (ℕ × List ℕ) × List (List ℕ)) → number_and_key_at format words ≡ Ok x → (words ≡ decimal x.0.0 ∷ spelling x.0.1 ∷ x.1) × IsNumber x.0.0 × IsKey format x.0.1
+  unfolding number_and_key_at
+  number_and_key_words words x e =
+      let n = bind_ok (number_at words) (λ n. key_at format n.1 >>= λ key. Ok ((n.0, key.0), key.1)) x e in
+      let k = bind_ok (key_at format n.0.1) (λ key. Ok ((n.0.0, key.0), key.1)) x n.2 in
+      let a = number_word words n.0 n.1 in
+      let b = key_word n.0.1 k.0 k.1 in
+      subst (λ (y : (ℕ × List ℕ) × List (List ℕ)). (words ≡ decimal y.0.0 ∷ spelling y.0.1 ∷ y.1) × IsNumber y.0.0 × IsKey format y.0.1) (ok_is ((n.0.0, k.0.0), k.0.1) x k.2)
+      (a.0 ∙ ap (λ (v : List (List ℕ)). decimal n.0.0 ∷ v) b.0, a.1, b.1)
+
+  pub number_and_span_words : (words : List (List ℕ)) (x : (ℕ × Span) × List (List ℕ)) → number_and_span_at format words ≡ Ok x
+      → (words ≡ decimal x.0.0 ∷ bound_word x.0.1.lo ∷ bound_word x.0.1.hi ∷ x.1) × IsNumber x.0.0 × IsSpan format x.0.1
+  unfolding number_and_span_at
+  number_and_span_words words x e =
+      let n = bind_ok (number_at words) (λ n. span_at format n.1 >>= λ span. Ok ((n.0, span.0), span.1)) x e in
+      let s = bind_ok (span_at format n.0.1) (λ span. Ok ((n.0.0, span.0), span.1)) x n.2 in
+      let a = number_word words n.0 n.1 in
+      let b = span_words n.0.1 s.0 s.1 in
+      subst (λ (y : (ℕ × Span) × List (List ℕ)). (words ≡ decimal y.0.0 ∷ bound_word y.0.1.lo ∷ bound_word y.0.1.hi ∷ y.1) × IsNumber y.0.0 × IsSpan format y.0.1) (ok_is ((n.0.0, s.0.0), s.0.1) x s.2)
+      (a.0 ∙ ap (λ (v : List (List ℕ)). decimal n.0.0 ∷ v) b.0, a.1, b.1)
+
+  pub opening_words : (words : List (List ℕ)) (x : (Span × ℕ) × List (List ℕ)) → opening_at format words ≡ Ok x
+      → (words ≡ bound_word x.0.0.lo ∷ bound_word x.0.0.hi ∷ decimal x.0.1 ∷ x.1) × IsSpan format x.0.0 × IsNumber x.0.1
+  unfolding opening_at
+  opening_words words x e =
+      let s = bind_ok (span_at format words) (λ span. number_at span.1 >>= λ n. Ok ((span.0, n.0), n.1)) x e in
+      let n = bind_ok (number_at s.0.1) (λ n. Ok ((s.0.0, n.0), n.1)) x s.2 in
+      let a = span_words words s.0 s.1 in
+      let b = number_word s.0.1 n.0 n.1 in
+      subst (λ (y : (Span × ℕ) × List (List ℕ)). (words ≡ bound_word y.0.0.lo ∷ bound_word y.0.0.hi ∷ decimal y.0.1 ∷ y.1) × IsSpan format y.0.0 × IsNumber y.0.1) (ok_is ((s.0.0, n.0.0), n.0.1) x n.2)
+      (a.0 ∙ ap (λ (v : List (List ℕ)). bound_word s.0.0.lo ∷ bound_word s.0.0.hi ∷ v) b.0, a.1, b.1)
+
+  pub opening_every_words : (words : List (List ℕ)) (x : (Span × ℕ × ℕ) × List (List ℕ)) → opening_every_at format words ≡ Ok x
+      → (words ≡ bound_word x.0.0.lo ∷ bound_word x.0.0.hi ∷ decimal x.0.1 ∷ decimal x.0.2 ∷ x.1) × IsSpan format x.0.0 × IsNumber x.0.1 × IsNumber x.0.2
+  unfolding opening_every_at
+  opening_every_words words x e =
+      let o = bind_ok (opening_at format words) (λ o. number_at o.1 >>= λ gap. Ok ((o.0.0, o.0.1, gap.0), gap.1)) x e in
+      let g = bind_ok (number_at o.0.1) (λ gap. Ok ((o.0.0.0, o.0.0.1, gap.0), gap.1)) x o.2 in
+      let a = opening_words words o.0 o.1 in
+      let b = number_word o.0.1 g.0 g.1 in
+      subst (λ (y : (Span × ℕ × ℕ) × List (List ℕ)). (words ≡ bound_word y.0.0.lo ∷ bound_word y.0.0.hi ∷ decimal y.0.1 ∷ decimal y.0.2 ∷ y.1) × IsSpan format y.0.0 × IsNumber y.0.1 × IsNumber y.0.2)
+      (ok_is ((o.0.0.0, o.0.0.1, g.0.0), g.0.1) x g.2)
+      (a.0 ∙ ap (λ (v : List (List ℕ)). bound_word o.0.0.0.lo ∷ bound_word o.0.0.0.hi ∷ decimal o.0.0.1 ∷ v) b.0, a.1, a.2, b.1)

@@ -94,6 +94,34 @@ row_at rows words = do
   r ← ok_or (row_of rows w.0) UnknownCommand
   Ok (r, w.1)
 
+-- a number, and behind it a key
+unfoldable pub number_and_key_at : Format → List (List ℕ) → Result ((ℕ × List ℕ) × List (List ℕ)) LineFault
+number_and_key_at format words = do
+  n ← number_at words
+  key ← key_at format n.1
+  Ok ((n.0, key.0), key.1)
+
+-- a number, and behind it a span
+unfoldable pub number_and_span_at : Format → List (List ℕ) → Result ((ℕ × Span) × List (List ℕ)) LineFault
+number_and_span_at format words = do
+  n ← number_at words
+  span ← span_at format n.1
+  Ok ((n.0, span.0), span.1)
+
+-- a span, and behind it a cursor
+unfoldable pub opening_at : Format → List (List ℕ) → Result ((Span × ℕ) × List (List ℕ)) LineFault
+opening_at format words = do
+  span ← span_at format words
+  cursor ← number_at span.1
+  Ok ((span.0, cursor.0), cursor.1)
+
+-- a span, and behind it a cursor and a gap
+unfoldable pub opening_every_at : Format → List (List ℕ) → Result ((Span × ℕ × ℕ) × List (List ℕ)) LineFault
+opening_every_at format words = do
+  opening ← opening_at format words
+  gap ← number_at opening.1
+  Ok ((opening.0.0, opening.0.1, gap.0), gap.1)
+
 -- the arguments of a form, and what makes a command of them
 abbrev with_number : (ℕ → Cmd) → List (List ℕ) → Result (Cmd × List (List ℕ)) LineFault
 with_number make words = do
@@ -102,38 +130,32 @@ with_number make words = do
 
 abbrev with_key : Format → (ℕ → List ℕ → Cmd) → List (List ℕ) → Result (Cmd × List (List ℕ)) LineFault
 with_key format make words = do
-  n ← number_at words
-  key ← key_at format n.1
-  Ok (make n.0 key.0, key.1)
+  k ← number_and_key_at format words
+  Ok (make k.0.0 k.0.1, k.1)
 
 abbrev with_span : Format → (ℕ → Span → Cmd) → List (List ℕ) → Result (Cmd × List (List ℕ)) LineFault
 with_span format make words = do
-  n ← number_at words
-  span ← span_at format n.1
-  Ok (make n.0 span.0, span.1)
+  s ← number_and_span_at format words
+  Ok (make s.0.0 s.0.1, s.1)
 
 abbrev with_cursor : Format → (Span → ℕ → Cmd) → List (List ℕ) → Result (Cmd × List (List ℕ)) LineFault
 with_cursor format make words = do
-  span ← span_at format words
-  cursor ← number_at span.1
-  Ok (make span.0 cursor.0, cursor.1)
+  o ← opening_at format words
+  Ok (make o.0.0 o.0.1, o.1)
 
 abbrev with_gap : Format → (Span → ℕ → ℕ → Cmd) → List (List ℕ) → Result (Cmd × List (List ℕ)) LineFault
 with_gap format make words = do
-  span ← span_at format words
-  cursor ← number_at span.1
-  gap ← number_at cursor.1
-  Ok (make span.0 cursor.0 gap.0, gap.1)
+  o ← opening_every_at format words
+  Ok (make o.0.0 o.0.1 o.0.2, o.1)
 
 -- the command of a verb, from the words of its arguments
 unfoldable pub arguments_at : Format → Verb → List (List ℕ) → Result (Cmd × List (List ℕ)) LineFault
 arguments_at format verb.Begin words = with_number cmd.Begin words
 arguments_at format verb.Get words = with_key format cmd.Get words
 arguments_at format verb.Put words = do
-  n ← number_at words
-  key ← key_at format n.1
-  value ← value_at format key.1
-  Ok (cmd.Put n.0 key.0 value.0, value.1)
+  k ← number_and_key_at format words
+  value ← value_at format k.1
+  Ok (cmd.Put k.0.0 k.0.1 value.0, value.1)
 arguments_at format verb.Del words = with_key format cmd.Del words
 arguments_at format verb.Commit words = with_number cmd.Commit words
 arguments_at format verb.Abort words = with_number cmd.Abort words

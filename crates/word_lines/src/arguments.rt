@@ -1,7 +1,7 @@
 //! The words of a command read as what it takes, from left to right.
 ghost use Rattle.std.specs.Prelude.{◌≢◌, IfErr};
 ghost use Rattle.word_lines.specs.declared.fault.ReadError.TheVariants.{NoMemory};
-ghost use Rattle.word_lines.specs.Reading.{Takes, number_at, key_at, value_at, bound_at, span_at};
+ghost use Rattle.word_lines.specs.Reading.{Takes, number_at, key_at, value_at, bound_at, span_at, number_and_key_at, number_and_span_at, opening_at, opening_every_at};
 
 use crate::fault::{LineFault, ReadError};
 use crate::numbers::number_of;
@@ -92,4 +92,61 @@ pub(crate) fn take_span(alloc: Global, words: &mut Words, format: Format) -> Res
     let lo = take_bound(alloc, words, format)?;
     let hi = take_bound(alloc, words, format)?;
     Ok(Span { lo, hi })
+}
+
+/// A number, and behind it a key.
+#[inline(always)]
+#[tactic(auto, unfolding(crate::specs::Reading::number_and_key_at))]
+pub(crate) fn take_number_and_key(
+    alloc: Global,
+    words: &mut Words,
+    format: Format,
+) -> Result<(u64, Key), ReadError>
+    ensures { Takes result words.new (number_and_key_at format words.old) }
+{
+    let number = take_number(words)?;
+    let key = take_key(alloc, words, format)?;
+    Ok((number, key))
+}
+
+/// A number, and behind it a span.
+#[tactic(auto, unfolding(crate::specs::Reading::number_and_span_at))]
+pub(crate) fn take_number_and_span(
+    alloc: Global,
+    words: &mut Words,
+    format: Format,
+) -> Result<(u64, Span), ReadError>
+    ensures { Takes result words.new (number_and_span_at format words.old) }
+{
+    let number = take_number(words)?;
+    let span = take_span(alloc, words, format)?;
+    Ok((number, span))
+}
+
+/// A span, and behind it a cursor.
+#[tactic(auto, unfolding(crate::specs::Reading::opening_at))]
+pub(crate) fn take_opening(
+    alloc: Global,
+    words: &mut Words,
+    format: Format,
+) -> Result<(Span, u64), ReadError>
+    ensures { Takes result words.new (opening_at format words.old) }
+{
+    let span = take_span(alloc, words, format)?;
+    let cursor = take_number(words)?;
+    Ok((span, cursor))
+}
+
+/// A span, and behind it a cursor and a gap.
+#[tactic(auto, unfolding(crate::specs::Reading::opening_every_at))]
+pub(crate) fn take_opening_every(
+    alloc: Global,
+    words: &mut Words,
+    format: Format,
+) -> Result<(Span, u64, u64), ReadError>
+    ensures { Takes result words.new (opening_every_at format words.old) }
+{
+    let (span, cursor) = take_opening(alloc, words, format)?;
+    let gap = take_number(words)?;
+    Ok((span, cursor, gap))
 }

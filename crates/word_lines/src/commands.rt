@@ -11,7 +11,10 @@ ghost use Rattle.word_lines.specs.Limits.{IsCommand};
 ghost use Rattle.word_lines.specs.Writing.{Keeps};
 ghost use Rattle.word_lines.specs.Commands.{joined, bound_word, words_of, command_line};
 
-use crate::arguments::{take_key, take_number, take_span, take_value};
+use crate::arguments::{
+    take_number, take_number_and_key, take_number_and_span, take_opening, take_opening_every,
+    take_value,
+};
 use crate::buffer::or_undo;
 use crate::fault::{LineFault, ReadError};
 use crate::numbers::{number_of, put_number};
@@ -23,6 +26,7 @@ use spans::calls::Cmd;
 use spans::span::Span;
 use std::alloc::{AllocError, Global};
 use text_format::Format;
+use timestamps::key::Key;
 
 /// Reads a command's line of a format, with its newline: the session, below `seats`, and the command. It
 /// allocates for the command's keys, values and bounds alone.
@@ -131,84 +135,81 @@ pub fn take_arguments(
     ensures exact { Takes result words.new (arguments_at format verb words.old) }
     ensures memory { IfErr result (λ e. e ≡ NoMemory → has_bytes verb ≡ true) }
 {
-    let cmd = match verb {
-        Verb::Begin => Cmd::Begin {
+    match verb {
+        Verb::Begin => Ok(Cmd::Begin {
             ts: take_number(words)?,
-        },
-        Verb::Get => Cmd::Get {
+        }),
+        Verb::Get => {
+            let (ts, key) = take_number_and_key(alloc, words, format)?;
+            Ok(Cmd::Get { ts, key })
+        }
+        Verb::Put => {
+            let (ts, key) = take_number_and_key(alloc, words, format)?;
+            let value = take_value(alloc, words, format)?;
+            Ok(Cmd::Put { ts, key, value })
+        }
+        Verb::Del => {
+            let (ts, key) = take_number_and_key(alloc, words, format)?;
+            Ok(Cmd::Del { ts, key })
+        }
+        Verb::Commit => Ok(Cmd::Commit {
             ts: take_number(words)?,
-            key: take_key(alloc, words, format)?,
-        },
-        Verb::Put => Cmd::Put {
+        }),
+        Verb::Abort => Ok(Cmd::Abort {
             ts: take_number(words)?,
-            key: take_key(alloc, words, format)?,
-            value: take_value(alloc, words, format)?,
-        },
-        Verb::Del => Cmd::Del {
-            ts: take_number(words)?,
-            key: take_key(alloc, words, format)?,
-        },
-        Verb::Commit => Cmd::Commit {
-            ts: take_number(words)?,
-        },
-        Verb::Abort => Cmd::Abort {
-            ts: take_number(words)?,
-        },
-        Verb::Close => Cmd::Close {
+        }),
+        Verb::Close => Ok(Cmd::Close {
             to: take_number(words)?,
-        },
-        Verb::Scan => Cmd::Scan {
-            ts: take_number(words)?,
-            span: take_span(alloc, words, format)?,
-        },
-        Verb::CloseHard => Cmd::CloseHard {
+        }),
+        Verb::Scan => {
+            let (ts, span) = take_number_and_span(alloc, words, format)?;
+            Ok(Cmd::Scan { ts, span })
+        }
+        Verb::CloseHard => Ok(Cmd::CloseHard {
             to: take_number(words)?,
-        },
-        Verb::ReadAt => Cmd::ReadAt {
+        }),
+        Verb::ReadAt => {
+            let (t, key) = take_number_and_key(alloc, words, format)?;
+            Ok(Cmd::ReadAt { t, key })
+        }
+        Verb::ScanAt => {
+            let (t, span) = take_number_and_span(alloc, words, format)?;
+            Ok(Cmd::ScanAt { t, span })
+        }
+        Verb::Protect => Ok(Cmd::Protect {
             t: take_number(words)?,
-            key: take_key(alloc, words, format)?,
-        },
-        Verb::ScanAt => Cmd::ScanAt {
-            t: take_number(words)?,
-            span: take_span(alloc, words, format)?,
-        },
-        Verb::Protect => Cmd::Protect {
-            t: take_number(words)?,
-        },
-        Verb::Release => Cmd::Release {
+        }),
+        Verb::Release => Ok(Cmd::Release {
             id: take_number(words)?,
-        },
-        Verb::Collect => Cmd::Collect {
+        }),
+        Verb::Collect => Ok(Cmd::Collect {
             to: take_number(words)?,
-        },
-        Verb::Open => Cmd::Open {
-            span: take_span(alloc, words, format)?,
-            cursor: take_number(words)?,
-        },
-        Verb::OpenInitial => Cmd::OpenInitial {
-            span: take_span(alloc, words, format)?,
-            cursor: take_number(words)?,
-        },
-        Verb::OpenEvery => Cmd::OpenEvery {
-            span: take_span(alloc, words, format)?,
-            cursor: take_number(words)?,
-            gap: take_number(words)?,
-        },
-        Verb::OpenInitialEvery => Cmd::OpenInitialEvery {
-            span: take_span(alloc, words, format)?,
-            cursor: take_number(words)?,
-            gap: take_number(words)?,
-        },
-        Verb::Poll => Cmd::Poll {
+        }),
+        Verb::Open => {
+            let (span, cursor) = take_opening(alloc, words, format)?;
+            Ok(Cmd::Open { span, cursor })
+        }
+        Verb::OpenInitial => {
+            let (span, cursor) = take_opening(alloc, words, format)?;
+            Ok(Cmd::OpenInitial { span, cursor })
+        }
+        Verb::OpenEvery => {
+            let (span, cursor, gap) = take_opening_every(alloc, words, format)?;
+            Ok(Cmd::OpenEvery { span, cursor, gap })
+        }
+        Verb::OpenInitialEvery => {
+            let (span, cursor, gap) = take_opening_every(alloc, words, format)?;
+            Ok(Cmd::OpenInitialEvery { span, cursor, gap })
+        }
+        Verb::Poll => Ok(Cmd::Poll {
             feed: take_number(words)?,
             max: take_number(words)?,
-        },
-        Verb::Cancel => Cmd::Cancel {
+        }),
+        Verb::Cancel => Ok(Cmd::Cancel {
             feed: take_number(words)?,
-        },
-        Verb::Stats => Cmd::Stats,
-    };
-    Ok(cmd)
+        }),
+        Verb::Stats => Ok(Cmd::Stats),
+    }
 }
 
 /// Writes a command's line, with its newline, at the end.
@@ -242,35 +243,19 @@ pub(crate) fn put_words(out: &mut Vec<u8>, cmd: &Cmd) -> Result<(), AllocError>
 {
     match cmd {
         Cmd::Begin { ts } => put_named(out, b" begin ", *ts),
-        Cmd::Get { ts, key } => {
-            put_named(out, b" get ", *ts)?;
-            put_word(out, key.bytes())
-        }
-        Cmd::Scan { ts, span } => {
-            put_named(out, b" scan ", *ts)?;
-            put_span(out, span)
-        }
+        Cmd::Get { ts, key } => put_named_key(out, b" get ", *ts, key),
+        Cmd::Scan { ts, span } => put_named_span(out, b" scan ", *ts, span),
         Cmd::Put { ts, key, value } => {
-            put_named(out, b" put ", *ts)?;
-            put_word(out, key.bytes())?;
+            put_named_key(out, b" put ", *ts, key)?;
             put_word(out, value.bytes())
         }
-        Cmd::Del { ts, key } => {
-            put_named(out, b" del ", *ts)?;
-            put_word(out, key.bytes())
-        }
+        Cmd::Del { ts, key } => put_named_key(out, b" del ", *ts, key),
         Cmd::Commit { ts } => put_named(out, b" commit ", *ts),
         Cmd::Abort { ts } => put_named(out, b" abort ", *ts),
         Cmd::Close { to } => put_named(out, b" close ", *to),
         Cmd::CloseHard { to } => put_named(out, b" closehard ", *to),
-        Cmd::ReadAt { t, key } => {
-            put_named(out, b" readat ", *t)?;
-            put_word(out, key.bytes())
-        }
-        Cmd::ScanAt { t, span } => {
-            put_named(out, b" scanat ", *t)?;
-            put_span(out, span)
-        }
+        Cmd::ReadAt { t, key } => put_named_key(out, b" readat ", *t, key),
+        Cmd::ScanAt { t, span } => put_named_span(out, b" scanat ", *t, span),
         Cmd::Protect { t } => put_named(out, b" protect ", *t),
         Cmd::Release { id } => put_named(out, b" release ", *id),
         Cmd::Collect { to } => put_named(out, b" collect ", *to),
@@ -282,13 +267,35 @@ pub(crate) fn put_words(out: &mut Vec<u8>, cmd: &Cmd) -> Result<(), AllocError>
         Cmd::OpenInitialEvery { span, cursor, gap } => {
             put_opening_every(out, b" openinitialevery", span, *cursor, *gap)
         }
-        Cmd::Poll { feed, max } => {
-            put_named(out, b" poll ", *feed)?;
-            put_named(out, b" ", *max)
-        }
+        Cmd::Poll { feed, max } => put_named_pair(out, b" poll ", *feed, *max),
         Cmd::Cancel { feed } => put_named(out, b" cancel ", *feed),
         Cmd::Stats => out.extend_from_slice(b" stats"),
     }
+}
+
+/// Writes a name, which ends in a space, a number and a key.
+#[tactic(auto, using(crate::proofs::Writing::keeping))]
+fn put_named_key(out: &mut Vec<u8>, name: &[u8], number: u64, key: &Key) -> Result<(), AllocError>
+    ensures ok { OnOk result (out.new.items ≡ out.old.items ++ (name.now ++ joined (decimal number ∷ spelling key.now ∷ []))) }
+    ensures err { OnErr result (Keeps out.old.items out.new.items) }
+{
+    put_named(out, name, number)?;
+    put_word(out, key.bytes())
+}
+
+/// Writes a name, which ends in a space, a number and a span.
+#[tactic(auto, using(crate::proofs::Writing::keeping))]
+fn put_named_span(
+    out: &mut Vec<u8>,
+    name: &[u8],
+    number: u64,
+    span: &Span,
+) -> Result<(), AllocError>
+    ensures ok { OnOk result (out.new.items ≡ out.old.items ++ (name.now ++ joined (decimal number ∷ bound_word span.now.lo ∷ bound_word span.now.hi ∷ []))) }
+    ensures err { OnErr result (Keeps out.old.items out.new.items) }
+{
+    put_named(out, name, number)?;
+    put_span(out, span)
 }
 
 /// Writes a name, a span and a cursor.
@@ -326,6 +333,21 @@ pub(crate) fn put_named(out: &mut Vec<u8>, name: &[u8], number: u64) -> Result<(
 {
     out.extend_from_slice(name)?;
     put_number(out, number)
+}
+
+/// Writes a name, which ends in a space, and two numbers.
+#[tactic(auto, using(crate::proofs::Writing::keeping))]
+pub(crate) fn put_named_pair(
+    out: &mut Vec<u8>,
+    name: &[u8],
+    first: u64,
+    second: u64,
+) -> Result<(), AllocError>
+    ensures ok { OnOk result (out.new.items ≡ out.old.items ++ (name.now ++ joined (decimal first ∷ decimal second ∷ []))) }
+    ensures err { OnErr result (Keeps out.old.items out.new.items) }
+{
+    put_named(out, name, first)?;
+    put_named(out, b" ", second)
 }
 
 /// Writes a space and the word that spells bytes.

@@ -8,7 +8,7 @@ ghost use Rattle.word_lines.specs.Replies.{reply_words, refusal_words, row_line,
 ghost use Rattle.std.specs.List.{flat_map};
 
 use crate::buffer::or_undo;
-use crate::commands::{put_named, put_word};
+use crate::commands::{put_named, put_named_pair, put_word};
 use json_lines::write_message_line;
 use spans::calls::{Message, Refusal, Reply};
 use std::alloc::AllocError;
@@ -54,15 +54,11 @@ fn put_words(out: &mut Vec<u8>, reply: &Reply) -> Result<(), AllocError>
         Reply::Written => out.extend_from_slice(b"written"),
         Reply::Committed { keys } => put_named(out, b"committed ", *keys),
         Reply::Aborted => out.extend_from_slice(b"aborted"),
-        Reply::Closed { at, aborted } => {
-            put_named(out, b"closed ", *at)?;
-            put_named(out, b" ", *aborted)
-        }
+        Reply::Closed { at, aborted } => put_named_pair(out, b"closed ", *at, *aborted),
         Reply::Protected { id } => put_named(out, b"protected ", *id),
         Reply::Released => out.extend_from_slice(b"released"),
         Reply::Collected { horizon, removed } => {
-            put_named(out, b"collected ", *horizon)?;
-            put_named(out, b" ", *removed)
+            put_named_pair(out, b"collected ", *horizon, *removed)
         }
         Reply::Opened { feed } => put_named(out, b"opened ", *feed),
         Reply::Messages(messages) => {
@@ -76,10 +72,8 @@ fn put_words(out: &mut Vec<u8>, reply: &Reply) -> Result<(), AllocError>
             closed,
             horizon,
         } => {
-            put_named(out, b"stats ", *versions)?;
-            put_named(out, b" ", *undecided)?;
-            put_named(out, b" ", *feeds)?;
-            put_named(out, b" ", *closed)?;
+            put_named_pair(out, b"stats ", *versions, *undecided)?;
+            put_named_pair(out, b" ", *feeds, *closed)?;
             put_named(out, b" ", *horizon)
         }
         Reply::Refused(refusal) => put_refusal(out, *refusal),

@@ -42,7 +42,7 @@ pub fn put_spelling(out: &mut Vec<u8>, bytes: &[u8]) -> Result<(), AllocError>
     }
 }
 
-/// Writes each byte as itself or escaped.
+/// Writes each byte as itself or escaped, all at once where each stands for itself.
 #[tactic(auto, using(crate::proofs::Writing::keeping, crate::proofs::Spellings::plain_stand))]
 fn put_spelled(out: &mut Vec<u8>, bytes: &[u8]) -> Result<(), AllocError>
     ensures ok { OnOk result (out.new.items ≡ out.old.items ++ flat_map spelled bytes.now) }
@@ -51,6 +51,15 @@ fn put_spelled(out: &mut Vec<u8>, bytes: &[u8]) -> Result<(), AllocError>
     if are_plain(bytes) {
         return out.extend_from_slice(bytes);
     }
+    put_each(out, bytes)
+}
+
+/// Writes each byte as itself or escaped, one after another.
+#[tactic(auto, using(crate::proofs::Writing::keeping))]
+fn put_each(out: &mut Vec<u8>, bytes: &[u8]) -> Result<(), AllocError>
+    ensures ok { OnOk result (out.new.items ≡ out.old.items ++ flat_map spelled bytes.now) }
+    ensures err { OnErr result (Keeps out.old.items out.new.items) }
+{
     for byte in bytes {
         if is_plain(*byte) {
             out.push(*byte)?;
