@@ -12,7 +12,8 @@ gets a second job, or up to four, where no crate waits for a processor. Memory i
 
 A run that is broken off loses nothing: rooms stand in the folder of git, and the next run goes on in them. Without git
 they stand in a temporary folder and go when the run ends. A program is run once on no input, with the words that are
-given. Lines on standard error say how many crates and about how many minutes are left.
+given. Lines on standard error say how many crates and about how many minutes are left, and which processor seconds each
+proof took. The order goes by those of an earlier run, which stand in `proof-seconds` beside this script.
 """
 
 import contextlib
@@ -65,6 +66,16 @@ def count_of(pattern, folder, ending):
     return count
 
 
+def seconds_of(top):
+    """The processor seconds of each crate's proof that was measured."""
+    path = os.path.join(top, "tools", "proof-seconds")
+    if not os.path.exists(path):
+        return {}
+    with open(path, encoding="utf-8") as it:
+        rows = [line.split() for line in it if line.strip() and not line.startswith("#")]
+    return {name: float(seconds) for name, seconds in rows}
+
+
 def lines_of(folder, ending):
     return count_of(rb"\n", folder, ending)
 
@@ -100,6 +111,7 @@ def crates_for(top, name):
     if name not in deps:
         sys.exit("crates.txt lists no crate %s" % name)
     code = {it: lines_of(os.path.join(top, "crates", it), ".rt") for it in deps}
+    measured = seconds_of(top)
     crates = []
     for it in [*below(deps, name), name]:
         folder = os.path.join(top, "crates", it)
@@ -109,8 +121,8 @@ def crates_for(top, name):
                 name=it,
                 deps=tuple(dep for dep in deps[it] if dep in deps),
                 is_program=os.path.isfile(os.path.join(folder, "src", "main.rt")),
-                # Fitted to what proofs with one job took on an idle machine.
-                seconds=8 + 1.3 * count_of(rb"\bfn\s+\w", folder, ".rt") + 0.008 * under,
+                # One that wasn't measured is reckoned by its functions, which fits by and large.
+                seconds=measured.get(it) or 8 + 1.3 * count_of(rb"\bfn\s+\w", folder, ".rt") + 0.008 * under,
                 memory=1.5e9 + 1e6 * code[it] + 2e5 * lines_of(folder, ".antt") + 8e4 * under,
             )
         )
@@ -301,26 +313,27 @@ class Build:
         print("%s: %s" % (self.name, text), file=sys.stderr, flush=True)
 
     def prove(self, start):
-        """Proves one crate in its room. The answer is the crate, its status, its seconds, and what was told."""
+        """Proves one crate in its room. The answer is the crate, its status, its seconds, those of processors, and what
+        was told."""
         crate = start.crate
         room = os.path.join(self.rooms, crate.name)
         furnish(self.top, room, crate.name, below(self.deps, crate.name))
         if self.is_ending:
-            return crate, 130, 0, ""
+            return crate, 130, 0, 0, ""
         verb = ["rt", "run" if crate.is_program else "lib", "--jobs", str(start.jobs)]
         verb += ["--", *self.words] if crate.is_program else []
         began, folder = time.monotonic(), os.path.join(room, "crates", crate.name)
-        status, told = self.ran(verb if start.is_urgent else [*GENTLY, *verb], folder)
+        status, work, told = self.ran(verb if start.is_urgent else [*GENTLY, *verb], folder)
         seconds = time.monotonic() - began
         if not self.is_ending:
             is_library = os.path.isdir(os.path.join(folder, "out", "rlib")) and not crate.is_program
             if is_library and not status and is_new(told) and self.is_taken:
                 self.hand_over(crate, room)
             clear(self.top, room, crate.name)
-        return crate, status, seconds, told
+        return crate, status, seconds, work, told
 
     def ran(self, words, folder):
-        """What a command came to: its status, and what it told."""
+        """What a command came to: its status, its processor seconds, and what it told."""
         with tempfile.TemporaryFile("w+", errors="replace") as log:
             ran = subprocess.Popen(
                 words,
@@ -331,15 +344,16 @@ class Build:
                 start_new_session=True,
             )
             self.children.append(ran)
-            status = ran.wait()
+            _, how, used = os.wait4(ran.pid, 0)
+            ran.returncode = os.waitstatus_to_exitcode(how)
             log.seek(0)
-            return status, log.read()
+            return ran.returncode, used.ru_utime + used.ru_stime, log.read()
 
     def hand_over(self, crate, room):
         """Has the kit take the library from the room. Other checkouts begin with what was kept where the kit made or
         took a library, and the room goes. A kit that takes none makes it over what was kept, and isn't asked again."""
         lay_out(self.top, room, crate.name)
-        if is_new(self.ran(["rt", "lib", "--jobs", "1"], os.path.join(self.top, "crates", crate.name))[1]):
+        if is_new(self.ran(["rt", "lib", "--jobs", "1"], os.path.join(self.top, "crates", crate.name))[2]):
             self.is_taken = False
 
     def end(self, *_):
@@ -375,7 +389,7 @@ class Build:
                         self.waiting.clear()
         return len(self.made) == len(self.crates)
 
-    def take(self, crate, status, seconds, told):
+    def take(self, crate, status, seconds, work, told):
         """Notes that a crate has ended, and says so."""
         if status:
             print(told, end="", file=sys.stderr)
@@ -387,7 +401,8 @@ class Build:
             self.spent += seconds
         count = len(self.crates) - len(self.made)
         rest = "%d left, about %d minutes" % (count, self.minutes_left()) if count else "none left"
-        self.say("%s %s, %s" % (crate.name, "is proved" if is_new(told) else "was proved before", rest))
+        how = "is proved in %d processor seconds" % work if is_new(told) else "was proved before"
+        self.say("%s %s, %s" % (crate.name, how, rest))
         return True
 
 

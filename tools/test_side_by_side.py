@@ -145,8 +145,14 @@ class Builds(unittest.TestCase):
         self.assertTrue(os.path.isfile(os.path.join(self.top, "crates/top/out/top")))
         self.assertIn("top begins run --jobs", self.noted()[-2])
         self.assertIn("-- run", self.noted()[-2])
+        self.assertRegex(told, r"low is proved in \d+ processor seconds, 3 left")
         self.assertIn("none left", told)
         self.assertEqual(os.listdir(self.rooms()), [])
+
+    def test_seconds_that_were_measured_stand_for_those_that_are_reckoned(self):
+        self.write("tools/proof-seconds", "# a crate and its seconds\nleft 500\n")
+        seconds = {it.name: it.seconds for it in side_by_side.crates_for(self.top, "top")}
+        self.assertEqual((seconds["left"], seconds["right"]), (500, 8 + 0.008))
 
     def test_what_was_proved_is_not_proved_again(self):
         self.build()
