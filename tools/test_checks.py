@@ -31,8 +31,14 @@ class Checks(unittest.TestCase):
     def test_a_check_that_fails_shows_what_it_told(self):
         self.assertEqual(self.result("echo why >&2; false"), ("failed", "", "    why\n"))
 
-    def test_a_check_that_tells_no_count_fails(self):
+    def test_a_check_that_counts_nothing_fails(self):
         self.assertEqual(self.result("echo none", (r"(\d+) tests", "tests"))[:2], ("failed", ""))
+        self.assertEqual(self.result("echo 0 tests", (r"(\d+) tests", "tests"))[:2], ("failed", "0 tests"))
+
+    def test_a_check_whose_script_is_gone_fails(self):
+        check = checks.Check("one", "a check", ["./gone"], (r"(\d+) tests", "tests"))
+        with contextlib.redirect_stdout(io.StringIO()):
+            self.assertEqual(checks.run(check, dict(os.environ), 20)[0], "failed")
 
     def test_a_check_is_cut_off_with_all_that_it_started(self):
         with tempfile.TemporaryDirectory() as room:
@@ -64,15 +70,27 @@ class Checks(unittest.TestCase):
             self.assertIn(why, str(told.exception))
 
     def test_the_gate_s_row_is_the_last_count_of_its_log(self):
+        whole = "%d passed, 0 failed" % checks.of_the_gate()
         for text, told in {
-            "3 passed, 0 failed\n": ("passed", "3 passed, 0 failed", ""),
-            "3 passed, 0 failed\n\nreal\t2m3.4s\nuser\t7m1.0s\n": ("passed", "3 passed, 0 failed", "123"),
-            "3 passed, 0 failed\n9 passed, 1 failed (a)\n": ("failed", "9 passed, 1 failed", ""),
+            whole + "\n": ("passed", whole, ""),
+            whole + "\n\nreal\t2m3.4s\nuser\t7m1.0s\n": ("passed", whole, "123"),
+            whole + "\n9 passed, 1 failed\n": ("failed", "9 passed, 1 failed", ""),
+            "3 passed, 0 failed\n": ("failed", "3 passed, 0 failed", ""),
+            whole + "\n9 passed, 0 failed (a and the crates below alone: not the gate)\n": None,
         }.items():
             with tempfile.NamedTemporaryFile("w") as log:
                 log.write("rt: low proved\n" + text)
                 log.flush()
-                self.assertEqual(checks.from_log(log.name), told)
+                if told:
+                    self.assertEqual(checks.from_log(log.name), told)
+                    continue
+                with self.assertRaises(SystemExit):
+                    checks.from_log(log.name)
+
+    def test_a_gate_passes_with_all_that_it_has(self):
+        whole = checks.of_the_gate()
+        for count, rest, result in [(whole, "", "passed"), (whole - 1, "", "failed"), (whole, " (a alone)", "failed")]:
+            self.assertEqual(self.result("echo '%d passed, 0 failed%s'" % (count, rest), (checks.GATE, ""))[0], result)
 
     def test_rows_of_other_checks_stay(self):
         with tempfile.TemporaryDirectory() as room:

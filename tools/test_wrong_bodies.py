@@ -13,6 +13,7 @@ HERE = os.path.dirname(os.path.abspath(__file__))
 sys.dont_write_bytecode = True
 sys.path.insert(0, HERE)
 import body_edits  # noqa: E402
+import wrong_bodies  # noqa: E402
 
 # Its check refuses each function whose body says `wrong`, and shows no proof where it says `silent`. It can't read a
 # source that says `unread`. Of edits that are tried alone, it lets those through that say `fine`. It notes what it
@@ -85,6 +86,13 @@ FILES = {
     "crates/other/wrong-bodies/four.edit": edit("of other", "of another"),
 }
 ALL = ["low one two", "singly other/four", "top three"]
+
+
+class Refusals(unittest.TestCase):
+    def test_a_refusal_only_for_a_lost_name_or_by_a_limit_counts_for_nothing(self):
+        said = {"b": ": they differ", "c": "", "d": " (only because a proof file names it): x", "e": " (only by a limit)"}
+        told = "".join("rt: must-fail a/%s.edit: refused, as it must be%s\n" % it for it in said.items())
+        self.assertEqual(wrong_bodies.REFUSED.findall(told), ["a/b", "a/c"])
 
 
 class Runs(unittest.TestCase):

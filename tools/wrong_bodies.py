@@ -34,6 +34,8 @@ import side_by_side  # noqa: E402
 from body_edits import apply, in_batches, read_edit, refusals, text_of  # noqa: E402
 from side_by_side import kept_copy  # noqa: E402
 
+# A wrong body that the kit refused. A refusal only for a lost name, or only by a limit, shows nothing, and says so.
+REFUSED = re.compile(r"(?m)^rt: must-fail (\S+)\.edit: refused, as it must be(?! \(only )")
 # A check over kept work takes so much of the memory of a whole proof.
 OVER_KEPT = 0.7
 
@@ -192,10 +194,10 @@ class Trial:
         print("%d to try singly" % len(edits), flush=True)
         status, told = self.run_rt(["must-fail", *names], self.top)
         print(told, end="", flush=True)
-        refused = re.findall(r"(?m)^rt: must-fail (\S+)\.edit: refused, as it must be", told)
+        refused = REFUSED.findall(told)
         self.notes.keep([it for it in edits if "%s/%s" % (it.crate, it.name) in refused])
-        if status:
-            missed = [it for it in ("%s/%s" % (it.crate, it.name) for it in edits) if it not in refused]
+        missed = [it for it in ("%s/%s" % (it.crate, it.name) for it in edits) if it not in refused]
+        if status or missed:
             self.not_refused += missed or ["rt must-fail itself"]
 
     def run_singly(self):
