@@ -90,7 +90,8 @@ ALL = ["low one two", "singly other/four", "top three"]
 
 class Refusals(unittest.TestCase):
     def test_a_refusal_only_for_a_lost_name_or_by_a_limit_counts_for_nothing(self):
-        said = {"b": ": they differ", "c": "", "d": " (only because a proof file names it): x", "e": " (only by a limit)"}
+        nothing = {"d": " (only because a proof file names it): x", "e": " (only by a limit): x"}
+        said = {"b": ": they differ", "c": "", **nothing}
         told = "".join("rt: must-fail a/%s.edit: refused, as it must be%s\n" % it for it in said.items())
         self.assertEqual(wrong_bodies.REFUSED.findall(told), ["a/b", "a/c"])
 
