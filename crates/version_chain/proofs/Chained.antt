@@ -1,6 +1,6 @@
 -- A chain's versions up to a horizon, and its newest committed one there.
-use Rattle.std.proofs.Common.{◌≡◌, ℕ, zero, suc, ◌<◌, ◌≤◌, ◌-◌, ◌==◌, Bool, true, false, ◌&&◌, ◌||◌, List, [], ◌∷◌, ◌++◌, length, take, drop, get_or, Some, None, refl, sym, ◌∙◌, ap, inl, inr, arith}
-use Rattle.std.specs.Prelude.{nat_le, not}
+use Rattle.std.proofs.Common.{◌≡◌, ℕ, zero, suc, ◌+◌, ◌<◌, ◌≤◌, ◌-◌, ◌==◌, Bool, true, false, ◌&&◌, ◌||◌, List, [], ◌∷◌, length, take, drop, get_or, All, Some, None, refl, sym, ◌∙◌, ap, inl, inr, arith, length-drop, get_or-drop}
+use Rattle.std.specs.Prelude.{nat_le}
 use Rattle.std.specs.List.{filter}
 use Rattle.std.proofs.lemmas.Bool.{and_right, eqb-true, eqb-false, or_from}
 use Rattle.std.proofs.lemmas.List.{get_or_default}
@@ -27,29 +27,14 @@ rises_kept p (v ∷ vs) r = by_test (p v)
 high_lives : (n top : ℕ) (v : Version) → nat_le v.ts n ≡ false → is_dead_version n top v ≡ false
 high_lives n top v high = by_test v.committed (λ on. rw (on, high) refl) (λ off. rw off refl)
 
-all_high : (n top : ℕ) (vs : List Version) → ((k : ℕ) (d : Version) → k < length vs → n < (get_or vs k d).ts) → filter (λ (v : Version). not (is_dead_version n top v)) vs ≡ vs
-all_high n top [] above = refl
-all_high n top (v ∷ vs) above =
-    let up : n < v.ts = above zero v (omega arith) in
-    let high : nat_le v.ts n ≡ false = grind (arith, nat_tests) in
-    rw (high_lives n top v high) (ap (λ ws. v ∷ ws) (all_high n top vs (λ k d lt. above (suc k) d (omega arith))))
-
-thinned_low : (n top place : ℕ) (vs : List Version) → IsPlaceAbove vs n place → filter (λ (v : Version). not (is_dead_version n top v)) (take place vs) ++ drop place vs ≡ filter (λ (v : Version). not (is_dead_version n top v)) vs
-thinned_low n top zero vs p = sym (all_high n top vs (λ k d lt. p.above k d (omega arith) lt))
-thinned_low n top (suc m) [] p = absurd (omega (arith, p.within))
-thinned_low n top (suc m) (v ∷ vs) p =
-    let more : filter (λ (v : Version). not (is_dead_version n top v)) (take m vs) ++ drop m vs ≡ filter (λ (v : Version). not (is_dead_version n top v)) vs = thinned_low n top m vs (record {
-      within = omega (arith, p.within);
-      below = λ k d lt. p.below (suc k) d (omega arith);
-      above = λ k d at lt. p.above (suc k) d (omega arith) (omega arith);
-    }) in
-    by_test (is_dead_version n top v)
-    (λ on. rw on more)
-    (λ off. rw off (ap (λ ws. v ∷ ws) more))
-
--- so where what is dead before the place is gone all that is dead is gone
-pub thinned_whole : {n place : ℕ} {vs ws us : List Version} (top : ℕ) → vs ≡ ws → IsPlaceAbove ws n place → us ≡ filter (λ (v : Version). not (is_dead_version n top v)) (take place vs) ++ drop place vs → us ≡ filter (λ (v : Version). not (is_dead_version n top v)) ws
-thinned_whole {n} {place} {vs} {ws} top same at less = less ∙ ap (λ vs. filter (λ (v : Version). not (is_dead_version n top v)) (take place vs) ++ drop place vs) same ∙ thinned_low n top place ws at
+-- so those from the place above it on live
+pub live_above : (n top place : ℕ) (vs : List Version) → IsPlaceAbove vs n place → All (λ (v : Version). is_dead_version n top v ≡ false) (drop place vs)
+live_above n top place vs p k d lt =
+    let long = length-drop place vs in
+    let at : get_or (drop place vs) k d ≡ get_or vs (place + k) d = get_or-drop place vs k d in
+    let up : n < (get_or vs (place + k) d).ts = p.above (place + k) d (omega arith) (omega arith) in
+    let high : nat_le (get_or vs (place + k) d).ts n ≡ false = grind (arith, nat_tests) in
+    ap (is_dead_version n top) at ∙ high_lives n top (get_or vs (place + k) d) high
 
 -- what is dead stands before the place
 pub dead_before : (n top place : ℕ) (vs : List Version) (i : ℕ) → IsPlaceAbove vs n place → is_dead_at n top (take place vs) i ≡ is_dead_at n top vs i

@@ -11,5 +11,5 @@ pub mod Dead
 pub mod Chained
 pub mod Thinning
 pub mod Collecting
-pub mod Gone
+pub mod InBlocks
 pub mod Following

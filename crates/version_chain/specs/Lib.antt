@@ -1,4 +1,6 @@
 pub mod Versions
+pub mod Blocks
+pub mod Layout
 pub mod Chains
 pub mod Stores
 pub mod InSpans

@@ -4,6 +4,7 @@ ghost use Rattle.version_chain.specs.declared.chain.Version.{Version};
 ghost use Rattle.std.specs.List.{filter};
 ghost use Rattle.version_chain.specs.Dead.{is_dead_version, newest_of, is_dead_at};
 ghost use Rattle.version_chain.specs.Indexes.{IsTaken, IsUnlisted};
+ghost use Rattle.version_chain.specs.Layout.{versions_in};
 ghost use Rattle.version_chain.specs.Versions.{DoRise, version_of, as_committed, IsPlaceAbove, IsNoneUpTo, IsNewestOf, IsNoneAbove, IsLeastAbove, IsPlaceOf, IsFreePlace};
 
 use crate::index::Index;
@@ -47,29 +48,30 @@ impl Model for Chain {
     ghost use Rattle.std.specs.Prelude.{List};
     ghost use Rattle.version_chain.specs.declared.chain.Version.{Version};
     ghost use Rattle.version_chain.specs.Versions.{DoRise};
+    ghost use Rattle.version_chain.specs.Layout.{versions_in};
 
     ghost Value = { List Version };
 
-    ghost view = { λ c. c.versions };
+    ghost view = { λ c. versions_in c.versions };
 
-    ghost invariant = { λ c. DoRise c.versions };
+    ghost invariant = { λ c. DoRise (versions_in c.versions) };
 }
 
 impl Chain {
-    /// All versions.
-    #[inline]
-    fn all(&self) -> &[Version]
-        ensures versions { result.now ≡ self.now }
+    /// The version at place `i`. Timestamps rise.
+    fn version(&self, i: usize) -> &Version
+        requires { i < length self.now }
+        ensures version { result.now ≡ slice_index_or self.now i result.now }
         ensures rises { DoRise self.now }
     {
-        self.versions.as_slice()
+        self.versions.at(i)
     }
 
     /// How many versions there are.
     pub fn len(&self) -> usize
         ensures { result ≡ length self.now }
     {
-        self.all().len()
+        self.versions.len()
     }
 
     /// The timestamp of the version at place `i`, below the length: one step.
@@ -79,7 +81,7 @@ impl Chain {
         ensures steps { steps.new.count ≡ suc steps.old.count }
     {
         *steps = Steps::after(steps);
-        self.all()[i].ts.get()
+        self.version(i).ts.get()
     }
 
     /// How many versions are at or below `t`, which is the place where those above it begin.
@@ -87,7 +89,7 @@ impl Chain {
         ensures place { IsPlaceAbove self.now t result }
         ensures steps { (d : ℕ) → length self.now < 2 ^ d → steps.new.count ≤ steps.old.count + d }
     {
-        let mut left = BinarySearch::of(self.all().len());
+        let mut left = BinarySearch::of(self.versions.len());
         while left.size > 0 {
             let read = self.ts_at(left.middle(), steps);
             left = left.after(read, t);
@@ -99,14 +101,14 @@ impl Chain {
     fn place_near_end(&self, t: u64) -> usize
         ensures { IsPlaceAbove self.now t result }
     {
-        let versions = self.all();
-        let Some(last) = versions.last() else {
+        let len = self.len();
+        if len == 0 {
             return 0;
-        };
-        if last.ts.get() > t {
+        }
+        if self.version(len - 1).ts.get() > t {
             return self.place_above(t, &mut Steps::new());
         }
-        versions.len()
+        len
     }
 
     /// The version with the greatest timestamp at or below `t`. It reads at most as many timestamps as
@@ -148,7 +150,7 @@ impl Chain {
         if place == 0 {
             return None;
         }
-        Some(&self.all()[place - 1])
+        Some(self.version(place - 1))
     }
 
     /// The version at a place, if there is one.
@@ -156,10 +158,10 @@ impl Chain {
         requires { place ≤ length self.now }
         ensures { (t : ℕ) → IsPlaceAbove self.now t place → MatchOption result (IsNoneAbove self.now t) (λ v. IsLeastAbove self.now t v.now) }
     {
-        if place == self.all().len() {
+        if place == self.len() {
             return None;
         }
-        Some(&self.all()[place])
+        Some(self.version(place))
     }
 
     /// A chain of one version.
@@ -174,7 +176,7 @@ impl Chain {
     pub(crate) fn is_empty(&self) -> bool
         ensures { IsTrue result ↔ (self.now ≡ []) }
     {
-        self.all().is_empty()
+        self.len() == 0
     }
 
     /// The place of the version of `ts`, or where one would stand.
@@ -185,7 +187,7 @@ impl Chain {
         if place == 0 {
             return Err(0);
         }
-        if self.all()[place - 1].ts.get() != ts {
+        if self.version(place - 1).ts.get() != ts {
             return Err(place);
         }
         Ok(place - 1)
@@ -243,7 +245,7 @@ impl Chain {
         let mut place = end;
         while place > 0 {
             place -= 1;
-            let version = &self.all()[place];
+            let version = self.version(place);
             if version.committed {
                 return version.ts.get();
             }
@@ -260,11 +262,11 @@ impl Chain {
         ensures listed { IsUnlisted index.old index.new key.now (is_dead_at horizon (newest_of self.old horizon) self.old) }
         ensures taken { (i : ℕ) → IsTaken index.old i → IsTaken index.new i }
     {
-        let before = self.all().len();
+        let before = self.len();
         let place = self.place_above(horizon, &mut Steps::new());
         let top = self.newest_committed(place);
-        index.remove_dead(key, &self.all()[..place], horizon, top);
-        self.versions.drop_before(place, horizon, top);
-        (before - self.all().len()) as u64
+        index.remove_dead(key, &self.versions, place, horizon, top);
+        self.versions.drop_dead(place, horizon, top);
+        (before - self.len()) as u64
     }
 }

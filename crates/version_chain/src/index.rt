@@ -1,12 +1,13 @@
 //! Which keys have a version at each timestamp.
-ghost use Rattle.std.specs.Prelude.{◌≡◌, ℕ, List, false, OnOk, OnErr, MatchOption, OnSome, if◌then◌else◌, ◌==◌, ◌<◌, ◌≤◌};
+ghost use Rattle.std.specs.Prelude.{◌≡◌, ℕ, List, false, OnOk, OnErr, MatchOption, OnSome, if◌then◌else◌, ◌==◌, ◌<◌, ◌≤◌, length, take};
 ghost use Rattle.std.specs.Option.{option_copied};
 ghost use Rattle.version_chain.specs.Dead.{is_dead_at};
+ghost use Rattle.version_chain.specs.Layout.{versions_in};
 ghost use Rattle.version_chain.specs.Indexes.{is_among, is_listed, listed_in, AreBetween, IsFirstBetween, IsListedAt, IsNoneBetween, IsTaken, IsUnlistedAt, IsUnlisted};
 ghost use Rattle.timestamps.specs.Bytes.{key_cmp};
 ghost use Rattle.std.specs.BTreeSet.{contains};
 
-use crate::chain::Version;
+use crate::versions::Versions;
 use std::alloc::{AllocError, Global};
 use std::collections::btree_map::{Entry, Range};
 use std::collections::{BTreeMap, BTreeSet};
@@ -66,12 +67,21 @@ impl Index {
         }
     }
 
-    /// Takes a key out at the timestamps of those of its versions that are dead by the horizon.
-    pub(crate) fn remove_dead(&mut self, key: &Key, versions: &[Version], horizon: u64, top: u64)
-        ensures listed { IsUnlisted self.old self.new key.now (is_dead_at horizon top versions.now) }
+    /// Takes a key out at the timestamps of those of its versions before a place that are dead by the horizon.
+    pub(crate) fn remove_dead(
+        &mut self,
+        key: &Key,
+        versions: &Versions,
+        place: usize,
+        horizon: u64,
+        top: u64,
+    )
+        requires { place ≤ length (versions_in versions.now) }
+        ensures listed { IsUnlisted self.old self.new key.now (is_dead_at horizon top (take place (versions_in versions.now))) }
         ensures taken { (i : ℕ) → IsTaken self.old i → IsTaken self.new i }
     {
-        for version in versions {
+        for i in 0..place {
+            let version = versions.at(i);
             if version.is_dead_by(horizon, top) {
                 self.remove(version.ts.get(), key);
             }

@@ -2,7 +2,8 @@
 //! `mvto_rules` calls it, and `catch_up` for feeds that are behind.
 //!
 //! A [`Store`] is an ordered map from keys to chains, and beside it an index from timestamps to keys. A
-//! [`Chain`](chain::Chain) is a list of versions. A transaction's version is undecided until it commits.
+//! [`Chain`](chain::Chain) is a list of versions, and a long one is a list of blocks. A transaction's version is
+//! undecided until it commits.
 //!
 //! 1. A key is in the map exactly where it has a version, and the timestamps of its chain rise.
 //! 2. The index lists a key at a timestamp exactly where the key has a version there.
@@ -23,9 +24,10 @@
 //!
 //! - `newest_at`, `next_above`, `around`: O(log k), and at most as many timestamps as v has binary digits
 //! - `write`: O(log k + log v), twice O(log k) for a key that had no version, and O(log n) in the index; it looks at
-//!   the end of the chain first, and the versions above its own move
+//!   the end of the chain first, and the versions above its own move, of a long chain those of a block of at most 257,
+//!   and the starts of its v / 128 blocks
 //! - `commit`: O(log k + log v) for each key
-//! - `abort`, `remove`: O(log k + log v) and O(log n) in the index for each key, and the versions above move
+//! - `abort`, `remove`: O(log k + log v) and O(log n) in the index for each key, and what a write moves
 //! - `committed_after`: O(log n), and a search for each version that is listed from there to the first committed one
 //! - `in_span`: O(log k), and then each key as it is asked for
 //! - `drop_dead`: O(log n) for each version that was written since the horizon that the store keeps, up to its own, and
@@ -33,14 +35,15 @@
 //! - `versions`: O(1)
 //!
 //! A collection goes from timestamp to timestamp. At each it looks at the versions at or below the horizon of the keys
-//! that are listed there. A version that goes leaves its place behind, and the versions above stay where they are: a
-//! chain is moved where half of its places are left over.
+//! that are listed there, and at those that lie in one block with them.
 //!
 //! A write alone takes memory. A write that finds none for its place in the index takes its version out again.
 //!
 //! Tests: `layer_tests`.
 #![tactic(auto)]
 
+mod block;
+mod blocks;
 pub mod chain;
 mod chains;
 pub mod in_span;

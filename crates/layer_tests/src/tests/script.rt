@@ -33,6 +33,11 @@ pub(super) struct Words<'a> {
 }
 
 impl<'a> Words<'a> {
+    /// The same words once more.
+    pub(super) fn again(&self) -> Words<'a> {
+        Words { rest: self.rest }
+    }
+
     /// The next word, of no letter behind the last.
     pub(super) fn word(&mut self) -> &'a [u8] {
         let (word, rest) = self.rest.split_once(' ').unwrap_or((self.rest, ""));

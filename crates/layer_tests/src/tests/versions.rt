@@ -3,13 +3,15 @@ use super::script::{Asked, Words, put_number};
 use std::alloc::Global;
 use std::collections::BTreeSet;
 use timestamps::key::Key;
+use timestamps::ts::Ts;
 use timestamps::value::Value;
 use version_chain::Store;
 
-/// Scripts, each of a store. A `write` is of a delete. `newest` has the newest version of a key up to a timestamp,
+/// Scripts, each of a store. A `write` is of a delete. `many` makes so many changes, from a timestamp on and so far
+/// apart. `newest` has the newest version of a key up to a timestamp,
 /// `least` the least timestamp of a version above, `in` the last bytes of a span's keys, and `follows` the committed
 /// versions after a place, up to a timestamp. A `drop` says how many versions it dropped as dead.
-pub(super) const SCRIPTS: [&str; 9] = [
+pub(super) const SCRIPTS: [&str; 10] = [
     // a key has a version at each write
     "write 20 apple=
 write 10 apple=
@@ -80,8 +82,7 @@ drop 50=1
 drop 60=1
 versions=1
 ",
-    // what goes at the front leaves the rest: two places are left over, then three, which are half of all and go, and
-    // then two of three
+    // what goes at the front leaves the rest
     "put 10 apple 7=
 put 20 apple 7=
 put 30 apple 7=
@@ -106,7 +107,7 @@ least 0 apple=60
 versions=1
 newest 99 apple=60 is 7 committed
 ",
-    // a first version takes a place that is left over: of two, so that the third version moves the others
+    // versions go in before those that a collection left
     "put 10 apple 7=
 put 20 apple 7=
 put 30 apple 7=
@@ -133,6 +134,45 @@ abort 15 apple=
 least 0 apple=16
 newest 99 apple=60 is 7 committed
 versions=6
+",
+    // a long chain lies in blocks: it is written and aborted in its middle, loses what is dead at its front, and all
+    "many 1000 2 2 write apple=
+versions=1000
+newest 1 apple=none
+newest 2 apple=2
+newest 1001 apple=1000
+newest 9999 apple=2000
+least 0 apple=2
+least 1000 apple=1002
+least 2000 apple=none
+many 400 3 4 write apple=
+versions=1400
+newest 998 apple=998
+newest 999 apple=999
+least 999 apple=1000
+many 400 3 4 abort apple=
+versions=1000
+newest 999 apple=998
+many 1000 2 2 commit apple=
+newest 513 apple=512 committed
+put 513 apple 7=
+newest 513 apple=513 is 7
+write 1001 apple=
+drop 600=300
+versions=702
+least 0 apple=513
+drop 1500=450
+versions=252
+least 0 apple=513
+least 513 apple=1001
+least 1001 apple=1502
+abort 513 apple=
+abort 1001 apple=
+many 250 1502 2 remove apple=
+versions=0
+newest 9999 apple=none
+write 5 apple=
+newest 9999 apple=5
 ",
     // the keys of a span, from its start to its end
     "write 10 c=
@@ -196,6 +236,7 @@ impl Asked for Store {
             Some(b'l') => least(alloc, self, &mut words, out),
             Some(b'i') => keys_in(alloc, self, &mut words, out),
             Some(b'f') => follows(alloc, self, &mut words, out),
+            Some(b'm') => many(alloc, self, &mut words),
             Some(letter) => change(alloc, self, *letter, &mut words),
             None => None,
         }
@@ -217,6 +258,29 @@ pub(super) fn change(
     words: &mut Words<'_>,
 ) -> Option<()> {
     let ts = words.ts()?;
+    change_at(alloc, store, letter, ts, words)
+}
+
+/// Makes changes at so many timestamps.
+fn many(alloc: Global, store: &mut Store, words: &mut Words<'_>) -> Option<()> {
+    let count = words.number();
+    let mut ts = words.number();
+    let step = words.number();
+    let letter = *words.word().first()?;
+    for _ in 0..count {
+        change_at(alloc, store, letter, Ts::new(ts)?, &mut words.again())?;
+        ts = ts.saturating_add(step);
+    }
+    Some(())
+}
+
+fn change_at(
+    alloc: Global,
+    store: &mut Store,
+    letter: u8,
+    ts: Ts,
+    words: &mut Words<'_>,
+) -> Option<()> {
     let key = words.key(alloc)?;
     match letter {
         b'w' => store.write(&key, ts, None).ok()?,

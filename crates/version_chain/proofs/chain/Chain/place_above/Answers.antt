@@ -1,4 +1,5 @@
-use Rattle.std.proofs.Common.{get_or, arith, sym}
+use Rattle.std.proofs.Common.{get_or, arith, subst, sym}
+use Rattle.version_chain.specs.Versions.{DoRise}
 use Rattle.version_chain.proofs.Places.{up_to}
 use Rattle.version_chain.proofs.BinarySearch.{half_is_left}
 use Rattle.version_chain.proofs.chain.Chain.place_above.Goals as goal
@@ -10,7 +11,7 @@ pub loop-left-preserved : goal.loop-left-preserved
 loop-left-preserved c = record {
   within = omega arith;
   left = λ d. c.after-left.ensures.left (λ k. (get_or c.args.self.now k d).ts) _
-      (λ i j le lt. up_to c.args.self.now i j d c.all.ensures.rises le lt)
+      (λ i j le lt. up_to c.args.self.now i j d (subst DoRise c.self.view_is c.self.invariant) le lt)
       (rw (← c.middle.ensures) (sym (c.ts_at-read.ensures.ts d)))
       (c.loop-left.invariant.left d);
   steps = λ d lt. rw c.ts_at-read.ensures.steps (half_is_left _ _ _ _ _ (omega arith) (omega arith) (c.loop-left.invariant.steps d lt));

@@ -1,5 +1,4 @@
-use Rattle.std.proofs.Common.{◌-◌, ◌∙◌, sym, arith}
-use Rattle.version_chain.proofs.Places.{is_read}
+use Rattle.std.proofs.Common.{◌∙◌, sym, arith}
 use Rattle.version_chain.proofs.Edits.{free_at_start, free_after, place_is}
 use Rattle.version_chain.proofs.chain.Chain.place_of.Goals as goal
 
@@ -8,12 +7,8 @@ returns-then-place-eq0 c = free_at_start _ _ _ c.place_near_end-place.ensures c.
 
 pub returns-then-get-ts : goal.returns-then-get-ts
 returns-then-get-ts c =
-    let place = c.place_near_end-place.result in
-    free_after c.args.self.now c.args.ts place _ c.all.ensures.rises c.place_near_end-place.ensures (omega arith)
-    (is_read (place - 1) c.index-all-place.result c.all.ensures.versions (omega (arith, c.place_near_end-place.ensures.within))) (λ same. c.if-get-ts.true (c.get.ensures.number ∙ same))
+    free_after c.args.self.now c.args.ts c.place_near_end-place.result _ c.version.ensures.rises c.place_near_end-place.ensures (omega arith)
+    c.version.ensures.version (λ same. c.if-get-ts.true (c.get.ensures.number ∙ same))
 
 pub returns : goal.returns
-returns c =
-    let place = c.place_near_end-place.result in
-    place_is c.args.self.now c.args.ts place _ c.place_near_end-place.ensures (omega arith)
-    (is_read (place - 1) c.index-all-place.result c.all.ensures.versions (omega (arith, c.place_near_end-place.ensures.within))) (sym c.get.ensures.number ∙ c.if-get-ts.false)
+returns c = place_is c.args.self.now c.args.ts c.place_near_end-place.result _ c.place_near_end-place.ensures (omega arith) c.version.ensures.version (sym c.get.ensures.number ∙ c.if-get-ts.false)

@@ -1,0 +1,41 @@
+use Rattle.std.proofs.Common.{ap, arith, length, remove, ◌∙◌}
+use Rattle.std.proofs.lemmas.List.Edits.{length-remove}
+use Rattle.version_chain.specs.declared.block.Block.{Block}
+use Rattle.version_chain.specs.Blocks.{all_in}
+use Rattle.version_chain.proofs.InBlocks.{has_place, remove_part}
+use Rattle.version_chain.proofs.blocks.Blocks.remove.Goals as goal
+
+pub number-requires : goal.number-requires
+number-requires c =
+    let bs = c.self.inside.blocks.items in
+    let block : Block = c.index_mut-block.result.now in
+    let at = has_place bs c.deref.result.now c.args.place c.block_of-k.result block c.self.invariant.numbered c.deref.ensures.value c.block_of-k.ensures c.index_mut-block.ensures.value in
+    let long = ap length c.self.view_is in
+    let all = remove_part bs c.args.place c.block_of-k.result block (record block { versions = c.remove.new.self }) at (omega (arith, c.requires)) c.remove.ensures.items in
+    let size = ap length (c.drop_empty.ensures.versions ∙ all) in
+    let less = length-remove (all_in bs) c.args.place (omega (arith, c.requires)) in
+    record { few = omega (arith, c.self.invariant.few) }
+
+pub invariant_of-self : goal.invariant_of-self
+invariant_of-self c =
+    let bs = c.self.inside.blocks.items in
+    let block : Block = c.index_mut-block.result.now in
+    let at = has_place bs c.deref.result.now c.args.place c.block_of-k.result block c.self.invariant.numbered c.deref.ensures.value c.block_of-k.ensures c.index_mut-block.ensures.value in
+    let long = ap length c.self.view_is in
+    let all = remove_part bs c.args.place c.block_of-k.result block (record block { versions = c.remove.new.self }) at (omega (arith, c.requires)) c.remove.ensures.items in
+    let size = ap length (c.number.ensures.versions ∙ c.drop_empty.ensures.versions ∙ all) in
+    let less = length-remove (all_in bs) c.args.place (omega (arith, c.requires)) in
+    record {
+      some = omega (arith, c.drop_empty.ensures.some, c.number.ensures.len);
+      numbered = c.number.ensures.numbered;
+      few = omega (arith, c.self.invariant.few);
+    }
+
+pub returns : goal.returns
+returns c =
+    let bs = c.self.inside.blocks.items in
+    let block : Block = c.index_mut-block.result.now in
+    let at = has_place bs c.deref.result.now c.args.place c.block_of-k.result block c.self.invariant.numbered c.deref.ensures.value c.block_of-k.ensures c.index_mut-block.ensures.value in
+    let long = ap length c.self.view_is in
+    let all = remove_part bs c.args.place c.block_of-k.result block (record block { versions = c.remove.new.self }) at (omega (arith, c.requires)) c.remove.ensures.items in
+    c.number.ensures.versions ∙ c.drop_empty.ensures.versions ∙ all ∙ ap (λ vs. remove vs c.args.place) c.self.view_is

@@ -1,0 +1,136 @@
+//! A long row of versions, in blocks.
+ghost use Rattle.std.specs.Prelude.{◌≡◌, ◌<◌, ◌≤◌, length, drop, slice_set, slice_index_or, not, false, IfOk, OnOk, OnErr};
+ghost use Rattle.std.specs.List.{All, filter, insert, remove};
+ghost use Rattle.version_chain.specs.declared.chain.Version.{Version};
+ghost use Rattle.version_chain.specs.Versions.{as_committed};
+ghost use Rattle.version_chain.specs.Dead.{is_dead_version};
+
+use crate::block::{Block, block_of, drop_empty, empty_ahead, halve_full, number, thin};
+use crate::chain::Version;
+use std::alloc::AllocError;
+use std::marker::Model;
+use std::mem;
+
+/// Versions in blocks of some hundred.
+///
+/// ```text
+/// start    0        3        5        blocks are halved when they have more than three
+///          10 20 30 40 50    60 70
+/// insert 45 at place 4
+///          10 20 30 40 45 50 60 70    those of one block move, and the starts of later ones
+/// insert 47 at place 5
+///          10 20 30 40 45    47 50    60 70
+/// ```
+///
+/// So a version that goes in or out moves those of its block alone. A place is found by its block's start.
+#[derive(Debug, Drop)]
+pub(crate) struct Blocks {
+    blocks: Vec<Block>,
+}
+
+impl Model for Blocks {
+    ghost use Rattle.std.specs.Prelude.{List};
+    ghost use Rattle.version_chain.specs.declared.chain.Version.{Version};
+    ghost use Rattle.version_chain.specs.Blocks.{IsSound, all_in};
+
+    ghost Value = { List Version };
+
+    ghost view = { λ b. all_in b.blocks.items };
+
+    ghost invariant = { λ b. IsSound b.blocks.items };
+}
+
+impl Blocks {
+    /// Takes versions out of a list, as the first block.
+    pub(crate) fn take(versions: &mut Vec<Version>) -> Result<Blocks, AllocError>
+        ensures ok { IfOk result (λ blocks. blocks ≡ versions.old.items) }
+        ensures err { OnErr result (versions.new ≡ versions.old) }
+    {
+        let alloc = *versions.allocator();
+        let mut blocks = Vec::with_capacity(alloc, 2)?;
+        let versions = mem::replace(versions, Vec::new(alloc));
+        blocks.push_reserved(Block { start: 0, versions });
+        Ok(Blocks { blocks })
+    }
+
+    /// How many there are.
+    pub(crate) fn len(&self) -> usize
+        ensures { result ≡ length self.now }
+    {
+        match self.blocks.last() {
+            None => 0,
+            Some(last) => last.start + last.versions.len(),
+        }
+    }
+
+    /// The one at a place.
+    pub(crate) fn at(&self, place: usize) -> &Version
+        requires { place < length self.now }
+        ensures { result.now ≡ slice_index_or self.now place result.now }
+    {
+        let block = &self.blocks[block_of(&self.blocks, place)];
+        &block.versions[place - block.start]
+    }
+
+    /// Puts one in the place of another.
+    pub(crate) fn set(&mut self, place: usize, version: Version)
+        requires { place < length self.old }
+        ensures { self.new ≡ slice_set self.old place version }
+    {
+        let k = block_of(&self.blocks, place);
+        let block = &mut self.blocks[k];
+        block.versions[place - block.start] = version;
+    }
+
+    /// Marks the one at a place as committed.
+    pub(crate) fn commit(&mut self, place: usize)
+        requires { place < length self.old }
+        ensures { (d : Version) → self.new ≡ slice_set self.old place (as_committed (slice_index_or self.old place d)) }
+    {
+        let k = block_of(&self.blocks, place);
+        let block = &mut self.blocks[k];
+        block.versions[place - block.start].committed = true;
+    }
+
+    /// Puts one in at a place.
+    pub(crate) fn insert(&mut self, place: usize, version: Version) -> Result<(), AllocError>
+        requires { place ≤ length self.old }
+        ensures ok { OnOk result (self.new ≡ insert self.old place version) }
+        ensures err { OnErr result (self.new ≡ self.old) }
+    {
+        // so that one more can be counted
+        if self.len() == usize::MAX {
+            return Err(AllocError);
+        }
+        let k = block_of(&self.blocks, place);
+        let block = &mut self.blocks[k];
+        block.versions.insert(place - block.start, version)?;
+        halve_full(&mut self.blocks, k);
+        Ok(())
+    }
+
+    /// Takes the one at a place out.
+    pub(crate) fn remove(&mut self, place: usize)
+        requires { place < length self.old }
+        ensures { self.new ≡ remove self.old place }
+    {
+        let k = block_of(&self.blocks, place);
+        let block = &mut self.blocks[k];
+        block.versions.remove(place - block.start);
+        drop_empty(&mut self.blocks, k);
+        number(&mut self.blocks);
+    }
+
+    /// Drops those that are dead by the horizon, which stand before a place.
+    pub(crate) fn drop_dead(&mut self, place: usize, horizon: u64, top: u64)
+        requires place { place ≤ length self.old }
+        requires live { All (λ (v : Version). is_dead_version horizon top v ≡ false) (drop place self.old) }
+        ensures { self.new ≡ filter (λ (v : Version). not (is_dead_version horizon top v)) self.old }
+    {
+        let last = block_of(&self.blocks, place);
+        thin(&mut self.blocks, last + 1, horizon, top);
+        let empty = empty_ahead(&self.blocks[..last]);
+        self.blocks.drain(..empty);
+        number(&mut self.blocks);
+    }
+}
