@@ -27,7 +27,8 @@
 //! Costs, where n is all that is held, v and m the versions and the marks of a key, and f the feeds that live:
 //!
 //! - `begin`, `protect`, `release`, `open`, `cancel`: O(log n)
-//! - `get`, `put`, `del`, `readat`: O(log n + log v + log m), and a move of the readers or versions above the new one
+//! - `get`, `put`, `del`, `readat`: O(log n + log v + log m), and a move of the readers above the new one, or of
+//!   the versions above it in its list or block
 //! - `scan`, `scanat`: O(log n), and as a get for each key and each marked span that it meets
 //! - `commit`, `abort`: O(log n + log v) for each key written
 //! - `close`, `closehard`: O(log n) for each transaction that is forgotten, and O(log n + log f) for each row that became

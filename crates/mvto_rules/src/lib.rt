@@ -35,7 +35,8 @@
 //!
 //! - `begin`: O(log n)
 //! - `get`: O(log n + log k + log v + log s + log m), and the readers above its own move
-//! - `write`: O(log n + log w + log k + log v + log s + log m), and the versions above its own move, or as `abort`
+//! - `write`: O(log n + log w + log k + log v + log s + log m), and a move of the versions
+//!   above its own in their list or block, or as `abort`
 //! - `scan`: O(log n + log k), O(log v) for each key, O(log s + log m) more for one with a version above closed, and
 //!   O(m) for each span that it meets
 //! - `commit`, `abort`: O(log n), and O(log k + log v) for each key written

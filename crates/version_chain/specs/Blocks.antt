@@ -12,7 +12,7 @@ all_in (b ∷ bs) = b.versions.items ++ all_in bs
 abbrev pub AreNumbered : List Block → Type 0
 AreNumbered bs = (k : ℕ) (d : Block) → k < length bs → (slice_index_or bs k d).start ≡ length (all_in (take k bs))
 
--- there is a block, and numbers hold all counts
+-- there is a block, the starts are right, and a machine number can count all versions
 pub record IsSound (bs : List Block) : Type 0 where
   pub some : 0 < length bs
   pub numbered : AreNumbered bs

@@ -12,14 +12,14 @@ use std::alloc::AllocError;
 pub(crate) const FULL: usize = 256;
 
 /// Versions that lie together in memory.
-#[derive(Debug, Drop)]
+#[derive(Drop)]
 pub(crate) struct Block {
     /// How many versions stand in the blocks before it.
     pub(crate) start: usize,
     pub(crate) versions: Vec<Version>,
 }
 
-/// Which block has a place. The place behind all versions is the last one's.
+/// The block that has a place. The place behind all versions belongs to the last block.
 pub(crate) fn block_of(blocks: &[Block], place: usize) -> usize
     requires some { 0 < length blocks.now }
     requires numbered { AreNumbered blocks.now }
@@ -29,7 +29,7 @@ pub(crate) fn block_of(blocks: &[Block], place: usize) -> usize
     blocks.partition_point(|block| block.start <= place) - 1
 }
 
-/// Says of each block how many versions stand before it.
+/// Writes into each block how many versions stand before it.
 pub(crate) fn number(blocks: &mut Vec<Block>)
     requires few { length (all_in blocks.old.items) < 2 ^ 64 }
     ensures versions { all_in blocks.new.items ≡ all_in blocks.old.items }

@@ -11,19 +11,17 @@ use std::alloc::AllocError;
 use std::marker::Model;
 use std::mem;
 
-/// Versions in blocks of some hundred.
+/// Versions in blocks, each with the number of versions before it, its start.
 ///
 /// ```text
-/// start    0        3        5        blocks are halved when they have more than three
-///          10 20 30 40 50    60 70
-/// insert 45 at place 4
-///          10 20 30 40 45 50 60 70    those of one block move, and the starts of later ones
-/// insert 47 at place 5
-///          10 20 30 40 45    47 50    60 70
+/// starts     blocks of at most three
+/// 0 3 5      10 20 30 | 40 50 | 60 70
+///            insert 45 at place 4: the others of its block move, and later starts rise
+/// 0 3 6      10 20 30 | 40 45 50 | 60 70
+///            insert 47 at place 5: four are too many, so the block is halved
+/// 0 3 5 7    10 20 30 | 40 45 | 47 50 | 60 70
 /// ```
-///
-/// So a version that goes in or out moves those of its block alone. A place is found by its block's start.
-#[derive(Debug, Drop)]
+#[derive(Drop)]
 pub(crate) struct Blocks {
     blocks: Vec<Block>,
 }
@@ -47,6 +45,7 @@ impl Blocks {
         ensures err { OnErr result (versions.new ≡ versions.old) }
     {
         let alloc = *versions.allocator();
+        // room for a second, since the insert that follows halves the first
         let mut blocks = Vec::with_capacity(alloc, 2)?;
         let versions = mem::replace(versions, Vec::new(alloc));
         blocks.push_reserved(Block { start: 0, versions });

@@ -39,7 +39,7 @@ impl Version {
 }
 
 /// The versions of a key, by rising timestamp.
-#[derive(Debug, Drop)]
+#[derive(Drop)]
 pub struct Chain {
     versions: Versions,
 }
@@ -254,7 +254,7 @@ impl Chain {
     }
 
     /// Drops the versions that are dead by the horizon, takes their key out of the index at their
-    /// timestamps, and says how many they are. Those above the horizon are not looked at.
+    /// timestamps, and says how many they are.
     pub(crate) fn drop_dead(&mut self, horizon: u64, key: &Key, index: &mut Index) -> u64
         ensures left { self.new ≡ filter (λ (v : Version). not (is_dead_version horizon (newest_of self.old horizon) v)) self.old }
         ensures count { result ≡ length (filter (is_dead_version horizon (newest_of self.old horizon)) self.old) }

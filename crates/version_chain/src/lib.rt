@@ -20,22 +20,25 @@
 //! drop what is dead by 30    30*         30*        30 apple pear                2    in_span - p is apple
 //! ```
 //!
-//! Costs, with k keys, v versions of one of them, and n of all:
+//! Costs, with k keys, v versions of one of them in b blocks, and n of all:
 //!
-//! - `newest_at`, `next_above`, `around`: O(log k), and at most as many timestamps as v has binary digits
-//! - `write`: O(log k + log v), twice O(log k) for a key that had no version, and O(log n) in the index; it looks at
-//!   the end of the chain first, and the versions above its own move, of a long chain those of a block of at most 257,
-//!   and the starts of its v / 128 blocks
-//! - `commit`: O(log k + log v) for each key
-//! - `abort`, `remove`: O(log k + log v) and O(log n) in the index for each key, and what a write moves
+//! - `newest_at`, `next_above`, `around`: O(log k + log v log b), and at most as many timestamps as v has binary digits
+//! - `write`: the same, twice O(log k) for a key that had no version, and O(log n) in the index. It looks at the end of
+//!   the chain first. The versions above its own in its block move, and the starts of all blocks are written again
+//! - `commit`: O(log k + log v log b) for each key
+//! - `abort`, `remove`: the same and O(log n) in the index for each key, and what a write moves
 //! - `committed_after`: O(log n), and a search for each version that is listed from there to the first committed one
 //! - `in_span`: O(log k), and then each key as it is asked for
 //! - `drop_dead`: O(log n) for each version that was written since the horizon that the store keeps, up to its own, and
-//!   for each that goes
+//!   for each that goes; and for each key that it meets the starts of all blocks
 //! - `versions`: O(1)
 //!
+//! A chain lies in one list until it has more than 256 versions, and in blocks from then on. A block has at most 256,
+//! unless a halving found no memory. Blocks are never joined, so b is at most one, and one more for each 128 versions
+//! that were written.
+//!
 //! A collection goes from timestamp to timestamp. At each it looks at the versions at or below the horizon of the keys
-//! that are listed there, and at those that lie in one block with them.
+//! that are listed there, and at those that lie in one list or block with them.
 //!
 //! A write alone takes memory. A write that finds none for its place in the index takes its version out again.
 //!

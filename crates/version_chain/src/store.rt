@@ -226,8 +226,8 @@ impl Store {
     /// Drops the versions that are dead by the horizon, and says how many: a committed one at or below
     /// it is dead where it is a delete or where a newer one of its key is committed at or below it. It
     /// looks at the keys that were written above the horizon of the last collection, or from what has
-    /// been committed below that since, and at what their chains have at or below its own. It takes no
-    /// memory.
+    /// been committed below that since, and at what their chains have at or below its own, or in one
+    /// list or block with that. It takes no memory.
     pub fn drop_dead(&mut self, horizon: u64) -> u64
         ensures { IsCollectedIn self.old self.new horizon result }
     {

@@ -11,14 +11,14 @@ use crate::blocks::Blocks;
 use crate::chain::Version;
 use std::alloc::{AllocError, Global};
 
-/// Versions in a row. Few lie in one list, where each that goes in or out moves those above it. More lie in blocks.
-#[derive(Debug)]
+/// Versions in a row. Up to 256 lie in one list, where each that goes in or out moves those above it. Once there have
+/// been more they lie in blocks.
 pub(crate) enum Versions {
     Short(Vec<Version>),
     Long(Blocks),
 }
 
-// a call of its own, so that where versions are dropped no proof has a case for each place of them
+// a call of its own, so that where versions are dropped no proof has a case for each variant
 impl Drop for Versions {
     fn drop(self) {
         match self {

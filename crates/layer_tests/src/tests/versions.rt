@@ -135,7 +135,7 @@ least 0 apple=16
 newest 99 apple=60 is 7 committed
 versions=6
 ",
-    // a long chain lies in blocks: it is written and aborted in its middle, loses what is dead at its front, and all
+    // a long chain is written and aborted in its middle, and loses first its dead versions and then all
     "many 1000 2 2 write apple=
 versions=1000
 newest 1 apple=none
@@ -261,7 +261,7 @@ pub(super) fn change(
     change_at(alloc, store, letter, ts, words)
 }
 
-/// Makes changes at so many timestamps.
+/// Makes one change at each of so many timestamps.
 fn many(alloc: Global, store: &mut Store, words: &mut Words<'_>) -> Option<()> {
     let count = words.number();
     let mut ts = words.number();
