@@ -3,19 +3,19 @@ use Rattle.std.proofs.Common.{Bool, List, None, Option, Some, [], ap, false, inl
 use Rattle.std.specs.Prelude.{if◌then◌else◌, nat_le}
 use Rattle.std.specs.BTreeMap.{is_at}
 use Rattle.std.proofs.lemmas.Bool.{and_from, and_parts, eqb-true, le-leb, leb-true}
+use Rattle.std.proofs.lemmas.Map.Text.{is_eq-slice_cmp}
 use Rattle.timestamps.specs.Bytes.{key_cmp}
 use Rattle.timestamps.specs.declared.row.Row.{Row}
 use Rattle.spans.specs.Effects.{After}
 use Rattle.spans.specs.Keys.{in_span}
 use Rattle.spans.specs.declared.span.Span.{Span}
-use Rattle.spans.proofs.Steps.{by_test}
+use Rattle.spans.proofs.Steps.{by_test, same_key}
 use Rattle.spans.proofs.StreamOrder.{IsRowIn, RisingRows}
 use Rattle.version_chain.specs.declared.chain.Version.{Version}
 use Rattle.version_chain.specs.Chains.{found_in}
 use Rattle.version_chain.specs.Following.{is_after_place}
 use Rattle.version_chain.specs.Stores.{Stored, after_of, is_committed, is_committed_in, version_in}
 use Rattle.version_chain.specs.Versions.{version_of}
-use Rattle.version_chain.proofs.Indexes.{same_at}
 use Rattle.catch_up.specs.Left.{AreLeftIn}
 use Rattle.catch_up.proofs.Order.{put_in, put_only, put_rises, put_row, put_stays}
 
@@ -53,7 +53,7 @@ in_chain x t v (w ∷ vs) is = by_test (w.ts == t)
 pub found_named : (s : Stored) (x : List ℕ) (t : ℕ) (v : Version) → found_in s x t ≡ Some v → IsNamed (x, t) (names_of s)
 found_named [] x t v is = cc
 found_named (e ∷ es) x t v is = by_test (is_at (key_cmp x) e.0)
-    (λ here. let at : version_of e.1 t ≡ Some v = rw here at is in let key : x ≡ e.0 = same_at e.0 x here in
+    (λ here. let at : version_of e.1 t ≡ Some v = rw here at is in let key : x ≡ e.0 = same_key x e.0 (sym (is_eq-slice_cmp x e.0) ∙ here) in
     named_left (x, t) (names_in e.0 e.1) (names_of es) (subst (λ k. IsNamed (k, t) (names_in e.0 e.1)) (sym key) (in_chain e.0 t v e.1 at)))
     (λ off. let more : found_in es x t ≡ Some v = rw off at is in named_right (x, t) (names_in e.0 e.1) (names_of es) (found_named es x t v more))
 

@@ -9,8 +9,8 @@ ghost use Rattle.hold_back.specs.HeldAll.{IsHeldAll};
 ghost use Rattle.engine.specs.Holding.{AreSkipped, IsKeyHeld, rows_at};
 
 use hold_back::HoldBack;
+use key_set::Keys;
 use mvto_rules::Rules;
-use std::collections::btree_set::Range;
 use timestamps::key::Key;
 use version_chain::Store;
 
@@ -33,7 +33,7 @@ pub(crate) fn hold_written(held: &mut HoldBack, rules: &Rules, ts: u64, feeds: u
 }
 
 /// Holds back no row of `ts`, and notes that, where it wrote any of these keys.
-fn skip_rows(held: &mut HoldBack, ts: u64, keys: Range<'_, Key>)
+fn skip_rows(held: &mut HoldBack, ts: u64, keys: Keys<'_>)
     ensures rows { rows_in held.new ≡ rows_in held.old }
     ensures lost { AreSkipped keys.entry ts (lost_in held.old) (lost_in held.new) }
     ensures empty { keys.entry ≡ [] → held.new ≡ held.old }
@@ -45,7 +45,7 @@ fn skip_rows(held: &mut HoldBack, ts: u64, keys: Range<'_, Key>)
 }
 
 /// Holds back what stands at `ts` at each of the keys.
-fn hold_rows(held: &mut HoldBack, store: &Store, ts: u64, keys: Range<'_, Key>)
+fn hold_rows(held: &mut HoldBack, store: &Store, ts: u64, keys: Keys<'_>)
     ensures held { IsHeldAll ts (rows_at store.now ts keys.entry) held.old held.new }
     ensures rising { RisingRows (rows_in held.old) → RisingRows (rows_in held.new) }
     ensures empty { keys.entry ≡ [] → held.new ≡ held.old }

@@ -3,6 +3,7 @@
 mod closings;
 mod collections;
 mod feeds;
+mod keys;
 mod marks;
 mod rules;
 mod script;
@@ -11,6 +12,7 @@ mod versions;
 use closing::Closing;
 use collections::Held;
 use feeds::Served;
+use key_set::KeySet;
 use mvto_rules::Rules;
 use read_marks::Marks;
 use script::play;
@@ -19,6 +21,7 @@ use version_chain::Store;
 #[test]
 fn layers(rt: HostRuntime) {
     play(&rt, &mut Closing::new(rt.alloc()), closings::SCRIPT);
+    play(&rt, &mut KeySet::new(rt.alloc()), keys::SCRIPT);
     for script in versions::SCRIPTS {
         play(&rt, &mut Store::new(rt.alloc()), script);
     }

@@ -11,10 +11,10 @@ ghost use Rattle.version_chain.specs.Stores.{version_in};
 
 use crate::rules::Rules;
 use closing::Closing;
+use key_set::Keys;
 use read_marks::Marks;
 use spans::report::TransactionReport;
 use std::alloc::AllocError;
-use std::collections::btree_set::Range;
 use std::mem;
 use timestamps::key::Key;
 use version_chain::Store;
@@ -99,7 +99,7 @@ impl Rules {
     }
 
     /// The keys that the transaction of `ts` wrote, rising, where there is one.
-    pub fn write_set(&self, ts: u64) -> Option<Range<'_, Key>>
+    pub fn write_set(&self, ts: u64) -> Option<Keys<'_>>
         ensures keys { MatchOption result (transactions_of self.now ts ≡ None) (λ keys. keys ≡ keys_of (transactions_of self.now ts)) }
         ensures rising { IfSome result RisingKeys }
     {

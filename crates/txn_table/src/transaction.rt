@@ -6,11 +6,10 @@ ghost use Rattle.kept.specs.Table.{new_transaction};
 ghost use Rattle.txn_table.specs.States.{decided, with_key, without_key};
 ghost use Rattle.kept.specs.Reports.{transaction_report};
 
+use key_set::{KeySet, Keys};
 use spans::report::TransactionReport;
 use spans::state::State;
 use std::alloc::{AllocError, Global};
-use std::collections::BTreeSet;
-use std::collections::btree_set::Range;
 use std::marker::Model;
 use timestamps::key::Key;
 
@@ -28,18 +27,15 @@ pub enum Outcome {
 pub(crate) struct Transaction {
     seat: u8,
     state: State,
-    keys: BTreeSet<Key>,
+    keys: KeySet,
 }
 
 impl Model for Transaction {
-    ghost use Rattle.spans.proofs.Keyed.{RisingKeys};
     ghost use Rattle.spans.specs.Kept as kept;
 
     ghost Value = { kept.Transaction };
 
-    ghost view = { λ t. record { seat = t.seat; state = t.state; keys = t.keys.keys } };
-
-    ghost invariant = { λ t. RisingKeys t.keys.keys };
+    ghost view = { λ t. record { seat = t.seat; state = t.state; keys = t.keys } };
 }
 
 impl Transaction {
@@ -50,7 +46,7 @@ impl Transaction {
         Transaction {
             seat,
             state: State::Undecided,
-            keys: BTreeSet::new(alloc),
+            keys: KeySet::new(alloc),
         }
     }
 
@@ -73,12 +69,12 @@ impl Transaction {
     }
 
     /// The keys that it wrote, rising.
-    pub(crate) fn keys(&self) -> Range<'_, Key>
+    pub(crate) fn keys(&self) -> Keys<'_>
         ensures keys { result ≡ self.now.keys }
         ensures rising { RisingKeys result }
-        ensures fits { length result < 2 ^ 63 }
+        ensures fits { length result < 2 ^ 64 }
     {
-        self.keys.range(..)
+        self.keys.iter()
     }
 
     /// Notes that it wrote the key, and answers whether that is new. A key that is noted is not copied once more.
@@ -89,12 +85,7 @@ impl Transaction {
         ensures err { OnErr result (self.new ≡ self.old) }
         ensures absent { OnErr result (has key.now self.old.keys ≡ false) }
     {
-        if self.keys.contains(key) {
-            return Ok(false);
-        }
-        let key = key.copy()?;
-        self.keys.insert(key)?;
-        Ok(true)
+        self.keys.add(key)
     }
 
     /// Takes a key that it wrote out again.

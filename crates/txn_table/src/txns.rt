@@ -13,6 +13,7 @@ ghost use Rattle.txn_table.specs.TransactionIn.{transaction_in, IsCountOf, IsSet
 use crate::changes::{add_key_at, decide_at, forget_transactions, forget_undecided, remove_key_at};
 use crate::report::undecided_report;
 use crate::transaction::{Outcome, Transaction};
+use key_set::Keys;
 use spans::report::TransactionReport;
 use spans::state::State;
 use std::alloc::{AllocError, Global};
@@ -85,10 +86,10 @@ impl Txns {
     }
 
     /// The keys that the transaction of `ts` wrote, rising, where there is one.
-    pub fn write_set(&self, ts: u64) -> Option<Range<'_, Key>>
+    pub fn write_set(&self, ts: u64) -> Option<Keys<'_>>
         ensures keys { MatchOption result (transaction_in self.now ts ≡ None) (λ keys. keys ≡ keys_of (transaction_in self.now ts)) }
         ensures rising { IfSome result RisingKeys }
-        ensures fits { IfSome result (λ keys. length keys < 2 ^ 63) }
+        ensures fits { IfSome result (λ keys. length keys < 2 ^ 64) }
     {
         match self.table.get(&TsKey(ts)) {
             None => None,

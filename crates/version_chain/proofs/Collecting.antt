@@ -1,18 +1,14 @@
 -- A collection: from key to key, and from timestamp to timestamp.
 use Rattle.std.proofs.Common.{◌≡◌, ℕ, ◌<◌, ◌+◌, ◌-◌, ◌≤◌, ◌⊎◌, ◌==◌, Bool, true, false, cond, ◌&&◌, List, [], ◌∷◌, length, Option, Some, None, refl, sym, ◌∙◌, ap, inl, inr, arith}
 use Rattle.std.specs.Prelude.{bytes_eq, is_some, not}
-use Rattle.std.specs.List.{filter, list_any}
-use Rattle.std.specs.BTreeMap.{is_at}
-use Rattle.std.specs.BTreeSet.{BTreeSet, contains}
+use Rattle.std.specs.List.{filter}
 use Rattle.std.proofs.lemmas.Bool.{and_parts, both_ways, cases_lt, eqb-true}
-use Rattle.std.proofs.Math.Bool.{and-false, and-true}
-use Rattle.std.proofs.lemmas.Cmp.{eq_by_cmp_equiv, nat_list_cmp_total}
+use Rattle.std.proofs.Math.Bool.{and-true}
 use Rattle.std.proofs.lemmas.List.Filters.{length-filter_both}
-use Rattle.std.proofs.lemmas.Map.Made.{is_member-filter}
-use Rattle.timestamps.specs.Bytes.{key_cmp}
 use Rattle.spans.specs.Collection.{VersionName}
 use Rattle.spans.proofs.Members.{same_length, has_filter, distinct_filter}
 use Rattle.spans.proofs.Steps.{by_test}
+use Rattle.spans.proofs.WriteSets.{has, has_filtered}
 use Rattle.version_chain.specs.declared.chain.Version.{Version}
 use Rattle.version_chain.specs.declared.index.Index.{Index}
 use Rattle.version_chain.specs.Chains.{chain_of, found_in}
@@ -20,7 +16,7 @@ use Rattle.version_chain.specs.Stores.{Stored, after_of, is_committed, version_i
 use Rattle.version_chain.specs.Dead.{is_dead_in, is_dropped_in, newest_of, ArePartlyThinned, IsThinnedAt, IsCollectedIn}
 use Rattle.version_chain.specs.Indexes.{is_listed, IsFirstBetween, IsIndexOf, IsNoneBetween, IsSound, IsTaken}
 use Rattle.version_chain.proofs.Dead.{top_above, unless_true}
-use Rattle.version_chain.proofs.Indexes.{next_or_rest, same_at}
+use Rattle.version_chain.proofs.Indexes.{next_or_rest}
 use Rattle.version_chain.proofs.Thinning.{done_some, found_before, partly_more, partly_next, partly_none, partly_one, settled_here, settled_partly, settled_still}
 
 -- ---- the keys of one timestamp
@@ -28,14 +24,14 @@ use Rattle.version_chain.proofs.Thinning.{done_some, found_before, partly_more, 
 -- es became fs, while the keys of t are taken out of the index: nothing is dead by n any more of those that aren't among the rest
 pub record IsThinning (es fs : Stored) (index : Index) (t n count from : ℕ) (rest : List (List ℕ)) : Type 0 where
   pub partly : ArePartlyThinned es fs n
-  pub settled : (y : List ℕ) → is_some (found_in es y t) ≡ true → ((i : ℕ) → is_dead_in fs n y i ≡ false) ⊎ (list_any (is_at (key_cmp y)) rest ≡ true)
+  pub settled : (y : List ℕ) → is_some (found_in es y t) ≡ true → ((i : ℕ) → is_dead_in fs n y i ≡ false) ⊎ (has y rest ≡ true)
   pub before : (y : List ℕ) (i : ℕ) → is_dead_in es from y i ≡ false
   pub counted : IsCountOf fs count
   pub listed : (y : List ℕ) (i : ℕ) → is_listed index y i ≡ cond (t == i) false (is_some (found_in fs y i))
   pub taken : IsTaken index t
 
-pub thinning_first : (es : Stored) (index index' : Index) (t n count from : ℕ) (keys : BTreeSet (List ℕ)) → IsSound es index count from → ((y : List ℕ) → contains key_cmp keys y ≡ is_listed index y t)
-    → ((y : List ℕ) (i : ℕ) → is_listed index' y i ≡ cond (t == i) false (is_listed index y i)) → IsTaken index' t → IsThinning es es index' t n count from keys.keys
+pub thinning_first : (es : Stored) (index index' : Index) (t n count from : ℕ) (keys : List (List ℕ)) → IsSound es index count from → ((y : List ℕ) → has y keys ≡ is_listed index y t)
+    → ((y : List ℕ) (i : ℕ) → is_listed index' y i ≡ cond (t == i) false (is_listed index y i)) → IsTaken index' t → IsThinning es es index' t n count from keys
 thinning_first es index index' t n count from keys sound among others taken = record {
   partly = partly_none es n;
   settled = λ y some. inr (among y ∙ sound.indexed y t ∙ some);
@@ -72,12 +68,12 @@ thinning_next es fs gs index index' t n count from r x rest more is thin fewer l
 pub thinning_ends : (es fs : Stored) (index : Index) (t n count from : ℕ) (rest : List (List ℕ)) → [] ≡ rest → IsThinning es fs index t n count from rest → (y : List ℕ) (i : ℕ) → is_some (found_in fs y t) ≡ true → is_dead_in fs n y i ≡ false
 thinning_ends es fs index t n count from rest none s y i some = elim (s.settled y (ap is_some (sym (found_before es fs n s.partly y t some)) ∙ some)) [
   | inl settled ↦ settled i
-  | inr any ↦ absurd (let no : false ≡ true = ap (list_any (is_at (key_cmp y))) none ∙ any in (let f : false ≡ true = no in cc))
+  | inr any ↦ absurd (let no : false ≡ true = ap (has y) none ∙ any in (let f : false ≡ true = no in cc))
 ]
 
 -- those of the keys that still have a version at t were put back
-pub thinning_sound : (es fs : Stored) (index index' index'' : Index) (t n count from : ℕ) (keys kept : BTreeSet (List ℕ)) (rest : List (List ℕ)) → IsIndexOf es index → ((y : List ℕ) → contains key_cmp keys y ≡ is_listed index y t)
-    → kept.keys ≡ filter (λ x. is_some (found_in fs x t)) keys.keys → ((y : List ℕ) (i : ℕ) → is_listed index'' y i ≡ cond (t == i) (contains key_cmp kept y) (is_listed index' y i)) → IsThinning es fs index' t n count from rest → IsSound fs index'' count from
+pub thinning_sound : (es fs : Stored) (index index' index'' : Index) (t n count from : ℕ) (keys kept : List (List ℕ)) (rest : List (List ℕ)) → IsIndexOf es index → ((y : List ℕ) → has y keys ≡ is_listed index y t)
+    → kept ≡ filter (λ x. is_some (found_in fs x t)) keys → ((y : List ℕ) (i : ℕ) → is_listed index'' y i ≡ cond (t == i) (has y kept) (is_listed index' y i)) → IsThinning es fs index' t n count from rest → IsSound fs index'' count from
 thinning_sound es fs index index' index'' t n count from keys kept rest indexed among filtered back s = record {
   counted = s.counted;
   indexed = λ y i. back y i ∙ by_test (t == i)
@@ -86,17 +82,13 @@ thinning_sound es fs index index' index'' t n count from keys kept rest indexed 
   settled = settled_partly es fs from n s.partly s.before;
 }
   where
-    -- a key that passes a test is among those that pass
-    among_those : (y : List ℕ) (xs : List (List ℕ)) → list_any (is_at (key_cmp y)) (filter (λ x. is_some (found_in fs x t)) xs) ≡ (list_any (is_at (key_cmp y)) xs && is_some (found_in fs y t))
-    among_those y xs = is_member-filter (eq_by_cmp_equiv nat_list_cmp_total) (λ x. is_some (found_in fs x t)) y (λ x same. ap (λ z. is_some (found_in fs z t)) (same_at x y same)) xs
-
-    old : (y : List ℕ) → (contains key_cmp keys y && is_some (found_in fs y t)) ≡ is_some (found_in fs y t)
+    old : (y : List ℕ) → (is_some (found_in fs y t) && has y keys) ≡ is_some (found_in fs y t)
     old y = by_test (is_some (found_in fs y t))
-        (λ on. ap (λ b. b && is_some (found_in fs y t)) (among y ∙ indexed y t ∙ ap is_some (sym (found_before es fs n s.partly y t on)) ∙ on))
-        (λ off. ap (λ b. contains key_cmp keys y && b) off ∙ and-false (contains key_cmp keys y) ∙ sym off)
+        (λ on. rw on (among y ∙ indexed y t ∙ ap is_some (sym (found_before es fs n s.partly y t on)) ∙ on))
+        (λ off. rw off refl)
 
-    stays : (y : List ℕ) → contains key_cmp kept y ≡ is_some (found_in fs y t)
-    stays y = ap (list_any (is_at (key_cmp y))) filtered ∙ among_those y keys.keys ∙ old y
+    stays : (y : List ℕ) → has y kept ≡ is_some (found_in fs y t)
+    stays y = ap (has y) filtered ∙ has_filtered (λ x. is_some (found_in fs x t)) y keys ∙ old y
 
 -- ---- from one timestamp to the next
 

@@ -1,12 +1,9 @@
 -- The first committed version after a place.
 use Rattle.std.proofs.Common.{◌≡◌, ℕ, ◌<◌, ◌≤◌, ◌⊎◌, ◌==◌, Bool, true, false, ◌&&◌, List, [], ◌∷◌, Option, Some, None, refl, sym, ◌∙◌, ap, subst, inl, inr, arith}
 use Rattle.std.specs.Prelude.{nat_lt, is_some, filter, MatchOption}
-use Rattle.std.specs.List.{list_any}
 use Rattle.std.specs.Map.{keys_of}
-use Rattle.std.specs.BTreeMap.{is_at}
 use Rattle.std.specs.BTreeMap.Range.{range_contains}
-use Rattle.std.specs.BTreeSet.{BTreeSet, IsOrdered, contains}
-use Rattle.std.specs.declared.ops.Bound.TheVariants.{Included, Excluded, Unbounded}
+use Rattle.std.specs.declared.ops.Bound.TheVariants.{Included, Excluded}
 use Rattle.std.specs.Ordering.{is_lt, nat_cmp, ordering_reverse}
 use Rattle.std.specs.declared.cmp.Ordering.TheVariants.{Less}
 use Rattle.std.specs.List.{AllByRecursion}
@@ -16,9 +13,9 @@ use Rattle.std.proofs.lemmas.Bool.Decides.{nat_tests}
 use Rattle.std.proofs.lemmas.Cmp.{nat_list_cmp_total, ranked, tied_itself}
 use Rattle.timestamps.specs.Bytes.{key_cmp}
 use Rattle.spans.specs.KeyOrder.{key_lt}
-use Rattle.spans.proofs.Ascending.{rising_keys}
-use Rattle.spans.proofs.Keyed.{IsIn, RisingKeys, filter_in, filter_rises}
+use Rattle.spans.proofs.Keyed.{IsIn, RisingKeys, filter_in}
 use Rattle.spans.proofs.Steps.{by_test}
+use Rattle.spans.proofs.WriteSets.{has, has_in}
 use Rattle.version_chain.specs.declared.chain.Version.{Version}
 use Rattle.version_chain.specs.declared.index.Index.{Index}
 use Rattle.version_chain.specs.Chains.{found_in}
@@ -26,7 +23,7 @@ use Rattle.version_chain.specs.Stores.{Stored, after_of, is_committed, version_i
 use Rattle.version_chain.specs.Indexes.{is_listed, listed_in, IsFirstBetween, IsIndexOf, AreBetween}
 use Rattle.version_chain.specs.Following.{is_before, is_after_place, IsLeft, IsNoneAfter, IsFirstAfter, IsCommittedAt, IsNoneAmong, IsFirstAmong}
 use Rattle.version_chain.proofs.Dead.{unless_true}
-use Rattle.version_chain.proofs.Indexes.{Keyed, listed_first, same_at}
+use Rattle.version_chain.proofs.Indexes.{Keyed, listed_first}
 
 -- what is found, or that there is none, in other words
 pub in_other_words : {A : Type 0} (o : Option A) (P P' : Type 0) (Q Q' : A → Type 0) → (P → P') → ((x : A) → Q x → Q' x) → MatchOption o P Q → MatchOption o P' Q'
@@ -78,13 +75,6 @@ first_above s ts key through x v beside is = record {
 
 -- ---- the keys of a timestamp
 
-in_of_any : (y : List ℕ) (keys : List (List ℕ)) → list_any (is_at (key_cmp y)) keys ≡ true → IsIn y keys
-in_of_any y [] none = (let no : false ≡ true = none in cc)
-in_of_any y (x ∷ keys) any = elim (or_cases (is_at (key_cmp y) x) (list_any (is_at (key_cmp y)) keys) any) [
-  | inl here ↦ inl (sym (same_at x y here))
-  | inr there ↦ inr (in_of_any y keys there)
-]
-
 -- what is committed is listed
 committed_listed : (s : Stored) (index : Index) → IsIndexOf s index → (y : List ℕ) (i : ℕ) → is_committed_in s y i ≡ true → is_listed index y i ≡ true
 committed_listed s index is y i done = is y i ∙ some (found_in s y i) done
@@ -93,11 +83,8 @@ committed_listed s index is y i done = is y i ∙ some (found_in s y i) done
     some None e = e
     some (Some v) e = refl
 
-pub rising_part : (p : List ℕ → Bool) (keys : BTreeSet (List ℕ)) (part : List (List ℕ)) → IsOrdered key_cmp keys → part ≡ filter p keys.keys → RisingKeys part
-rising_part p keys part ordered is = subst RisingKeys (sym is) (filter_rises p keys.keys (rising_keys keys.keys ordered))
-
-in_part : (p : List ℕ → Bool) (keys : BTreeSet (List ℕ)) (part : List (List ℕ)) → part ≡ filter p keys.keys → (y : List ℕ) → p y ≡ true → contains key_cmp keys y ≡ true → IsIn y part
-in_part p keys part is y passes among = subst (IsIn y) (sym is) ((filter_in p y keys.keys).1 (passes, in_of_any y keys.keys among))
+in_part : (p : List ℕ → Bool) (keys part : List (List ℕ)) → part ≡ filter p keys → (y : List ℕ) → p y ≡ true → has y keys ≡ true → IsIn y part
+in_part p keys part is y passes among = subst (IsIn y) (sym is) ((filter_in p y keys).1 (passes, (has_in y keys).1 among))
 
 -- where what is left is at t among some keys, or above t
 first_is : (s : Stored) (ts : ℕ) (key : Option (List ℕ)) (through t : ℕ) (keys : List (List ℕ)) (x : List ℕ) (v : Version) → is_after_place ts key x t ≡ true → t ≤ through
@@ -147,26 +134,26 @@ unseen_meets s keys t x unseen v is are = record {
 -- ---- at the place's timestamp
 
 -- what is left there is among the keys above the place's
-abbrev pub AreBeside : List ℕ → BTreeSet (List ℕ) → List (List ℕ) → Type 0
-AreBeside key keys part = part ≡ filter (range_contains key_cmp (Excluded key) Unbounded) keys.keys
+abbrev pub AreBeside : List ℕ → List (List ℕ) → List (List ℕ) → Type 0
+AreBeside key keys part = part ≡ filter (key_lt key) keys
 
-left_beside : (s : Stored) (index : Index) (ts : ℕ) (key : List ℕ) (keys : BTreeSet (List ℕ)) (part : List (List ℕ)) → IsIndexOf s index → ((y : List ℕ) → contains key_cmp keys y ≡ is_listed index y ts) → AreBeside key keys part
+left_beside : (s : Stored) (index : Index) (ts : ℕ) (key : List ℕ) (keys : List (List ℕ)) (part : List (List ℕ)) → IsIndexOf s index → ((y : List ℕ) → has y keys ≡ is_listed index y ts) → AreBeside key keys part
     → (y : List ℕ) (i : ℕ) → IsLeft s ts (Some key) ts y i → (i ≡ ts) × IsIn y part
 left_beside s index ts key keys part indexed listed are y i left =
     let at = at_place ts key y i left.later left.low in
-    (at.0, in_part (range_contains key_cmp (Excluded key) Unbounded) keys part are y (rw at.1 refl) (listed y ∙ committed_listed s index indexed y ts (ap (is_committed_in s y) (sym at.0) ∙ left.committed)))
+    (at.0, in_part (key_lt key) keys part are y at.1 (listed y ∙ committed_listed s index indexed y ts (ap (is_committed_in s y) (sym at.0) ∙ left.committed)))
 
-pub none_beside : (s : Stored) (index : Index) (ts : ℕ) (key : List ℕ) (keys : BTreeSet (List ℕ)) (part : List (List ℕ)) → IsIndexOf s index → ((y : List ℕ) → contains key_cmp keys y ≡ is_listed index y ts) → AreBeside key keys part
+pub none_beside : (s : Stored) (index : Index) (ts : ℕ) (key : List ℕ) (keys : List (List ℕ)) (part : List (List ℕ)) → IsIndexOf s index → ((y : List ℕ) → has y keys ≡ is_listed index y ts) → AreBeside key keys part
     → IsNoneAmong s part ts → IsNoneAfter s ts (Some key) ts
 none_beside s index ts key keys part indexed listed are none y i left =
     let here = left_beside s index ts key keys part indexed listed are y i left in
     both_ways _ (none y here.1) (ap (is_committed_in s y) (sym here.0) ∙ left.committed)
 
-pub is_first_beside : (s : Stored) (index : Index) (ts : ℕ) (key : List ℕ) (keys : BTreeSet (List ℕ)) (part : List (List ℕ)) (x : List ℕ) (v : Version) → IsIndexOf s index → ((y : List ℕ) → contains key_cmp keys y ≡ is_listed index y ts)
+pub is_first_beside : (s : Stored) (index : Index) (ts : ℕ) (key : List ℕ) (keys : List (List ℕ)) (part : List (List ℕ)) (x : List ℕ) (v : Version) → IsIndexOf s index → ((y : List ℕ) → has y keys ≡ is_listed index y ts)
     → AreBeside key keys part → IsFirstAmong s part ts x v → IsFirstAfter s ts (Some key) ts x v
 is_first_beside s index ts key keys part x v indexed listed are is =
-    let within = (filter_in (range_contains key_cmp (Excluded key) Unbounded) x keys.keys).0 (subst (IsIn x) are is.among) in
-    first_is s ts (Some key) ts ts part x v (after_beside ts key x (and_parts (key_lt key x) true within.0).0) (omega arith)
+    let within = (filter_in (key_lt key) x keys).0 (subst (IsIn x) are is.among) in
+    first_is s ts (Some key) ts ts part x v (after_beside ts key x within.0) (omega arith)
     (λ y i left. inl (left_beside s index ts key keys part indexed listed are y i left)) is
 
 -- ---- the timestamps above the place's
@@ -180,7 +167,7 @@ listed_above a b (e ∷ es) are y i listed = elim (listed_first e.0 e.1 es y i l
 ]
 
 -- the first of them
-pub is_first_between : (index : Index) (a b t : ℕ) (keys : BTreeSet (List ℕ)) (es rest : Keyed) → ((y : List ℕ) (i : ℕ) → a < i → i ≤ b → listed_in es y i ≡ is_listed index y i) → AreBetween a b es → es ≡ (t, keys) ∷ rest → IsFirstBetween index a b t
+pub is_first_between : (index : Index) (a b t : ℕ) (keys : List (List ℕ)) (es rest : Keyed) → ((y : List ℕ) (i : ℕ) → a < i → i ≤ b → listed_in es y i ≡ is_listed index y i) → AreBetween a b es → es ≡ (t, keys) ∷ rest → IsFirstBetween index a b t
 is_first_between index a b t keys es rest listed are is =
     let first : AreBetween a b ((t, keys) ∷ rest) = subst (AreBetween a b) is are in
     record {
@@ -198,7 +185,7 @@ between_lower a c b [] low are = tt
 between_lower a c b (e ∷ es) low are = ((let above = are.0 in omega arith), are.1, are.2)
 
 -- what a range of an ordered map has
-pub are_between : (a b : ℕ) (es : Keyed) → IsStrictlySortedBy nat_cmp (keys_of es) → AreBetween a b (filter (λ (e : ℕ × BTreeSet (List ℕ)). range_contains nat_cmp (Excluded a) (Included b) e.0) es)
+pub are_between : (a b : ℕ) (es : Keyed) → IsStrictlySortedBy nat_cmp (keys_of es) → AreBetween a b (filter (λ (e : ℕ × List (List ℕ)). range_contains nat_cmp (Excluded a) (Included b) e.0) es)
 unfolding IsStrictlySortedBy
 are_between a b [] sorted = tt
 are_between a b (e ∷ es) sorted = by_test (range_contains nat_cmp (Excluded a) (Included b) e.0)
@@ -209,7 +196,7 @@ are_between a b (e ∷ es) sorted = by_test (range_contains nat_cmp (Excluded a)
     in_bounds a b t on = (grind (arith, nat_tests), grind (arith, nat_tests))
 
     above_all : (c a b : ℕ) (es : Keyed) → AllByRecursion (λ t. nat_cmp c t ≡ Less) (keys_of es) → IsStrictlySortedBy nat_cmp (keys_of es)
-        → AreBetween c b (filter (λ (e : ℕ × BTreeSet (List ℕ)). range_contains nat_cmp (Excluded a) (Included b) e.0) es)
+        → AreBetween c b (filter (λ (e : ℕ × List (List ℕ)). range_contains nat_cmp (Excluded a) (Included b) e.0) es)
     above_all c a b [] all sorted = tt
     above_all c a b (e ∷ es) all sorted = by_test (range_contains nat_cmp (Excluded a) (Included b) e.0)
         (λ on. let within = in_bounds a b e.0 on in rw on (ranked c e.0 Less (sym all.0), within.1, above_all e.0 a b es sorted.0 sorted.1))
@@ -221,17 +208,17 @@ pub record IsAhead (s : Stored) (a b : ℕ) (es : Keyed) : Type 0 where
   pub all : (y : List ℕ) (i : ℕ) → IsLeft s a None b y i → listed_in es y i ≡ true
 
 -- all keys of a timestamp
-abbrev pub AreWhole : BTreeSet (List ℕ) → List (List ℕ) → Type 0
-AreWhole keys part = part ≡ filter (range_contains key_cmp Unbounded Unbounded) keys.keys
+abbrev pub AreWhole : List (List ℕ) → List (List ℕ) → Type 0
+AreWhole keys part = part ≡ keys
 
-left_next : (t : ℕ) (keys : BTreeSet (List ℕ)) (es : Keyed) (part : List (List ℕ)) → AreWhole keys part → (y : List ℕ) (i : ℕ) → listed_in ((t, keys) ∷ es) y i ≡ true → ((i ≡ t) × IsIn y part) ⊎ (listed_in es y i ≡ true)
+left_next : (t : ℕ) (keys : List (List ℕ)) (es : Keyed) (part : List (List ℕ)) → AreWhole keys part → (y : List ℕ) (i : ℕ) → listed_in ((t, keys) ∷ es) y i ≡ true → ((i ≡ t) × IsIn y part) ⊎ (listed_in es y i ≡ true)
 left_next t keys es part are y i listed = elim (listed_first t keys es y i listed) [
-  | inl here ↦ inl (here.0, in_part (range_contains key_cmp Unbounded Unbounded) keys part are y refl here.1)
+  | inl here ↦ inl (here.0, subst (IsIn y) (sym are) ((has_in y keys).1 here.1))
   | inr there ↦ inr there
 ]
 
 -- none of the keys of the next timestamp has a committed version
-pub ahead_goes_on : (s : Stored) (a b t : ℕ) (keys : BTreeSet (List ℕ)) (es : Keyed) (part : List (List ℕ)) → AreWhole keys part → IsNoneAmong s part t → IsAhead s a b ((t, keys) ∷ es) → IsAhead s a b es
+pub ahead_goes_on : (s : Stored) (a b t : ℕ) (keys : List (List ℕ)) (es : Keyed) (part : List (List ℕ)) → AreWhole keys part → IsNoneAmong s part t → IsAhead s a b ((t, keys) ∷ es) → IsAhead s a b es
 ahead_goes_on s a b t keys es part are none ahead = record {
   between = between_lower a t b es ahead.between.0 ahead.between.2;
   all = λ y i left. elim (left_next t keys es part are y i (ahead.all y i left)) [
@@ -241,7 +228,7 @@ ahead_goes_on s a b t keys es part are none ahead = record {
 }
 
 -- one of them has
-pub ahead_ends : (s : Stored) (a b t : ℕ) (keys : BTreeSet (List ℕ)) (es : Keyed) (part : List (List ℕ)) (x : List ℕ) (v : Version) → AreWhole keys part → IsFirstAmong s part t x v → IsAhead s a b ((t, keys) ∷ es) → IsFirstAfter s a None b x v
+pub ahead_ends : (s : Stored) (a b t : ℕ) (keys : List (List ℕ)) (es : Keyed) (part : List (List ℕ)) (x : List ℕ) (v : Version) → AreWhole keys part → IsFirstAmong s part t x v → IsAhead s a b ((t, keys) ∷ es) → IsFirstAfter s a None b x v
 ahead_ends s a b t keys es part x v are is ahead =
     first_is s a None b t part x v (lt-ltb a t ahead.between.0) ahead.between.1 (λ y i left. elim (left_next t keys es part are y i (ahead.all y i left)) [
       | inl here ↦ inl here

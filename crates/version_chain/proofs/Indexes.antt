@@ -1,75 +1,66 @@
 -- What is listed after the keys of one timestamp changed, and the tie of an index to the chains.
-use Rattle.std.proofs.Common.{◌≡◌, ℕ, ◌<◌, ◌≤◌, ◌⊎◌, inl, inr, ◌==◌, Bool, true, false, cond, ◌&&◌, ◌||◌, List, [], ◌∷◌, length, Option, Some, eq-eqb, refl, sym, ◌∙◌, ap, subst, arith}
-use Rattle.std.specs.Prelude.{bytes_eq, option_map}
-use Rattle.std.specs.List.{filter, list_any}
+use Rattle.std.proofs.Common.{◌≡◌, ℕ, ◌<◌, ◌≤◌, ◌⊎◌, inl, inr, ◌==◌, true, false, cond, ◌&&◌, ◌||◌, List, [], ◌∷◌, Option, Some, eq-eqb, refl, sym, ◌∙◌, ap, subst, arith}
+use Rattle.std.specs.Prelude.{bytes_eq}
+use Rattle.std.specs.List.{filter}
 use Rattle.std.specs.Map.{lookup}
 use Rattle.std.specs.BTreeMap.{BTreeMap, is_at}
 use Rattle.std.specs.BTreeMap.Range.{range_contains}
 use Rattle.std.specs.declared.ops.Bound.TheVariants.{Excluded, Included}
-use Rattle.std.specs.BTreeSet.{BTreeSet, contains}
 use Rattle.std.specs.Ordering.{nat_cmp}
 use Rattle.std.proofs.lemmas.Bool.{eqb-true, or_cases}
 use Rattle.std.proofs.lemmas.Bool.Decides.{nat_tests}
-use Rattle.std.proofs.lemmas.Map.Text.{is_eq-slice_cmp}
-use Rattle.timestamps.specs.Bytes.{key_cmp}
+use Rattle.spans.specs.Keys.{insert_key}
 use Rattle.spans.proofs.Steps.{by_test, same_key}
+use Rattle.spans.proofs.WriteSets.{has, has_added}
 use Rattle.version_chain.specs.Indexes.{is_among, listed_in}
 
 -- the keys of each timestamp
 abbrev pub Keyed : Type 0
-Keyed = List (ℕ × BTreeSet (List ℕ))
+Keyed = List (ℕ × List (List ℕ))
 
 -- the look-ups after the keys of t became w
-abbrev pub ArePutAt : Keyed → Keyed → ℕ → Option (BTreeSet (List ℕ)) → Type 0
+abbrev pub ArePutAt : Keyed → Keyed → ℕ → Option (List (List ℕ)) → Type 0
 ArePutAt es fs t w = (q : ℕ) → lookup (is_at (nat_cmp q)) fs ≡ cond (is_at (nat_cmp t) q) w (lookup (is_at (nat_cmp q)) es)
 
 is_at_number : (t i : ℕ) → is_at (nat_cmp t) i ≡ (t == i)
 is_at_number t i = grind (arith, nat_tests)
 
 -- two changes of the same timestamp in turn
-pub put_at_twice : (es fs gs : Keyed) (t : ℕ) (v w : Option (BTreeSet (List ℕ))) → ArePutAt es fs t v → ArePutAt fs gs t w → ArePutAt es gs t w
+pub put_at_twice : (es fs gs : Keyed) (t : ℕ) (v w : Option (List (List ℕ))) → ArePutAt es fs t v → ArePutAt fs gs t w → ArePutAt es gs t w
 put_at_twice es fs gs t v w first second q = second q ∙ by_test (is_at (nat_cmp t) q)
     (λ here. rw here refl)
     (λ there. rw there (first q ∙ rw there refl))
 
-pub listed_more : (es fs : Keyed) (x : List ℕ) (t : ℕ) (w : Option (BTreeSet (List ℕ))) → ArePutAt es fs t w → ((y : List ℕ) → is_among w y ≡ (bytes_eq x y || listed_in es y t))
+pub listed_more : (es fs : Keyed) (x : List ℕ) (t : ℕ) (w : Option (List (List ℕ))) → ArePutAt es fs t w → ((y : List ℕ) → is_among w y ≡ (bytes_eq x y || listed_in es y t))
     → (y : List ℕ) (i : ℕ) → listed_in fs y i ≡ (((t == i) && bytes_eq x y) || listed_in es y i)
 listed_more es fs x t w put among y i = ap (λ o. is_among o y) (put i) ∙ by_test (t == i)
     (λ here. rw (is_at_number t i, here) (among y ∙ ap (λ n. bytes_eq x y || listed_in es y n) (eqb-true t i here)))
     (λ there. rw (is_at_number t i, there) refl)
 
 -- the same of a map that is the one after a write
-pub listed_put : (m n k : BTreeMap ℕ (BTreeSet (List ℕ))) (x z : List ℕ) (t : ℕ) (w : Option (BTreeSet (List ℕ))) → n ≡ k → z ≡ x → ArePutAt m.entries k.entries t w → ((y : List ℕ) → is_among w y ≡ (bytes_eq z y || listed_in m.entries y t))
+pub listed_put : (m n k : BTreeMap ℕ (List (List ℕ))) (x z : List ℕ) (t : ℕ) (w : Option (List (List ℕ))) → n ≡ k → z ≡ x → ArePutAt m.entries k.entries t w → ((y : List ℕ) → is_among w y ≡ (bytes_eq z y || listed_in m.entries y t))
     → (y : List ℕ) (i : ℕ) → listed_in n.entries y i ≡ (((t == i) && bytes_eq x y) || listed_in m.entries y i)
 listed_put m n k x z t w is key put among = subst (λ l. (y : List ℕ) (i : ℕ) → listed_in l.entries y i ≡ (((t == i) && bytes_eq x y) || listed_in m.entries y i)) (sym is)
     (listed_more m.entries k.entries x t w put (subst (λ u. (y : List ℕ) → is_among w y ≡ (bytes_eq u y || listed_in m.entries y t)) key among))
 
-pub listed_less : (es fs : Keyed) (x : List ℕ) (t : ℕ) (w : Option (BTreeSet (List ℕ))) → ArePutAt es fs t w → ((y : List ℕ) → is_among w y ≡ cond (bytes_eq x y) false (listed_in es y t))
+pub listed_less : (es fs : Keyed) (x : List ℕ) (t : ℕ) (w : Option (List (List ℕ))) → ArePutAt es fs t w → ((y : List ℕ) → is_among w y ≡ cond (bytes_eq x y) false (listed_in es y t))
     → (y : List ℕ) (i : ℕ) → listed_in fs y i ≡ cond ((t == i) && bytes_eq x y) false (listed_in es y i)
 listed_less es fs x t w put among y i = ap (λ o. is_among o y) (put i) ∙ by_test (t == i)
     (λ here. rw (is_at_number t i, here) (among y ∙ ap (λ n. cond (bytes_eq x y) false (listed_in es y n)) (eqb-true t i here)))
     (λ there. rw (is_at_number t i, there) refl)
 
--- a set that one key came to, or went from
-pub one_more : (x y : List ℕ) (b c : Bool) → c ≡ cond (is_at (key_cmp x) y) true b → c ≡ (bytes_eq x y || b)
-one_more x y b c e = e ∙ ap (λ h. cond h true b) (is_eq-slice_cmp x y) ∙ by_test (bytes_eq x y) (λ on. rw on refl) (λ off. rw off refl)
-
-pub one_less : (x y : List ℕ) (b c : Bool) → c ≡ cond (is_at (key_cmp x) y) false b → c ≡ cond (bytes_eq x y) false b
-one_less x y b c e = e ∙ ap (λ h. cond h false b) (is_eq-slice_cmp x y)
-
--- nothing is in an empty set
-pub none_in : (keys : List (List ℕ)) (y : List ℕ) → length keys ≡ 0 → list_any (is_at (key_cmp y)) keys ≡ false
-none_in [] y none = refl
-none_in (x ∷ keys) y none = absurd (omega arith)
+-- a key came to the others, or went from them
+pub one_more : (x y : List ℕ) (keys : List (List ℕ)) → has y (insert_key x keys) ≡ (bytes_eq x y || has y keys)
+one_more x y keys = has_added y x keys
 
 -- what lies between two timestamps is listed as in the whole
-pub listed_between : (a b : ℕ) (es : Keyed) (y : List ℕ) (i : ℕ) → a < i → i ≤ b → listed_in (filter (λ (e : ℕ × BTreeSet (List ℕ)). range_contains nat_cmp (Excluded a) (Included b) e.0) es) y i ≡ listed_in es y i
+pub listed_between : (a b : ℕ) (es : Keyed) (y : List ℕ) (i : ℕ) → a < i → i ≤ b → listed_in (filter (λ (e : ℕ × List (List ℕ)). range_contains nat_cmp (Excluded a) (Included b) e.0) es) y i ≡ listed_in es y i
 listed_between a b es y i above low = ap (λ o. is_among o y) (same es)
   where
     within : range_contains nat_cmp (Excluded a) (Included b) i ≡ true
     within = grind (arith, nat_tests)
 
-    same : (es : Keyed) → lookup (is_at (nat_cmp i)) (filter (λ (e : ℕ × BTreeSet (List ℕ)). range_contains nat_cmp (Excluded a) (Included b) e.0) es) ≡ lookup (is_at (nat_cmp i)) es
+    same : (es : Keyed) → lookup (is_at (nat_cmp i)) (filter (λ (e : ℕ × List (List ℕ)). range_contains nat_cmp (Excluded a) (Included b) e.0) es) ≡ lookup (is_at (nat_cmp i)) es
     same [] = refl
     same (e ∷ es) = by_test (is_at (nat_cmp i) e.0)
         (λ here.
@@ -81,48 +72,40 @@ listed_between a b es y i above low = ap (λ o. is_among o y) (same es)
         (λ off. rw (off, there) (same es)))
 
 -- the first of what is listed, and the rest
-pub listed_first : (t : ℕ) (keys : BTreeSet (List ℕ)) (es : Keyed) (y : List ℕ) (i : ℕ) → listed_in ((t, keys) ∷ es) y i ≡ true → ((i ≡ t) × (contains key_cmp keys y ≡ true)) ⊎ (listed_in es y i ≡ true)
+pub listed_first : (t : ℕ) (keys : List (List ℕ)) (es : Keyed) (y : List ℕ) (i : ℕ) → listed_in ((t, keys) ∷ es) y i ≡ true → ((i ≡ t) × (has y keys ≡ true)) ⊎ (listed_in es y i ≡ true)
 listed_first t keys es y i is = by_test (is_at (nat_cmp i) t)
     (λ here. inl (eqb-true i t (sym (is_at_number i t) ∙ here), rw here at is))
     (λ there. inr (rw there at is))
 
 -- ---- keys that are taken, and put back
 
-pub same_at : (x y : List ℕ) → is_at (key_cmp y) x ≡ true → y ≡ x
-same_at x y e = same_key y x (sym (is_eq-slice_cmp y x) ∙ e)
-
 -- the key that is next, or one of the rest
-pub next_or_rest : (x y : List ℕ) (xs rest : List (List ℕ)) → xs ≡ x ∷ rest → list_any (is_at (key_cmp y)) xs ≡ true → (y ≡ x) ⊎ (list_any (is_at (key_cmp y)) rest ≡ true)
-next_or_rest x y xs rest is any = elim (or_cases (is_at (key_cmp y) x) (list_any (is_at (key_cmp y)) rest) (ap (list_any (is_at (key_cmp y))) (sym is) ∙ any)) [
-  | inl here ↦ inl (same_at x y here)
+pub next_or_rest : (x y : List ℕ) (xs rest : List (List ℕ)) → xs ≡ x ∷ rest → has y xs ≡ true → (y ≡ x) ⊎ (has y rest ≡ true)
+next_or_rest x y xs rest is any = elim (or_cases (bytes_eq x y) (has y rest) (ap (has y) (sym is) ∙ any)) [
+  | inl here ↦ inl (sym (same_key x y here))
   | inr there ↦ inr there
 ]
 
 -- what is listed after the keys of t became w
-pub listed_where : (es fs : Keyed) (t : ℕ) (w : Option (BTreeSet (List ℕ))) → ArePutAt es fs t w → (y : List ℕ) (i : ℕ) → listed_in fs y i ≡ cond (t == i) (is_among w y) (listed_in es y i)
+pub listed_where : (es fs : Keyed) (t : ℕ) (w : Option (List (List ℕ))) → ArePutAt es fs t w → (y : List ℕ) (i : ℕ) → listed_in fs y i ≡ cond (t == i) (is_among w y) (listed_in es y i)
 listed_where es fs t w put y i = ap (λ o. is_among o y) (put i) ∙ by_test (t == i)
     (λ here. rw (is_at_number t i, here) refl)
     (λ there. rw (is_at_number t i, there) refl)
 
 -- the entry of t has no keys
 abbrev pub IsTakenIn : Keyed → ℕ → Type 0
-IsTakenIn es t = option_map (λ (keys : BTreeSet (List ℕ)). keys.keys) (lookup (is_at (nat_cmp t)) es) ≡ Some []
+IsTakenIn es t = lookup (is_at (nat_cmp t)) es ≡ Some []
 
-pub taken_still : (es fs : Keyed) (t : ℕ) (w : Option (BTreeSet (List ℕ))) → ArePutAt es fs t w → (IsTakenIn es t → option_map (λ (keys : BTreeSet (List ℕ)). keys.keys) w ≡ Some []) → (i : ℕ) → IsTakenIn es i → IsTakenIn fs i
-taken_still es fs t w put still i is = ap (option_map (λ (keys : BTreeSet (List ℕ)). keys.keys)) (put i) ∙ by_test (t == i)
+pub taken_still : (es fs : Keyed) (t : ℕ) (w : Option (List (List ℕ))) → ArePutAt es fs t w → (IsTakenIn es t → w ≡ Some []) → (i : ℕ) → IsTakenIn es i → IsTakenIn fs i
+taken_still es fs t w put still i is = put i ∙ by_test (t == i)
     (λ here. rw (is_at_number t i, here) (still (subst (IsTakenIn es) (sym (eqb-true t i here)) is)))
     (λ there. rw (is_at_number t i, there) is)
 
 -- from no keys none is taken
-pub none_taken : (es : Keyed) (t : ℕ) (keys : BTreeSet (List ℕ)) → lookup (is_at (nat_cmp t)) es ≡ Some keys → IsTakenIn es t → keys.keys ≡ []
-none_taken es t keys found is = let same : Some keys.keys ≡ Some [] = sym (ap (option_map (λ (ks : BTreeSet (List ℕ)). ks.keys)) found) ∙ is in cc
+pub none_taken : (es : Keyed) (t : ℕ) (keys : List (List ℕ)) → lookup (is_at (nat_cmp t)) es ≡ Some keys → IsTakenIn es t → keys ≡ []
+none_taken es t keys found is = let same : Some keys ≡ Some [] = sym found ∙ is in cc
 
-pub emptied : (es fs : Keyed) (t : ℕ) (keys : BTreeSet (List ℕ)) → ArePutAt es fs t (Some keys) → length keys.keys ≡ 0 → IsTakenIn fs t
+pub emptied : (es fs : Keyed) (t : ℕ) (keys : List (List ℕ)) → ArePutAt es fs t (Some keys) → keys ≡ [] → IsTakenIn fs t
 emptied es fs t keys put none =
     let at : is_at (nat_cmp t) t ≡ true = is_at_number t t ∙ eq-eqb t t refl in
-    let here : lookup (is_at (nat_cmp t)) fs ≡ Some keys = put t ∙ ap (λ b. cond b (Some keys) (lookup (is_at (nat_cmp t)) es)) at in
-    ap (option_map (λ (ks : BTreeSet (List ℕ)). ks.keys)) here ∙ ap Some (no_keys keys.keys none)
-  where
-    no_keys : (xs : List (List ℕ)) → length xs ≡ 0 → xs ≡ []
-    no_keys [] e = refl
-    no_keys (x ∷ xs) e = absurd (omega arith)
+    put t ∙ ap (λ b. cond b (Some keys) (lookup (is_at (nat_cmp t)) es)) at ∙ ap Some none

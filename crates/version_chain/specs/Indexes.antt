@@ -1,22 +1,21 @@
 -- Which keys have a version at each timestamp.
-use Rattle.std.specs.Prelude.{ℕ, List, [], ◌∷◌, Bool, bytes_eq, false, if◌then◌else◌, ◌&&◌, ◌||◌, ◌==◌, ◌≡◌, ◌<◌, ◌≤◌, Option, Some, None, is_some, option_map}
+use Rattle.std.specs.Prelude.{ℕ, List, [], ◌∷◌, Bool, bytes_eq, false, if◌then◌else◌, ◌&&◌, ◌||◌, ◌==◌, ◌≡◌, ◌<◌, ◌≤◌, Option, Some, None, is_some}
 use Rattle.std.specs.Map.{lookup}
 use Rattle.std.specs.BTreeMap.{is_at}
-use Rattle.std.specs.BTreeSet.{BTreeSet, contains}
 use Rattle.std.specs.Ordering.{nat_cmp}
-use Rattle.timestamps.specs.Bytes.{key_cmp}
+use Rattle.spans.proofs.WriteSets.{has}
 use Rattle.version_chain.specs.declared.index.Index.{Index}
 use Rattle.version_chain.specs.Chains.{Entry, found_in}
 use Rattle.version_chain.specs.Stores.{IsCountOf}
 use Rattle.version_chain.specs.Dead.{is_dead_in}
 
 -- x is one of the keys, if there are any
-abbrev pub is_among : Option (BTreeSet (List ℕ)) → List ℕ → Bool
+abbrev pub is_among : Option (List (List ℕ)) → List ℕ → Bool
 is_among None x = false
-is_among (Some keys) x = contains key_cmp keys x
+is_among (Some keys) x = has x keys
 
 -- x is among the keys of t
-abbrev pub listed_in : List (ℕ × BTreeSet (List ℕ)) → List ℕ → ℕ → Bool
+abbrev pub listed_in : List (ℕ × List (List ℕ)) → List ℕ → ℕ → Bool
 listed_in es x t = is_among (lookup (is_at (nat_cmp t)) es) x
 
 abbrev pub is_listed : Index → List ℕ → ℕ → Bool
@@ -36,7 +35,7 @@ IsUnlisted index index' x gone = (y : List ℕ) (i : ℕ) → is_listed index' y
 
 -- t has an entry, whose keys are taken
 abbrev pub IsTaken : Index → ℕ → Type 0
-IsTaken index t = option_map (λ (keys : BTreeSet (List ℕ)). keys.keys) (lookup (is_at (nat_cmp t)) index.keys.entries) ≡ Some []
+IsTaken index t = lookup (is_at (nat_cmp t)) index.keys.entries ≡ Some []
 
 -- no key is listed above a and at or below b
 abbrev pub IsNoneBetween : Index → ℕ → ℕ → Type 0
@@ -49,7 +48,7 @@ pub record IsFirstBetween (index : Index) (a b t : ℕ) : Type 0 where
   pub first : (y : List ℕ) (i : ℕ) → a < i → i < t → is_listed index y i ≡ false
 
 -- rising timestamps above a and at or below b
-abbrev pub AreBetween : ℕ → ℕ → List (ℕ × BTreeSet (List ℕ)) → Type 0
+abbrev pub AreBetween : ℕ → ℕ → List (ℕ × List (List ℕ)) → Type 0
 AreBetween a b [] = Unit {0}
 AreBetween a b (e ∷ es) = (a < e.0) × (e.0 ≤ b) × AreBetween e.0 b es
 

@@ -14,11 +14,12 @@ use crate::chain::{Chain, Version};
 use crate::in_span::{InSpan, start_at};
 use crate::index::Index;
 use crate::steps::Steps;
+use key_set::Keys;
 use spans::bound::Bound;
 use spans::span::Span;
 use std::alloc::{AllocError, Global};
+use std::collections::BTreeMap;
 use std::collections::btree_map::Range;
-use std::collections::{BTreeMap, btree_set};
 use std::marker::Model;
 use std::ops;
 use timestamps::key::Key;
@@ -90,7 +91,7 @@ impl Chains {
     /// The first of the keys with a committed version at `ts`, with that version.
     pub(crate) fn first_committed<'a>(
         &'a self,
-        keys: btree_set::Range<'a, Key>,
+        keys: Keys<'a>,
         ts: u64,
     ) -> Option<(&'a Key, &'a Version)>
         requires { RisingKeys keys }

@@ -4,13 +4,13 @@ ghost use Rattle.std.specs.Option.{option_copied};
 ghost use Rattle.version_chain.specs.Dead.{is_dead_at};
 ghost use Rattle.version_chain.specs.Layout.{versions_in};
 ghost use Rattle.version_chain.specs.Indexes.{is_among, is_listed, listed_in, AreBetween, IsFirstBetween, IsListedAt, IsNoneBetween, IsTaken, IsUnlistedAt, IsUnlisted};
-ghost use Rattle.timestamps.specs.Bytes.{key_cmp};
-ghost use Rattle.std.specs.BTreeSet.{contains};
+ghost use Rattle.spans.proofs.WriteSets.{has};
 
 use crate::versions::Versions;
+use key_set::KeySet;
 use std::alloc::{AllocError, Global};
+use std::collections::BTreeMap;
 use std::collections::btree_map::{Entry, Range};
-use std::collections::{BTreeMap, BTreeSet};
 use std::mem;
 use std::ops::Bound;
 use timestamps::key::Key;
@@ -20,7 +20,7 @@ use timestamps::ts_key::TsKey;
 #[derive(Drop)]
 pub(crate) struct Index {
     alloc: Global,
-    keys: BTreeMap<TsKey, BTreeSet<Key>>,
+    keys: BTreeMap<TsKey, KeySet>,
 }
 
 impl Index {
@@ -39,15 +39,13 @@ impl Index {
         ensures ok { OnOk result (IsListedAt self.old self.new ts key.now) }
         ensures err { OnErr result ((y : List ℕ) (i : ℕ) → is_listed self.new y i ≡ is_listed self.old y i) }
     {
-        let key = key.copy()?;
         match self.keys.entry(TsKey(ts))? {
             Entry::Occupied(entry) => {
-                entry.into_mut().insert(key)?;
+                entry.into_mut().add(key)?;
             }
             Entry::Vacant(entry) => {
-                let mut keys = BTreeSet::new(self.alloc);
-                keys.insert(key)?;
-                entry.insert(keys);
+                let key = key.copy()?;
+                entry.insert(KeySet::of(self.alloc, key));
             }
         }
         Ok(())
@@ -89,19 +87,19 @@ impl Index {
     }
 
     /// Takes the keys of `ts`, where there are some, and leaves their entry in place.
-    pub(crate) fn take(&mut self, ts: u64) -> Option<BTreeSet<Key>>
+    pub(crate) fn take(&mut self, ts: u64) -> Option<KeySet>
         ensures keys { (y : List ℕ) → is_among result y ≡ is_listed self.old y ts }
         ensures others { (y : List ℕ) (i : ℕ) → is_listed self.new y i ≡ (if ts == i then false else is_listed self.old y i) }
         ensures taken { OnSome result (IsTaken self.new ts) }
     {
         let keys = self.keys.get_mut(&TsKey(ts))?;
-        Some(mem::replace(keys, BTreeSet::new(self.alloc)))
+        Some(mem::replace(keys, KeySet::new(self.alloc)))
     }
 
     /// Puts keys back in the place of those that were taken. It takes no memory.
-    pub(crate) fn put_back(&mut self, ts: u64, keys: BTreeSet<Key>)
+    pub(crate) fn put_back(&mut self, ts: u64, keys: KeySet)
         requires { IsTaken self.old ts }
-        ensures { (y : List ℕ) (i : ℕ) → is_listed self.new y i ≡ (if ts == i then contains key_cmp keys y else is_listed self.old y i) }
+        ensures { (y : List ℕ) (i : ℕ) → is_listed self.new y i ≡ (if ts == i then has y keys else is_listed self.old y i) }
     {
         if keys.is_empty() {
             self.keys.remove(&TsKey(ts));
@@ -111,7 +109,7 @@ impl Index {
     }
 
     /// The keys of `ts`, where there are some.
-    pub(crate) fn keys_at(&self, ts: u64) -> Option<&BTreeSet<Key>>
+    pub(crate) fn keys_at(&self, ts: u64) -> Option<&KeySet>
         ensures { (y : List ℕ) → is_among (option_copied result) y ≡ is_listed self.now y ts }
     {
         self.keys.get(&TsKey(ts))
@@ -129,7 +127,7 @@ impl Index {
     }
 
     /// The timestamps above `after` and at or below `through`, rising, each with its keys.
-    pub(crate) fn between(&self, after: u64, through: u64) -> Range<'_, TsKey, BTreeSet<Key>>
+    pub(crate) fn between(&self, after: u64, through: u64) -> Range<'_, TsKey, KeySet>
         requires { after < through }
         ensures listed { (y : List ℕ) (i : ℕ) → after < i → i ≤ through → listed_in result y i ≡ is_listed self.now y i }
         ensures rising { AreBetween after through result }

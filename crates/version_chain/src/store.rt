@@ -15,11 +15,10 @@ use crate::chain::Version;
 use crate::chains::Chains;
 use crate::in_span::InSpan;
 use crate::index::Index;
+use key_set::Keys;
 use spans::span::Span;
 use std::alloc::{AllocError, Global};
-use std::collections::btree_set;
 use std::marker::Model;
-use std::ops::Bound;
 use timestamps::key::Key;
 use timestamps::ts::Ts;
 use timestamps::value::Value;
@@ -123,8 +122,7 @@ impl Store {
         ensures { IsFirstFound self.now ts (Some key.now) ts result }
     {
         let keys = self.index.keys_at(ts)?;
-        let above = keys.range((Bound::Excluded(key), Bound::Unbounded));
-        self.chains.first_committed(above, ts)
+        self.chains.first_committed(keys.above(key), ts)
     }
 
     /// The first committed version above `after` and at or below `through`, with its key.
@@ -135,8 +133,7 @@ impl Store {
             return None;
         }
         for (ts, keys) in self.index.between(after, through) {
-            let all = keys.range(..);
-            if let Some(found) = self.chains.first_committed(all, ts.0) {
+            if let Some(found) = self.chains.first_committed(keys.iter(), ts.0) {
                 return Some(found);
             }
         }
@@ -182,8 +179,8 @@ impl Store {
 
     /// Marks the versions of `ts` at these keys as committed, and says how many keys there are. It takes
     /// no memory.
-    pub fn commit(&mut self, ts: Ts, keys: btree_set::Range<'_, Key>) -> u64
-        requires fits { length keys < 2 ^ 63 }
+    pub fn commit(&mut self, ts: Ts, keys: Keys<'_>) -> u64
+        requires fits { length keys < 2 ^ 64 }
         ensures committed { IsCommittedIn self.old self.new ts keys.entry }
         ensures count { result ≡ length keys.entry }
     {
@@ -205,7 +202,7 @@ impl Store {
     }
 
     /// Drops the versions of `ts` at these keys. It takes no memory.
-    pub fn abort(&mut self, ts: Ts, keys: btree_set::Range<'_, Key>)
+    pub fn abort(&mut self, ts: Ts, keys: Keys<'_>)
         ensures { IsAbortedIn self.old self.new ts keys.entry }
     {
         for key in keys {
@@ -250,7 +247,7 @@ impl Store {
         let Some(mut keys) = self.index.take(ts) else {
             return;
         };
-        for key in &keys {
+        for key in keys.iter() {
             self.count -= self.chains.drop_dead(key, horizon, &mut self.index);
         }
         let chains = &self.chains;

@@ -1,7 +1,7 @@
 //! Versions of keys: what a write, a commit, an abort and a collection leave, and what a search finds.
 use super::script::{Asked, Words, put_number};
+use key_set::KeySet;
 use std::alloc::Global;
-use std::collections::BTreeSet;
 use timestamps::key::Key;
 use timestamps::ts::Ts;
 use timestamps::value::Value;
@@ -243,13 +243,6 @@ impl Asked for Store {
     }
 }
 
-/// The set of one key.
-fn set_of(alloc: Global, key: Key) -> Option<BTreeSet<Key>> {
-    let mut keys = BTreeSet::new(alloc);
-    keys.insert(key).ok()?;
-    Some(keys)
-}
-
 /// Writes, commits, aborts or removes a version of a key.
 pub(super) fn change(
     alloc: Global,
@@ -289,14 +282,14 @@ fn change_at(
             store.write(&key, ts, Some(&value)).ok()?;
         }
         b'c' => {
-            let keys = set_of(alloc, key)?;
-            if store.commit(ts, keys.range(..)) != 1 {
+            let keys = KeySet::of(alloc, key);
+            if store.commit(ts, keys.iter()) != 1 {
                 return None;
             }
         }
         b'a' => {
-            let keys = set_of(alloc, key)?;
-            store.abort(ts, keys.range(..));
+            let keys = KeySet::of(alloc, key);
+            store.abort(ts, keys.iter());
         }
         b'r' => store.remove(&key, ts),
         _ => return None,

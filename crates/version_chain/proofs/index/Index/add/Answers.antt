@@ -1,22 +1,15 @@
-use Rattle.std.proofs.Common.{rules, ap, sym, ◌≡◌, ◌∙◌, ◌||◌, Some, None}
+use Rattle.std.proofs.Common.{rules, ap, sym, ◌≡◌, ◌∙◌, ◌||◌, Some, refl}
 use Rattle.std.specs.Prelude.{bytes_eq}
 use Rattle.std.specs.Map.{lookup}
 use Rattle.std.specs.BTreeMap.{is_at}
 use Rattle.std.specs.BTreeMap.Entry.{entry_value, map_with_value}
 use Rattle.std.specs.Ordering.{nat_cmp}
 use Rattle.version_chain.specs.Indexes.{is_among}
-use Rattle.version_chain.proofs.Indexes.{listed_put, one_more, none_in}
+use Rattle.version_chain.proofs.Indexes.{listed_put, one_more}
 use Rattle.version_chain.proofs.index.Index.add.Goals as goal
 
-pub returns-in_ok-insert-in-Occupied-clause-ok : goal.returns-in_ok-insert-in-Occupied-clause-ok
-returns-in_ok-insert-in-Occupied-clause-ok c =
+pub returns-in_ok-add-in-Occupied-clause-ok : goal.returns-in_ok-add-in-Occupied-clause-ok
+returns-in_ok-add-in-Occupied-clause-ok c =
     let found : lookup (is_at (nat_cmp c.args.ts)) c.args.self.now.keys.entries ≡ Some c.into_mut.result.now = sym c.in_ok-entry.ensures.value ∙ ap entry_value c.in-Occupied.is ∙ c.into_mut.ensures.value in
-    listed_put c.args.self.now.keys c.self-in-Occupied-2-1.given.0 (map_with_value c.in_ok-entry.field-0 c.insert.new.self) c.args.key.now c.in_ok-key.key c.args.ts (Some c.insert.new.self) (search rules) c.in_ok-key.ensures.bytes (c.in_ok-entry.ensures.update.0 c.insert.new.self).0
-    (λ y. one_more c.in_ok-key.key y _ _ (c.in_ok-insert-in-Occupied.ensures.updates.0 y) ∙ ap (λ o. bytes_eq c.in_ok-key.key y || is_among o y) (sym found))
-
-pub returns-in_ok-insert-in-Vacant-clause-ok : goal.returns-in_ok-insert-in-Vacant-clause-ok
-returns-in_ok-insert-in-Vacant-clause-ok c =
-    let none : lookup (is_at (nat_cmp c.args.ts)) c.args.self.now.keys.entries ≡ None = search rules in
-    listed_put c.args.self.now.keys c.self-in-Vacant-2-1.given.0 (map_with_value c.in_ok-entry.field-0 c.insert-in-Vacant.new.self) c.args.key.now c.in_ok-key.key c.args.ts (Some c.insert-in-Vacant.new.self) (search rules) c.in_ok-key.ensures.bytes (c.in_ok-entry.ensures.update.0 c.insert-in-Vacant.new.self).0
-    (λ y. one_more c.in_ok-key.key y _ _ (c.in_ok-insert-in-Vacant.ensures.updates.0 y)
-    ∙ ap (λ b. bytes_eq c.in_ok-key.key y || b) (none_in c.new-keys.result.keys y c.new-keys.ensures.len ∙ sym (ap (λ o. is_among o y) none)))
+    listed_put c.args.self.now.keys c.self-in-Occupied-2-1.given.0 (map_with_value c.in_ok-entry.field-0 c.add.new.self) c.args.key.now c.args.key.now c.args.ts (Some c.add.new.self) (search rules) refl (c.in_ok-entry.ensures.update.0 c.add.new.self).0
+    (λ y. ap (λ keys. is_among (Some keys) y) c.in_ok-add-in-Occupied.ensures.ok ∙ one_more c.args.key.now y c.into_mut.result.now ∙ ap (λ o. bytes_eq c.args.key.now y || is_among o y) (sym found))

@@ -1,14 +1,13 @@
 use Rattle.std.proofs.Common.{ap, sym, ◌∙◌, [], Some, None, cond, false, true, rules, subst, ◌≡◌}
 use Rattle.std.specs.Prelude.{is_some, bytes_eq}
-use Rattle.std.specs.List.{list_any}
 use Rattle.std.specs.Map.{lookup}
 use Rattle.std.specs.Set.{remove_key}
 use Rattle.std.specs.BTreeMap.{is_at}
 use Rattle.std.specs.Ordering.{nat_cmp}
-use Rattle.timestamps.specs.Bytes.{key_cmp}
+use Rattle.spans.proofs.WriteSets.{has}
 use Rattle.version_chain.specs.declared.index.Index.{Index}
 use Rattle.version_chain.specs.Indexes.{is_among}
-use Rattle.version_chain.proofs.Indexes.{ArePutAt, listed_less, put_at_twice, one_less, none_in, none_taken, taken_still}
+use Rattle.version_chain.proofs.Indexes.{ArePutAt, listed_less, put_at_twice, none_taken, taken_still}
 use Rattle.version_chain.proofs.index.Index.remove.Goals as goal
 use Rattle.version_chain.proofs.index.Index.remove.Goals.{else-remove-via-then-remove+else-is_empty, else-remove-via-else-remove}
 
@@ -18,7 +17,7 @@ returns-then-is_empty-clause-listed c =
     let put : ArePutAt c.args.self.now.keys.entries (c.get_mut.follows.lender c.remove.new.self).entries c.args.ts (Some c.remove.new.self) = ((c.get_mut.follows.holds c.remove.new.self).3 (ap is_some found)).0 in
     let out : ArePutAt c.args.self.now.keys.entries c.remove-then-is_empty.new.self.entries c.args.ts None = put_at_twice c.args.self.now.keys.entries _ c.remove-then-is_empty.new.self.entries c.args.ts _ None put c.remove-then-is_empty.ensures.updates.0 in
     listed_less c.args.self.now.keys.entries _ c.args.key.now c.args.ts None out
-    (λ y. sym (none_in c.remove.new.self.keys y (c.is_empty.ensures.0 (search rules))) ∙ one_less c.args.key.now y _ _ (c.remove.ensures.updates.0 y) ∙ ap (λ o. cond (bytes_eq c.args.key.now y) false (is_among o y)) (sym found))
+    (λ y. sym (ap (has y) (c.is_empty.ensures.0 (search rules))) ∙ c.remove.ensures.other_keys y ∙ ap (λ o. cond (bytes_eq c.args.key.now y) false (is_among o y)) (sym found))
 
 pub returns-then-is_empty-clause-taken : goal.returns-then-is_empty-clause-taken
 returns-then-is_empty-clause-taken c =
@@ -26,8 +25,8 @@ returns-then-is_empty-clause-taken c =
     let put : ArePutAt c.args.self.now.keys.entries (c.get_mut.follows.lender c.remove.new.self).entries c.args.ts (Some c.remove.new.self) = ((c.get_mut.follows.holds c.remove.new.self).3 (ap is_some found)).0 in
     let out : ArePutAt c.args.self.now.keys.entries c.remove-then-is_empty.new.self.entries c.args.ts None = put_at_twice c.args.self.now.keys.entries _ c.remove-then-is_empty.new.self.entries c.args.ts _ None put c.remove-then-is_empty.ensures.updates.0 in
     taken_still c.args.self.now.keys.entries c.remove-then-is_empty.new.self.entries c.args.ts None out (λ taken. absurd (
-    let none : c.in-Some.keys.now.keys ≡ [] = none_taken c.args.self.now.keys.entries c.args.ts c.in-Some.keys.now found taken in
-    let no : false ≡ true = sym (c.remove.ensures.test ∙ ap (list_any (is_at (key_cmp c.args.key.now))) none) ∙ c.if-remove.true in (let n : false ≡ true = no in cc)))
+    let none : c.in-Some.keys.now ≡ [] = none_taken c.args.self.now.keys.entries c.args.ts c.in-Some.keys.now found taken in
+    let no : false ≡ true = sym (c.remove.ensures.found ∙ ap (has c.args.key.now) none) ∙ c.if-remove.true in (let n : false ≡ true = no in cc)))
 
 -- where the entry stays
 stays : (c : goal.Joined-else-remove) → c.else-remove.self.keys.entries ≡ (c.get_mut.follows.lender c.remove.new.self).entries
@@ -45,11 +44,11 @@ pub returns-else-remove-clause-listed : goal.returns-else-remove-clause-listed
 returns-else-remove-clause-listed c =
     let found : lookup (is_at (nat_cmp c.args.ts)) c.args.self.now.keys.entries ≡ Some c.in-Some.keys.now = sym c.in-Some.ensures.value in
     listed_less c.args.self.now.keys.entries c.else-remove.self.keys.entries c.args.key.now c.args.ts (Some c.remove.new.self) (placed c)
-    (λ y. one_less c.args.key.now y _ _ (c.remove.ensures.updates.0 y) ∙ ap (λ o. cond (bytes_eq c.args.key.now y) false (is_among o y)) (sym found))
+    (λ y. c.remove.ensures.other_keys y ∙ ap (λ o. cond (bytes_eq c.args.key.now y) false (is_among o y)) (sym found))
 
 pub returns-else-remove-clause-taken : goal.returns-else-remove-clause-taken
 returns-else-remove-clause-taken c =
     let found : lookup (is_at (nat_cmp c.args.ts)) c.args.self.now.keys.entries ≡ Some c.in-Some.keys.now = sym c.in-Some.ensures.value in
     taken_still c.args.self.now.keys.entries c.else-remove.self.keys.entries c.args.ts (Some c.remove.new.self) (placed c) (λ taken.
-    let none : c.in-Some.keys.now.keys ≡ [] = none_taken c.args.self.now.keys.entries c.args.ts c.in-Some.keys.now found taken in
-    ap Some (c.remove.ensures.keys ∙ ap (remove_key (is_at (key_cmp c.args.key.now))) none))
+    let none : c.in-Some.keys.now ≡ [] = none_taken c.args.self.now.keys.entries c.args.ts c.in-Some.keys.now found taken in
+    ap Some (c.remove.ensures.keys ∙ ap (remove_key (λ y. bytes_eq y c.args.key.now)) none))

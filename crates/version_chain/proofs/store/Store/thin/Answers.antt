@@ -1,4 +1,4 @@
-use Rattle.std.proofs.Common.{rules, subst, sym}
+use Rattle.std.proofs.Common.{rules, subst, sym, ◌∙◌}
 use Rattle.std.proofs.lemmas.Fn.{filter_same}
 use Rattle.version_chain.specs.Indexes.{IsIndexOf}
 use Rattle.version_chain.proofs.Collecting.{IsThinning, thinning_first, thinning_next, thinning_ends, thinning_sound}
@@ -6,7 +6,7 @@ use Rattle.version_chain.proofs.store.Store.thin.Goals as goal
 
 pub loop-key-init : goal.loop-key-init
 loop-key-init c = subst (λ es. IsThinning es c.self.inside.chains c.take.new.self c.args.ts c.args.horizon c.self.inside.count c.self.inside.dropped_through c.into_iter-key-iterator.result) c.self.view_is
-    (subst (IsThinning c.self.inside.chains c.self.inside.chains c.take.new.self c.args.ts c.args.horizon c.self.inside.count c.self.inside.dropped_through) (sym c.into_iter-key-iterator.ensures.into_iter_gives.0)
+    (subst (IsThinning c.self.inside.chains c.self.inside.chains c.take.new.self c.args.ts c.args.horizon c.self.inside.count c.self.inside.dropped_through) (sym (c.into_iter-key-iterator.ensures.into_iter_gives ∙ c.iter-key-items.ensures.keys))
     (thinning_first c.self.inside.chains c.self.inside.index c.take.new.self c.args.ts c.args.horizon c.self.inside.count c.self.inside.dropped_through c.in-Some.keys c.self.invariant c.in-Some.ensures.keys c.in-Some.ensures.others c.in-Some.ensures.taken))
 
 pub overflow_sub-self : goal.overflow_sub-self
@@ -21,7 +21,7 @@ put_back-requires c = c.loop-key.invariant.taken
 
 pub invariant_of-self-2 : goal.invariant_of-self-2
 invariant_of-self-2 c = thinning_sound c.args.self.now c.loop-key.self-inside.chains c.self.inside.index c.loop-key.self-inside.index c.put_back.new.self c.args.ts c.args.horizon c.loop-key.self-inside.count c.loop-key.self-inside.dropped_through c.in-Some.keys c.retain.new.self
-    c.loop-key.key-iterator (subst (λ es. IsIndexOf es c.self.inside.index) c.self.view_is c.self.invariant.indexed) c.in-Some.ensures.keys (filter_same _ _ _ (λ x b f' k. search rules) _ _ c.retain.ensures.filtered) c.put_back.ensures c.loop-key.invariant
+    c.loop-key.key-iterator (subst (λ es. IsIndexOf es c.self.inside.index) c.self.view_is c.self.invariant.indexed) c.in-Some.ensures.keys (filter_same _ _ _ (λ x b f' k. search rules) _ _ c.retain.ensures) c.put_back.ensures c.loop-key.invariant
 
 pub returns-clause-thinned : goal.returns-clause-thinned
 returns-clause-thinned c = c.loop-key.invariant.partly
