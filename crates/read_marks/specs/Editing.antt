@@ -25,11 +25,6 @@ abbrev pub end_at : Option (List ℕ) → Bound (List ℕ)
 end_at None = Unbounded
 end_at (Some high) = Excluded high
 
--- those up to a start and that too, or all
-abbrev pub end_in : Option (List ℕ) → Bound (List ℕ)
-end_in None = Unbounded
-end_in (Some high) = Included high
-
 -- segments start at both ends of a patch
 abbrev pub IsEnd : BTreeMap (List ℕ) (List ℕ) → Option (List ℕ) → Type 0
 IsEnd m None = Unit {0}

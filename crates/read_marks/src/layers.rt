@@ -7,7 +7,7 @@ ghost use Rattle.read_marks.specs.Patches.{HaveGaps, IsOneKey};
 ghost use Rattle.read_marks.specs.Layers.{AreEditedIn, AreReadersIn, ForgetsLone, KeepsReadersIn, readers_in, span_count};
 
 use crate::edits::{Lists, edited_all, put_all};
-use crate::patch::Patch;
+use crate::patch::{Patch, hull_of};
 use crate::readers::Readers;
 use crate::segments::Segments;
 use std::alloc::{AllocError, Global};
@@ -148,26 +148,26 @@ impl Layers {
         None
     }
 
-    // The lone keys of a patch that have the readers of their segments go.
-    fn join(&mut self, patch: &Patch)
+    // The lone keys from `lo` on and up to `end` that have the readers of their segments go.
+    fn join(&mut self, lo: &SmallBytes, end: Bound<&SmallBytes>)
         ensures { KeepsReadersIn self.old self.new }
     {
-        let mut found = self.last_repeated(patch.lo, patch.up_to_end());
+        let mut found = self.last_repeated(lo, end);
         for _ in 0..self.lone.len() {
             let Some(key) = found else {
                 return;
             };
             self.join_at(&key);
-            found = self.last_repeated(patch.lo, Bound::Excluded(&key));
+            found = self.last_repeated(lo, Bound::Excluded(&key));
         }
     }
 
-    // Those of each patch go.
+    // Those from the first patch to the last.
     fn join_all(&mut self, patches: &[Patch])
         ensures { KeepsReadersIn self.old self.new }
     {
-        for patch in patches {
-            self.join(patch);
+        if let Some((lo, end)) = hull_of(patches) {
+            self.join(lo, end);
         }
     }
 

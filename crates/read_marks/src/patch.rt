@@ -3,7 +3,7 @@ ghost use Rattle.std.specs.Prelude.{◌≡◌, ◌<◌, ◌↔◌, IsTrue, IfOk,
 ghost use Rattle.std.specs.Range.Bound.{bound_map};
 ghost use Rattle.std.specs.declared.ops.Bound.TheVariants.{Included};
 ghost use Rattle.read_marks.specs.Patches.{IsOneKey, patch_of, own_piece};
-ghost use Rattle.read_marks.specs.Editing.{RunsForward, end_at, end_in, picks};
+ghost use Rattle.read_marks.specs.Editing.{RunsForward, end_at, picks};
 
 use crate::piece::Piece;
 use spans::bound;
@@ -84,16 +84,6 @@ impl<'a> Patch<'a> {
         }
     }
 
-    /// All keys, without a gap.
-    pub(crate) fn of_all_keys(least: &'a SmallBytes) -> Patch<'a> {
-        Patch {
-            lo: least,
-            hi: None,
-            above: 0,
-            until: 0,
-        }
-    }
-
     /// Whether its end is above where it begins.
     pub(crate) fn runs_forward(&self) -> bool
         ensures forward { IsTrue result → RunsForward self.now }
@@ -126,16 +116,27 @@ impl<'a> Patch<'a> {
         };
         (Bound::Included(self.lo), end)
     }
+}
 
-    /// The keys up to its end and with it. Without an end, all keys.
-    pub(crate) fn up_to_end(&self) -> Bound<&'a SmallBytes>
-        ensures { bound_map (λ hi. hi.now) result ≡ end_in self.now.hi }
-    {
-        match self.hi {
-            None => Bound::Unbounded,
-            Some(hi) => Bound::Included(hi),
-        }
+/// From the least start of the patches up to their greatest end, if there are patches.
+pub(crate) fn hull_of<'a>(
+    patches: &[Patch<'a>],
+) -> Option<(&'a SmallBytes, Bound<&'a SmallBytes>)> {
+    let first = patches.first()?;
+    let mut lo = first.lo;
+    let mut hi = first.hi;
+    for patch in patches {
+        lo = lo.min(patch.lo);
+        hi = match (hi, patch.hi) {
+            (Some(hi), Some(other)) => Some(hi.max(other)),
+            _ => None,
+        };
     }
+    let end = match hi {
+        None => Bound::Unbounded,
+        Some(hi) => Bound::Included(hi),
+    };
+    Some((lo, end))
 }
 
 /// The patches of pieces, in their order. `least` has no byte.

@@ -12,7 +12,7 @@ ghost use Rattle.read_marks.specs.Editing.{AreStarts, HasEnds, IsStart};
 mod neighbours;
 
 use crate::edits::{Lists, edited_all, put_all};
-use crate::patch::Patch;
+use crate::patch::{Patch, hull_of};
 use crate::readers::Readers;
 use std::alloc::{AllocError, Global};
 use std::collections::BTreeMap;
@@ -168,7 +168,9 @@ impl Segments {
             }
         }
         let result = self.edit_split(patches, ts, forgotten);
-        self.join_all(patches);
+        if let Some((lo, end)) = hull_of(patches) {
+            self.join(lo, end);
+        }
         result
     }
 
@@ -193,7 +195,7 @@ impl Segments {
         ensures { (x : List ℕ) → readers_at self.new x ≡ filter (nat_lt through) (readers_at self.old x) }
     {
         self.forget_each(through);
-        self.join(&Patch::of_all_keys(&SmallBytes::empty()));
+        self.join(&SmallBytes::empty(), Bound::Unbounded);
     }
 
     /// How many segments have readers. It walks all of them.

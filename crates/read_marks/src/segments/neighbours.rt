@@ -5,7 +5,6 @@ ghost use Rattle.timestamps.specs.Bytes.{key_cmp};
 ghost use Rattle.read_marks.specs.Segments.{KeepsReaders, readers_before};
 
 use super::Segments;
-use crate::patch::Patch;
 use crate::readers::Readers;
 use std::ops::Bound;
 use timestamps::small_bytes::SmallBytes;
@@ -61,27 +60,18 @@ impl Segments {
         }
     }
 
-    // Joins the segments that start in a patch or where it ends, the last of them first. What follows one that
+    // Joins the segments that start from `lo` on and up to `end`, the last of them first. What follows one that
     // goes was compared with the same readers.
-    pub(super) fn join(&mut self, patch: &Patch)
+    pub(super) fn join(&mut self, lo: &SmallBytes, end: Bound<&SmallBytes>)
         ensures { KeepsReaders self.old self.new }
     {
-        let mut found = self.last_repeated(patch.lo, patch.up_to_end());
+        let mut found = self.last_repeated(lo, end);
         for _ in 0..self.starts.len() {
             let Some(start) = found else {
                 return;
             };
             self.join_at(&start);
-            found = self.last_repeated(patch.lo, Bound::Excluded(&start));
-        }
-    }
-
-    // Joins the segments that start in each patch or where it ends.
-    pub(super) fn join_all(&mut self, patches: &[Patch])
-        ensures { KeepsReaders self.old self.new }
-    {
-        for patch in patches {
-            self.join(patch);
+            found = self.last_repeated(lo, Bound::Excluded(&start));
         }
     }
 }
