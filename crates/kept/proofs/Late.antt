@@ -9,7 +9,7 @@ use Rattle.spans.specs.Reads.{too_late}
 use Rattle.spans.proofs.Copies.{IsActive}
 use Rattle.spans.proofs.Steps.{by_test}
 use Rattle.kept.specs.Finding.{IsNextAbove}
-use Rattle.kept.specs.Marks.{IsBetween}
+use Rattle.kept.specs.Marks.{IsBetween, IsLate}
 
 -- the test of the marks up to the next version asks for a reader in the gap
 pub between_is : (m : ℕ → Bool) (f : ℕ → Option After) (i : ℕ) (o : Option ℕ) → IsNextAbove f i o → IsBetween m i o ↔ IsCrossed m f i
@@ -36,9 +36,8 @@ iff_bool false false h = refl
 iff_bool true false h = sym (h.0 refl)
 iff_bool false true h = h.1 refl
 
--- a write is too late exactly where the marks' test says so
-pub late_is : (k : Kept) (p : List Effect) → IsKeptOf k p → (x : List ℕ) (t : ℕ) → IsActive p t → (o : Option ℕ) → IsNextAbove (k.version x) t o → (b : Bool) → (b ≡ true) ↔ IsBetween (k.marked x) t o → b ≡ too_late p x t
-late_is k p fits x t here o nearest b h =
+-- a write is too late exactly where the marks and the versions say so
+pub late_is : (k : Kept) (p : List Effect) → IsKeptOf k p → (x : List ℕ) (t : ℕ) → IsActive p t → (b : Bool) → IsLate k x t b → b ≡ too_late p x t
+late_is k p fits x t here b h =
     let l = fits.marks x t here.above (rw here.uncommitted refl) in
-    let g = between_is (k.marked x) (k.version x) t o nearest in
-    iff_bool b (too_late p x t) (λ is. l.1 (g.0 (h.0 is)), λ is. h.1 (g.1 (l.0 is)))
+    iff_bool b (too_late p x t) (λ is. l.1 (h.0 is), λ is. h.1 (l.0 is))

@@ -85,7 +85,7 @@ scan_answer k p all fits seat t span keys are = past_tests k p fits seat t (map 
 -- a write, whichever
 write_answer : (k : Kept) (p : List Effect) → IsKeptOf k p → (seat t : ℕ) (x : List ℕ) (late : Bool) → (refusal k seat t ≡ None → IsLate k x t late) → write_reply k seat t late ≡ first_refusal_or (transaction_tests p seat t ++ (too_late p x t, TooLate) ∷ []) Written
 write_answer k p fits seat t x late tested = past_tests k p fits seat t ((too_late p x t, TooLate) ∷ []) (cond late (Refused TooLate) Written) Written
-    (λ none here. let l = tested none in ap (λ b. cond b (Refused TooLate) Written) (late_is k p fits x t here l.next l.is_next late l.is))
+    (λ none here. ap (λ b. cond b (Refused TooLate) Written) (late_is k p fits x t here late (tested none)))
 
 -- put
 pub put_answer : (k : Kept) (p : List Effect) → IsKeptOf k p → (seat t : ℕ) (x v : List ℕ) (late : Bool) → (refusal k seat t ≡ None → IsLate k x t late) → write_reply k seat t late ≡ answer_of p seat (Put t x v)

@@ -1,7 +1,7 @@
 -- What marking and forgetting readers of a key has to do, and what is asked of the marks.
 use Rattle.std.specs.Prelude.{Bool, List, None, Option, Some, false, nat_lt, true, ℕ, ◌&&◌, ◌<◌, ◌==◌, ◌↔◌, ◌≡◌, ◌≤◌, ◌⊎◌}
 use Rattle.timestamps.specs.declared.ts.TheConstants.{MAX}
-use Rattle.spans.specs.Kept.{Kept}
+use Rattle.spans.specs.Kept.{IsCrossed, Kept}
 use Rattle.kept.specs.Finding.{IsNextAbove, seen}
 
 -- at most the bound, where there is one
@@ -70,8 +70,6 @@ IsMergedMark k x t next m' = (t ≤ MAX) × IsPiece (k.marked x) m' t (seen k x 
 abbrev pub IsForgotten : (m m' : ℕ → Bool) → ℕ → Type 0
 IsForgotten m m' n = (j : ℕ) → m' j ≡ (nat_lt n j && m j)
 
--- the test of the marks before a write of x at t: whether a reader is marked above t, and not above the next version
-pub record IsLate (k : Kept) (x : List ℕ) (t : ℕ) (late : Bool) : Type 0 where
-  pub next : Option ℕ
-  pub is_next : IsNextAbove (k.version x) t next
-  pub is : (late ≡ true) ↔ IsBetween (k.marked x) t next
+-- the test before a write of x at t: whether a reader is marked above t, and no version lies between
+abbrev pub IsLate : Kept → List ℕ → ℕ → Bool → Type 0
+IsLate k x t late = (late ≡ true) ↔ IsCrossed (k.marked x) (k.version x) t

@@ -165,12 +165,16 @@ impl Rules {
     }
 
     /// Whether a write is too late: a reader above it has read the version below it. That reader is not
-    /// above the next version.
+    /// above the next version. Mostly no reader at all is above the write, so its chain isn't searched.
     fn is_too_late(&self, key: &Key, ts: Ts) -> bool
         ensures { Holds self.now (λ k. IsLate k key.now ts result) }
     {
-        let next = self.store.next_above(key, ts.get());
-        self.marks.any_between(key, ts.get(), next)
+        let at = ts.get();
+        if !self.marks.any_between(key, at, None) {
+            return false;
+        }
+        let next = self.store.next_above(key, at);
+        self.marks.any_between(key, at, next)
     }
 
     /// Notes a key, and puts its version in. Where that is refused, a new key is taken out again.
