@@ -1,7 +1,7 @@
 //! The collector: what it may drop of the stored versions, and how far it reaches. `engine` is the caller.
 //!
 //! A read at a closed timestamp needs the newest committed version at or below it, and a feed those above its floor. So
-//! [`collect`] first finds a horizon that none of them needs anything below of, and then drops what is dead by it.
+//! [`collect`] first finds a horizon below which none of them needs anything, and then drops what is dead by it.
 //!
 //! 1. The horizon never falls, and never passes closed.
 //! 2. A collection moves it past no protection, and past no floor of a feed that lives.

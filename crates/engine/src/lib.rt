@@ -39,9 +39,10 @@
 //! - `report`: O(log n) for each undecided transaction, each protection and each feed
 //!
 //! Memory: begin, get, scan, put, del, readat, scanat, protect, open and poll take it before anything changes. Without it
-//! they answer so, and all is as it was. Abort, collect, release, cancel and stats take none. Commit, close and closehard
-//! go on without it: a row that finds no memory at a commit is lost to the held back rows, and a row that finds none at a
-//! closing sends feeds behind, which then read it in the store.
+//! they answer so, and all is as it was: open and poll in `openings` and `polls`, and the others in the rules. Abort,
+//! collect, release, cancel and stats take none. Commit, close and closehard go on without it: a row that finds no memory
+//! at a commit is lost to the held back rows, and a row that finds none at a closing sends feeds behind, which then read
+//! it in the store.
 //!
 //! Tests: `engine_tests`, `growth_tests`, `job_tests`.
 #![tactic(auto)]

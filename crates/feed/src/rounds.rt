@@ -1,4 +1,4 @@
-//! Feeds that change one by one, in the order of their slots.
+//! Rounds of feeds: a row is offered to each feed that may want it, or all feeds are sent behind.
 ghost use Rattle.std.specs.Prelude.{◌≡◌, None, Some, IfSome, false, nat_eq};
 ghost use Rattle.std.specs.Map.{keys_of};
 ghost use Rattle.indexmap.specs.IndexMap.{get};

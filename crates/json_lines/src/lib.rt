@@ -1,7 +1,7 @@
 //! Messages of a feed as lines of JSON, and back.
 //!
-//! `script` reads the messages of a transcript by it, and `jobs` those of a feed that is followed. `word_lines` writes
-//! messages, and shares its number words and its buffers. `report_lines` shares those and its base64.
+//! `script` reads the messages of a transcript by it, and `follow` and `embedded_replica` those of a feed. `word_lines`
+//! writes messages, and shares its number words and its buffers. `report_lines` shares those and its base64.
 //!
 //! A line is one object and a newline. Its members stand in byte order of their names, there are no spaces, a timestamp
 //! is a number word in quotes, and bytes are base64 (RFC 4648, with padding). So each message has one line, and only

@@ -1,4 +1,4 @@
-//! Each command that the rules answer.
+//! Each command that the rules answer. Want of memory becomes an answer here.
 ghost use Rattle.std.specs.Prelude.{ℕ, ◌≡◌, ◌<◌, ◌≤◌, IfOk, OnErr};
 ghost use Rattle.std.specs.Option.{option_copied};
 ghost use Rattle.timestamps.specs.declared.ts.TheConstants.{MAX};

@@ -1,9 +1,10 @@
 //! A span cut into the pieces that a scan marks.
 //!
 //! Of the keys that it reads the scan marks all, each in the gap of its own read: above the version that was read, and
-//! up to the next one. A key without a version has the gap of all timestamps. A key whose readers all lie in its own
-//! gap is marked alike in that of all timestamps. So one piece mostly has the whole span. It is cut at keys of which the
-//! reader has its own version, since a read of that marks nothing, and at keys with a reader outside of their gap.
+//! up to the next one. A key without a version has the gap of all timestamps. Where all readers of a key lie in its own
+//! gap, marking it in the gap of all timestamps does the same. So one piece mostly has the whole span. It is cut at keys
+//! of which the reader has its own version, since a read of that marks nothing, and at keys with a reader outside of
+//! their gap.
 ghost use Rattle.std.specs.Prelude.{◌≡◌, ◌++◌, ◌∷◌, [], IfOk, OnOk};
 ghost use Rattle.kept.specs.Marks as marking;
 

@@ -7,6 +7,10 @@
 //! 4. A snapshot is read between horizon and closed, and marks nothing.
 //! 5. A call's reply, and what becomes of what is held, are those of its command. Want of memory changes nothing.
 //!
+//! A caller may ask with any seat and any number. Only `protect` asks for something: that fewer than
+//! 18446744073709551615 protections were made. What `take_versions` took out has to come back by `put_back`, which no
+//! contract asks for.
+//!
 //! ```text
 //!                          versions of "b"    readers of "b"   of "c"   closed
 //! put 10 b, commit 10      10*                                          0

@@ -1,4 +1,5 @@
-//! The versions, the marks of readers, the transactions and what is closed, under the rules that tie them.
+//! The versions, the marks of readers, the transactions and what is closed, under the rules that tie them. The read rule
+//! is in `try_get`, and the write rule is `is_too_late`.
 ghost use Rattle.std.specs.Prelude.{◌≡◌, ◌<◌, ◌≤◌, length, true, Some, None, IfOk, IfErr, OnOk, OnErr};
 ghost use Rattle.std.specs.Option.{option_copied};
 ghost use Rattle.timestamps.specs.declared.ts.TheConstants.{MAX};

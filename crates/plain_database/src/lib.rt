@@ -7,8 +7,9 @@
 //! from. [`limit_law::law_of_limits`] states that the limit of a report is how far a collection goes.
 //!
 //! 1. A [`Database`](database::Database) has a map for each thing that a history is asked about.
-//! 2. A closing forgets no transaction and no read, and a collection drops no version. Only an abort drops versions.
-//! 3. It forgets the messages told to feeds. It keeps each feed's place.
+//! 2. A closing forgets no transaction and no read, and a collection drops no version. Only aborts and hard closings
+//!    drop versions.
+//! 3. Messages told to feeds are forgotten, and each feed's place is kept.
 //!
 //! ```text
 //!                    transactions      chains           reads          closed

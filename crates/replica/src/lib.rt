@@ -1,6 +1,6 @@
 //! A consumer of one feed that keeps the rows of its span, and knows at which timestamp it has all of them.
 //!
-//! `jobs` is the caller, where it follows a feed. Any other program that consumes a feed may call it so too. A
+//! `follow` and `embedded_replica` are the callers. Any other program that consumes a feed may call it so too. A
 //! [`Replica`] begins with the rows of a span at a cursor, or empty for an initial feed. It takes the messages of a
 //! feed one at a time, and refuses those that no feed tells: a row or a resolved timestamp that comes too early, or a
 //! row outside its span.

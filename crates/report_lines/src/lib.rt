@@ -1,6 +1,6 @@
 //! A report as lines of JSON: what an operator may ask of a database, as text.
 //!
-//! `embedded` writes the report of a database in use by it.
+//! `embedded` writes the report of a database in use by it, and `jobs` the one after a transcript.
 //!
 //! A line is one object and a newline. Its members stand in one order, all of them, without spaces; a number is a
 //! string of digits, bytes are base64 (RFC 4648, with padding), and what isn't there is `null`. First comes the line of

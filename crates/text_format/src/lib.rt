@@ -2,7 +2,8 @@
 //! and how a transcript begins.
 //!
 //! Readers of texts take a [`Format`] and ask it for its limits: `json_lines`, `word_lines`, `script` and `sessions`.
-//! `jobs`, `embedded`, `mvfeed` and the examples choose one. Writers need none: they write all that they are given.
+//! `command_line`, `jobs`, `follow`, `embedded`, `embedded_replica` and the examples choose one. Writers need none: they
+//! write all that they are given.
 //!
 //! 1. Every script, command and message of format one is one of format two.
 //! 2. Format one refuses a longer text, by the fault by which format two refuses a text beyond its own limit.

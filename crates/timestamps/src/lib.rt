@@ -15,7 +15,7 @@
 //! oracle.draw(&mut pass)    Ok([33 ..= 64])       the same pass again       Ok([65 ..= 96])
 //! ```
 //!
-//! All other crates stand on it. Costs:
+//! All other crates but `ticket_lock` and `byte_log` stand on it. Costs:
 //!
 //! - `new`, `copy` of a key or a value: its bytes, once; up to 24 lie in place and take no memory
 //! - `cmp` of keys: at most three numbers where both have up to 24 bytes, else their bytes

@@ -1,7 +1,7 @@
 //! The independent checker: whether a list of events is one that the definitions allow.
 //!
-//! `jobs` and `races` are the callers. A [`Checker`](checker::Checker) is handed the events one by one, the oldest
-//! first. It asks the [`Database`](plain_database::database::Database), which is the definitions as one plain program,
+//! `jobs` hands a [`Checker`](checker::Checker) the events one by one, the oldest first, and `races` calls [`check`]. A
+//! checker asks the [`Database`](plain_database::database::Database), which is the definitions as one plain program,
 //! for the one right answer after the events so far, and compares the reply with it exactly. [`check`] hands over a
 //! list of events, and names the first that isn't right.
 //!
@@ -51,7 +51,7 @@ use std::alloc::{AllocError, Global};
 pub enum Verdict {
     /// The events are legal and have no gap.
     Yes,
-    /// The events before the one of this position are legal and have no gap, and with it they don't.
+    /// The events before the one of this position are legal and have no gap, and with it they aren't so.
     No { position: u64 },
 }
 

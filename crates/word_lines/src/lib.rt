@@ -1,7 +1,7 @@
 //! Commands, replies and events as lines of words: all of them written, and commands read.
 //!
 //! `sessions` and `embedded` read commands and write events by it. `script` takes the words of an event by its calls,
-//! and `jobs` writes faults and spells keys by them.
+//! `jobs` writes faults, and `follow` spells keys.
 //!
 //! A line is words with one space between two, and a newline. A number is decimal digits without a leading zero; a key,
 //! a value or a bound is spelled: a printable byte as itself, any other as `%` and two digits, no bytes as `-`. So each
