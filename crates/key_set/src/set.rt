@@ -78,8 +78,8 @@ impl KeySet {
         self.least.is_none()
     }
 
-    /// Adds a copy of a key, unless it is there, and answers whether it is new. A key that is there never fails for
-    /// want of memory, nor does a lone key of up to 24 bytes.
+    /// Adds a copy of a key, unless it is there, and answers whether it is new. Adding a key that is there never wants
+    /// memory, nor does adding a first key of up to 24 bytes.
     pub fn add(&mut self, key: &Key) -> Result<bool, AllocError>
         ensures new { IfOk result (λ new. new ≡ not (has key.now self.old)) }
         ensures ok { OnOk result (self.new ≡ insert_key key.now self.old) }

@@ -42,7 +42,7 @@
 //! - `write`: O(log n + log w + log k + log v + log s + log m), and a move of the versions
 //!   above its own in their list or block, or as `abort`
 //! - `scan`: O(log n + log k), O(log v) for each key, O(log s + log m) more for one with a version above closed, and
-//!   O(m) for each span that it meets
+//!   O(log s + m) for each span between its bounds
 //! - `commit`, `abort`: O(log n), and O(log k + log v) for each key written
 //! - `close`: O(log n) for each transaction that goes; `close_hard`: also an abort of each that it takes back
 //! - `protect`, `release`: O(log p)

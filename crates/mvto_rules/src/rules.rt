@@ -1,5 +1,5 @@
-//! The versions, the marks of readers, the transactions and what is closed, under the rules that tie them. The read rule
-//! is in `try_get`, and the write rule is `is_too_late`.
+//! The versions, the marks of readers, the transactions and what is closed, under the rules that tie them.
+//! `Sight::of` is the read rule, which gets and scans apply, and `is_too_late` the write rule.
 ghost use Rattle.std.specs.Prelude.{◌≡◌, ◌<◌, ◌≤◌, length, true, Some, None, IfOk, IfErr, OnOk, OnErr};
 ghost use Rattle.std.specs.Option.{option_copied};
 ghost use Rattle.timestamps.specs.declared.ts.TheConstants.{MAX};
@@ -166,7 +166,7 @@ impl Rules {
     }
 
     /// Whether a write is too late: a reader above it has read the version below it. That reader is not
-    /// above the next version. Mostly no reader at all is above the write, so its chain isn't searched.
+    /// above the next version. Mostly no reader at all is above the write, and then its chain isn't searched.
     fn is_too_late(&self, key: &Key, ts: Ts) -> bool
         ensures { Holds self.now (λ k. IsLate k key.now ts result) }
     {

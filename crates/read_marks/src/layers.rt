@@ -162,7 +162,7 @@ impl Layers {
         }
     }
 
-    // Those from the first patch to the last.
+    // Such keys go from the least start of the patches to their greatest end.
     fn join_all(&mut self, patches: &[Patch])
         ensures { KeepsReadersIn self.old self.new }
     {

@@ -35,8 +35,8 @@
 //! - `forget_through`: O(1)
 //! - `add` of a lone key: O(log n + log m), in place, by one search; the readers above the gap move
 //! - `add` of any other key: O(log n + m), which copies the readers of its segment
-//! - any `add`, `add_all`, `add_pieces` of spans: O(log n + m) for each start and lone key that it touches, and a step
-//!   for each other one from the first span to the last
+//! - any `add`, `add_all`, `add_pieces` of spans: O(log n + m) for each start and lone key from the least start of the
+//!   spans to their greatest end
 //! - a sweep: O(log n + m) for each lone key and start; it comes where they have doubled since the last one, or where
 //!   a reader comes that counts as forgotten
 //! - `spans`: O(n)

@@ -118,7 +118,8 @@ impl<'a> Patch<'a> {
     }
 }
 
-/// From the least start of the patches up to their greatest end, if there are patches.
+/// From the least start of the patches up to their greatest end, that included, if there are patches. A patch without
+/// an end has the greatest.
 pub(crate) fn hull_of<'a>(
     patches: &[Patch<'a>],
 ) -> Option<(&'a SmallBytes, Bound<&'a SmallBytes>)> {

@@ -29,8 +29,8 @@
 //! - `forget_through`: O(log n) for each transaction that goes, and for the first that stays
 //!
 //! `begin` takes memory for a place in the map and one in the set, and none where the timestamp has a transaction.
-//! `add_key` takes it for a copy of the key and its place, and none where the key is noted. `undecided_report` takes it
-//! for its answer. The other calls take none.
+//! `add_key` takes it for a copy of the key and its place, and none where the key is noted, nor for a first key of up to
+//! 24 bytes. `undecided_report` takes it for its answer. The other calls take none.
 //! Ending a transaction only removes it from the set of the undecided, so it can't be refused.
 //!
 //! Tests: `layer_tests`, by the rules that use it.
