@@ -19,7 +19,7 @@ const emulated = (name, words = [], input = "") => run(["qemu-aarch64-static", j
 
 test("the guide's and the examples' transcripts, with rings of 1 and of 1024", () => {
   const transcripts = [...guideTranscripts(), ...exampleTranscripts()];
-  assert.ok(transcripts.length >= 19);
+  assert.ok(transcripts.length >= 14);
   for (const it of transcripts)
     for (const ring of ["1", "1024"]) assert.equal(emulated("calls", [ring], scriptOf(it).join("")), it);
 });
