@@ -29,7 +29,7 @@ use Rattle.version_chain.proofs.InSpans.{chain_nowhere}
 use Rattle.catch_up.specs.Heads.{AllHeads, AreBefore, AreHeads, Found, HasHead, IsDue, IsFirstDue, IsHead, IsNoneDue, Spot, spot_cmp}
 use Rattle.catch_up.specs.Left.{AreNextIn, IsLeftIn}
 use Rattle.catch_up.proofs.Firsts.{AreChained, chained, passed_in}
-use Rattle.catch_up.proofs.Order.{before_itself, before_trans}
+use Rattle.version_chain.proofs.Order.{before_itself, before_trans}
 use Rattle.catch_up.proofs.Walk.{IsNext, IsWalked, row_of, walk_begins, walk_ends, walk_full, walk_takes}
 
 -- ---- which timestamps of a key come after a place

@@ -1,4 +1,4 @@
--- The order of places, and rows that are put into it.
+-- Rows that are put into their order.
 use Rattle.std.proofs.Common.{List, Option, Some, None, [], ap, arith, false, inl, inr, refl, subst, sym, true, ℕ, ◌<◌, ◌&&◌, ◌==◌, ◌⊎◌, ◌≡◌, ◌∷◌, ◌∙◌}
 use Rattle.std.specs.Prelude.{if◌then◌else◌, nat_lt}
 use Rattle.std.specs.Ordering.{is_eq, is_lt, ordering_reverse}
@@ -15,57 +15,6 @@ use Rattle.spans.specs.Streams.{row_lt}
 use Rattle.spans.proofs.Steps.{by_test, same_key}
 use Rattle.spans.proofs.StreamOrder.{IsRowIn, RisingRows}
 use Rattle.version_chain.specs.Following.{is_after_place, is_before}
-
-less_is : (o : Ordering) → is_lt o ≡ true → o ≡ Less
-less_is Less e = refl
-less_is Equal e = cc
-less_is Greater e = cc
-
-parts : (t i : ℕ) (x y : List ℕ) → is_before t x i y ≡ true → (t < i) ⊎ ((t ≡ i) × (key_cmp x y ≡ Less))
-parts t i x y e = elim (or_cases _ _ e) [
-  | inl l ↦ inl (ltb-true t i l)
-  | inr b ↦ (let both = and_parts _ _ b in inr (eqb-true t i both.0, less_is _ both.1))
-]
-
-from_less : (t i : ℕ) (x y : List ℕ) → t < i → is_before t x i y ≡ true
-from_less t i x y l = or_left (nat_lt t i) ((t == i) && key_lt x y) (lt-ltb t i l)
-
-from_same : (t i : ℕ) (x y : List ℕ) → t ≡ i → key_cmp x y ≡ Less → is_before t x i y ≡ true
-from_same t i x y e l = or_right (nat_lt t i) ((t == i) && key_lt x y) (and_from (t == i) (key_lt x y) (eq-eqb t i e) (ap is_lt l))
-
-pub before_trans : (t i j : ℕ) (x y z : List ℕ) → is_before t x i y ≡ true → is_before i y j z ≡ true → is_before t x j z ≡ true
-before_trans t i j x y z first second = elim (parts t i x y first) [
-  | inl l ↦ elim (parts i j y z second) [ inl m ↦ from_less t j x z (omega arith) | inr m ↦ (let e : i ≡ j = m.0 in from_less t j x z (omega arith)) ]
-  | inr l ↦ (let d : t ≡ i = l.0 in elim (parts i j y z second) [
-    | inl m ↦ from_less t j x z (omega arith)
-    | inr m ↦ from_same t j x z (d ∙ m.0) (nat_list_cmp_total.trans x y z l.1 m.1)
-  ])
-]
-
-pub before_itself : (t : ℕ) (x : List ℕ) → is_before t x t x ≡ true → ⊥
-before_itself t x e = elim (parts t t x x e) [
-  | inl l ↦ omega arith
-  | inr b ↦ (let tied : key_cmp x x ≡ Equal = tied_itself nat_list_cmp_total x in let no' : Less ≡ Equal = sym b.1 ∙ tied in cc)
-]
-
--- two places of which neither is before the other are the same
-pub before_neither : (t i : ℕ) (x y : List ℕ) → is_before t x i y ≡ false → is_before i y t x ≡ false → (t ≡ i) × (x ≡ y)
-before_neither t i x y a b =
-    let same : t ≡ i = grind (arith, nat_tests) in
-    (same, by (key_cmp x y) refl same)
-  where
-    by : (o : Ordering) → key_cmp x y ≡ o → t ≡ i → x ≡ y
-    by Less is same = absurd (both_ways _ a (from_same t i x y same is))
-    by Equal is same = same_key x y (sym (is_eq-slice_cmp x y) ∙ ap is_eq is)
-    by Greater is same = absurd (both_ways _ b (from_same i t y x (sym same) (nat_list_cmp_total.antisymm y x ∙ ap ordering_reverse is)))
-
--- what comes after a place that is after another comes after that
-pub after_trans : (ts : ℕ) (key : Option (List ℕ)) (t i : ℕ) (x y : List ℕ) → is_after_place ts key x t ≡ true → is_before t x i y ≡ true → is_after_place ts key y i ≡ true
-after_trans ts None t i x y later before = let l : ts < t = ltb-true ts t later in elim (parts t i x y before) [
-  | inl m ↦ lt-ltb ts i (omega arith)
-  | inr m ↦ (let e : t ≡ i = m.0 in lt-ltb ts i (omega arith))
-]
-after_trans ts (Some key) t i x y later before = before_trans ts t i key x y later before
 
 -- ---- rows in order
 

@@ -16,7 +16,7 @@ use Rattle.version_chain.specs.Chains.{Entry}
 use Rattle.version_chain.specs.Following.{IsFirstAfter, IsLeft, IsNoneAfter, is_after_place, is_before}
 use Rattle.version_chain.specs.Stores.{Stored}
 use Rattle.catch_up.specs.Left.{AreLeftIn, AreNextIn, IsLeftIn}
-use Rattle.catch_up.proofs.Order.{after_trans, before_itself, before_neither}
+use Rattle.version_chain.proofs.Order.{after_trans, before_itself, before_neither}
 use Rattle.catch_up.proofs.Gathered.{are_left}
 
 -- rows are those before a place, and some are missing

@@ -12,4 +12,5 @@ pub mod Chained
 pub mod Thinning
 pub mod Collecting
 pub mod InBlocks
-pub mod Following
+pub mod Order
+pub mod Walking

@@ -1,10 +1,8 @@
--- The committed versions after a place, and the first of them.
+-- The committed versions after a place, the first of them, and a walk through all.
 use Rattle.std.specs.Prelude.{ℕ, List, Bool, true, false, ◌≡◌, ◌≤◌, ◌==◌, ◌&&◌, ◌||◌, nat_lt, MatchOption, Option, Some, None}
 use Rattle.std.specs.Borrow.{Bor}
 use Rattle.spans.specs.KeyOrder.{key_lt}
-use Rattle.spans.proofs.Keyed.{IsIn}
 use Rattle.version_chain.specs.declared.chain.Version.{Version}
-use Rattle.version_chain.specs.Chains.{found_in}
 use Rattle.version_chain.specs.Stores.{Stored, version_in, is_committed_in}
 
 -- x at t is before y at i: by timestamp and then by key, as rows are ordered
@@ -37,20 +35,13 @@ pub record IsFirstAfter (s : Stored) (ts : ℕ) (key : Option (List ℕ)) (throu
 abbrev pub IsFirstFound : Stored → ℕ → Option (List ℕ) → ℕ → Option (Bor (List ℕ) × Bor Version) → Type 0
 IsFirstFound s ts key through found = MatchOption found (IsNoneAfter s ts key through) (λ f. IsFirstAfter s ts key through f.0.now f.1.now)
 
--- ---- of one timestamp
+-- a walk from one to the next: behind which place of a store it is, and how far it goes
+pub record Walk : Type 0 where
+  pub store : Stored
+  pub ts : ℕ
+  pub key : Option (List ℕ)
+  pub through : ℕ
 
--- v is the version of x at t, and it is committed
-pub record IsCommittedAt (s : Stored) (x : List ℕ) (t : ℕ) (v : Version) : Type 0 where
-  pub at : v.ts ≡ t
-  pub found : found_in s x t ≡ Some v
-  pub done : v.committed ≡ true
-
--- none of the keys has a committed version at t
-abbrev pub IsNoneAmong : Stored → List (List ℕ) → ℕ → Type 0
-IsNoneAmong s keys t = (y : List ℕ) → IsIn y keys → is_committed_in s y t ≡ false
-
--- x is the first of the keys with a committed version at t, which is v
-pub record IsFirstAmong (s : Stored) (keys : List (List ℕ)) (t : ℕ) (x : List ℕ) (v : Version) : Type 0 where
-  pub among : IsIn x keys
-  pub committed : IsCommittedAt s x t v
-  pub first : (y : List ℕ) → IsIn y keys → is_committed_in s y t ≡ true → key_lt y x ≡ false
+-- it went to what was found, or stays where nothing was
+abbrev pub IsWalkedTo : Walk → Walk → Option (Bor (List ℕ) × Bor Version) → Type 0
+IsWalkedTo w w' found = MatchOption found (w' ≡ w) (λ f. w' ≡ record w { ts = f.1.now.ts; key = Some f.0.now })

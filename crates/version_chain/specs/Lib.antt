@@ -7,3 +7,4 @@ pub mod InSpans
 pub mod Dead
 pub mod Indexes
 pub mod Following
+pub mod Walking

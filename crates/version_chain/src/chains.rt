@@ -4,11 +4,13 @@ ghost use Rattle.version_chain.specs.declared.chain.Version.{Version};
 ghost use Rattle.version_chain.specs.Versions.{as_committed, IsNoneUpTo, IsNewestOf, IsNoneAbove, IsLeastAbove};
 ghost use Rattle.version_chain.specs.Chains.{AreFilled, found_in, chain_of, IsChangedAt};
 ghost use Rattle.version_chain.specs.Stores.{is_committed_in, IsCountOf};
-ghost use Rattle.version_chain.specs.Following.{IsCommittedAt, IsFirstAmong, IsNoneAmong};
+ghost use Rattle.version_chain.specs.Walking.{IsCommittedAt, IsFirstAmong, IsNoneAmong, keys_ahead};
 ghost use Rattle.version_chain.specs.InSpans.{AreFound, AreFrom};
 ghost use Rattle.version_chain.specs.Dead.{is_dead_in, IsThinnedAt};
 ghost use Rattle.version_chain.specs.Indexes.{is_listed, IsTaken};
 ghost use Rattle.spans.proofs.Keyed.{RisingKeys};
+ghost use Rattle.spans.specs.KeyOrder.{key_lt};
+ghost use Rattle.std.specs.List.{filter};
 
 use crate::chain::{Chain, Version};
 use crate::in_span::{InSpan, start_at};
@@ -20,6 +22,7 @@ use spans::span::Span;
 use std::alloc::{AllocError, Global};
 use std::collections::BTreeMap;
 use std::collections::btree_map::Range;
+use std::iter::Iterator;
 use std::marker::Model;
 use std::ops;
 use timestamps::key::Key;
@@ -88,17 +91,20 @@ impl Chains {
         Some(version)
     }
 
-    /// The first of the keys with a committed version at `ts`, with that version.
+    /// The first of the keys with a committed version at `ts`, with that version. The keys up to it are taken.
     pub(crate) fn first_committed<'a>(
         &'a self,
-        keys: Keys<'a>,
+        keys: &mut Option<Keys<'a>>,
         ts: u64,
     ) -> Option<(&'a Key, &'a Version)>
-        requires { RisingKeys keys }
-        ensures { MatchOption result (IsNoneAmong self.now keys.entry ts)
-            (λ found. IsFirstAmong self.now keys.entry ts found.0.now found.1.now) }
+        requires { RisingKeys (keys_ahead keys.old) }
+        ensures first { MatchOption result (IsNoneAmong self.now (keys_ahead keys.old) ts)
+            (λ found. IsFirstAmong self.now (keys_ahead keys.old) ts found.0.now found.1.now) }
+        ensures rest { MatchOption result (keys_ahead keys.new ≡ [])
+            (λ found. keys_ahead keys.new ≡ filter (key_lt found.0.now) (keys_ahead keys.old)) }
     {
-        for key in keys {
+        let ahead = keys.as_mut()?;
+        while let Some(key) = ahead.next() {
             if let Some(version) = self.committed_at(key, ts) {
                 return Some((key, version));
             }

@@ -119,19 +119,17 @@ impl Index {
     pub(crate) fn first_between(&self, after: u64, through: u64) -> Option<u64>
         ensures { MatchOption result (IsNoneBetween self.now after through) (λ ts. IsFirstBetween self.now after through ts) }
     {
-        if through <= after {
-            return None;
-        }
         let (ts, _) = self.between(after, through).next()?;
         Some(ts.0)
     }
 
     /// The timestamps above `after` and at or below `through`, rising, each with its keys.
     pub(crate) fn between(&self, after: u64, through: u64) -> Range<'_, TsKey, KeySet>
-        requires { after < through }
         ensures listed { (y : List ℕ) (i : ℕ) → after < i → i ≤ through → listed_in result y i ≡ is_listed self.now y i }
         ensures rising { AreBetween after through result }
     {
+        // a range may not end before it begins
+        let through = through.max(after);
         let after = Bound::Excluded(TsKey(after));
         let through = Bound::Included(TsKey(through));
         self.keys.range((after, through))

@@ -16,7 +16,7 @@
 //! write apple at 10          10  30      30         10 apple, 30 apple pear      3
 //! commit apple at 10         10* 30      30         10 apple, 30 apple pear      3    newest_at apple, 29 is 10*
 //! commit both at 30          10* 30*     30*        10 apple, 30 apple pear      3    next_above apple, 10 is 30
-//!                                                                                     committed_after 30 apple is 30 pear
+//!                                                                                     after 30 apple comes 30 pear
 //! drop what is dead by 30    30*         30*        30 apple pear                2    in_span - p is apple
 //! ```
 //!
@@ -27,7 +27,7 @@
 //!   the chain first. The versions above its own in its block move, and the starts of all blocks are written again
 //! - `commit`: O(log k + log v log b) for each key
 //! - `abort`, `remove`: the same and O(log n) in the index for each key, and what a write moves
-//! - `committed_after`: O(log n), and a search for each version that is listed from there to the first committed one
+//! - `committed_after`: O(log n), and then a search for each version that is listed from there on, as it is asked for
 //! - `in_span`: O(log k), and then each key as it is asked for
 //! - `drop_dead`: O(log n) for each version that was written since the horizon that the store keeps, up to its own, and
 //!   for each that goes; and for each key that it meets the starts of all blocks
@@ -49,11 +49,13 @@ mod block;
 mod blocks;
 pub mod chain;
 mod chains;
+mod committed_after;
 pub mod in_span;
 mod index;
 mod steps;
 mod store;
 mod versions;
 
+pub use committed_after::CommittedAfter;
 pub use steps::Steps;
 pub use store::Store;

@@ -6,13 +6,14 @@ ghost use Rattle.std.specs.Map.{keys_of};
 ghost use Rattle.spans.specs.Keys.{in_span};
 ghost use Rattle.spans.proofs.Keyed.{RisingKeys};
 ghost use Rattle.kept.specs.Finding.{IsNextAbove};
-ghost use Rattle.version_chain.specs.Following.{IsFirstFound};
+ghost use Rattle.version_chain.specs.Walking.{IsBeside, keys_ahead};
 ghost use Rattle.version_chain.specs.Chains.{Entry, AreFilled, found_in};
 ghost use Rattle.version_chain.specs.Dead.{is_dead_in, ArePartlyThinned, IsCollectedIn};
 ghost use Rattle.version_chain.specs.Stores.{version_in, IsCountOf, IsNewestIn, IsAsBefore, IsWrittenTo, IsCommittedIn, IsAbortedIn};
 
 use crate::chain::Version;
 use crate::chains::Chains;
+use crate::committed_after::CommittedAfter;
 use crate::in_span::InSpan;
 use crate::index::Index;
 use key_set::Keys;
@@ -93,51 +94,37 @@ impl Store {
         }
     }
 
-    /// The first committed version after a place and at or below `through`, with its key: versions are
-    /// ordered by timestamp and then by key. The place is that of `key` at `ts`; without a key it is
-    /// behind all keys of `ts`. It searches the index once or twice, and a chain for each version that it
-    /// lists from there, up to the first that is committed.
-    pub fn committed_after(
-        &self,
+    /// The committed versions after a place and at or below `through`, by timestamp and then by key. The place is that of
+    /// `key` at `ts`; without a key it is behind all keys of `ts`. It searches the index twice, and takes no memory.
+    pub fn committed_after<'a>(
+        &'a self,
         ts: u64,
-        key: Option<&Key>,
+        key: Option<&'a Key>,
         through: u64,
-    ) -> Option<(&Key, &Version)>
-        ensures { IsFirstFound self.now ts (option_copied key.entry) through result }
+    ) -> CommittedAfter<'a>
+        ensures { result ≡ record { store = self.now; ts = ts; key = option_copied key.entry; through = through } }
     {
-        let Some(key) = key else {
-            return self.committed_above(ts, through);
-        };
+        CommittedAfter {
+            chains: &self.chains,
+            ts,
+            key,
+            through,
+            at: ts,
+            keys: self.beside(ts, key, through),
+            later: self.index.between(ts, through),
+        }
+    }
+
+    /// The keys of `ts` above the place's, unless `ts` is above `through`.
+    fn beside(&self, ts: u64, key: Option<&Key>, through: u64) -> Option<Keys<'_>>
+        ensures { IsBeside (record { store = self.now; ts = ts; key = option_copied key.entry; through = through }) (keys_ahead result) }
+    {
+        let key = key?;
         if through < ts {
             return None;
         }
-        match self.committed_beside(ts, key) {
-            None => self.committed_above(ts, through),
-            Some(found) => Some(found),
-        }
-    }
-
-    /// The first committed version of `ts` at a key above `key`, with its key.
-    fn committed_beside(&self, ts: u64, key: &Key) -> Option<(&Key, &Version)>
-        ensures { IsFirstFound self.now ts (Some key.now) ts result }
-    {
         let keys = self.index.keys_at(ts)?;
-        self.chains.first_committed(keys.above(key), ts)
-    }
-
-    /// The first committed version above `after` and at or below `through`, with its key.
-    fn committed_above(&self, after: u64, through: u64) -> Option<(&Key, &Version)>
-        ensures { IsFirstFound self.now after None through result }
-    {
-        if through <= after {
-            return None;
-        }
-        for (ts, keys) in self.index.between(after, through) {
-            if let Some(found) = self.chains.first_committed(keys.iter(), ts.0) {
-                return Some(found);
-            }
-        }
-        None
+        Some(keys.above(key))
     }
 
     /// The keys of the span that have a version, rising, each with its chain, which has at least one

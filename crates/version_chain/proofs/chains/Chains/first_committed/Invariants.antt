@@ -1,5 +1,10 @@
-use Rattle.version_chain.proofs.Following.{AreUnseen}
+use Rattle.std.proofs.Common.{length}
+use Rattle.version_chain.specs.Walking.{keys_ahead}
+use Rattle.version_chain.proofs.Walking.{ArePassed}
 use Rattle.version_chain.proofs.chains.Chains.first_committed.Given as goal
 
 abbrev pub invariant-loop-key : goal.invariant-loop-key
-invariant-loop-key l = AreUnseen l.self l.fn.keys l.ts l.key-iterator
+invariant-loop-key l = ArePassed l.self l.ts (keys_ahead l.fn.keys) l.ahead
+
+abbrev pub decreases-loop-key : goal.decreases-loop-key
+decreases-loop-key l = length l.ahead

@@ -1,6 +1,6 @@
 use Rattle.std.proofs.Common.{subst, sym}
 use Rattle.version_chain.specs.Indexes.{IsFirstBetween}
-use Rattle.version_chain.proofs.Following.{is_first_between}
+use Rattle.version_chain.proofs.Walking.{is_first_between}
 use Rattle.version_chain.proofs.index.Index.first_between.Goals as goal
 
 pub returns : goal.returns

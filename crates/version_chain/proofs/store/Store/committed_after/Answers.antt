@@ -1,10 +1,13 @@
-use Rattle.version_chain.proofs.Following.{in_other_words, none_after, first_above}
+use Rattle.std.proofs.Common.{subst, sym}
+use Rattle.std.specs.Option.{option_copied}
+use Rattle.version_chain.specs.Following.{Walk}
+use Rattle.version_chain.specs.Walking.{IsBeside, keys_ahead}
+use Rattle.version_chain.proofs.Walking.{begins}
 use Rattle.version_chain.proofs.store.Store.committed_after.Goals as goal
 
-pub returns-in-None : goal.returns-in-None
-returns-in-None c =
-    rw c.in-Some.is
-    (in_other_words c.committed_above-in-None.result _ _ _ _
-    (none_after c.args.self.now c.args.ts c.in-Some.key.now c.args.through c.in-None.ensures)
-    (λ found. first_above c.args.self.now c.args.ts c.in-Some.key.now c.args.through found.0.now found.1.now c.in-None.ensures)
-    c.committed_above-in-None.ensures)
+pub invariant_of-result : goal.invariant_of-result
+invariant_of-result c =
+    let walk : Walk = record { store = c.self.inside.chains; ts = c.args.ts; key = option_copied c.args.key; through = c.args.through } in
+    begins walk c.self.inside.index (keys_ahead c.beside.result) c.between.result c.self.invariant.indexed
+    (subst (λ s. IsBeside (record { store = s; ts = c.args.ts; key = option_copied c.args.key; through = c.args.through }) (keys_ahead c.beside.result)) (sym c.self.view_is) c.beside.ensures)
+    c.between.ensures.rising c.between.ensures.listed
