@@ -14,7 +14,8 @@ use Rattle.spans.specs.KeyOrder.{key_lt}
 use Rattle.spans.specs.Streams.{row_lt}
 use Rattle.spans.proofs.Steps.{by_test, same_key}
 use Rattle.spans.proofs.StreamOrder.{IsRowIn, RisingRows}
-use Rattle.version_chain.specs.Following.{is_after_place, is_before}
+use Rattle.version_chain.specs.Following.{is_before}
+use Rattle.version_chain.proofs.Order.{before_neither, before_trans}
 
 -- ---- rows in order
 

@@ -13,7 +13,7 @@ use Rattle.spans.proofs.Steps.{by_test}
 use Rattle.spans.proofs.StreamOrder.{IsRowIn, RisingRows, in_append, rises_append, rises_parts}
 use Rattle.version_chain.specs.declared.chain.Version.{Version}
 use Rattle.version_chain.specs.Chains.{Entry}
-use Rattle.version_chain.specs.Following.{IsFirstAfter, IsLeft, IsNoneAfter, is_after_place, is_before}
+use Rattle.version_chain.specs.Following.{IsFirstAfter, IsLeft, IsNoneAfter, Walk, is_after_place, is_before}
 use Rattle.version_chain.specs.Stores.{Stored}
 use Rattle.catch_up.specs.Left.{AreLeftIn, AreNextIn, IsLeftIn}
 use Rattle.version_chain.proofs.Order.{after_trans, before_itself, before_neither}
@@ -122,7 +122,7 @@ pub record IsOutside (span : Span) (y : List ℕ) (missing missing' : ℕ) (rows
   pub same : missing' ≡ missing
   pub rows_same : rows' ≡ rows
 
-pub walk_steps : (s : Stored) (span : Span) (ts : ℕ) (key : Option (List ℕ)) (through n t : ℕ) (x : Option (List ℕ)) (missing missing' : ℕ) (rows rows' : List Row) (y : List ℕ) (v : Version) → IsWalked s span ts key through n t x missing rows
+walk_steps : (s : Stored) (span : Span) (ts : ℕ) (key : Option (List ℕ)) (through n t : ℕ) (x : Option (List ℕ)) (missing missing' : ℕ) (rows rows' : List Row) (y : List ℕ) (v : Version) → IsWalked s span ts key through n t x missing rows
     → IsFirstAfter s t x through y v → IsTold span y v missing missing' rows rows' ⊎ IsOutside span y missing missing' rows rows' → IsWalked s span ts key through n v.ts (Some y) missing' rows'
 walk_steps s span ts key through n t x missing missing' rows rows' y v walked first step = elim step [
   | inl told ↦ walk_takes s span ts key through n t x missing missing' rows rows' (row_of y v) walked (next_is s span t x through y v first told.inside) told.less told.more
@@ -159,7 +159,7 @@ walk_ends s span ts key through n t x missing rows walked none =
       first = let c : length rows + missing ≡ n = walked.count in take_all n rows (omega arith);
     }
 
-pub none_is : (s : Stored) (span : Span) (t : ℕ) (x : Option (List ℕ)) (through : ℕ) → IsNoneAfter s t x through → (r : Row) → IsLeftIn s span t x through r → ⊥
+none_is : (s : Stored) (span : Span) (t : ℕ) (x : Option (List ℕ)) (through : ℕ) → IsNoneAfter s t x through → (r : Row) → IsLeftIn s span t x through r → ⊥
 none_is s span t x through none r h = none r.key r.ts (left_is s span t x through r h)
 
 -- what is missing is gathered in another way
@@ -187,6 +187,34 @@ walk_joins s span ts key through n t x missing rows rows' more walked next joine
 
     moved : (r : Row) → IsRowIn r next.all → IsRowIn r walked.rest
     moved r i = (walked.left.each r).1 ((next.left.each r).0 i)
+
+-- ---- along the store's committed versions
+
+-- rows are those before the place of a walk over them
+pub record IsWalking (s : Stored) (span : Span) (ts : ℕ) (key : Option (List ℕ)) (through n : ℕ) (w : Walk) (missing : ℕ) (rows : List Row) : Type 0 where
+  pub store : w.store ≡ s
+  pub far : w.through ≡ through
+  pub walked : IsWalked s span ts key through n w.ts w.key missing rows
+
+pub begins_walking : (s : Stored) (span : Span) (ts : ℕ) (key : Option (List ℕ)) (through n : ℕ) → IsWalking s span ts key through n (record { store = s; ts = ts; key = key; through = through }) n []
+begins_walking s span ts key through n = record { store = refl; far = refl; walked = walk_begins s span ts key through n }
+
+pub goes_on_walking : (s : Stored) (span : Span) (ts : ℕ) (key : Option (List ℕ)) (through n : ℕ) (w w' : Walk) (missing missing' : ℕ) (rows rows' : List Row) (y : List ℕ) (v : Version) → IsWalking s span ts key through n w missing rows
+    → IsFirstAfter w.store w.ts w.key w.through y v → w' ≡ record w { ts = v.ts; key = Some y } → IsTold span y v missing missing' rows rows' ⊎ IsOutside span y missing missing' rows rows' → IsWalking s span ts key through n w' missing' rows'
+goes_on_walking s span ts key through n w w' missing missing' rows rows' y v walking first moved step = record {
+  store = ap (λ (u : Walk). u.store) moved ∙ walking.store;
+  far = ap (λ (u : Walk). u.through) moved ∙ walking.far;
+  walked = subst (λ (u : Walk). IsWalked s span ts key through n u.ts u.key missing' rows') (sym moved) (walk_steps s span ts key through n w.ts w.key missing missing' rows rows' y v walking.walked here step);
+}
+  where
+    here : IsFirstAfter s w.ts w.key through y v
+    here = subst (λ u. IsFirstAfter u w.ts w.key through y v) walking.store (subst (λ m. IsFirstAfter w.store w.ts w.key m y v) walking.far first)
+
+pub ends_walking : (s : Stored) (span : Span) (ts : ℕ) (key : Option (List ℕ)) (through n : ℕ) (w : Walk) (missing : ℕ) (rows : List Row) → IsWalking s span ts key through n w missing rows → IsNoneAfter w.store w.ts w.key w.through → AreNextIn s span ts key through n rows
+ends_walking s span ts key through n w missing rows walking none = walk_ends s span ts key through n w.ts w.key missing rows walking.walked (none_is s span w.ts w.key through here)
+  where
+    here : IsNoneAfter s w.ts w.key through
+    here = subst (λ u. IsNoneAfter u w.ts w.key through) walking.store (subst (λ m. IsNoneAfter w.store w.ts w.key m) walking.far none)
 
 -- each step passes a key
 pub keys_shorten : (es rest : List Entry) (o : Option (Bor (List ℕ) × Bor (List Version))) → TakesFirst deref_pair es o rest → is_some o ≡ true → length rest < length es

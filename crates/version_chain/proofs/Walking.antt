@@ -232,10 +232,10 @@ goes_to w at keys later x v ahead is = record {
       | inr there ↦ inr there
     ]
     | inr low ↦ (let here = at_place at x y i left.later low in
-      elim (ahead.all y i (was_left y i left)) [
-        | inl among ↦ inl (here.0, (filter_in (key_lt x) y keys).1 (here.1, among.1))
-        | inr there ↦ (let over : at < i = listed_above at w.through later ahead.between y i there in absurd (omega arith))
-      ])
+        elim (ahead.all y i (was_left y i left)) [
+          | inl among ↦ inl (here.0, (filter_in (key_lt x) y keys).1 (here.1, among.1))
+          | inr there ↦ (let over : at < i = listed_above at w.through later ahead.between y i there in absurd (omega arith))
+        ])
   ];
 }
   where

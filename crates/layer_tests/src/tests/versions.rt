@@ -333,22 +333,21 @@ fn keys_in(alloc: Global, store: &Store, words: &mut Words<'_>, out: &mut Vec<u8
 
 /// What is committed after a place, whose key `-` is none: of each version its timestamp and its key.
 fn follows(alloc: Global, store: &Store, words: &mut Words<'_>, out: &mut Vec<u8>) -> Option<()> {
-    let mut ts = words.number();
+    let ts = words.number();
     let first = words.key(alloc)?;
     let through = words.number();
-    let mut key = if first.bytes() == b"-".as_slice() {
+    let key = if first.bytes() == b"-".as_slice() {
         None
     } else {
         Some(&first)
     };
+    let mut committed = store.committed_after(ts, key, through);
     for _ in 0..9 {
-        let Some((found, version)) = store.committed_after(ts, key, through) else {
+        let Some((found, version)) = committed.next() else {
             return Some(());
         };
-        ts = version.ts.get();
-        key = Some(found);
         out.push(b' ').ok()?;
-        put_number(alloc, out, ts)?;
+        put_number(alloc, out, version.ts.get())?;
         out.push(b' ').ok()?;
         out.extend_from_slice(found.bytes()).ok()?;
     }

@@ -1,10 +1,10 @@
 use Rattle.std.proofs.Common.{length}
 use Rattle.std.specs.Option.{option_copied}
-use Rattle.catch_up.proofs.Walk.{IsWalked}
+use Rattle.catch_up.proofs.Walk.{IsWalking}
 use Rattle.catch_up.proofs.rows.next_rows.Given as goal
 
 abbrev pub invariant-loop-missing : goal.invariant-loop-missing
-invariant-loop-missing l = IsWalked l.store l.span l.ts (option_copied l.key) l.through l.n l.place.0 (option_copied l.place.1) l.missing l.rows.items
+invariant-loop-missing l = IsWalking l.store l.span l.ts (option_copied l.key) l.through l.n l.committed l.missing l.rows.items
 
 -- each step passes a key
 abbrev pub decreases-loop-missing : goal.decreases-loop-missing

@@ -42,8 +42,9 @@ loop-key-preserved c =
     let walk = c.args.self.now in
     let at = c.loop-key.self-inside.at in
     let keys = keys_ahead c.loop-key.self-inside.keys in
-    let none = subst (λ s. IsNoneAmong s keys at) (sym (ap (λ (w : Walk). w.store) c.loop-key.invariant.0)) c.in_default.ensures.first in
-    (c.loop-key.invariant.0,
-    subst (λ t. IsAhead walk t c.iter.result c.next.new.self) (sym c.at.view_is)
-    (subst (λ ks. IsAhead walk c.in_ok-at.at.now ks c.next.new.self) (sym c.iter.ensures.keys)
-    (goes_on walk at c.in_ok-at.at.now keys c.in_ok-at.keys.now c.next.new.self (subst (IsAhead walk at keys) c.in_ok-at.ensures.steps c.loop-key.invariant.1) none (subst RisingKeys c.iter.ensures.keys c.iter.ensures.rising))))
+    let none = subst (λ s. IsNoneAmong s keys at) (sym (ap (λ (w : Walk). w.store) c.loop-key.invariant.0)) c.in_default.ensures.first in (
+      c.loop-key.invariant.0,
+      subst (λ t. IsAhead walk t c.iter.result c.next.new.self) (sym c.at.view_is)
+          (subst (λ ks. IsAhead walk c.in_ok-at.at.now ks c.next.new.self) (sym c.iter.ensures.keys)
+          (goes_on walk at c.in_ok-at.at.now keys c.in_ok-at.keys.now c.next.new.self (subst (IsAhead walk at keys) c.in_ok-at.ensures.steps c.loop-key.invariant.1) none (subst RisingKeys c.iter.ensures.keys c.iter.ensures.rising))),
+    )
