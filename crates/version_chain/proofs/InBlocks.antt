@@ -1,11 +1,11 @@
 -- Versions in blocks: which block has a place, and what an edit of one block makes of all versions.
-use Rattle.std.proofs.Common.{◌≡◌, ℕ, zero, suc, ◌+◌, ◌-◌, ◌^◌, ◌<◌, ◌≤◌, ◌==◌, Bool, true, false, List, [], ◌∷◌, ◌++◌, length, take, drop, get_or, set, All, filter, insert, remove, not, refl, sym, ap, ap₂, subst, ◌∙◌, append_assoc, append-nil, arith, length-append, length-drop, length-set, length-take-le, take-append-drop, take-take, take_all, get_or-drop, get_or-append-add, get_or-set_same, get_or-set_other, drop-drop, drop-set-lt}
+use Rattle.std.proofs.Common.{◌≡◌, ℕ, zero, suc, ◌+◌, ◌-◌, ◌^◌, ◌<◌, ◌≤◌, ◌==◌, Bool, true, false, List, [], ◌∷◌, ◌++◌, length, take, drop, get_or, set, All, filter, insert, remove, not, refl, sym, ap, ap₂, subst, ◌∙◌, append_assoc, append-nil, arith, length-append, length-drop, length-set, length-take, length-take-le, take-append-drop, take-take, take_all, get_or-drop, get_or-append-add, get_or-set_same, get_or-set_other, drop-drop, drop-set-lt}
 use Rattle.std.specs.Prelude.{nat_le}
 use Rattle.std.specs.List.Sorted.{IsPartitionedBy, IsPartitionPoint}
 use Rattle.std.proofs.lemmas.Bool.{eqb-false, eqb-true}
 use Rattle.std.proofs.lemmas.Bool.Decides.{nat_tests}
 use Rattle.spans.proofs.Steps.{by_test}
-use Rattle.std.proofs.lemmas.List.{take_more, take_more_set, get_or-append_right, get_or_append_left, get_or_default, set-append_left, set-append_right, set_split}
+use Rattle.std.proofs.lemmas.List.{take_more, take_more_set, get_or-take, get_or-append_right, get_or_append_left, get_or_default, set-append_left, set-append_right, set_split}
 use Rattle.std.proofs.lemmas.List.Edits.{insert-append_left, insert-append_right, remove-append_left, remove-append_right}
 use Rattle.std.proofs.lemmas.List.Elements.{filter-append}
 use Rattle.std.proofs.lemmas.List.Filters.{length-filter_both}
@@ -130,7 +130,7 @@ has_place bs ds place k b numbered same at is =
       inside = λ lt. (let high = here.inside b lt in omega arith);
     }
 
-before_is : (bs : List Block) (place k : ℕ) (b : Block) → HasPlace bs place k b → length (all_in (take k bs)) ≡ b.start
+pub before_is : (bs : List Block) (place k : ℕ) (b : Block) → HasPlace bs place k b → length (all_in (take k bs)) ≡ b.start
 before_is bs place k b at = sym (ap (λ c. c.start) at.is ∙ at.numbered k b at.within)
 
 pub read_part : (bs : List Block) (place k : ℕ) (b : Block) (d : Version) → HasPlace bs place k b → place < length (all_in bs) → get_or (all_in bs) place d ≡ get_or b.versions.items (place - b.start) d
@@ -209,6 +209,13 @@ same_sound bs place k b c sound at start same = record {
 }
 
 -- ---- blocks that are numbered, one after another
+
+-- the first of blocks that are numbered are so too
+pub numbered_take : (bs : List Block) (n : ℕ) → AreNumbered bs → AreNumbered (take n bs)
+numbered_take bs n numbered k d lt =
+    let long = length-take n bs in
+    let low : k < n = omega arith in
+    ap (λ b. b.start) (get_or-take n bs k d low) ∙ numbered k d (omega arith) ∙ ap (λ cs. length (all_in cs)) (sym (take-take k n bs (omega arith)))
 
 -- the first i blocks of bs, which have the versions of os, are numbered, and so many versions stand in them
 pub record IsNumberedTo (os bs : List Block) (start i : ℕ) : Type 0 where

@@ -29,25 +29,29 @@ pub(crate) fn block_of(blocks: &[Block], place: usize) -> usize
     blocks.partition_point(|block| block.start <= place) - 1
 }
 
-/// Writes into each block how many versions stand before it.
-pub(crate) fn number(blocks: &mut Vec<Block>)
+/// Writes into each block from one on how many versions stand before it. Those before it say so, and have `start`.
+pub(crate) fn number_from(blocks: &mut Vec<Block>, first: usize, start: usize)
+    requires first { first ≤ length blocks.old.items }
+    requires before { AreNumbered (take first blocks.old.items) }
+    requires start { start ≡ length (all_in (take first blocks.old.items)) }
     requires few { length (all_in blocks.old.items) < 2 ^ 64 }
     ensures versions { all_in blocks.new.items ≡ all_in blocks.old.items }
     ensures numbered { AreNumbered blocks.new.items }
     ensures len { length blocks.new.items ≡ length blocks.old.items }
 {
-    let mut start = 0;
-    for i in 0..blocks.len() {
+    let mut start = start;
+    for i in first..blocks.len() {
         blocks[i].start = start;
         start += blocks[i].versions.len();
     }
 }
 
-// Makes two blocks of one, which are then to be numbered. Where that finds no memory the one stays.
+// Makes two blocks of one, from which on they are then to be numbered. Where that finds no memory the one stays.
 fn halve(blocks: &mut Vec<Block>, k: usize) -> Result<(), AllocError>
     requires { k < length blocks.old.items }
     ensures versions { all_in blocks.new.items ≡ all_in blocks.old.items }
-    ensures some { 0 < length blocks.new.items }
+    ensures before { take k blocks.new.items ≡ take k blocks.old.items }
+    ensures some { k < length blocks.new.items }
 {
     blocks.reserve(1)?;
     let lower = &mut blocks[k].versions;
@@ -60,9 +64,12 @@ fn halve(blocks: &mut Vec<Block>, k: usize) -> Result<(), AllocError>
     Ok(())
 }
 
-/// Halves a block that has become too full, if there is memory for that, and numbers all.
-pub(crate) fn halve_full(blocks: &mut Vec<Block>, k: usize)
+/// Halves a block that has become too full, if there is memory for that, and numbers those from it on. Those before it
+/// are numbered, and have `start`.
+pub(crate) fn halve_full(blocks: &mut Vec<Block>, k: usize, start: usize)
     requires block { k < length blocks.old.items }
+    requires before { AreNumbered (take k blocks.old.items) }
+    requires start { start ≡ length (all_in (take k blocks.old.items)) }
     requires few { length (all_in blocks.old.items) < 2 ^ 64 }
     ensures versions { all_in blocks.new.items ≡ all_in blocks.old.items }
     ensures sound { IsSound blocks.new.items }
@@ -70,14 +77,16 @@ pub(crate) fn halve_full(blocks: &mut Vec<Block>, k: usize)
     if blocks[k].versions.len() > FULL {
         let _ = halve(blocks, k);
     }
-    number(blocks);
+    number_from(blocks, k, start);
 }
 
-/// Takes a block out that has become empty, unless it is the only one. The others are then to be numbered.
+/// Takes a block out that has become empty, unless it is the only one. Those behind it are then to be numbered.
 pub(crate) fn drop_empty(blocks: &mut Vec<Block>, k: usize)
     requires { k < length blocks.old.items }
     ensures versions { all_in blocks.new.items ≡ all_in blocks.old.items }
+    ensures before { take k blocks.new.items ≡ take k blocks.old.items }
     ensures some { 0 < length blocks.new.items }
+    ensures within { k ≤ length blocks.new.items }
 {
     if blocks[k].versions.is_empty() && blocks.len() > 1 {
         blocks.remove(k);

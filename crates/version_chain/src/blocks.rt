@@ -5,7 +5,7 @@ ghost use Rattle.version_chain.specs.declared.chain.Version.{Version};
 ghost use Rattle.version_chain.specs.Versions.{as_committed};
 ghost use Rattle.version_chain.specs.Dead.{is_dead_version};
 
-use crate::block::{Block, block_of, drop_empty, empty_ahead, halve_full, number, thin};
+use crate::block::{Block, block_of, drop_empty, empty_ahead, halve_full, number_from, thin};
 use crate::chain::Version;
 use std::alloc::AllocError;
 use std::marker::Model;
@@ -103,8 +103,9 @@ impl Blocks {
         }
         let k = block_of(&self.blocks, place);
         let block = &mut self.blocks[k];
-        block.versions.insert(place - block.start, version)?;
-        halve_full(&mut self.blocks, k);
+        let start = block.start;
+        block.versions.insert(place - start, version)?;
+        halve_full(&mut self.blocks, k, start);
         Ok(())
     }
 
@@ -115,9 +116,10 @@ impl Blocks {
     {
         let k = block_of(&self.blocks, place);
         let block = &mut self.blocks[k];
-        block.versions.remove(place - block.start);
+        let start = block.start;
+        block.versions.remove(place - start);
         drop_empty(&mut self.blocks, k);
-        number(&mut self.blocks);
+        number_from(&mut self.blocks, k, start);
     }
 
     /// Drops those that are dead by the horizon, which stand before a place.
@@ -130,6 +132,6 @@ impl Blocks {
         thin(&mut self.blocks, last + 1, horizon, top);
         let empty = empty_ahead(&self.blocks[..last]);
         self.blocks.drain(..empty);
-        number(&mut self.blocks);
+        number_from(&mut self.blocks, 0, 0);
     }
 }

@@ -24,7 +24,7 @@
 //!
 //! - `newest_at`, `next_above`, `around`: O(log k + log v log b), and at most as many timestamps as v has binary digits
 //! - `write`: the same, twice O(log k) for a key that had no version, and O(log n) in the index. It looks at the end of
-//!   the chain first. The versions above its own in its block move, and the starts of all blocks are written again
+//!   the chain first. The versions above its own in its block move, and the starts of the blocks behind it rise
 //! - `commit`: O(log k + log v log b) for each key
 //! - `abort`, `remove`: the same and O(log n) in the index for each key, and what a write moves
 //! - `committed_after`: O(log n), and then a search for each version that is listed from there on, as it is asked for

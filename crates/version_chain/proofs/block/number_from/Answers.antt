@@ -1,7 +1,7 @@
 use Rattle.std.proofs.Common.{◌<◌, ◌+◌, ap, arith, get_or-set_same, length, refl, set, ◌∙◌}
 use Rattle.version_chain.specs.declared.block.Block.{Block}
 use Rattle.version_chain.proofs.InBlocks.{IsNumberedTo, numbered_fits, numbered_next}
-use Rattle.version_chain.proofs.block.number.Goals as goal
+use Rattle.version_chain.proofs.block.number_from.Goals as goal
 
 -- one more block is numbered
 next : (c : goal.After-len-start) → IsNumberedTo c.args.blocks.now.items (set c.loop-i.blocks.items c.loop-i.i (record c.index_mut.result.now { start = c.loop-i.start })) (c.loop-i.start + c.len-start.result) (c.loop-i.i + 1)

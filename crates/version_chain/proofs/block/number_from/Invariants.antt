@@ -1,5 +1,5 @@
 use Rattle.version_chain.proofs.InBlocks.{IsNumberedTo}
-use Rattle.version_chain.proofs.block.number.Given as goal
+use Rattle.version_chain.proofs.block.number_from.Given as goal
 
 abbrev pub invariant-loop-i : goal.invariant-loop-i
 invariant-loop-i l = IsNumberedTo l.fn.blocks.items l.blocks.items l.start l.i
