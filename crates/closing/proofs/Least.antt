@@ -16,7 +16,7 @@ use Rattle.spans.specs.Collection.{Protection}
 use Rattle.spans.specs.Transactions.{least_of}
 use Rattle.spans.proofs.Open.{IsAmong}
 use Rattle.spans.proofs.Steps.{by_test}
-use Rattle.kept.proofs.Dead.{least_low}
+use Rattle.spans.proofs.Horizon.{least_low}
 use Rattle.closing.specs.Standing.{newest_first, protection}
 use Rattle.closing.specs.Ties.{is_just, pair_cmp}
 use Rattle.closing.proofs.Tying.{AreAlike}

@@ -1,7 +1,7 @@
 -- What is kept after the commands on feeds and protections.
-use Rattle.std.proofs.Common.{Bool, List, not, refl, None, Option, arith, false, subst, suc, ap, true, Some, sym, cond, ◌≡◌, ◌<◌, ◌==◌, ◌∷◌, ◌++◌, ◌∙◌, ℕ, []}
+use Rattle.std.proofs.Common.{Bool, List, not, refl, None, Option, arith, false, suc, ap, true, Some, sym, cond, ◌≡◌, ◌<◌, ◌==◌, ◌∷◌, ◌++◌, ◌∙◌, ℕ, []}
 use Rattle.std.proofs.lemmas.Bool.{eqb-true}
-use Rattle.std.specs.Prelude.{filter, option_map, is_some}
+use Rattle.std.specs.Prelude.{filter, option_map}
 use Rattle.spans.specs.Collection.{Protection, VersionName}
 use Rattle.spans.specs.Consumer.{name_of}
 use Rattle.spans.specs.declared.kind.Kind.{Kind}
@@ -11,19 +11,10 @@ use Rattle.spans.specs.Kept.{Place, Kept, IsKeptOf, last_name}
 use Rattle.spans.specs.declared.calls.messages.Message.{Message}
 use Rattle.spans.specs.declared.span.Span.{Span}
 use Rattle.spans.proofs.Copies.{Allowed, AllAllowed}
-use Rattle.spans.proofs.Feeding.{unopened, resolved_join}
+use Rattle.spans.proofs.Feeding.{unopened, resolved_join, uncancelled}
 use Rattle.spans.proofs.Steps.{by_test}
 use Rattle.kept.specs.Places.{moved}
 use Rattle.spans.specs.declared.calls.messages.Message.TheVariants as messages
-
--- a feed that wasn't opened wasn't cancelled
-pub uncancelled : (p : List Effect) → AllAllowed p → (f : ℕ) → feeds_opened p < f → is_cancelled p f ≡ false
-uncancelled [] all f above = refl
-uncancelled (Opens g seat kind span cursor ∷ p) all f above = uncancelled p all.1 f (omega arith)
-uncancelled (Cancels g ∷ p) all f above = by_test (g == f)
-    (λ same. absurd (let none : feed_of p g ≡ None = subst (λ n. feed_of p n ≡ None) (sym (eqb-true g f same)) (unopened p all.1 f above).0 in let no : false ≡ true = ap is_some (sym none) ∙ all.0 in cc))
-    (λ other. rw other (uncancelled p all.1 f above))
-uncancelled (_ ∷ p) all f above = uncancelled p all.1 f above
 
 -- after an opening
 pub after_opens : (k : Kept) (p : List Effect) → AllAllowed p → IsKeptOf k p → (f seat : ℕ) (kind : Kind) (span : Span) (cursor : ℕ) → Allowed p (Opens f seat kind span cursor) → (φ : ℕ → Option Place)

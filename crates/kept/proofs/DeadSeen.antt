@@ -10,19 +10,14 @@ use Rattle.spans.specs.Newest.{newest}
 use Rattle.spans.specs.Transactions.{is_committed}
 use Rattle.spans.specs.Versions.{committed_version_of, version_of, write_of}
 use Rattle.spans.proofs.Copies.{AllAllowed, Allowed}
-use Rattle.spans.proofs.Steps.{by_test, newest_is, version_wrote}
+use Rattle.spans.proofs.Steps.{by_test, newest_is, version_wrote, newest_reaches}
 use Rattle.kept.specs.Finding.{is_dropped, is_dead_in, kept_committed}
 use Rattle.kept.specs.Lists.{AreThose}
 use Rattle.kept.proofs.AfterCollects.{after_collects, dead_grows, removed_is}
 use Rattle.spans.proofs.Members.{distinct_filter, has_filter, same_length}
-use Rattle.kept.proofs.Dead.{committed_is, committed_stands, dead_is, kept_is, older_dead}
+use Rattle.kept.proofs.Dead.{committed_stands, kept_is}
 use Rattle.spans.proofs.VersionNames.{has_versions, versions_distinct}
-
--- the newest version is at or above each that is in reach
-newest_reaches : (f : ℕ → Option After) (t i : ℕ) (a : After) → i ≤ t → f i ≡ Some a → i ≤ (newest f t).ts
-newest_reaches f t i a low is = by_test (nat_lt (newest f t).ts i)
-    (λ below. absurd (let none : f i ≡ None = (newest_is f t).gap i (ltb-true _ _ below) low in let no' : None ≡ Some a = sym none ∙ is in cc))
-    (λ isnt. grind (arith, nat_tests))
+use Rattle.spans.proofs.Dead.{committed_is, dead_is, older_dead}
 
 -- of fewer versions the newest is no newer
 newest_fewer : (f g : ℕ → Option After) (t : ℕ) → ((j : ℕ) → f j ≡ None → g j ≡ None) → (newest g t).ts ≤ (newest f t).ts
