@@ -15,7 +15,7 @@ use Rattle.spans.proofs.Feeding.{fed, ResolvedRise, apart_rises, some_gap}
 use Rattle.spans.proofs.Listing.{in_list, listed_above, listed_low, start_low}
 use Rattle.spans.proofs.StreamOrder.{IsRowIn, in_append}
 use Rattle.spans.proofs.Members.{Has}
-use Rattle.spans.proofs.Horizon.{least_low}
+use Rattle.spans.proofs.Horizon.{least_low, least_join}
 use Rattle.spans.proofs.FeedFloors.{floor_from, is_live, live_is}
 use Rattle.kept.specs.Places.{place_floor, IsLeastFloor, or_min, live_feed, row_floor}
 use Rattle.spans.specs.declared.calls.messages.Message.TheVariants as messages
@@ -102,11 +102,6 @@ least_floor_is k p all fits (Some m) h n =
     let top : least_of n (floors p (live_feeds p)) ≤ m = omega (arith, place_floor_is p all h.0.0 l.0 l.1) in
     let first : least_of n (floors p (live_feeds p)) ≤ n = least_low n (floors p (live_feeds p)) in
     omega arith
-
--- the least over two lists
-least_join : (n : ℕ) (ms ns : List ℕ) → least_of n (ms ++ ns) ≡ least_of (least_of n ns) ms
-least_join n [] ns = refl
-least_join n (m ∷ ms) ns = ap (min m) (least_join n ms ns)
 
 -- how far a collection goes
 pub horizon_reached : (k : Kept) (p : List Effect) → AllAllowed p → IsKeptOf k p → (to : ℕ) (lp lf : Option ℕ) → ((n : ℕ) → or_min lp n ≡ least_of n (map (λ (n : Protection). n.at) k.protections)) → IsLeastFloor k.feed lf
