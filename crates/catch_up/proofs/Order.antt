@@ -1,20 +1,10 @@
 -- Rows that are put into their order.
-use Rattle.std.proofs.Common.{List, Option, Some, None, [], ap, arith, false, inl, inr, refl, subst, sym, true, ℕ, ◌<◌, ◌&&◌, ◌==◌, ◌⊎◌, ◌≡◌, ◌∷◌, ◌∙◌}
-use Rattle.std.specs.Prelude.{if◌then◌else◌, nat_lt}
-use Rattle.std.specs.Ordering.{is_eq, is_lt, ordering_reverse}
-use Rattle.std.specs.declared.cmp.Ordering.{Ordering}
-use Rattle.std.specs.declared.cmp.Ordering.TheVariants.{Less, Equal, Greater}
-use Rattle.std.proofs.lemmas.Bool.{and_from, and_parts, both_ways, eq-eqb, eqb-true, lt-ltb, ltb-true, or_cases, or_left, or_right}
-use Rattle.std.proofs.lemmas.Bool.Decides.{nat_tests}
-use Rattle.std.proofs.lemmas.Cmp.{nat_list_cmp_total, tied_itself}
-use Rattle.std.proofs.lemmas.Map.Text.{is_eq-slice_cmp}
-use Rattle.timestamps.specs.Bytes.{key_cmp}
+use Rattle.std.proofs.Common.{List, [], inl, inr, refl, subst, true, ◌⊎◌, ◌≡◌, ◌∷◌}
+use Rattle.std.specs.Prelude.{if◌then◌else◌}
 use Rattle.timestamps.specs.declared.row.Row.{Row}
-use Rattle.spans.specs.KeyOrder.{key_lt}
 use Rattle.spans.specs.Streams.{row_lt}
-use Rattle.spans.proofs.Steps.{by_test, same_key}
+use Rattle.spans.proofs.Steps.{by_test}
 use Rattle.spans.proofs.StreamOrder.{IsRowIn, RisingRows}
-use Rattle.version_chain.specs.Following.{is_before}
 use Rattle.version_chain.proofs.Order.{before_neither, before_trans}
 
 -- ---- rows in order

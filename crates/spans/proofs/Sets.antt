@@ -1,5 +1,5 @@
 -- Sets of std as lists: of timestamps, and of keys.
-use Rattle.std.proofs.Common.{List, ap, arith, inl, inr, refl, subst, sym, true, ℕ, ◌≡◌, ◌∷◌, [], Bool, ◌∙◌, ◌||◌, cond, false}
+use Rattle.std.proofs.Common.{List, ap, arith, inl, inr, refl, subst, sym, true, ℕ, ◌≡◌, ◌∷◌, [], Bool, ◌∙◌, ◌||◌, cond, false, ◌<◌, ◌==◌, length}
 use Rattle.std.specs.Prelude.{filter, nat_le, ◌↔◌, bytes_eq}
 use Rattle.std.specs.List.{AllByRecursion, list_any}
 use Rattle.std.specs.List.Sorted.{IsStrictlySortedBy}
@@ -24,7 +24,14 @@ pub all_within : {K : Type 0} (R : K → K → Ordering) (ks : List K) → filte
 all_within R [] = refl
 all_within R (k ∷ ks) = ap (λ l. k ∷ l) (all_within R ks)
 
+pub none_in : {K : Type 0} (p : K → Bool) (ks : List K) → (0 < length ks → ⊥) → list_any p ks ≡ false
+none_in p [] empty = refl
+none_in p (k ∷ ks) empty = absurd (empty (omega arith))
+
 -- ---- timestamps
+
+pub number_at : (t i : ℕ) → is_at (nat_cmp t) i ≡ (t == i)
+number_at t i = grind (arith, nat_tests)
 
 pub is_found : (t k : ℕ) → is_at (nat_cmp t) k ≡ true → k ≡ t
 is_found t k e = grind (arith, nat_tests)

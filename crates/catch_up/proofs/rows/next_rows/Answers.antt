@@ -1,4 +1,4 @@
-use Rattle.std.proofs.Common.{Global, Some, Vec, [], ap, arith, inl, inr, subst, sym, ◌++◌, ◌∷◌, ◌∙◌}
+use Rattle.std.proofs.Common.{Global, Vec, [], ap, arith, inl, inr, subst, sym, ◌++◌, ◌∷◌, ◌∙◌}
 use Rattle.std.specs.Option.{option_copied}
 use Rattle.timestamps.specs.declared.row.Row.{Row}
 use Rattle.version_chain.specs.Following.{Walk}
