@@ -1,6 +1,6 @@
 -- A feed that is served from the store.
 use Rattle.std.proofs.Common.{Bool, List, None, Option, Some, [], ap, arith, false, inl, inr, length, map, max, min, refl, subst, sym, take, true, zero, suc, ℕ, ◌+◌, ◌-◌, ◌<◌, ◌&&◌, ◌==◌, ◌≡◌, ◌≤◌, ◌++◌, ◌∷◌, ◌∙◌}
-use Rattle.std.specs.Prelude.{IfOk, Result, Ok, Err, nat_lt}
+use Rattle.std.specs.Prelude.{nat_lt}
 use Rattle.std.proofs.lemmas.Bool.{and_from, and_parts, both_ways, lt-ltb, ltb-true, or_cases, or_left}
 use Rattle.std.proofs.lemmas.Bool.Decides.{nat_tests}
 use Rattle.timestamps.specs.declared.row.Row.{Row}
@@ -24,7 +24,6 @@ use Rattle.feed.specs.Standing.{AreNextAt}
 use Rattle.feed.specs.Telling.{AreRowsTold}
 use Rattle.std.proofs.lemmas.List.{length-take, take-map, take-take}
 use Rattle.std.proofs.Math.Bool.{and-true, and-false}
-use Rattle.std.proofs.lemmas.Result.{IfOk-weaker}
 
 -- without a last row
 pub after_none : (n : ℕ) (r : Row) → (nat_lt n r.ts && is_after_name None r) ≡ nat_lt n r.ts

@@ -1,5 +1,5 @@
 -- How many feeds live.
-use Rattle.std.proofs.Common.{List, [], ap, false, inl, inr, length, refl, sym, true, suc, ℕ, ◌≡◌, ◌∷◌, ◌∙◌}
+use Rattle.std.proofs.Common.{List, [], false, inl, inr, length, refl, sym, true, ℕ, ◌≡◌, ◌∷◌, ◌∙◌}
 use Rattle.std.specs.Prelude.{is_some, nat_eq, ◌↔◌}
 use Rattle.std.specs.List.{AllByRecursion, IsDistinct}
 use Rattle.std.specs.Map.{keys_of, lookup}

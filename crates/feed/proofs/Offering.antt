@@ -1,5 +1,5 @@
 -- Rows that are offered one by one are offered as the rings want it, of which the crate `kept` speaks.
-use Rattle.std.proofs.Common.{Bool, List, None, Option, Some, [], ap, false, inl, inr, filter, refl, sym, true, ℕ, ◌&&◌, ◌≡◌, ◌++◌, ◌∷◌, ◌∙◌, append_assoc}
+use Rattle.std.proofs.Common.{List, None, Option, Some, [], ap, false, inl, inr, filter, refl, sym, true, ℕ, ◌&&◌, ◌≡◌, ◌++◌, ◌∷◌, ◌∙◌, append_assoc}
 use Rattle.std.specs.Prelude.{not, option_map}
 use Rattle.std.proofs.lemmas.Bool.{and_parts, not-true}
 use Rattle.std.proofs.lemmas.List.{append-nil}

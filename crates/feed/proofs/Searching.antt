@@ -1,8 +1,7 @@
 -- What a search of a part says by those of its halves.
-use Rattle.std.proofs.Common.{[], ◌∷◌, length, get_or, List, None, Option, Some, arith, false, inl, inr, refl, subst, true, zero, suc, ℕ, ◌+◌, ◌<◌, ◌≡◌, ◌≤◌}
+use Rattle.std.proofs.Common.{List, None, Option, Some, arith, false, inl, inr, subst, true, zero, suc, ℕ, ◌+◌, ◌<◌, ◌≡◌, ◌≤◌}
 use Rattle.std.specs.Prelude.{MatchOption, slice_get}
 use Rattle.std.proofs.lemmas.Bool.{both_ways, cases_lt}
-use Rattle.std.proofs.lemmas.Option.{slice_get-get_or}
 use Rattle.spans.proofs.Steps.{by_test}
 use Rattle.feed.specs.declared.hulls.Hull.{Hull}
 use Rattle.feed.specs.Slots.{Slots}

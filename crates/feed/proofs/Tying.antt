@@ -7,10 +7,7 @@ use Rattle.std.specs.Map.{lookup}
 use Rattle.std.proofs.lemmas.Bool.{and_parts, eqb-true}
 use Rattle.std.proofs.lemmas.Bool.Decides.{nat_tests}
 use Rattle.std.proofs.Math.Bool.{and-false}
-use Rattle.spans.specs.Feeds.{start_at}
-use Rattle.spans.specs.declared.kind.Kind.{Kind}
 use Rattle.spans.proofs.Steps.{by_test}
-use Rattle.spans.proofs.Listing.{start_low}
 use Rattle.kept.specs.Places.{place_floor}
 use Rattle.feed.specs.Live.{Live}
 use Rattle.feed.specs.Ties.{AreTied, IsFloorMoved, is_floor, pair_cmp}
