@@ -1,12 +1,11 @@
 -- What follows from a history for what is held.
-use Rattle.std.proofs.Common.{Bool, List, None, Option, Some, ap, arith, cond, false, refl, subst, suc, sym, true, ℕ, ◌+◌, ◌<◌, ◌≤◌, ◌∷◌, ◌≡◌, ◌∙◌, []}
+use Rattle.std.proofs.Common.{Bool, List, None, Option, Some, ap, arith, cond, false, refl, subst, sym, true, ℕ, ◌+◌, ◌<◌, ◌∷◌, ◌≡◌, ◌∙◌}
 use Rattle.std.proofs.lemmas.Bool.{lt-ltb}
-use Rattle.std.specs.Prelude.{is_some, length, nat_lt, option_map}
+use Rattle.std.specs.Prelude.{is_some, nat_lt, option_map}
 use Rattle.std.proofs.Math.Logic.{∥∥₁_elim, ∥∥₁_map}
 use Rattle.std.proofs.Props.{props}
 use Rattle.spans.specs.Collection.{is_dead, protections_made, version_name}
-use Rattle.spans.specs.Effects.{After, Effect, Opens, Protects, effect, effects_of, event}
-use Rattle.spans.specs.Feeds.{feeds_opened}
+use Rattle.spans.specs.Effects.{After, Effect, effect, effects_of, event}
 use Rattle.feed.specs.Standing.{opened_in}
 use Rattle.spans.specs.Kept.{IsKeptOf, Kept, transaction_with}
 use Rattle.spans.specs.Transactions.{closed_of, owner_of}
@@ -15,8 +14,9 @@ use Rattle.spans.specs.declared.calls.events.Event.{Event}
 use Rattle.spans.proofs.Closed.{wrote_begun}
 use Rattle.spans.proofs.Copies.{AllAllowed}
 use Rattle.spans.proofs.Legal.{legal_allowed}
-use Rattle.spans.proofs.Steps.{version_wrote}
+use Rattle.spans.proofs.Steps.{version_wrote, none_of}
 use Rattle.spans.proofs.WriteSets.{has, has_written}
+use Rattle.spans.proofs.Histories.{made_at_most, effect_count, opened_at_most}
 use Rattle.kept.specs.StandsFor as keeping
 use Rattle.kept.specs.Table.{keys_of}
 use Rattle.engine.specs.Layers.{AreNoted, HasHistory, StandsFor, kept_of}
@@ -55,35 +55,16 @@ noted_here k h s x t above out =
     let p = effects_of h in
     ap is_some (s.fits.versions x t) ∙ some_kept (is_dead p (version_name x t)) (version_of p x t) (noted_at k p (legal_allowed h s.legal) s.fits x t (subst (λ n. n < t) s.fits.closed_at above) out)
 
-none_of : (o : Option After) → is_some o ≡ false → o ≡ None
-none_of None e = refl
-none_of (Some a) e = cc
-
-pub made_low : (p : List Effect) → protections_made p ≤ length p
-made_low [] = omega arith
-made_low (Protects id t ∷ p) = omega (arith, made_low p)
-made_low (_ ∷ p) = omega (arith, made_low p)
-
-counted : (h : List Event) → length (effects_of h) ≡ length h
-counted [] = refl
-counted (e ∷ h) = ap suc (counted h)
-
 -- what a step asks of what is held
 
 noted_in : (k : Kept) (h : List Event) → keeping.StandsFor k h → AreNoted k
 noted_in k h s x t above out = none_of (k.version x t) (noted_here k h s x t above out)
 
 pub has_room : (e : Layers) (steps : ℕ) → ∥ HasHistory e steps ∥₁ → steps < 18446744073709551615 → (kept_of e).protections_made < 18446744073709551615
-has_room e steps some low = ∥∥₁_elim some (hlevel props) (λ h. omega (arith, made_low (effects_of h.0), counted h.0, h.1.counted, h.1.kept.fits.made))
-
--- no more feeds were opened than there were commands
-pub opened_low : (p : List Effect) → feeds_opened p ≤ length p
-opened_low [] = omega arith
-opened_low (Opens f seat kind span cursor ∷ p) = omega (arith, opened_low p)
-opened_low (_ ∷ p) = omega (arith, opened_low p)
+has_room e steps some low = ∥∥₁_elim some (hlevel props) (λ h. omega (arith, made_at_most (effects_of h.0), effect_count h.0, h.1.counted, h.1.kept.fits.made))
 
 pub has_number : (e : Layers) (steps : ℕ) → ∥ HasHistory e steps ∥₁ → steps < 18446744073709551615 → opened_in e.feeds < 18446744073709551615
-has_number e steps some low = ∥∥₁_elim some (hlevel props) (λ h. omega (arith, opened_low (effects_of h.0), counted h.0, h.1.counted, h.1.kept.fits.opened))
+has_number e steps some low = ∥∥₁_elim some (hlevel props) (λ h. omega (arith, opened_at_most (effects_of h.0), effect_count h.0, h.1.counted, h.1.kept.fits.opened))
 
 -- a step leads on
 pub history_step : (e e' : Layers) (steps : ℕ) (h : List Event) (n seat : ℕ) (cmd : Cmd) (r : Reply) → StandsFor e steps h → (AreServing e → IsStep (kept_of e) (kept_of e') seat cmd r) → (AreServing e → IsServed e e' seat cmd r) → StandsFor e' (steps + 1) (event n seat cmd r ∷ h)

@@ -11,12 +11,12 @@ use Rattle.spans.specs.declared.calls.replies.Reply.TheVariants.{Opened, Refused
 use Rattle.spans.specs.declared.kind.Kind.{Kind}
 use Rattle.spans.specs.declared.span.Span.{Span}
 use Rattle.spans.proofs.Steps.{by_test}
+use Rattle.spans.proofs.Refusals.{none_met, first_met}
 use Rattle.kept.specs.Answered.{IsAnswered, IsWanting}
 use Rattle.kept.specs.Changes.{IsAlike, IsOpenedAt}
 use Rattle.kept.specs.Replies.{kept_opening_tests, open_reply}
 use Rattle.engine.specs.Served.{IsOpenedIn, IsServed, IsUnserved}
 use Rattle.engine.specs.declared.layers.Layers.{Layers}
-use Rattle.mvto_rules.proofs.AtClosed.{tests_none, tests_some}
 
 abbrev AreOff : List (Bool × Refusal) → Type 0
 AreOff [] = Unit {0}
@@ -52,13 +52,13 @@ module _ (k k' : Kept) (seat : ℕ) (span : Span) (cursor : ℕ) where
   wanting_as true (Some gap) f right alike = record { may = refl; accepting = (Opened f, right, refl); alike = alike }
 
   pub open_refused : (kind : Kind) (q : Refusal) → first_refusal (kept_opening_tests kind k cursor) ≡ Some q → IsAlike k k' → IsAnswered k k' seat (open_cmd kind span cursor) (Refused q)
-  open_refused kind q some alike = refused_as kind.initial kind.gap q (sym (tests_some (kept_opening_tests kind k cursor) (Opened (suc k.feeds_opened)) q some)) alike
+  open_refused kind q some alike = refused_as kind.initial kind.gap q (sym (first_met (kept_opening_tests kind k cursor) (Opened (suc k.feeds_opened)) q some)) alike
 
   pub open_done : (kind : Kind) (f : ℕ) → first_refusal (kept_opening_tests kind k cursor) ≡ None → f ≡ suc k.feeds_opened → IsOpenedAt k k' f seat kind span cursor → IsAnswered k k' seat (open_cmd kind span cursor) (Opened f)
-  open_done kind f none next change = done_as kind.initial kind.gap f (ap Opened next ∙ sym (tests_none (kept_opening_tests kind k cursor) (Opened (suc k.feeds_opened)) none)) change
+  open_done kind f none next change = done_as kind.initial kind.gap f (ap Opened next ∙ sym (none_met (kept_opening_tests kind k cursor) (Opened (suc k.feeds_opened)) none)) change
 
   pub open_wanting : (kind : Kind) → first_refusal (kept_opening_tests kind k cursor) ≡ None → IsAlike k k' → IsWanting k k' seat (open_cmd kind span cursor)
-  open_wanting kind none alike = wanting_as kind.initial kind.gap (suc k.feeds_opened) (sym (tests_none (kept_opening_tests kind k cursor) (Opened (suc k.feeds_opened)) none)) alike
+  open_wanting kind none alike = wanting_as kind.initial kind.gap (suc k.feeds_opened) (sym (none_met (kept_opening_tests kind k cursor) (Opened (suc k.feeds_opened)) none)) alike
 
 module _ (e e' : Layers) (seat : ℕ) (span : Span) (cursor : ℕ) where
   unserved_as : (i : Bool) (g : Option ℕ) (q : Refusal) → IsUnserved e e' → IsServed e e' seat (open_cmd (kind_of i g) span cursor) (Refused q)

@@ -1,13 +1,8 @@
 -- A run's list of events grows at its end.
-use Rattle.std.proofs.Common.{◌≡◌, ℕ, ◌+◌, List, [], ◌∷◌, ◌++◌, map, length, refl, ap, arith}
+use Rattle.std.proofs.Common.{◌≡◌, ℕ, ◌+◌, List, [], ◌∷◌, ◌++◌, map, refl, ap}
 use Rattle.spans.specs.declared.calls.commands.Cmd.{Cmd}
 use Rattle.spans.specs.declared.calls.events.Event.{Event}
 use Rattle.engine.specs.Runs.{call_of}
-
--- one more event is counted
-pub counted_more : (es : List Event) (e : Event) → length (es ++ e ∷ []) ≡ length es + 1
-counted_more [] e = refl
-counted_more (x ∷ xs) e = omega (arith, counted_more xs e)
 
 -- the call of one more event was the next of those to come
 pub calls_more : (es : List Event) (e : Event) (rest : List (ℕ × Cmd)) → map call_of (es ++ e ∷ []) ++ rest ≡ map call_of es ++ call_of e ∷ rest

@@ -6,14 +6,11 @@ use Rattle.std.specs.Str.Parse.{digits_value, digits_value_after}
 use Rattle.std.proofs.lemmas.Bool.{and_parts, cases_lt, eq-eqb, ltb-true, lt-ltb, eqb-true, ne_eqb}
 use Rattle.std.proofs.lemmas.Str.Parse.{IsNumeralModel, numerals_by_fold}
 use Rattle.std.proofs.lemmas.Fmt.{digits_decimal, digits_value-decimal, decimal-digits_value, decimal_nonempty, first_decimal, decimal_digit}
+use Rattle.std.proofs.lemmas.Option.{cond_some}
 use Rattle.json_lines.specs.Numbers.{is_number_word, number_of}
 
 own : IsNumeralModel (λ ds. all_ascii_digits ds ≡ true) (digits_value 10)
 own = numerals_by_fold _ (search rules) (digits_value_after 10) (search rules)
-
-chosen : {A : Type 0} (b : Bool) (x y : A) → cond b (Some x) None ≡ Some y → (b ≡ true) × (x ≡ y)
-chosen true x y e = (refl, cc)
-chosen false x y e = absurd cc
 
 first_zero : (a : Bool) (b : Bool) → (a || not b) ≡ true → b ≡ true → a ≡ true
 first_zero true b e z = refl
@@ -24,7 +21,7 @@ first_zero false false e z = absurd cc
 pub number_found : (word : List ℕ) (n : ℕ) → number_of word ≡ Some n → (word ≡ decimal n) × (n < 2 ^ 64)
 unfolding number_of
 number_found word n e =
-    let h = chosen (is_number_word word && nat_lt (digits_value 10 word) (2 ^ 64)) (digits_value 10 word) n e in
+    let h = cond_some (is_number_word word && nat_lt (digits_value 10 word) (2 ^ 64)) (digits_value 10 word) n e in
     let parts = and_parts (is_number_word word) (nat_lt (digits_value 10 word) (2 ^ 64)) h.0 in
     let front = and_parts (nat_lt 0 (length word) && all_ascii_digits word) (length word == 1 || not (get_or word 0 0 == 48)) parts.0 in
     let digits = and_parts (nat_lt 0 (length word)) (all_ascii_digits word) front.0 in

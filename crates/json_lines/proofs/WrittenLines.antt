@@ -1,10 +1,10 @@
 -- A written line is taken apart into the texts that it was made of.
-use Rattle.std.proofs.Common.{◌≡◌, ℕ, ◌+◌, ◌/◌, ◌%◌, ◌*◌, ◌⊎◌, inl, inr, zero, suc, Bool, true, false, cond, List, [], ◌∷◌, ◌++◌, get_or, Option, Some, None, Result, Ok, Err, refl, sym, ap, subst, ◌∙◌, append_assoc, arith}
+use Rattle.std.proofs.Common.{◌≡◌, ℕ, ◌+◌, ◌/◌, ◌%◌, ◌*◌, ◌⊎◌, inl, inr, zero, suc, true, false, cond, List, [], ◌∷◌, ◌++◌, get_or, Option, Some, None, Result, Ok, Err, refl, sym, ap, subst, ◌∙◌, append_assoc, arith}
 use Rattle.std.specs.Prelude.{codes, decimal, bytes_eq, option_map, not}
 use Rattle.std.specs.List.{list_all}
 use Rattle.std.specs.Str.{all_ascii_digits}
 use Rattle.std.specs.Char.{is_ascii_digit}
-use Rattle.std.proofs.lemmas.Bool.{and_parts, ne_eqb}
+use Rattle.std.proofs.lemmas.Bool.{and_parts, ne_eqb, not-true}
 use Rattle.std.proofs.lemmas.Slice.Eq.{bytes_eq-Decides}
 use Rattle.base64.specs.Rfc4648.{encode_group}
 use Rattle.spans.specs.declared.calls.messages.Message.{Message}
@@ -118,13 +118,9 @@ no_quotes_join : (a b : List ℕ) → HasNoQuote a → HasNoQuote b → HasNoQuo
 no_quotes_join [] b p q = q
 no_quotes_join (x ∷ a) b p q = (p.0, no_quotes_join a b p.1 q)
 
-not_quote_of : (b : Bool) → not b ≡ true → b ≡ false
-not_quote_of true e = absurd cc
-not_quote_of false e = refl
-
 no_quote_at : (table : List ℕ) (k : ℕ) → list_all (λ s. not (is_quote s)) table ≡ true → is_quote (get_or table k 0) ≡ false
 no_quote_at [] k all = refl
-no_quote_at (s ∷ table) zero all = not_quote_of (is_quote s) (and_parts (not (is_quote s)) (list_all (λ s. not (is_quote s)) table) all).0
+no_quote_at (s ∷ table) zero all = not-true (is_quote s) (and_parts (not (is_quote s)) (list_all (λ s. not (is_quote s)) table) all).0
 no_quote_at (s ∷ table) (suc k) all = no_quote_at table k (and_parts (not (is_quote s)) (list_all (λ s. not (is_quote s)) table) all).1
 
 symbol_no_quote : (k : ℕ) → is_quote (get_or symbols k 0) ≡ false

@@ -16,6 +16,7 @@ use Rattle.spans.specs.declared.calls.replies.Reply.{Reply}
 use Rattle.spans.specs.declared.calls.replies.Reply.TheVariants.{Found, Protected, Refused, Released, Rows}
 use Rattle.spans.specs.declared.span.Span.{Span}
 use Rattle.spans.proofs.Steps.{by_test}
+use Rattle.spans.proofs.Refusals.{none_met, first_met}
 use Rattle.kept.specs.Answered.{IsAnswered, IsStep, IsWanting}
 use Rattle.kept.specs.Changes.{IsAlike}
 use Rattle.kept.specs.Finding.{AreKeysOf, seen}
@@ -24,21 +25,6 @@ use Rattle.closing.specs.Standing.{Standing, closed_in, made_in, protection, pro
 use Rattle.mvto_rules.specs.Snapshots.{horizon_refusal, snapshot_refusal, tests_at}
 
 -- ---- tests
-
--- the first test that applies decides
-pub tests_none : (tests : List (Bool × Refusal)) (reply : Reply) → first_refusal tests ≡ None → first_refusal_or tests reply ≡ reply
-tests_none [] reply none = refl
-tests_none (test ∷ tests) reply none = by_test test.0
-    (λ on. (let no : Some test.1 ≡ None = sym (ap (λ b. cond b (Some test.1) (first_refusal tests)) on) ∙ none in cc))
-    (λ off. ap (λ b. cond b (Refused test.1) (first_refusal_or tests reply)) off ∙ tests_none tests reply (sym (ap (λ b. cond b (Some test.1) (first_refusal tests)) off) ∙ none))
-
-pub tests_some : (tests : List (Bool × Refusal)) (reply : Reply) (q : Refusal) → first_refusal tests ≡ Some q → first_refusal_or tests reply ≡ Refused q
-tests_some [] reply q some = cc
-tests_some (test ∷ tests) reply q some = by_test test.0
-    (λ on. (let e : Some test.1 ≡ Some q = sym (ap (λ b. cond b (Some test.1) (first_refusal tests)) on) ∙ some in
-    let same : test.1 ≡ q = cc in
-    ap (λ b. cond b (Refused test.1) (first_refusal_or tests reply)) on ∙ ap Refused same))
-    (λ off. ap (λ b. cond b (Refused test.1) (first_refusal_or tests reply)) off ∙ tests_some tests reply q (sym (ap (λ b. cond b (Some test.1) (first_refusal tests)) off) ∙ some))
 
 pub none_unless : (o : Option Refusal) → ((q : Refusal) → o ≡ Some q → ⊥) → o ≡ None
 none_unless None never' = refl
@@ -57,25 +43,25 @@ snapshot_between k t low high =
 -- ---- reads at a closed timestamp
 
 pub read_refused : (k : Kept) (seat t : ℕ) (x : List ℕ) (q : Refusal) → Some q ≡ snapshot_refusal k t → IsAnswered k k seat (ReadAt t x) (Refused q)
-read_refused k seat t x q is = record { right = sym (tests_some (tests_at k t) (Found (seen k x t).after) q (sym is)); change = alike_self k }
+read_refused k seat t x q is = record { right = sym (first_met (tests_at k t) (Found (seen k x t).after) q (sym is)); change = alike_self k }
 
 pub read_done : (k : Kept) (seat t : ℕ) (x : List ℕ) (a : After) → snapshot_refusal k t ≡ None → a ≡ (seen k x t).after → IsAnswered k k seat (ReadAt t x) (Found a)
-read_done k seat t x a none is = record { right = ap Found is ∙ sym (tests_none (tests_at k t) (Found (seen k x t).after) none); change = alike_self k }
+read_done k seat t x a none is = record { right = ap Found is ∙ sym (none_met (tests_at k t) (Found (seen k x t).after) none); change = alike_self k }
 
 pub read_wanting : (k : Kept) (seat t : ℕ) (x : List ℕ) → snapshot_refusal k t ≡ None → IsWanting k k seat (ReadAt t x)
-read_wanting k seat t x none = record { may = refl; accepting = (Found (seen k x t).after, sym (tests_none (tests_at k t) (Found (seen k x t).after) none), refl); alike = alike_self k }
+read_wanting k seat t x none = record { may = refl; accepting = (Found (seen k x t).after, sym (none_met (tests_at k t) (Found (seen k x t).after) none), refl); alike = alike_self k }
 
 pub scan_refused : (k : Kept) (seat t : ℕ) (span : Span) (q : Refusal) → Some q ≡ snapshot_refusal k t → IsAnswered k k seat (ScanAt t span) (Refused q)
 scan_refused k seat t span q is = record {
-  right = ([], (λ low high. (let no : None ≡ Some q = sym (snapshot_between k t low high) ∙ sym is in cc)), sym (tests_some (tests_at k t) (Rows []) q (sym is)));
+  right = ([], (λ low high. (let no : None ≡ Some q = sym (snapshot_between k t low high) ∙ sym is in cc)), sym (first_met (tests_at k t) (Rows []) q (sym is)));
   change = alike_self k;
 }
 
 pub scan_done : (k : Kept) (seat t : ℕ) (span : Span) (keys : List (List ℕ)) (rows : List (List ℕ × List ℕ)) → snapshot_refusal k t ≡ None → AreKeysOf k span keys → rows ≡ pairs_of (λ x. (seen k x t).after) keys → IsAnswered k k seat (ScanAt t span) (Rows rows)
-scan_done k seat t span keys rows none are is = record { right = (keys, (λ low high. are), ap Rows is ∙ sym (tests_none (tests_at k t) (Rows (pairs_of (λ x. (seen k x t).after) keys)) none)); change = alike_self k }
+scan_done k seat t span keys rows none are is = record { right = (keys, (λ low high. are), ap Rows is ∙ sym (none_met (tests_at k t) (Rows (pairs_of (λ x. (seen k x t).after) keys)) none)); change = alike_self k }
 
 pub scan_wanting : (k : Kept) (seat t : ℕ) (span : Span) (keys : List (List ℕ)) → snapshot_refusal k t ≡ None → AreKeysOf k span keys → IsWanting k k seat (ScanAt t span)
-scan_wanting k seat t span keys none are = record { may = refl; accepting = (Rows (pairs_of (λ x. (seen k x t).after) keys), (keys, (λ low high. are), sym (tests_none (tests_at k t) (Rows (pairs_of (λ x. (seen k x t).after) keys)) none)), refl); alike = alike_self k }
+scan_wanting k seat t span keys none are = record { may = refl; accepting = (Rows (pairs_of (λ x. (seen k x t).after) keys), (keys, (λ low high. are), sym (none_met (tests_at k t) (Rows (pairs_of (λ x. (seen k x t).after) keys)) none)), refl); alike = alike_self k }
 
 -- ---- protections
 

@@ -2,8 +2,9 @@
 use Rattle.std.proofs.Common.{Bool, List, None, Option, Some, ap, arith, cond, eqb-true, eq-eqb, false, inl, inr, length, refl, subst, sym, true, ℕ, ◌<◌, ◌==◌, ◌&&◌, ◌||◌, ◌∷◌, ◌≡◌, ◌∙◌, []}
 use Rattle.std.specs.Prelude.{is_some, max, nat_le, nat_lt, not, ◌≤◌}
 use Rattle.std.specs.List.{list_any}
-use Rattle.std.proofs.lemmas.Bool.{or_cases, or_left, or_right}
+use Rattle.std.proofs.lemmas.Bool.{or_cases, or_left, or_right, and_parts}
 use Rattle.std.proofs.lemmas.Bool.Decides.{nat_tests}
+use Rattle.std.proofs.Math.Bool.{and-true}
 use Rattle.spans.specs.Collection.{Protection}
 use Rattle.spans.specs.Effects.{After}
 use Rattle.spans.specs.Kept.{Kept, Transaction}
@@ -61,17 +62,13 @@ is_some_not : (a b : Option After) (c : Bool) → a ≡ cond c None b → (v : A
 is_some_not a b true is v e = (let no : None ≡ Some v = sym is ∙ e in cc)
 is_some_not a b false is v e = sym is ∙ e
 
-open_of_taken : (b c : Bool) → (b && c) ≡ true → c ≡ true
-open_of_taken true c e = e
-open_of_taken false c e = cc
-
 some_open : (o : Option Transaction) → is_open o ≡ true → is_some o ≡ true
 some_open None e = cc
 some_open (Some n) e = refl
 
 -- it is the transaction of a timestamp
 pub taken_in_range : (table : Table) (to t : ℕ) → AreInRange table → is_taken_back table to t ≡ true → (1 ≤ t) × (t ≤ MAX)
-taken_in_range table to t range is = range t (some_open (transaction_in table t) (open_of_taken (nat_le t to) (is_open (transaction_in table t)) is))
+taken_in_range table to t range is = range t (some_open (transaction_in table t) (and_parts (nat_le t to) (is_open (transaction_in table t)) is).1)
 
 pub taking_goes_on : (s s1 s2 : Stored) (table : Table) (to x : ℕ) (rest : List ℕ) → IsTakingBack s s1 table to (x ∷ rest) → IsAbortedIn s1 s2 x (keys_of (transaction_in table x)) → IsTakingBack s s2 table to rest
 taking_goes_on s s1 s2 table to x rest taking aborted = record {
@@ -106,11 +103,7 @@ taking_goes_on s s1 s2 table to x rest taking aborted = record {
         ∙ sym (ap (λ b. cond (b && has y (keys x)) None (version_in s y x)) gone)
 
 pub taking_ends : (s s' : Stored) (table : Table) (to : ℕ) → IsTakingBack s s' table to [] → AreTakenBack s s' table (is_taken_back table to)
-taking_ends s s' table to taking = record { version = λ y i. taking.taken.version y i ∙ ap (λ b. cond (b && has y (keys_of (transaction_in table i))) None (version_in s y i)) (and_true (is_taken_back table to i)); committed = taking.taken.committed }
-  where
-    and_true : (b : Bool) → (b && true) ≡ b
-    and_true true = refl
-    and_true false = refl
+taking_ends s s' table to taking = record { version = λ y i. taking.taken.version y i ∙ ap (λ b. cond (b && has y (keys_of (transaction_in table i))) None (version_in s y i)) (and-true (is_taken_back table to i)); committed = taking.taken.committed }
 
 -- what was taken back and then closed was closed hard
 pub hard_closed : (k k' : Kept) (v : List ℕ → ℕ → Option After) (d : List ℕ → ℕ → Bool) (to n : ℕ)

@@ -1,13 +1,13 @@
 -- A span cut into pieces, key by key.
-use Rattle.std.proofs.Common.{Bool, List, None, Option, Some, ap, arith, false, inl, inr, refl, subst, sym, true, ℕ, ◌<◌, ◌≤◌, ◌⊎◌, ◌&&◌, ◌++◌, ◌∷◌, ◌≡◌, ◌∙◌, []}
+use Rattle.std.proofs.Common.{Bool, List, None, Option, Some, ap, arith, false, inl, inr, refl, subst, sym, true, ℕ, ◌<◌, ◌≤◌, ◌⊎◌, ◌++◌, ◌∷◌, ◌≡◌, ◌∙◌, []}
 use Rattle.std.specs.Prelude.{bytes_eq, not}
 use Rattle.std.specs.Map.{keys_of}
-use Rattle.std.specs.Ordering.{is_eq, is_lt, ordering_reverse}
+use Rattle.std.specs.Ordering.{is_eq, is_lt}
 use Rattle.std.specs.declared.cmp.Ordering.{Ordering}
 use Rattle.std.specs.declared.cmp.Ordering.TheVariants.{Equal, Greater, Less}
-use Rattle.std.proofs.lemmas.Bool.{both_ways}
-use Rattle.std.proofs.lemmas.Cmp.{nat_list_cmp_total}
+use Rattle.std.proofs.lemmas.Bool.{both_ways, and_from, and_parts, not-true}
 use Rattle.std.proofs.lemmas.Map.Text.{is_eq-slice_cmp}
+use Rattle.std.proofs.Math.Bool.{not-not}
 use Rattle.timestamps.specs.Bytes.{key_cmp}
 use Rattle.timestamps.specs.declared.ts.TheConstants.{MAX}
 use Rattle.spans.specs.KeyOrder.{below_high, from_low, key_lt}
@@ -18,6 +18,7 @@ use Rattle.spans.proofs.Keyed.{RisingKeys}
 use Rattle.spans.proofs.Members.{Has, has_append}
 use Rattle.spans.proofs.Steps.{by_test, newest_only, same_key}
 use Rattle.spans.proofs.Succeeding.{above_successor}
+use Rattle.spans.proofs.KeyOrder.{above_low, under_high, less_is, turned, not_itself}
 use Rattle.read_marks.specs.Marks.{HaveGaps}
 use Rattle.read_marks.specs.declared.piece.Piece.{Piece}
 use Rattle.version_chain.specs.Chains.{Entry, chain_of}
@@ -29,45 +30,6 @@ use Rattle.mvto_rules.specs.Scans.{AreAhead, AreAllMade, AreMade, IsOpen, Marked
 use Rattle.mvto_rules.specs.declared.cut.Cut.{Cut}
 
 -- ---- the order of keys
-
-and_left : (a b : Bool) → (a && b) ≡ true → a ≡ true
-and_left true b e = refl
-and_left false b e = cc
-
-and_right : (a b : Bool) → (a && b) ≡ true → b ≡ true
-and_right true b e = e
-and_right false b e = cc
-
-both_true : (a b : Bool) → a ≡ true → b ≡ true → (a && b) ≡ true
-both_true true b e f = f
-both_true false b e f = cc
-
-not_not : (b : Bool) → not (not b) ≡ b
-not_not true = refl
-not_not false = refl
-
-not_true : (b : Bool) → not b ≡ true → b ≡ false
-not_true true e = cc
-not_true false e = refl
-
-less_is : (o : Ordering) → is_lt o ≡ true → o ≡ Less
-less_is Less e = refl
-less_is Equal e = cc
-less_is Greater e = cc
-
-turned : (x y : List ℕ) (o : Ordering) → key_cmp y x ≡ o → key_cmp x y ≡ ordering_reverse o
-turned x y o e = nat_list_cmp_total.antisymm x y ∙ ap ordering_reverse e
-
-not_itself : (x : List ℕ) → key_lt x x ≡ false
-not_itself x = by_order (key_cmp x x) refl
-  where
-    by_order : (o : Ordering) → key_cmp x x ≡ o → is_lt (key_cmp x x) ≡ false
-    by_order Less e = (let g : key_cmp x x ≡ Greater = turned x x Less e in cc)
-    by_order Equal e = ap is_lt e
-    by_order Greater e = ap is_lt e
-
-lt_trans : (x y z : List ℕ) → key_lt x y ≡ true → key_lt y z ≡ true → key_lt x z ≡ true
-lt_trans x y z l h = ap is_lt (nat_list_cmp_total.trans x y z (less_is _ l) (less_is _ h))
 
 not_both : (x y : List ℕ) → key_lt x y ≡ true → key_lt y x ≡ false
 not_both x y l = ap is_lt (turned y x Less (less_is _ l))
@@ -86,14 +48,10 @@ from_successor : (k x : List ℕ) → from_low (Some (successor k)) x ≡ key_lt
 from_successor k x = above_successor k x
 
 stays_from : (lo : Option (List ℕ)) (k x : List ℕ) → from_low lo k ≡ true → key_lt k x ≡ true → from_low lo x ≡ true
-stays_from None k x from above = refl
-stays_from (Some low) k x from above = by_test (key_lt x low)
-    (λ is. (let no : true ≡ false = sym (lt_trans k x low above is) ∙ not_true _ from in cc))
-    (λ isnt. ap not isnt)
+stays_from lo k x from above = above_low lo k x from (less_is _ above)
 
 stays_below : (hi : Option (List ℕ)) (k x : List ℕ) → below_high hi k ≡ true → key_lt x k ≡ true → below_high hi x ≡ true
-stays_below None k x below less = refl
-stays_below (Some high) k x below less = lt_trans x k high less below
+stays_below hi k x below less = under_high hi k x below (less_is _ less)
 
 -- ---- what a piece more does
 
@@ -145,7 +103,7 @@ none_made s m t span = record {
   apart = λ p q i j x a b. absurd i;
   gaps = tt;
   within = λ p i x a. absurd i;
-  each = λ x in' past. (let no : true ≡ false = sym (and_left _ _ in') ∙ not_true _ past in cc);
+  each = λ x in' past. (let no : true ≡ false = sym (and_parts _ _ in').0 ∙ not-true _ past in cc);
 }
 
 -- ---- the gaps of keys
@@ -172,11 +130,11 @@ pub passed : (s : Stored) (m : Marked) (t : ℕ) (span : Span) (k : List ℕ) (v
     → AreMade s m t span (λ x. key_lt x k) (c.pieces.items ++ open_piece c (Some k) ∷ [])
 passed s m t span k vs rest c low high there from_k rising opened made =
     one_more s m t span (is_below c.lo) (λ x. key_lt x k) c.pieces.items (open_piece c (Some k)) made low (omega (arith, high))
-    (λ x below. before x (not_true _ below))
+    (λ x below. before x (not-true _ below))
     (λ x has.
-    let from : from_low c.lo x ≡ true = and_left _ _ has in
-    let less : key_lt x k ≡ true = and_right (from_low c.lo x) _ has in
-    let inside : in_span span x ≡ true = both_true _ _ (opened.inner x from) (stays_below span.hi k x (and_right (from_low span.lo k) _ there) less) in (
+    let from : from_low c.lo x ≡ true = (and_parts _ _ has).0 in
+    let less : key_lt x k ≡ true = (and_parts (from_low c.lo x) _ has).1 in
+    let inside : in_span span x ≡ true = and_from _ _ (opened.inner x from) (stays_below span.hi k x (and_parts (from_low span.lo k) _ there).1 less) in (
       inside,
       ap not from,
       less,
@@ -185,7 +143,7 @@ passed s m t span k vs rest c low high there from_k rising opened made =
         | inr after ↦ both_ways (key_lt x k) (not_both k x (ap is_lt (rising.0 x after))) less
       ]),
     ))
-    (λ x inside from less. both_true _ _ (sym (not_not _) ∙ ap not from) less)
+    (λ x inside from less. and_from _ _ (sym (not-not _) ∙ ap not from) less)
   where
     before : (x : List ℕ) → from_low c.lo x ≡ false → key_lt x k ≡ true
     before x off = by_test (key_lt x k)
@@ -202,7 +160,7 @@ past_below : (k x : List ℕ) → key_lt x k ≡ true → is_below (Some (succes
 past_below k x less = past_key k x ∙ ap not (not_both x k less)
 
 past_here : (k x : List ℕ) → key_lt x k ≡ false → is_below (Some (successor k)) x ≡ true → bytes_eq k x ≡ true
-past_here k x at past = same_place k x at (not_true _ (sym (past_key k x) ∙ past))
+past_here k x at past = same_place k x at (not-true _ (sym (past_key k x) ∙ past))
 
 -- the key that has the reader's own version is in no piece
 pub own_passed : (s : Stored) (m : Marked) (t : ℕ) (span : Span) (k : List ℕ) (ps : List Piece) → AreMade s m t span (λ x. key_lt x k) ps → (newest_in s t k).ts ≡ t → AreMade s m t span (is_below (Some (successor k))) ps
@@ -245,7 +203,7 @@ pub all_made : (s : Stored) (m : Marked) (t : ℕ) (span : Span) (c : Cut) → 0
 all_made s m t span c low high opened made =
     one_more s m t span (is_below c.lo) (λ x. true) c.pieces.items (open_piece c span.hi) made low (omega (arith, high)) (λ x is. refl)
     (λ x has.
-    let from : from_low c.lo x ≡ true = and_left _ _ has in
-    let inside : in_span span x ≡ true = both_true _ _ (opened.inner x from) (and_right (from_low c.lo x) _ has) in
+    let from : from_low c.lo x ≡ true = (and_parts _ _ has).0 in
+    let inside : in_span span x ≡ true = and_from _ _ (opened.inner x from) (and_parts (from_low c.lo x) _ has).1 in
     (inside, ap not from, refl, opened.gap x inside from (λ i. absurd i)))
-    (λ x inside from past. both_true _ _ (sym (not_not _) ∙ ap not from) (and_right (from_low span.lo x) _ inside))
+    (λ x inside from past. and_from _ _ (sym (not-not _) ∙ ap not from) (and_parts (from_low span.lo x) _ inside).1)

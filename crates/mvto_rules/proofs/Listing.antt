@@ -1,8 +1,8 @@
 -- The rows of a span at a closed timestamp, one key after another.
-use Rattle.std.proofs.Common.{refl, List, None, Option, Some, ap, append_assoc, sym, true, ℕ, ◌++◌, ◌∷◌, ◌≡◌, ◌∙◌, []}
+use Rattle.std.proofs.Common.{refl, List, Option, ap, sym, true, ℕ, ◌++◌, ◌∷◌, ◌≡◌, ◌∙◌, []}
+use Rattle.std.proofs.lemmas.List.{append-nil}
 use Rattle.std.specs.List.{AllByRecursion}
 use Rattle.std.specs.Map.{keys_of}
-use Rattle.spans.specs.Effects.{After}
 use Rattle.spans.specs.Keys.{in_span, with_value}
 use Rattle.spans.specs.declared.span.Span.{Span}
 use Rattle.spans.proofs.Keyed.{RisingKeys}
@@ -12,7 +12,7 @@ use Rattle.version_chain.specs.declared.chain.Version.{Version}
 use Rattle.mvto_rules.specs.Scans.{entries_of, keys_in, rows_in}
 use Rattle.mvto_rules.specs.Sights.{value_in}
 use Rattle.mvto_rules.proofs.Seeing.{IsThere}
-use Rattle.mvto_rules.proofs.Walking.{each_found}
+use Rattle.mvto_rules.proofs.Walking.{each_found, row_more}
 
 -- these entries are left, and the rows of those before are listed
 pub record IsListing (s : Stored) (t : ℕ) (span : Span) (rest : List Entry) (rows : List (List ℕ × List ℕ)) : Type 0 where
@@ -25,10 +25,6 @@ list_begins s t span found rows those rising none = record {
   listed = ap (λ l. l ++ rows_in s t (keys_of found)) none ∙ ap (λ es. rows_in s t (keys_of es)) those;
 }
 
-row_more : (xs rows : List (List ℕ × List ℕ)) (x : List ℕ) (a : After) → (xs ++ with_value x a []) ++ rows ≡ xs ++ with_value x a rows
-row_more xs rows x None = append_assoc xs [] rows
-row_more xs rows x (Some v) = append_assoc xs ((x, v) ∷ []) rows
-
 pub list_goes_on : (s : Stored) (t : ℕ) (span : Span) (x : List ℕ) (vs : List Version) (rest : List Entry) (rows rows' : List (List ℕ × List ℕ)) (o : Option Version) → IsListing s t span ((x, vs) ∷ rest) rows → IsThere (version_in s x) (is_committed_in s x) t o
     → rows' ≡ rows ++ with_value x (value_in o) [] → IsListing s t span rest rows'
 list_goes_on s t span x vs rest rows rows' o list there is = record {
@@ -36,9 +32,5 @@ list_goes_on s t span x vs rest rows rows' o list there is = record {
   listed = ap (λ l. l ++ rows_in s t (keys_of rest)) is ∙ row_more rows (rows_in s t (keys_of rest)) x (value_in o) ∙ ap (λ v. rows ++ with_value x v.after (rows_in s t (keys_of rest))) (sym there.is) ∙ list.listed;
 }
 
-nothing_more : (xs : List (List ℕ × List ℕ)) → xs ++ [] ≡ xs
-nothing_more [] = refl
-nothing_more (x ∷ xs) = ap (λ l. x ∷ l) (nothing_more xs)
-
 pub list_ends : (s : Stored) (t : ℕ) (span : Span) (rows : List (List ℕ × List ℕ)) → IsListing s t span [] rows → rows ≡ rows_in s t (keys_in s span)
-list_ends s t span rows list = sym (nothing_more rows) ∙ list.listed
+list_ends s t span rows list = sym (append-nil rows) ∙ list.listed

@@ -1,6 +1,6 @@
 -- A read of one key, noted.
-use Rattle.std.proofs.Common.{Bool, List, None, Option, Result, Ok, Err, Some, arith, eq-eqb, false, refl, subst, suc, sym, true, zero, ℕ, ◌<◌, ◌≤◌, ◌==◌, ◌≡◌, ◌∙◌, [], ◌∷◌, ap}
-use Rattle.std.specs.Prelude.{OnErr, OnOk, bytes_eq, is_some, nat_lt, unwrap_or}
+use Rattle.std.proofs.Common.{Bool, List, None, Option, Some, arith, eq-eqb, false, refl, subst, suc, sym, true, zero, ℕ, ◌<◌, ◌≤◌, ◌==◌, ◌≡◌, ◌∙◌, [], ◌∷◌, ap}
+use Rattle.std.specs.Prelude.{bytes_eq, is_some, nat_lt, unwrap_or}
 use Rattle.std.specs.List.{Contains}
 use Rattle.std.proofs.lemmas.Bool.Decides.{nat_tests}
 use Rattle.timestamps.specs.declared.ts.TheConstants.{MAX}
@@ -87,11 +87,3 @@ spot_read k m' x t above to next span low high is_next until_next alone inside o
     piece_read k m' x t above to next at low high is_next (until_is next to until_next)
     (inside piece there x (alone x ∙ key_itself x))
     (λ y off. outside y (λ p is. subst (λ q. in_span q.span y ≡ false) (only_one piece p is) (alone y ∙ off)))
-
-pub both_ok : {T E P Q R : Type 0} (r : Result T E) → (P → Q → R) → OnOk r P → OnOk r Q → OnOk r R
-both_ok (Ok x) f p q = f p q
-both_ok (Err e) f p q = tt
-
-pub any_err : {T E P : Type 0} (r : Result T E) → P → OnErr r P
-any_err (Ok x) p = tt
-any_err (Err e) p = p

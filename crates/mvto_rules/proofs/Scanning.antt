@@ -1,5 +1,5 @@
 -- A scan's reply, and what it marks.
-use Rattle.std.proofs.Common.{Bool, List, None, Option, Some, ap, arith, cond, false, inl, inr, refl, subst, suc, sym, true, zero, ℕ, ◌<◌, ◌≤◌, ◌==◌, ◌∷◌, ◌≡◌, ◌∙◌, []}
+use Rattle.std.proofs.Common.{Bool, List, None, Option, Some, ap, arith, cond, false, inl, inr, refl, subst, sym, true, ℕ, ◌<◌, ◌≤◌, ◌==◌, ◌∷◌, ◌≡◌, ◌∙◌, []}
 use Rattle.std.specs.Prelude.{is_some, map, nat_le, nat_lt, ◌⊎◌}
 use Rattle.std.specs.List.{AllByRecursion, Contains}
 use Rattle.std.specs.Map.{keys_of}
@@ -15,7 +15,6 @@ use Rattle.spans.specs.declared.calls.replies.Refusal.TheVariants.{Blocked}
 use Rattle.spans.specs.declared.calls.replies.Reply.{Reply}
 use Rattle.spans.specs.declared.calls.replies.Reply.TheVariants.{Refused, Rows}
 use Rattle.spans.proofs.Keyed.{IsIn, RisingKeys}
-use Rattle.spans.proofs.Members.{Has}
 use Rattle.spans.proofs.Steps.{by_test}
 use Rattle.spans.proofs.WriteSets.{has, has_in}
 use Rattle.kept.specs.Answered.{IsScanReply}
@@ -26,6 +25,7 @@ use Rattle.kept.specs.Replies.{scan_reply, unless_refused}
 use Rattle.kept.specs.Table.{refusal}
 use Rattle.kept.proofs.Marking.{merged}
 use Rattle.kept.proofs.Noting.{own_noted}
+use Rattle.kept.proofs.Contained.{contains_has}
 use Rattle.read_marks.specs.Marks.{AreApart}
 use Rattle.read_marks.specs.declared.piece.Piece.{Piece}
 use Rattle.version_chain.specs.Chains.{AreFilled, Entry, chain_of}
@@ -111,20 +111,8 @@ keys_are k r span rising filled =
 
 -- ---- what it marks
 
-contains_has : (ps : List Piece) (p : Piece) → Contains ps p → Has p ps
-contains_has [] p (n, low, e) = absurd (omega arith)
-contains_has (q ∷ ps) p (zero, low, e) = inl e
-contains_has (q ∷ ps) p (suc n, low, e) = inr (contains_has ps p (n, omega arith, e))
-
-has_contains : (ps : List Piece) (p : Piece) → Has p ps → Contains ps p
-has_contains [] p i = absurd i
-has_contains (q ∷ ps) p i = elim i [
-  | inl e ↦ (0, omega arith, e)
-  | inr there ↦ (let more = has_contains ps p there in (suc more.0, omega (arith, more.1), more.2))
-]
-
 pub are_apart : (s : Stored) (m : Marked) (t : ℕ) (span : Span) (ps : List Piece) → AreAllMade s m t span ps → AreApart ps
-are_apart s m t span ps made p q i j x a b = made.apart p q (contains_has ps p i) (contains_has ps q j) x a b
+are_apart s m t span ps made p q i j x a b = made.apart p q ((contains_has p ps).0 i) ((contains_has q ps).0 j) x a b
 
 -- a gap that marks as the own gap of the read made what that makes
 module _ (s : Stored) (marked : Marked) (m' : ℕ → Bool) (t above to : ℕ) (x : List ℕ) (own : MarksAsOwn s marked t x above to) (piece : IsPiece (marked x) m' t above to) where
@@ -161,18 +149,18 @@ pub scanned : (k : Kept) (r : Rules) (m' : List ℕ → ℕ → Bool) (t : ℕ) 
 scanned k r m' t span ps made inside outside = record {
   noted = λ x in'. elim (made.each x in' refl) [
     | inl own ↦ (let next = some_next (chain_of r.store x) t in own_noted (holding k r) x t next.0 (m' x) next.1 own (outside x (λ p i. by_test (in_span p.span x)
-        (λ on. absurd (let gap = (made.within p (contains_has ps p i) x on).2 in omega (arith, gap.other, own)))
+        (λ on. absurd (let gap = (made.within p ((contains_has p ps).0 i) x on).2 in omega (arith, gap.other, own)))
         (λ off. off))))
     | inr of ↦ (let own = (made.within of.0 of.1 x of.2).2 in record {
       next = own.next;
       is_next = own.is_next;
       own = λ itself. absurd (omega (arith, own.other, itself));
       other = λ other. merged (marked_of r x) (m' x) t (newest_in r.store t x).ts (until own.next) own.other own.late
-          (as_own r.store (marked_of r) (m' x) t of.0.above of.0.until x own (inside of.0 (has_contains ps of.0 of.1) x of.2));
+          (as_own r.store (marked_of r) (m' x) t of.0.above of.0.until x own (inside of.0 ((contains_has of.0 ps).1 of.1) x of.2));
     })
   ];
   others = λ x out. outside x (λ p i. by_test (in_span p.span x)
-      (λ on. absurd (both_ways _ out (made.within p (contains_has ps p i) x on).0))
+      (λ on. absurd (both_ways _ out (made.within p ((contains_has p ps).0 i) x on).0))
       (λ off. off));
   rest = refl;
 }

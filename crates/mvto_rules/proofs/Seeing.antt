@@ -1,8 +1,9 @@
 -- What a read finds, by the newest version at or below its timestamp.
 use Rattle.std.proofs.Common.{Bool, Bor, List, None, Option, Some, ap, arith, cond, eqb-true, false, inl, inr, refl, subst, sym, true, ℕ, ◌<◌, ◌≤◌, ◌==◌, ◌≡◌, ◌∙◌}
 use Rattle.std.specs.Option.{option_copied}
-use Rattle.std.specs.Prelude.{IfSome, MatchOption, not, ◌&&◌}
+use Rattle.std.specs.Prelude.{IfSome, MatchOption, not}
 use Rattle.std.proofs.lemmas.Bool.Decides.{nat_tests}
+use Rattle.std.proofs.Math.Bool.{and-false}
 use Rattle.spans.specs.Effects.{After}
 use Rattle.spans.specs.Kept.{Kept}
 use Rattle.spans.specs.Newest.{newest, version_at}
@@ -78,16 +79,12 @@ IsOf t o sights.Own = ts_of o ≡ t
 IsOf t o (sights.Other n) = (n ≡ ts_of o) × ((n == t) ≡ false)
 IsOf t o (sights.Blocked n) = (n ≡ ts_of o) × ((n == t) ≡ false)
 
-and_false : (b : Bool) → (b && false) ≡ false
-and_false true = refl
-and_false false = refl
-
 stops : (d : ℕ → Bool) (t : ℕ) (o : Option Version) → IfSome o (λ v. d v.ts ≡ v.committed) → IfSome o (λ v. 1 ≤ v.ts) → would_stop d t (ts_of o) ≡ is_stopped (sight_of t o)
 stops d t None done named = refl
 stops d t (Some v) done named = by_test (v.ts == t)
-    (λ own. rw own (and_false (not (v.ts == 0))))
+    (λ own. rw own (and-false (not (v.ts == 0))))
     (λ other. rw other (by_test v.committed
-    (λ on. rw (done, on) (and_false (not (v.ts == 0))))
+    (λ on. rw (done, on) (and-false (not (v.ts == 0))))
     (λ off. let some : (v.ts == 0) ≡ false = grind (arith, nat_tests) in rw (done, off, some) refl)))
 
 of_whom : (t : ℕ) (o : Option Version) → 0 < t → IsOf t o (sight_of t o)

@@ -2,6 +2,7 @@
 use Rattle.std.proofs.Common.{Bor, List, None, Option, Some, ap, append_assoc, arith, cond, false, inl, inr, refl, subst, sym, true, ℕ, ◌<◌, ◌≤◌, ◌++◌, ◌∷◌, ◌≡◌, ◌∙◌, []}
 use Rattle.std.specs.Prelude.{IfSome, MatchOption, bytes_eq, is_some, option_map}
 use Rattle.std.proofs.lemmas.Bool.{both_ways}
+use Rattle.std.proofs.lemmas.List.{append-nil}
 use Rattle.std.specs.List.{AllByRecursion}
 use Rattle.std.specs.Map.{keys_of}
 use Rattle.std.specs.Option.{option_copied}
@@ -55,7 +56,7 @@ stopped_at s t n x xs o low there is =
 pub passed_at : (s : Stored) (t : ℕ) (x : List ℕ) (xs : List (List ℕ)) (o : Option Version) → IsThere (version_in s x) (is_committed_in s x) t o → is_stopped (sight_of t o) ≡ false → first_blocker s t (x ∷ xs) ≡ first_blocker s t xs
 passed_at s t x xs o there free = ap (λ b. cond b (Some (newest_in s t x).ts) (first_blocker s t xs)) (blocked_is (version_in s x) (is_committed_in s x) t o there ∙ free)
 
-row_more : (xs rows : List (List ℕ × List ℕ)) (x : List ℕ) (a : After) → (xs ++ with_value x a []) ++ rows ≡ xs ++ with_value x a rows
+pub row_more : (xs rows : List (List ℕ × List ℕ)) (x : List ℕ) (a : After) → (xs ++ with_value x a []) ++ rows ≡ xs ++ with_value x a rows
 row_more xs rows x None = append_assoc xs [] rows
 row_more xs rows x (Some v) = append_assoc xs ((x, v) ∷ []) rows
 
@@ -227,15 +228,11 @@ seek_begins s t span found those rising = record { each = each_found s span foun
 pub seek_goes_on : (s : Stored) (t : ℕ) (span : Span) (x : List ℕ) (vs : List Version) (rest : List Entry) (o : Option Version) → IsSeeking s t span ((x, vs) ∷ rest) → IsThere (version_in s x) (is_committed_in s x) t o → is_stopped (sight_of t o) ≡ false → IsSeeking s t span rest
 seek_goes_on s t span x vs rest o seek there free = record { each = seek.each.1; free = sym (passed_at s t x (keys_of rest) o there free) ∙ seek.free }
 
-nothing_more : (xs : List (List ℕ × List ℕ)) → xs ++ [] ≡ xs
-nothing_more [] = refl
-nothing_more (x ∷ xs) = ap (λ l. x ∷ l) (nothing_more xs)
-
 -- at last none is
 pub ended : (s : Stored) (m : Marked) (t : ℕ) (span : Span) (w : Walk) (ps : List Piece) → 0 < t → t ≤ MAX → IsWalking s m t span [] w → ps ≡ w.cut.pieces.items ++ open_piece w.cut span.hi ∷ []
     → (first_blocker s t (keys_in s span) ≡ None) × (w.rows.items ≡ rows_in s t (keys_in s span)) × AreAllMade s m t span ps
 ended s m t span w ps low high walk is = (
   sym walk.free,
-  sym (nothing_more w.rows.items) ∙ walk.rows,
+  sym (append-nil w.rows.items) ∙ walk.rows,
   subst (AreAllMade s m t span) (sym is) (all_made s m t span w.cut low high walk.opened walk.made),
 )

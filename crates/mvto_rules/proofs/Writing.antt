@@ -1,11 +1,11 @@
 -- A write that finds no memory for its version leaves all as it was.
-use Rattle.std.proofs.Common.{Bool, List, None, Option, Some, ap, cond, eqb-true, false, refl, subst, sym, true, ℕ, ◌==◌, ◌||◌, ◌∷◌, ◌≡◌, ◌∙◌, []}
+use Rattle.std.proofs.Common.{List, None, Option, Some, ap, cond, eqb-true, false, refl, subst, sym, true, ℕ, ◌==◌, ◌∷◌, ◌≡◌, ◌∙◌, []}
 use Rattle.std.specs.Prelude.{bytes_eq, not, option_map}
 use Rattle.std.specs.Ordering.{is_eq}
 use Rattle.std.specs.Set.{remove_key}
 use Rattle.std.specs.declared.cmp.Ordering.{Ordering}
 use Rattle.std.specs.declared.cmp.Ordering.TheVariants.{Equal, Greater, Less}
-use Rattle.std.proofs.lemmas.Bool.{both_ways}
+use Rattle.std.proofs.lemmas.Bool.{both_ways, or_parts, not-true}
 use Rattle.std.proofs.lemmas.Map.Text.{is_eq-slice_cmp}
 use Rattle.timestamps.specs.Bytes.{key_cmp}
 use Rattle.spans.specs.Kept.{Kept, Transaction}
@@ -20,14 +20,10 @@ use Rattle.version_chain.specs.Stores.{IsAsBefore, Stored, is_committed_in, vers
 use Rattle.mvto_rules.specs.Holding.{holding, transactions_of}
 use Rattle.mvto_rules.specs.declared.rules.Rules.{Rules}
 
-neither : (a b : Bool) → (a || b) ≡ false → (a ≡ false) × (b ≡ false)
-neither true b e = cc
-neither false b e = (refl, e)
-
 -- a new key that is taken out again leaves the keys as they were
 taken_again : (x : List ℕ) (keys : List (List ℕ)) → has x keys ≡ false → remove_key (λ y. bytes_eq y x) (insert_key x keys) ≡ keys
 taken_again x [] new = ap (λ b. cond b [] (x ∷ [])) (key_itself x)
-taken_again x (y ∷ keys) new = let parts = neither (bytes_eq y x) (has x keys) new in by_order (key_cmp x y) refl parts.0 (taken_again x keys parts.1)
+taken_again x (y ∷ keys) new = let parts = or_parts (bytes_eq y x) (has x keys) new in by_order (key_cmp x y) refl parts.0 (taken_again x keys parts.1)
   where
     by_order : (o : Ordering) → key_cmp x y ≡ o → bytes_eq y x ≡ false → remove_key (λ z. bytes_eq z x) (insert_key x keys) ≡ keys → remove_key (λ z. bytes_eq z x) (insert_where o x y keys (insert_key x keys)) ≡ y ∷ keys
     by_order Less e other rest = ap (λ b. cond b (y ∷ keys) (x ∷ remove_key (λ z. bytes_eq z x) (y ∷ keys))) (key_itself x)
@@ -36,17 +32,13 @@ taken_again x (y ∷ keys) new = let parts = neither (bytes_eq y x) (has x keys)
         absurd (both_ways _ (subst (λ z. bytes_eq z x ≡ false) (sym same) other) (key_itself x))
     by_order Greater e other rest = ap (λ b. cond b (insert_key x keys) (y ∷ remove_key (λ z. bytes_eq z x) (insert_key x keys))) other ∙ ap (λ l. y ∷ l) rest
 
-not_true : (b : Bool) → true ≡ not b → b ≡ false
-not_true true e = cc
-not_true false e = refl
-
 -- and so a transaction that noted it and took it out again
 pub key_again : (a b c : Table) (t : ℕ) (x : List ℕ) → true ≡ not (has x (keys_of (transaction_in a t))) → IsSetAt a b t (option_map (with_key x)) → IsSetAt b c t (option_map (without_key x)) → (i : ℕ) → transaction_in c i ≡ transaction_in a i
 key_again a b c t x new add take i = take i ∙ by_test (t == i)
     (λ same.
     ap (λ q. cond q (option_map (without_key x) (transaction_in b i)) (transaction_in b i)) same
     ∙ ap (option_map (without_key x)) (add i ∙ ap (λ q. cond q (option_map (with_key x) (transaction_in a i)) (transaction_in a i)) same)
-    ∙ again (transaction_in a i) (subst (λ n. has x (keys_of (transaction_in a n)) ≡ false) (eqb-true t i same) (not_true _ new)))
+    ∙ again (transaction_in a i) (subst (λ n. has x (keys_of (transaction_in a n)) ≡ false) (eqb-true t i same) (not-true _ (sym new))))
     (λ other.
     ap (λ q. cond q (option_map (without_key x) (transaction_in b i)) (transaction_in b i)) other
     ∙ add i

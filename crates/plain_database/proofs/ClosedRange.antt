@@ -14,7 +14,7 @@ use Rattle.spans.specs.Transactions.{closed_of, decided_through, undecided_times
 use Rattle.spans.specs.Answer.{first_refusal_or}
 use Rattle.spans.specs.Legal.{IsRightEvent, IsLegal}
 use Rattle.spans.proofs.Steps.{by_test}
-use Rattle.plain_database.proofs.Undecided.{least_low}
+use Rattle.spans.proofs.Horizon.{least_low}
 
 -- what a closing through `to` answers is in range, where it isn't refused
 answered_in_range : (to at aborted at' aborted' : ℕ) → Closed at aborted ≡ first_refusal_or ((nat_lt MAX to, TsRange) ∷ []) (Closed at' aborted') → (to ≤ MAX → at' ≤ MAX) → at ≤ MAX

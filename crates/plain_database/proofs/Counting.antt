@@ -17,13 +17,13 @@ use Rattle.spans.proofs.Members.{Has, fits_in, has_is, in_has, rising_distinct, 
 use Rattle.spans.proofs.Steps.{by_test, same_key, version_wrote}
 use Rattle.spans.proofs.VersionNames.{versions_distinct, has_versions}
 use Rattle.spans.proofs.WriteSets.{has, has_in, has_written as has_key, write_set_rises}
+use Rattle.spans.proofs.Refusals.{tests_past}
 use Rattle.kept.proofs.Counts.{write_set_length}
 use Rattle.plain_versions.specs.Chains.{version_at, wrote}
 use Rattle.plain_versions.specs.Counting.{IsCountOf}
 use Rattle.plain_versions.specs.Written.{is_version}
 use Rattle.plain_database.specs.declared.database.Database.{Database}
 use Rattle.plain_database.specs.Tied.{IsTied}
-use Rattle.plain_database.proofs.Replies.{past_tests}
 
 -- ---- all versions
 
@@ -57,7 +57,7 @@ none_holds (first ∷ tests) test none i = by_test first.0
 pub commit_answers : (db : Database) (p : List Effect) (seat t n : ℕ) → IsTied db p → None ≡ first_refusal (transaction_tests p seat t) → IsCountOf (wrote db.chains t) n → Committed n ≡ answer_of p seat (Commit t)
 commit_answers db p seat t n tied here c =
     let open' : (is_committed p t || is_aborted p t) ≡ false = none_holds (transaction_tests p seat t) (is_committed p t || is_aborted p t, Ended) here (inr (inr (inr (inl refl)))) in
-    ap Committed (count_is db p tied t n (or_parts _ _ open').1 c) ∙ sym (past_tests (transaction_tests p seat t) [] (Committed (write_count p t)) here)
+    ap Committed (count_is db p tied t n (or_parts _ _ open').1 c) ∙ sym (tests_past (transaction_tests p seat t) [] (Committed (write_count p t)) (sym here))
 
 -- ---- how many there can be
 

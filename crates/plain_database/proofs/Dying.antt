@@ -4,6 +4,7 @@ use Rattle.std.specs.Prelude.{◌↔◌, filter, is_none, is_some, nat_le, nat_l
 use Rattle.std.proofs.lemmas.Bool.{and_from, and_parts, eqb-true, leb-true, le-leb, lt-ltb, ltb-true}
 use Rattle.std.proofs.lemmas.Bool.Decides.{nat_tests}
 use Rattle.std.proofs.lemmas.List.{length-append, length-map}
+use Rattle.std.proofs.Math.Bool.{and-false}
 use Rattle.spans.specs.Collection.{VersionName, version_name, versions_of, dead_of, is_dead, is_delete, horizon_of}
 use Rattle.spans.specs.Effects.{After, Effect, Begins, Reads, Scans, Writes, Commits, Aborts, Closes, HardCloses, SnapshotReads, SnapshotScans, Opens, Polls, Cancels, Protects, Releases, Collects, NoEffect}
 use Rattle.spans.specs.Newest.{Version as Seen, newest}
@@ -50,12 +51,8 @@ begun_positive (_ ∷ p) all t is = begun_positive p all.1 t is
 version_positive : (p : List Effect) → AllAllowed p → (x : List ℕ) (i : ℕ) (a : After) → version_of p x i ≡ Some a → 0 < i
 version_positive p all x i a is = begun_positive p all i (wrote_begun p all i x a (version_wrote p x i a is).1)
 
-and_false : (b : Bool) → (b && false) ≡ false
-and_false true = refl
-and_false false = refl
-
 joined : (c l d d' w w' : Bool) → (l ≡ true → c ≡ true) → (l ≡ true → d ≡ d') → w ≡ w' → (c && (l && (d || w))) ≡ (l && (d' || w'))
-joined c false d d' w w' hc hd hw = and_false c
+joined c false d d' w w' hc hd hw = and-false c
 joined c true d d' w w' hc hd hw = rw (hc refl, hd refl, hw) refl
 
 -- at or below closed a version's name says as much of whether it is dead as the versions of its key
@@ -247,7 +244,7 @@ dead_same p e all still =
         newest_same (committed_version_of (e ∷ p) v.key) (committed_version_of p v.key) (horizon_of p) (λ i under. closed_stays p e all.0 v.key i (omega (arith, low))) in
         rw (still, top) (by_test (nat_le v.ts (horizon_of p))
         (λ under. rw (closed_stays p e all.0 v.key v.ts (omega (arith, low, leb-true _ _ under))) refl)
-        (λ over. rw over (and_false (is_some (committed_version_of (e ∷ p) v.key v.ts)) ∙ sym (and_false (is_some (committed_version_of p v.key v.ts))))))
+        (λ over. rw over (and-false (is_some (committed_version_of (e ∷ p) v.key v.ts)) ∙ sym (and-false (is_some (committed_version_of p v.key v.ts))))))
 
 -- so what the last collection left dead is what is dead
 pub dead_then_is : (p : List Effect) → AllAllowed p → dead_then p ≡ length (dead_of p)

@@ -1,5 +1,5 @@
 -- The rows that a feed was not told are those of the chains from its place on.
-use Rattle.std.proofs.Common.{◌≡◌, ℕ, zero, suc, ◌-◌, ◌<◌, ◌≤◌, ◌==◌, Bool, true, false, cond, ◌&&◌, List, [], ◌∷◌, ◌++◌, length, take, max, Option, Some, None, refl, sym, ◌∙◌, ap, subst, inl, inr, arith}
+use Rattle.std.proofs.Common.{◌≡◌, ℕ, suc, ◌-◌, ◌<◌, ◌≤◌, ◌==◌, Bool, true, false, cond, ◌&&◌, List, ◌++◌, length, take, max, Option, Some, None, refl, sym, ◌∙◌, ap, subst, inl, inr, arith}
 use Rattle.std.specs.Prelude.{nat_lt, if◌then◌else◌}
 use Rattle.std.proofs.lemmas.Bool.{and_from, and_parts, or_left, lt-ltb, ltb-true, ltb-false, leb-true, le-leb, le-ltb, eq-eqb}
 use Rattle.std.proofs.lemmas.List.{length-take}
@@ -19,6 +19,7 @@ use Rattle.spans.proofs.RowOrder.{name_order}
 use Rattle.spans.proofs.Steps.{by_test, map_at_is, newest_same}
 use Rattle.spans.proofs.StreamOrder.{IsStreamed, in_append, rises_append}
 use Rattle.spans.proofs.Taking.{resolved_grows}
+use Rattle.spans.proofs.Lists.{take_both}
 use Rattle.kept.specs.Places.{is_beyond}
 use Rattle.kept.proofs.Untold.{beyond_is, only_rows}
 use Rattle.plain_feeds.specs.declared.record.FeedRecord.{FeedRecord}
@@ -213,17 +214,9 @@ module _ (table : Table) (stored : Stored) (p : List Effect) (tied : (y : List �
 
 -- ---- as far as max
 
--- the first of two lists, where the second is asked only for what the first leaves room for
-take_both : (m : ℕ) (xs ys : List Row) → take m xs ++ take (m - length (take m xs)) ys ≡ take m (xs ++ ys)
-take_both zero xs ys = refl
-take_both (suc m) [] ys = ap (λ n. take n ys) (let whole : suc m - 0 ≡ suc m = omega arith in whole)
-take_both (suc m) (x ∷ xs) ys =
-    let less : suc m - suc (length (take m xs)) ≡ m - length (take m xs) = omega arith in
-    ap (λ n. x ∷ (take m xs ++ take n ys)) less ∙ ap (λ (l : List Row). x ∷ l) (take_both m xs ys)
-
 pub both_first : (m n : ℕ) (firsts rows xs ys : List Row) → firsts ≡ take m xs → n ≡ m - length firsts → rows ≡ take n ys → firsts ++ rows ≡ take m (xs ++ ys)
 both_first m n firsts rows xs ys first rest more =
-    let left : n ≡ m - length (take m xs) = rest ∙ ap (λ (l : List Row). m - length l) first in
+    let left : n ≡ m - length xs = omega (arith, ap length first, length-take m xs) in
     ap (λ (l : List Row). l ++ rows) first ∙ ap (λ (l : List Row). take m xs ++ l) (more ∙ ap (λ k. take k ys) left) ∙ take_both m xs ys
 
 -- no more come than were asked for

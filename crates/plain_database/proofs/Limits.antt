@@ -14,13 +14,8 @@ use Rattle.spans.specs.Report.{limit, first_least, protection_limit, feed_limit,
 use Rattle.spans.proofs.Legal.{legal_allowed}
 use Rattle.spans.proofs.Members.{Has}
 use Rattle.spans.proofs.Steps.{by_test}
-use Rattle.spans.proofs.Horizon.{horizon_low, protections_high}
+use Rattle.spans.proofs.Horizon.{horizon_low, protections_high, least_join}
 use Rattle.spans.proofs.FeedFloors.{live_floor_high}
-
--- the least over two lists
-least_join : (n : ℕ) (ms ns : List ℕ) → least_of n (ms ++ ns) ≡ least_of (least_of n ns) ms
-least_join n [] ns = refl
-least_join n (m ∷ ms) ns = ap (min m) (least_join n ms ns)
 
 -- a number more
 least_more : (a n : ℕ) (ns : List ℕ) → least_of (min a n) ns ≡ min a (least_of n ns)

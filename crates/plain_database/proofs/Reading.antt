@@ -15,6 +15,7 @@ use Rattle.std.proofs.lemmas.Map.{lookup-none}
 use Rattle.std.proofs.lemmas.Map.Entries.{none_below_head}
 use Rattle.std.proofs.lemmas.Map.Keys.{sorted_tail}
 use Rattle.std.proofs.lemmas.Map.Text.{is_eq-slice_cmp}
+use Rattle.std.proofs.Math.Bool.{or_assoc}
 use Rattle.timestamps.specs.Bytes.{key_cmp}
 use Rattle.spans.proofs.Steps.{by_test, same_key}
 use Rattle.plain_database.specs.Reads.{lies_between, is_read_across, least_with, least_source, KeyReads, across_in, goes_across, HasReadToo}
@@ -23,14 +24,10 @@ use Rattle.plain_database.specs.Reads.{lies_between, is_read_across, least_with,
 lower_source : (k n i j : ℕ) → lies_between (min k n) i j ≡ (lies_between k i j || lies_between n i j)
 lower_source k n i j = grind (arith, nat_tests)
 
-turn : (a b c : Bool) → (a || (b || c)) ≡ (b || (a || c))
+pub turn : (a b c : Bool) → (a || (b || c)) ≡ (b || (a || c))
 turn true true c = refl
 turn true false c = refl
 turn false b c = refl
-
-or_assoc : (a b c : Bool) → ((a || b) || c) ≡ (a || (b || c))
-or_assoc true b c = refl
-or_assoc false b c = refl
 
 equal_is : (j n : ℕ) → nat_cmp j n ≡ Equal → n ≡ j
 equal_is j n e = grind (arith, nat_tests)

@@ -5,20 +5,13 @@ use Rattle.std.proofs.lemmas.Bool.{and_from, and_parts, both_ways, leb-false, le
 use Rattle.std.proofs.lemmas.Bool.Decides.{nat_tests}
 use Rattle.spans.specs.Effects.{After}
 use Rattle.spans.specs.Newest.{Version, version_at, newer_or, newest}
-use Rattle.spans.proofs.Steps.{by_test, newest_is, newest_only}
+use Rattle.spans.proofs.Steps.{by_test, newest_is, newest_only, newest_rises}
 
 -- the newest version is at or above each that is in reach
 pub newest_reaches : (f : ℕ → Option After) (t i : ℕ) → i ≤ t → is_some (f i) ≡ true → i ≤ (newest f t).ts
 newest_reaches f t i low is = by_test (nat_lt (newest f t).ts i)
     (λ below. absurd (let none : f i ≡ None = (newest_is f t).gap i (ltb-true _ _ below) low in let no' : false ≡ true = sym (ap is_some none) ∙ is in cc))
     (λ isnt. grind (arith, nat_tests))
-
--- the newest of a later time is no older
-pub newest_grows : (f : ℕ → Option After) (s t : ℕ) → s ≤ t → (newest f s).ts ≤ (newest f t).ts
-newest_grows f s t low = elim (newest_is f s).has [
-  | inl zeroth ↦ omega (arith, zeroth.0)
-  | inr some ↦ newest_reaches f t (newest f s).ts (omega (arith, (newest_is f s).at_most)) (ap is_some some.1)
-]
 
 -- a version j that comes after i, and before which i is the newest
 pub record Replaces (f : ℕ → Option After) (i n : ℕ) : Type 0 where
@@ -107,7 +100,7 @@ replaced_dies f low n j above through stands value = elim (newest_is f (j - 1)).
   | inr some ↦ (
       let under : (newest f (j - 1)).ts ≤ j - 1 = (newest_is f (j - 1)).at_most in
       let reach : j ≤ (newest f n).ts = newest_reaches f n j through stands in
-      let grows : (newest f low).ts ≤ (newest f (j - 1)).ts = newest_grows f low (j - 1) (omega arith) in
+      let grows : (newest f low).ts ≤ (newest f (j - 1)).ts = newest_rises f low (j - 1) (omega arith) in
       let isnt : is_none (newest f (j - 1)).after ≡ false = some_isnt_none _ value in
       let older : nat_lt (newest f (j - 1)).ts (newest f low).ts ≡ false = grind (arith, nat_tests) in
       record {

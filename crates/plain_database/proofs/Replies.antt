@@ -1,5 +1,5 @@
 -- Why a database's answers are those of the definitions.
-use Rattle.std.proofs.Common.{◌≡◌, ℕ, ◌≤◌, ◌==◌, Bool, true, false, not, ◌&&◌, ◌||◌, List, [], ◌∷◌, ◌++◌, Option, Some, None, refl, sym, ◌∙◌, ap, arith}
+use Rattle.std.proofs.Common.{◌≡◌, ℕ, ◌≤◌, ◌==◌, Bool, true, false, not, ◌&&◌, ◌||◌, List, [], ◌∷◌, Option, Some, None, refl, sym, ◌∙◌, ap, arith}
 use Rattle.std.specs.Prelude.{max, nat_lt, Result, Ok, Err, IfOk, OnErr}
 use Rattle.std.proofs.lemmas.Bool.{ne_eqb, le-ltb, ltb-false}
 use Rattle.timestamps.specs.declared.ts.TheConstants.{MAX}
@@ -12,15 +12,15 @@ use Rattle.spans.proofs.Closed.{closed_value}
 use Rattle.plain_database.proofs.Undecided.{decided_through_is, open_count_through}
 use Rattle.spans.specs.declared.calls.replies.Reply.{Reply}
 use Rattle.spans.specs.declared.calls.replies.Reply.TheVariants.{Found, Closed, Refused}
-use Rattle.spans.specs.declared.calls.replies.Refusal.{Refusal}
 use Rattle.spans.specs.declared.calls.replies.Refusal.TheVariants.{Blocked, NotClosed}
 use Rattle.spans.specs.declared.calls.events.Event.{Event}
 use Rattle.spans.specs.Effects.{Effect, effects_of}
 use Rattle.spans.specs.Transactions.{is_committed, closed_of}
 use Rattle.spans.specs.Versions.{visible, is_blocked, committed_value}
 use Rattle.spans.specs.Newest.{Version as Seen, version_at as seen_at}
-use Rattle.spans.specs.Answer.{first_refusal_or, first_refusal, transaction_tests, snapshot_tests, answer_of}
+use Rattle.spans.specs.Answer.{first_refusal, transaction_tests, snapshot_tests, answer_of}
 use Rattle.spans.proofs.Steps.{by_test, newest_only, newest_like}
+use Rattle.spans.proofs.Refusals.{tests_past}
 use Rattle.plain_versions.specs.declared.versions.Version.{Version}
 use Rattle.plain_database.specs.declared.database.Database.{Database}
 use Rattle.plain_versions.specs.Versions.{IsBest}
@@ -29,12 +29,6 @@ use Rattle.plain_versions.specs.Transactions.{transaction_at, committed_in, is_u
 use Rattle.plain_versions.specs.Chains.{versions_at}
 use Rattle.plain_database.specs.Tied.{StandsFor}
 use Rattle.plain_database.specs.Answering.{Accepts, Answers, AnswersCounted, MayLackMemory}
-
-pub past_tests : (tests more : List (Bool × Refusal)) (reply : Reply) → None ≡ first_refusal tests → first_refusal_or (tests ++ more) reply ≡ first_refusal_or more reply
-past_tests [] more reply none = refl
-past_tests (test ∷ tests) more reply none = by_test test.0
-    (λ is. let no : None ≡ Some test.1 = rw is at none in cc)
-    (λ isnt. rw isnt (past_tests tests more reply (rw isnt at none)))
 
 -- ---- a read
 
@@ -51,10 +45,10 @@ blocked_at : (p : List Effect) (x : List ℕ) (t k : ℕ) → (visible p x t).ts
 blocked_at p x t k is = ap (λ n. not (n == 0) && (not (n == t) && not (is_committed p n))) is
 
 get_answers : (p : List Effect) (seat t : ℕ) (x : List ℕ) → None ≡ first_refusal (transaction_tests p seat t) → is_blocked p x t ≡ false → Found (visible p x t).after ≡ answer_of p seat (Get t x)
-get_answers p seat t x here free = sym (past_tests (transaction_tests p seat t) ((is_blocked p x t, Blocked (visible p x t).ts) ∷ []) (Found (visible p x t).after) here ∙ rw free refl)
+get_answers p seat t x here free = sym (tests_past (transaction_tests p seat t) ((is_blocked p x t, Blocked (visible p x t).ts) ∷ []) (Found (visible p x t).after) (sym here) ∙ rw free refl)
 
 get_blocks : (p : List Effect) (seat t : ℕ) (x : List ℕ) → None ≡ first_refusal (transaction_tests p seat t) → is_blocked p x t ≡ true → Refused (Blocked (visible p x t).ts) ≡ answer_of p seat (Get t x)
-get_blocks p seat t x here shut = sym (past_tests (transaction_tests p seat t) ((is_blocked p x t, Blocked (visible p x t).ts) ∷ []) (Found (visible p x t).after) here ∙ rw shut refl)
+get_blocks p seat t x here shut = sym (tests_past (transaction_tests p seat t) ((is_blocked p x t, Blocked (visible p x t).ts) ∷ []) (Found (visible p x t).after) (sym here) ∙ rw shut refl)
 
 -- no version is there
 pub get_none : (db : Database) (h : List Event) (seat t : ℕ) (x : List ℕ) → StandsFor db h → None ≡ first_refusal (transaction_tests (effects_of h) seat t) → IsBest (versions_at db.chains x) t None
@@ -98,18 +92,13 @@ close_answers db h seat to at n stands low is is' = rw (not_above) (ap (λ (m : 
     not_above : nat_lt MAX to ≡ false
     not_above = le-ltb MAX to low
 
--- what holds anyway holds at a failure
-pub at_failure : {T E P : Type 0} (r : Result T E) → P → OnErr r P
-at_failure (Ok x) holds = tt
-at_failure (Err e) holds = holds
-
 -- ---- snapshots and hard closings
 
 pub read_at_answers : (db : Database) (h : List Event) (seat t : ℕ) (x : List ℕ) (o : Option Version) → StandsFor db h → None ≡ first_refusal (snapshot_tests (effects_of h) t) → IsBest (versions_at db.chains x) t o
     → Found (place o).after ≡ answer_of (effects_of h) seat (ReadAt t x)
 read_at_answers db h seat t x o stands here best =
     ap Found (ap (λ (n : Seen). n.after) (sym (found_visible db h x t o stands best)) ∙ closed_value (effects_of h) (legal_allowed h stands.legal) x t low)
-    ∙ sym (past_tests (snapshot_tests (effects_of h) t) [] (Found (committed_value (effects_of h) x t)) here)
+    ∙ sym (tests_past (snapshot_tests (effects_of h) t) [] (Found (committed_value (effects_of h) x t)) (sym here))
   where
     low : t ≤ closed_of (effects_of h)
     low = by_test (nat_lt (closed_of (effects_of h)) t)

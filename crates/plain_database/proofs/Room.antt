@@ -2,21 +2,20 @@
 use Rattle.std.proofs.Common.{◌≡◌, ℕ, suc, ◌+◌, ◌-◌, ◌^◌, ◌<◌, ◌≤◌, List, [], ◌∷◌, length, None, refl, sym, ◌∙◌, ap, arith}
 use Rattle.std.specs.Prelude.{min}
 use Rattle.std.proofs.lemmas.Bool.{le-ltb}
-use Rattle.std.proofs.lemmas.List.{length-map}
 use Rattle.timestamps.specs.declared.ts.TheConstants.{MAX}
 use Rattle.spans.specs.declared.calls.commands.Cmd.TheVariants.{Protect, Collect, Stats}
 use Rattle.spans.specs.declared.calls.replies.Reply.TheVariants.{Protected, Collected, Opened}
 use Rattle.spans.specs.declared.calls.replies.Reply.TheVariants as replies
 use Rattle.spans.specs.declared.calls.events.Event.{Event}
-use Rattle.spans.specs.Effects.{Collects, effect_of, effects_of}
+use Rattle.spans.specs.Effects.{Collects, effects_of}
 use Rattle.spans.specs.Answer.{first_refusal, horizon_tests, answer_of}
 use Rattle.spans.specs.Collection.{versions_of, dead_of, horizon_of, protections_made, collection_horizon, live_feeds}
 use Rattle.spans.specs.Feeds.{feeds_opened}
 use Rattle.spans.specs.Legal.{IsLegal}
 use Rattle.spans.specs.Transactions.{undecided_timestamps}
 use Rattle.spans.proofs.Legal.{legal_allowed}
-use Rattle.plain_feeds.proofs.FeedTies.{opened_at_most}
-use Rattle.plain_feeds.proofs.ProtectionTies.{made_at_most}
+use Rattle.spans.proofs.Histories.{made_at_most, opened_at_most, effect_count}
+use Rattle.spans.proofs.Refusals.{tests_past}
 use Rattle.plain_versions.specs.Chains.{version_at}
 use Rattle.plain_versions.specs.Dying.{IsDeathCount}
 use Rattle.plain_database.specs.declared.database.Database.{Database}
@@ -24,11 +23,6 @@ use Rattle.plain_database.specs.Tied.{StandsFor}
 use Rattle.plain_database.proofs.Collecting.{died_between}
 use Rattle.plain_database.proofs.Counting.{versions_few, dead_few}
 use Rattle.plain_database.proofs.Dying.{dead_then_is}
-use Rattle.plain_database.proofs.Replies.{past_tests}
-
--- each event has its effect
-effect_count : (h : List Event) → length (effects_of h) ≡ length h
-effect_count h = length-map h effect_of
 
 -- a number is left for a protection
 pub made_fits : (h : List Event) → length h < 18446744073709551615 → protections_made (effects_of h) < 18446744073709551615
@@ -49,7 +43,7 @@ pub protect_answers : (db : Database) (h : List Event) (seat t made id : ℕ) �
     → Protected id ≡ answer_of (effects_of h) seat (Protect t)
 protect_answers db h seat t made id stands few here was is =
     let next : id ≡ suc (protections_made (effects_of h)) = omega (arith, made_fits h few, stands.tied.protections.made) in
-    ap Protected next ∙ sym (past_tests (horizon_tests (effects_of h) t) [] (Protected (suc (protections_made (effects_of h)))) here)
+    ap Protected next ∙ sym (tests_past (horizon_tests (effects_of h) t) [] (Protected (suc (protections_made (effects_of h)))) (sym here))
 
 -- and so has the next feed
 pub next_opened : (db : Database) (h : List Event) (opened f : ℕ) → StandsFor db h → length h < 18446744073709551615 → opened ≡ length db.feeds → f ≡ min (opened + 1) (2 ^ 64 - 1) → Opened f ≡ Opened (suc (feeds_opened (effects_of h)))

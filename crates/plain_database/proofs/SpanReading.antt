@@ -12,17 +12,14 @@ use Rattle.std.specs.declared.ops.Bound.TheVariants.{Excluded, Unbounded}
 use Rattle.std.proofs.lemmas.Bool.Decides.{nat_tests}
 use Rattle.std.proofs.lemmas.List.Folds.{list_any-append}
 use Rattle.spans.proofs.Steps.{by_test}
+use Rattle.spans.proofs.Sets.{is_found}
 use Rattle.plain_database.specs.declared.span_reads.Scan.{Scan}
 use Rattle.plain_database.specs.SpanReads.{is_scan_across, scan_goes_across}
+use Rattle.plain_database.proofs.Reading.{turn}
 
 -- the readers of spans, each with its scans
 abbrev pub Readers : Type 0
 Readers = List (ℕ × List Scan)
-
-turn : (a b c : Bool) → (a || (b || c)) ≡ (b || (a || c))
-turn true true c = refl
-turn true false c = refl
-turn false b c = refl
 
 only_one : (a b r : Bool) → ((a && (b || false)) || r) ≡ ((a && b) || r)
 only_one true true r = refl
@@ -50,16 +47,13 @@ first_scan (e ∷ es) j s x i none = by_order (nat_cmp j e.0) refl (first_scan e
     by_order Greater is more = rw is (ap (λ b. (nat_lt i e.0 && list_any (is_scan_across x i) e.1) || b) (more (rw is at none))
         ∙ turn (nat_lt i e.0 && list_any (is_scan_across x i) e.1) (nat_lt i j && is_scan_across x i s) (scan_goes_across es x i))
 
-is_same : (j n : ℕ) → is_at (nat_cmp j) n ≡ true → n ≡ j
-is_same j n e = grind (arith, nat_tests)
-
 -- a later one
 pub later_scan : (es : Readers) (j : ℕ) (ss : List Scan) (s : Scan) (x : List ℕ) (i : ℕ) → lookup (is_at (nat_cmp j)) es ≡ Some ss
     → scan_goes_across (set_value (is_at (nat_cmp j)) es (ss ++ s ∷ [])) x i ≡ ((nat_lt i j && is_scan_across x i s) || scan_goes_across es x i)
 later_scan [] j ss s x i found = cc
 later_scan (e ∷ es) j ss s x i found = by_test (is_at (nat_cmp j) e.0)
     (λ here.
-    let at : e.0 ≡ j = is_same j e.0 here in
+    let at : e.0 ≡ j = is_found j e.0 here in
     let is : e.1 ≡ ss = (let some : Some e.1 ≡ Some ss = rw here at found in cc) in
     rw (here, is, at) (ap (λ b. (nat_lt i j && b) || scan_goes_across es x i) (list_any-append (is_scan_across x i) ss (s ∷ []))
     ∙ last_one (nat_lt i j) (list_any (is_scan_across x i) ss) (is_scan_across x i s) (scan_goes_across es x i)))

@@ -2,6 +2,7 @@
 use Rattle.std.proofs.Common.{◌≡◌, ℕ, ◌<◌, ◌==◌, Bool, true, false, cond, not, ◌&&◌, ◌||◌, List, ◌∷◌, Option, Some, None, refl, sym, ◌∙◌, ap, subst, arith}
 use Rattle.std.specs.Prelude.{option_map, is_some, bytes_eq, nat_le, nat_lt}
 use Rattle.std.proofs.lemmas.Bool.{eqb-true, false_from_ne_true, ltb-false}
+use Rattle.std.proofs.Math.Bool.{or_assoc}
 use Rattle.spans.specs.Effects.{After, Effect, Begins, Reads, Scans, Writes, Commits, Aborts, Closes, HardCloses, SnapshotReads, SnapshotScans, Opens, Polls, Cancels, Protects, Releases, NoEffect}
 use Rattle.spans.specs.Transactions.{owner_of, closed_of, is_committed, is_aborted, is_undecided}
 use Rattle.spans.specs.Versions.{visible, write_of}
@@ -30,6 +31,7 @@ use Rattle.plain_feeds.specs.ProtectionTie.{Standing, ProtectionsTied}
 use Rattle.plain_feeds.proofs.FeedTies.{feeds_kept}
 use Rattle.plain_feeds.proofs.ProtectionTies.{protections_kept}
 use Rattle.plain_database.proofs.Undecided.{open_at}
+use Rattle.plain_database.proofs.Reading.{turn}
 
 -- ---- the events
 
@@ -96,17 +98,6 @@ tied_begins db p t seat table set tied unowned = record {
     gone : (i : ℕ) → (t == i) ≡ true → transaction_at db.transactions i ≡ None
     gone i same = subst (λ n. transaction_at db.transactions n ≡ None) (eqb-true t i same) (no_owner (transaction_at db.transactions t) (tied.owners t ∙ unowned))
 
--- one more read passes the test, or an earlier one, or a scan
-one_more_read : (a r b : Bool) → ((r || a) || b) ≡ (r || (a || b))
-one_more_read a true b = refl
-one_more_read a false b = refl
-
--- one more scan passes the test, or a read, or an earlier one
-one_more_scan : (a b s : Bool) → (a || (s || b)) ≡ (s || (a || b))
-one_more_scan true b true = refl
-one_more_scan true b false = refl
-one_more_scan false b s = refl
-
 -- a key is read
 pub tied_reads : (db : Database) (p : List Effect) (reads : KeyReads) (t : ℕ) (x : List ℕ) (v : After) (k : ℕ) → IsTied db p → HasReadToo db.reads reads t x k → k ≡ (visible p x t).ts
     → IsTied (record db { reads = reads }) (Reads t x v ∷ p)
@@ -118,7 +109,7 @@ tied_reads db p reads t x v k tied more is = record {
   keys = tied.keys;
   versions = tied.versions;
   reads = λ y i. ap (λ b. b || scan_goes_across db.scans y i) (more y i)
-      ∙ one_more_read (goes_across db.reads y i) (bytes_eq x y && lies_between k i t) (scan_goes_across db.scans y i)
+      ∙ or_assoc (bytes_eq x y && lies_between k i t) (goes_across db.reads y i) (scan_goes_across db.scans y i)
       ∙ ap (λ b. (bytes_eq x y && lies_between k i t) || b) (tied.reads y i) ∙ ap (λ n. (bytes_eq x y && lies_between n i t) || too_late p y i) is;
   horizon_at = tied.horizon_at;
   dead_count = tied.dead_count;
@@ -137,7 +128,7 @@ tied_scans db p scans t span sources rows tied given more = record {
   keys = tied.keys;
   versions = tied.versions;
   reads = λ y i. ap (λ b. goes_across db.reads y i || b) (more y i)
-      ∙ one_more_scan (goes_across db.reads y i) (scan_goes_across db.scans y i) (nat_lt i t && is_scan_across y i (scan_of span sources))
+      ∙ turn (goes_across db.reads y i) (nat_lt i t && is_scan_across y i (scan_of span sources)) (scan_goes_across db.scans y i)
       ∙ ap (λ b. (nat_lt i t && is_scan_across y i (scan_of span sources)) || b) (tied.reads y i) ∙ ap (λ b. b || too_late p y i) (across y i);
   horizon_at = tied.horizon_at;
   dead_count = tied.dead_count;

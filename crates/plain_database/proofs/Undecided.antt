@@ -1,12 +1,13 @@
 -- The undecided transactions are those of the history.
 use Rattle.std.proofs.Common.{◌≡◌, ℕ, ◌≤◌, ◌-◌, ◌⊎◌, true, not, ◌&&◌, List, [], ◌∷◌, length, map, Option, Some, None, refl, sym, ◌∙◌, inl, inr, arith}
-use Rattle.std.specs.Prelude.{◌↔◌, filter, is_some, nat_le}
+use Rattle.std.specs.Prelude.{filter, is_some, nat_le}
 use Rattle.std.proofs.lemmas.Bool.{and_parts, and_from}
 use Rattle.spans.specs.Effects.{Effect}
-use Rattle.spans.specs.Transactions.{is_undecided, undecided_timestamps, begun_of, least_of, decided_through}
+use Rattle.spans.specs.Transactions.{is_undecided, undecided_timestamps, least_of, decided_through}
 use Rattle.spans.proofs.Copies.{AllAllowed}
-use Rattle.spans.proofs.Members.{Has, same_length, distinct_filter, has_filter, among_has, open_distinct}
-use Rattle.spans.proofs.Open.{begun_among}
+use Rattle.spans.proofs.Members.{Has, same_length, distinct_filter, has_filter, open_distinct}
+use Rattle.spans.proofs.Horizon.{least_low}
+use Rattle.kept.proofs.Counts.{has_undecided}
 use Rattle.plain_versions.specs.declared.transactions.Transaction.{Transaction}
 use Rattle.plain_versions.specs.declared.transactions.State.{State}
 use Rattle.plain_versions.specs.declared.transactions.State.TheVariants as states
@@ -31,12 +32,6 @@ open_at db p tied t = open_is (transaction_at db.transactions t) ∙ rw (tied.ow
 
 -- ---- how many
 
-has_undecided : (p : List Effect) (t : ℕ) → Has t (undecided_timestamps p) ↔ (is_undecided p t ≡ true)
-has_undecided p t = let there = has_filter (is_undecided p) t (begun_of p) in (
-  λ i. (there.0 i).0,
-  λ is. there.1 (is, among_has t (begun_of p) (begun_among p t (and_parts _ _ is).0)),
-)
-
 pub open_count : (db : Database) (p : List Effect) (n : ℕ) → AllAllowed p → IsTied db p → IsCountOf (λ t. open_in (transaction_at db.transactions t)) n → n ≡ length (undecided_timestamps p)
 open_count db p n all tied c = sym c.count ∙ same_length c.all (undecided_timestamps p) c.distinct (open_distinct p all) (λ t. let here = c.each t in let there = has_undecided p t in (
   λ i. there.1 (sym (open_at db p tied t) ∙ here.0 i),
@@ -53,11 +48,6 @@ open_count_through db p to n all tied c =
     ))
 
 -- ---- the least
-
--- the least of n and others is at most n
-pub least_low : (n : ℕ) (ms : List ℕ) → least_of n ms ≤ n
-least_low n [] = omega arith
-least_low n (m ∷ ms) = omega (arith, least_low n ms)
 
 least_reached : (n t : ℕ) (ts : List ℕ) → Has t ts → least_of n (map (λ i. i - 1) ts) ≤ t - 1
 least_reached n t [] i = absurd i

@@ -1,22 +1,23 @@
 -- The tie of a book of feeds is kept: by each call, and by every effect of no feed.
-use Rattle.std.proofs.Common.{◌≡◌, ◌≤◌, ℕ, zero, suc, ◌+◌, ◌<◌, ◌==◌, true, List, [], ◌∷◌, ◌++◌, map, length, take, max, Option, Some, None, refl, sym, ◌∙◌, ap, subst, arith}
+use Rattle.std.proofs.Common.{◌≡◌, ℕ, zero, suc, ◌+◌, ◌<◌, ◌==◌, true, List, [], ◌∷◌, ◌++◌, map, length, take, max, Option, Some, None, refl, sym, ◌∙◌, ap, subst, arith}
 use Rattle.std.specs.Prelude.{slice_get, option_map, count_by}
 use Rattle.std.proofs.lemmas.List.{length_push}
 use Rattle.std.proofs.lemmas.Bool.{eqb-true}
 use Rattle.spans.specs.declared.calls.messages.Message.{Message}
 use Rattle.spans.specs.Effects.{Effect, Opens, Polls, Cancels}
 use Rattle.spans.specs.Transactions.{closed_of}
-use Rattle.spans.specs.Feeds.{feeds_opened, Feed, feed_of, start_at, told_to, untold_rows, next_messages}
+use Rattle.spans.specs.Feeds.{Feed, feed_of, start_at, told_to, untold_rows, next_messages}
 use Rattle.spans.specs.Collection.{floor_after, floor_of, live_feeds}
 use Rattle.spans.proofs.Listing.{start_low}
 use Rattle.spans.proofs.Steps.{by_test}
+use Rattle.spans.proofs.FeedFloors.{floor_from}
 use Rattle.timestamps.specs.declared.row.Row.{Row}
 use Rattle.plain_feeds.specs.declared.record.FeedRecord.{FeedRecord}
 use Rattle.plain_feeds.specs.declared.told.Told.{Told}
 use Rattle.plain_feeds.specs.Records.{telling, cancelled, changed_at, record_at, feed_part, fresh_told, told_more, IsToldIn, is_live, is_cancelled_in, floor_in, floors_in, next_in}
 use Rattle.plain_feeds.specs.FeedTie.{FeedsTied, IsOfNoFeed}
 use Rattle.plain_feeds.proofs.RecordLists.{record_push, record_past, live_push, record_changed, length_changed, live_told, live_cancelled, live_count, floors_are}
-use Rattle.plain_feeds.proofs.Telling.{floor_from, next_is, told_join}
+use Rattle.plain_feeds.proofs.Telling.{next_is, told_join}
 
 -- an effect of no feed leaves the tie
 pub feeds_kept : (book : List FeedRecord) (p : List Effect) (d : Effect) → IsOfNoFeed d → FeedsTied book p → FeedsTied book (d ∷ p)
@@ -125,9 +126,3 @@ pub feeds_next : (book : List FeedRecord) (p : List Effect) (f : ℕ) (feed : Fe
 feeds_next book p f feed x max rows tied has at is first =
     let e : feed ≡ feed_part x = (let both : Some feed ≡ Some (feed_part x) = sym is ∙ has in cc) in
     next_is p f feed x max rows (subst (λ (o : Option FeedRecord). IsToldIn o (told_to p f)) at (tied.told f)) e first
-
--- each feed was opened by an effect of its own
-pub opened_at_most : (p : List Effect) → feeds_opened p ≤ length p
-opened_at_most [] = omega arith
-opened_at_most (Opens f seat kind span cursor ∷ p) = let before = opened_at_most p in omega arith
-opened_at_most (_ ∷ p) = let before = opened_at_most p in omega arith

@@ -1,16 +1,18 @@
 -- The tie of the protections is kept: by each call, and by every effect of no protection.
-use Rattle.std.proofs.Common.{◌≡◌, ◌≤◌, ◌<◌, ◌+◌, ℕ, suc, length, drop, get_or, ◌==◌, Bool, true, false, not, ◌||◌, List, [], ◌∷◌, ◌++◌, map, reverse, refl, sym, ◌∙◌, ap, arith}
+use Rattle.std.proofs.Common.{◌≡◌, ◌<◌, ◌+◌, ℕ, suc, length, drop, get_or, ◌==◌, not, List, [], ◌∷◌, ◌++◌, map, reverse, refl, sym, ◌∙◌, ap, arith}
 use Rattle.std.specs.Prelude.{filter, min}
 use Rattle.std.specs.List.{list_any}
 use Rattle.std.proofs.lemmas.List.{append-nil, map-append, at_drop_more, reverse-append}
 use Rattle.std.proofs.lemmas.List.Elements.{filter-append}
 use Rattle.std.proofs.lemmas.List.Folds.{list_any-append}
+use Rattle.std.proofs.Math.Bool.{or-false, or-true}
 use Rattle.spans.specs.Effects.{Effect, Protects, Releases}
 use Rattle.spans.specs.Transactions.{least_of}
 use Rattle.spans.specs.Collection as collection
-use Rattle.spans.specs.Collection.{protections_made, protections_of, is_protected}
+use Rattle.spans.specs.Collection.{protections_of, is_protected}
 use Rattle.spans.specs.Report.{protection_report}
 use Rattle.spans.proofs.Steps.{by_test}
+use Rattle.spans.proofs.Horizon.{least_join}
 use Rattle.plain_feeds.specs.declared.protections.Protection.{Protection}
 use Rattle.plain_feeds.specs.Reports.{standing_report}
 use Rattle.plain_feeds.specs.ProtectionTie.{Standing, protection, released, newest_first, ProtectionsTied, IsOfNoProtection}
@@ -53,16 +55,8 @@ any_newest id [] = refl
 any_newest id (x ∷ xs) =
     list_any-append (λ (y : collection.Protection). y.id == id) (newest_first xs) (record { id = x.id; at = x.at } ∷ [])
     ∙ by_test (x.id == id)
-    (λ same. rw (same, any_newest id xs) (or_true (list_any (λ (y : Protection). y.id == id) xs)))
-    (λ other. rw (other, any_newest id xs) (or_false (list_any (λ (y : Protection). y.id == id) xs)))
-  where
-    or_true : (b : Bool) → (b || true) ≡ true
-    or_true true = refl
-    or_true false = refl
-
-    or_false : (b : Bool) → (b || false) ≡ b
-    or_false true = refl
-    or_false false = refl
+    (λ same. rw (same, any_newest id xs) (or-true (list_any (λ (y : Protection). y.id == id) xs)))
+    (λ other. rw (other, any_newest id xs) (or-false (list_any (λ (y : Protection). y.id == id) xs)))
 
 -- whether a protection of this number stands
 pub protections_any : (kept : Standing) (p : List Effect) (id : ℕ) → ProtectionsTied kept p → list_any (λ (x : Protection). x.id == id) kept.standing ≡ is_protected p id
@@ -82,16 +76,12 @@ protections_reported kept p tied = oldest_first kept.standing ∙ ap (λ l. map 
 pub protections_at : (kept : Standing) (p : List Effect) → ProtectionsTied kept p → map (λ (x : collection.Protection). x.at) (protections_of p) ≡ map (λ (x : collection.Protection). x.at) (newest_first kept.standing)
 protections_at kept p tied = ap (map (λ (x : collection.Protection). x.at)) tied.standing
 
-least_append : (n : ℕ) (ms ns : List ℕ) → least_of n (ms ++ ns) ≡ least_of (least_of n ns) ms
-least_append n [] ns = refl
-least_append n (m ∷ ms) ns = ap (min m) (least_append n ms ns)
-
 -- the next protection counts before those after it
 pub least_more : (n : ℕ) (x : Protection) (xs : List Protection)
     → least_of n (map (λ (y : collection.Protection). y.at) (newest_first (x ∷ xs))) ≡ least_of (min n x.at) (map (λ (y : collection.Protection). y.at) (newest_first xs))
 least_more n x xs =
     ap (least_of n) (map-append (λ (y : collection.Protection). y.at) (newest_first xs) (record { id = x.id; at = x.at } ∷ []))
-    ∙ least_append n (map (λ (y : collection.Protection). y.at) (newest_first xs)) (x.at ∷ [])
+    ∙ least_join n (map (λ (y : collection.Protection). y.at) (newest_first xs)) (x.at ∷ [])
     ∙ (let e : min x.at n ≡ min n x.at = omega arith in ap (λ m. least_of m (map (λ (y : collection.Protection). y.at) (newest_first xs))) e)
 
 -- one step of the walk that takes the least protected timestamp
@@ -103,9 +93,3 @@ least_step n least next i xs d low now before =
     ∙ sym (least_more least (get_or xs i d) (drop (i + 1) xs))
     ∙ sym (at_drop_more (λ l. least_of least (map (λ (y : collection.Protection). y.at) (newest_first l))) xs i d low)
     ∙ before
-
--- each protection was made by an effect of its own
-pub made_at_most : (p : List Effect) → protections_made p ≤ length p
-made_at_most [] = omega arith
-made_at_most (Protects id t ∷ p) = let before = made_at_most p in omega arith
-made_at_most (_ ∷ p) = let before = made_at_most p in omega arith

@@ -12,6 +12,7 @@ use Rattle.spans.specs.Transactions.{least_of}
 use Rattle.spans.specs.Feeds.{told_to}
 use Rattle.spans.specs.Collection.{LiveFeed, floor_after, floor_of}
 use Rattle.spans.proofs.Steps.{by_test}
+use Rattle.spans.proofs.Horizon.{least_join}
 use Rattle.plain_feeds.specs.declared.record.FeedRecord.{FeedRecord}
 use Rattle.plain_feeds.specs.Records.{telling, cancelled, changed_at, record_at, is_live, live_one, live_in, floor_in, floor_one, floors_in}
 
@@ -125,13 +126,9 @@ live_numbered n (x ∷ xs) = length-append (live_in (suc n) xs) (live_one n x) �
 pub live_count : (n : ℕ) (xs : List FeedRecord) → length (live_in n xs) ≡ count_by is_live xs
 live_count n xs = live_numbered n xs ∙ is_count_by live_number is_live refl (λ x xs. refl) xs
 
-pub least_append : (n : ℕ) (ms ns : List ℕ) → least_of n (ms ++ ns) ≡ least_of (least_of n ns) ms
-least_append n [] ns = refl
-least_append n (m ∷ ms) ns = ap (min m) (least_append n ms ns)
-
 -- the next record's floor counts before those of the records after it
 pub least_more : (n : ℕ) (x : FeedRecord) (xs : List FeedRecord) → least_of n (floors_in (x ∷ xs)) ≡ least_of (least_of n (floor_one x)) (floors_in xs)
-least_more n x xs = least_append n (floors_in xs) (floor_one x)
+least_more n x xs = least_join n (floors_in xs) (floor_one x)
 
 -- one step of the walk that takes the least floor
 pub floors_step : (n least next i : ℕ) (xs : List FeedRecord) (x : FeedRecord) → i < length xs → x ≡ get_or xs i x → next ≡ least_of least (floor_one x)

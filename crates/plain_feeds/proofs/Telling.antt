@@ -12,6 +12,8 @@ use Rattle.spans.specs.Collection.{VersionName, floor_after}
 use Rattle.spans.specs.Consumer.{name_of}
 use Rattle.spans.specs.Kept.{last_name}
 use Rattle.spans.specs.Report.{last_told}
+use Rattle.spans.proofs.Feeding.{last_join, resolved_join}
+use Rattle.spans.proofs.FeedFloors.{floor_append}
 use Rattle.plain_feeds.specs.declared.told.Told.{Told}
 use Rattle.plain_feeds.specs.declared.record.FeedRecord.{FeedRecord}
 use Rattle.plain_feeds.specs.Records.{due_at, due_in, feed_part, next_in, told_more, IsToldIn}
@@ -51,22 +53,6 @@ floor_last n (x ∷ y ∷ ms) zero m at is = absurd (omega arith)
 floor_last n (messages.Row r ∷ y ∷ ms) (suc i) m at is = floor_last (r.ts - 1) (y ∷ ms) i m (omega arith) is
 floor_last n (messages.Resolved t ∷ y ∷ ms) (suc i) m at is = floor_last t (y ∷ ms) i m (omega arith) is
 
--- more messages, and then still more
-last_join : (o : Option VersionName) (ms ns : List Message) → last_name o (ms ++ ns) ≡ last_name (last_name o ms) ns
-last_join o [] ns = refl
-last_join o (messages.Row r ∷ ms) ns = last_join (Some (name_of r)) ms ns
-last_join o (messages.Resolved t ∷ ms) ns = last_join o ms ns
-
-resolved_join : (n : ℕ) (ms ns : List Message) → last_resolved n (ms ++ ns) ≡ last_resolved (last_resolved n ms) ns
-resolved_join n [] ns = refl
-resolved_join n (messages.Row r ∷ ms) ns = resolved_join n ms ns
-resolved_join n (messages.Resolved t ∷ ms) ns = resolved_join (max n t) ms ns
-
-floor_join : (n : ℕ) (ms ns : List Message) → floor_after n (ms ++ ns) ≡ floor_after (floor_after n ms) ns
-floor_join n [] ns = refl
-floor_join n (messages.Row r ∷ ms) ns = floor_join (r.ts - 1) ms ns
-floor_join n (messages.Resolved t ∷ ms) ns = floor_join t ms ns
-
 latest_join : (o : Option ℕ) (ms ns : List Message) → last_told o (ms ++ ns) ≡ last_told (last_told o ms) ns
 latest_join o [] ns = refl
 latest_join o (messages.Row r ∷ ms) ns = latest_join o ms ns
@@ -77,13 +63,7 @@ told_is : (row row' : Option VersionName) (resolved resolved' : ℕ) (latest lat
 told_is row row' resolved resolved' latest latest' floor floor' a b c d = rw (a, b, c, d) refl
 
 pub told_join : (ms ns : List Message) (t : Told) → told_more (ms ++ ns) t ≡ told_more ns (told_more ms t)
-told_join ms ns t = told_is _ _ _ _ _ _ _ _ (last_join t.row ms ns) (resolved_join t.resolved ms ns) (latest_join t.latest ms ns) (floor_join t.floor ms ns)
-
--- the start and the cursor give one floor, which isn't below the cursor
-pub floor_from : (c s : ℕ) (ms : List Message) → s ≤ c → max c (floor_after c ms) ≡ max c (floor_after s ms)
-floor_from c s [] low = omega arith
-floor_from c s (messages.Row r ∷ ms) low = refl
-floor_from c s (messages.Resolved t ∷ ms) low = refl
+told_join ms ns t = told_is _ _ _ _ _ _ _ _ (last_join t.row ms ns) (resolved_join t.resolved ms ns) (latest_join t.latest ms ns) (floor_append t.floor ms ns)
 
 -- the last row of some messages is that of all where there is one
 pub last_over : (o : Option VersionName) (ms : List Message) (n : VersionName) → last_name None ms ≡ Some n → last_name o ms ≡ Some n

@@ -1,12 +1,13 @@
 -- Rows that are added up to a number.
-use Rattle.std.proofs.Common.{◌≡◌, ℕ, zero, suc, ◌<◌, ◌≤◌, ◌⊎◌, ◌==◌, Bool, true, false, cond, ◌&&◌, List, [], ◌∷◌, ◌++◌, length, take, Option, Some, None, refl, sym, ◌∙◌, ap, subst, inl, inr, append_assoc, arith}
+use Rattle.std.proofs.Common.{◌≡◌, ℕ, ◌<◌, ◌≤◌, ◌⊎◌, ◌==◌, Bool, true, false, cond, ◌&&◌, List, [], ◌∷◌, ◌++◌, length, take, Option, Some, None, refl, sym, ◌∙◌, ap, subst, inl, inr, append_assoc, arith}
 use Rattle.std.specs.Prelude.{is_some, min, nat_lt}
 use Rattle.std.specs.BTreeSet.{BTreeSet, IsOrdered, contains}
 use Rattle.std.specs.BTreeMap.Range.{range_contains}
 use Rattle.std.specs.List.{filter}
 use Rattle.std.specs.declared.ops.Bound.TheVariants.{Excluded, Unbounded}
 use Rattle.std.proofs.lemmas.Bool.{and_from, and_parts, both_ways, cases_lt, eqb-true, eq-eqb, lt-ltb, ltb-true, or_cases, or_left, or_right}
-use Rattle.std.proofs.lemmas.List.{length-append}
+use Rattle.std.proofs.lemmas.List.{length-append, take_all, take_at, append-nil}
+use Rattle.std.proofs.Math.Bool.{and-false}
 use Rattle.timestamps.specs.Bytes.{key_cmp}
 use Rattle.timestamps.specs.declared.row.Row.{Row}
 use Rattle.spans.specs.declared.span.Span.{Span}
@@ -19,6 +20,8 @@ use Rattle.spans.proofs.Keyed.{RisingKeys, filter_rises}
 use Rattle.spans.proofs.Members.{Has, has_filter}
 use Rattle.spans.proofs.Steps.{by_test}
 use Rattle.spans.proofs.StreamOrder.{in_append, rises_append}
+use Rattle.spans.proofs.Lists.{take_again, take_few}
+use Rattle.spans.proofs.Sets.{all_within}
 use Rattle.plain_versions.specs.declared.written.Written.{Written}
 use Rattle.plain_versions.specs.Transactions.{Table, transaction_at, committed_in}
 use Rattle.plain_versions.specs.Chains.{Stored, version_at}
@@ -30,32 +33,6 @@ use Rattle.plain_versions.proofs.Listed.{listed_names, listed_rise, between_are}
 
 -- ---- the first of a list
 
-pub take_all : (n : ℕ) (xs : List Row) → length xs ≤ n → take n xs ≡ xs
-take_all zero [] low = refl
-take_all zero (x ∷ xs) low = absurd (omega arith)
-take_all (suc n) [] low = refl
-take_all (suc n) (x ∷ xs) low = ap (λ ys. x ∷ ys) (take_all n xs (omega arith))
-
-pub take_full : (n : ℕ) (xs ys : List Row) → length xs ≡ n → take n (xs ++ ys) ≡ xs
-take_full zero [] ys full = refl
-take_full zero (x ∷ xs) ys full = absurd (omega arith)
-take_full (suc n) [] ys full = absurd (omega arith)
-take_full (suc n) (x ∷ xs) ys full = ap (λ zs. x ∷ zs) (take_full n xs ys (omega arith))
-
-take_again : (n : ℕ) (xs ys : List Row) → take n (take n xs ++ ys) ≡ take n (xs ++ ys)
-take_again zero xs ys = refl
-take_again (suc n) [] ys = refl
-take_again (suc n) (x ∷ xs) ys = ap (λ zs. x ∷ zs) (take_again n xs ys)
-
-take_few : (n : ℕ) (xs : List Row) → length (take n xs) ≤ n
-take_few zero xs = omega arith
-take_few (suc n) [] = omega arith
-take_few (suc n) (x ∷ xs) = omega (arith, take_few n xs)
-
-pub and_none : (xs : List Row) → xs ++ [] ≡ xs
-and_none [] = refl
-and_none (x ∷ xs) = ap (λ ys. x ∷ ys) (and_none xs)
-
 -- ---- the rows of one transaction
 
 none_wanted : (table : Table) (stored : Stored) (span : Span) (t : ℕ) (keys : List (List ℕ)) → committed_in (transaction_at table t) ≡ false → rows_of table stored span (names_at t keys) ≡ []
@@ -64,7 +41,7 @@ none_wanted table stored span t (x ∷ xs) open' = rw open' (none_wanted table s
 
 pub open_adds : (table : Table) (stored : Stored) (span : Span) (t max : ℕ) (keys : List (List ℕ)) (rows : List Row) → committed_in (transaction_at table t) ≡ false → length rows ≤ max
     → rows ≡ take max (rows ++ rows_of table stored span (names_at t keys))
-open_adds table stored span t max keys rows open' few = sym (ap (λ more. take max (rows ++ more)) (none_wanted table stored span t keys open') ∙ ap (take max) (and_none rows) ∙ take_all max rows few)
+open_adds table stored span t max keys rows open' few = sym (ap (λ more. take max (rows ++ more)) (none_wanted table stored span t keys open') ∙ ap (take max) (append-nil rows) ∙ take_all max rows few)
 
 -- with what is left, all rows are there, as far as max
 pub record AreAdding (table : Table) (stored : Stored) (span : Span) (t max : ℕ) (keys : List (List ℕ)) (rows whole : List Row) : Type 0 where
@@ -72,11 +49,11 @@ pub record AreAdding (table : Table) (stored : Stored) (span : Span) (t max : �
   pub left : take max (rows ++ rows_of table stored span (names_at t keys)) ≡ whole
 
 pub adding_full : (table : Table) (stored : Stored) (span : Span) (t max : ℕ) (keys : List (List ℕ)) (rows whole : List Row) → max ≤ length rows → AreAdding table stored span t max keys rows whole → rows ≡ whole
-adding_full table stored span t max keys rows whole full are = let few = are.few in sym (take_full max rows (rows_of table stored span (names_at t keys)) (omega arith)) ∙ are.left
+adding_full table stored span t max keys rows whole full are = let few = are.few in sym (take_at rows (rows_of table stored span (names_at t keys)) max (omega arith)) ∙ are.left
 
 pub adding_ends : (table : Table) (stored : Stored) (span : Span) (t max : ℕ) (keys : List (List ℕ)) (rows whole : List Row) → keys ≡ [] → AreAdding table stored span t max keys rows whole → rows ≡ whole
 adding_ends table stored span t max keys rows whole none are =
-    sym (ap (λ (ks : List (List ℕ)). take max (rows ++ rows_of table stored span (names_at t ks))) none ∙ ap (take max) (and_none rows) ∙ take_all max rows are.few) ∙ are.left
+    sym (ap (λ (ks : List (List ℕ)). take max (rows ++ rows_of table stored span (names_at t ks))) none ∙ ap (take max) (append-nil rows) ∙ take_all max rows are.few) ∙ are.left
 
 one_row : (stored : Stored) (v : VersionName) → length (row_of stored v) ≤ 1
 one_row stored v = one (version_at stored v.key v.ts)
@@ -100,12 +77,8 @@ pub adding_none : (table : Table) (stored : Stored) (span : Span) (t max : ℕ) 
     → AreAdding table stored span t max keys rows whole → AreAdding table stored span t max rest rows whole
 adding_none table stored span t max keys rest x rows whole outside next are = record {
   few = are.few;
-  left = sym (ap (λ (ks : List (List ℕ)). take max (rows ++ rows_of table stored span (names_at t ks))) next ∙ rw (outside, and_false (committed_in (transaction_at table t))) refl) ∙ are.left;
+  left = sym (ap (λ (ks : List (List ℕ)). take max (rows ++ rows_of table stored span (names_at t ks))) next ∙ rw (outside, and-false (committed_in (transaction_at table t))) refl) ∙ are.left;
 }
-  where
-    and_false : (b : Bool) → (b && false) ≡ false
-    and_false true = refl
-    and_false false = refl
 
 -- ---- the rows above a timestamp
 
@@ -156,14 +129,14 @@ pub going_full : (table : Table) (stored : Stored) (span : Span) (ts through max
 going_full table stored span ts through max es rows rows' full g = record {
   all = g.all;
   are = g.are;
-  is = let few = g.few in sym (take_full max rows' (rows_of table stored span (listed_names es)) (omega arith)) ∙ g.left;
+  is = let few = g.few in sym (take_at rows' (rows_of table stored span (listed_names es)) max (omega arith)) ∙ g.left;
 }
 
 pub going_ends : (table : Table) (stored : Stored) (span : Span) (ts through max : ℕ) (es : Listed) (rows rows' : List Row) → es ≡ [] → AreGoing table stored span ts through max es rows rows' → AreAdded table stored span ts None through max rows rows'
 going_ends table stored span ts through max es rows rows' none g = record {
   all = g.all;
   are = g.are;
-  is = sym (ap (λ (ds : Listed). take max (rows' ++ rows_of table stored span (listed_names ds))) none ∙ ap (take max) (and_none rows') ∙ take_all max rows' g.few) ∙ g.left;
+  is = sym (ap (λ (ds : Listed). take max (rows' ++ rows_of table stored span (listed_names ds))) none ∙ ap (take max) (append-nil rows') ∙ take_all max rows' g.few) ∙ g.left;
 }
 
 rows_parted : (table : Table) (stored : Stored) (span : Span) (vs ws : List VersionName) → rows_of table stored span (vs ++ ws) ≡ rows_of table stored span vs ++ rows_of table stored span ws
@@ -172,13 +145,9 @@ rows_parted table stored span (v ∷ vs) ws = let more = rows_parted table store
     (λ on. rw on (ap (λ rs. row_of stored v ++ rs) more ∙ sym (append_assoc (row_of stored v) (rows_of table stored span vs) (rows_of table stored span ws))))
     (λ off. rw off more)
 
-all_keys : (keys : List (List ℕ)) → filter (range_contains key_cmp Unbounded Unbounded) keys ≡ keys
-all_keys [] = refl
-all_keys (x ∷ xs) = ap (λ ys. x ∷ ys) (all_keys xs)
-
 -- the keys of a set as it is listed
 pub keys_listed : (keys : BTreeSet (List ℕ)) (part : List (List ℕ)) → IsOrdered key_cmp keys → part ≡ filter (range_contains key_cmp Unbounded Unbounded) keys.keys → part ≡ in_order keys.keys
-keys_listed keys part ordered is = is ∙ all_keys keys.keys ∙ sym (order_same keys.keys (rising_keys keys.keys ordered))
+keys_listed keys part ordered is = is ∙ all_within key_cmp keys.keys ∙ sym (order_same keys.keys (rising_keys keys.keys ordered))
 
 pub going_on : (table : Table) (stored : Stored) (span : Span) (ts through max t : ℕ) (keys : BTreeSet (List ℕ)) (part : List (List ℕ)) (es rest : Listed) (rows rows' more : List Row) → es ≡ (t, keys) ∷ rest → part ≡ in_order keys.keys
     → more ≡ take max (rows' ++ rows_of table stored span (names_at t part)) → AreGoing table stored span ts through max es rows rows' → AreGoing table stored span ts through max rest rows more
@@ -222,7 +191,7 @@ pub far_beside : (table : Table) (stored : Stored) (span : Span) (ts through max
 far_beside table stored span ts through max key rows far few = record {
   all = [];
   are = none_beside table stored span ts through key (λ r i. let at = (beside_at table stored span ts through key r i).0 in elim far [ inl first ↦ omega (arith, i.some) | inr past ↦ omega (arith, i.low) ]);
-  is = sym (ap (take max) (and_none rows) ∙ take_all max rows few);
+  is = sym (ap (take max) (append-nil rows) ∙ take_all max rows few);
 }
 
 -- where nothing is listed there
@@ -233,7 +202,7 @@ nothing_beside table stored span ts through max key rows none few = record {
       let at = (beside_at table stored span ts through key r i).0 in
       let there = settled_there (committed_in (transaction_at table r.ts)) (version_at stored r.key r.ts) r.after i.there in
       both_ways _ (sym (none r.key)) (ap is_some (subst (λ n. version_at stored r.key n ≡ Some r.after) at there.1)));
-  is = sym (ap (take max) (and_none rows) ∙ take_all max rows few);
+  is = sym (ap (take max) (append-nil rows) ∙ take_all max rows few);
 }
 
 pub beside_added : (table : Table) (stored : Stored) (span : Span) (ts through max : ℕ) (key : List ℕ) (keys : BTreeSet (List ℕ)) (part : List (List ℕ)) (rows rows' : List Row) → 1 ≤ ts → ts ≤ through → IsOrdered key_cmp keys
@@ -301,5 +270,5 @@ pub nothing_above : (table : Table) (stored : Stored) (span : Span) (ts through 
 nothing_above table stored span ts through max rows down few = record {
   all = [];
   are = record { rising = tt; each = λ r. (λ i. absurd i, λ i. absurd (let above = ltb-true ts r.ts i.later in omega (arith, i.low))) };
-  is = sym (ap (take max) (and_none rows) ∙ take_all max rows few);
+  is = sym (ap (take max) (append-nil rows) ∙ take_all max rows few);
 }

@@ -82,10 +82,6 @@ first_are f span stored (e ∷ es) are = let more = first_are f span stored es a
 pub first_is : (f : Chain → Option ℕ) (span : Span) (stored : Stored) → RisingKeys (keys_of stored) → first_in f (within span stored) ≡ first_of (λ x. f (versions_at stored x)) (filter (in_span span) (keys_of stored))
 first_is f span stored r = first_are f span stored stored (by_key stored r)
 
-pub none_more : (rows : List (List ℕ × List ℕ)) → rows ++ [] ≡ rows
-none_more [] = refl
-none_more (r ∷ rows) = ap (λ l. r ∷ l) (none_more rows)
-
 -- ---- the source of each key
 
 -- a key of the span is found among the chains of the span as among all

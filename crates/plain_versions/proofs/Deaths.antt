@@ -13,7 +13,7 @@ use Rattle.spans.specs.Effects.{After}
 use Rattle.spans.specs.Newest.{newest}
 use Rattle.spans.proofs.Ascending.{rising_keys}
 use Rattle.spans.proofs.Members.{Has, AreDistinct, distinct_append, distinct_filter, has_append, has_filter, rising_distinct}
-use Rattle.spans.proofs.Steps.{by_test}
+use Rattle.spans.proofs.Steps.{by_test, none_of}
 use Rattle.plain_versions.specs.Chains.{Stored, version_at}
 use Rattle.plain_versions.specs.Counting.{IsCountOf}
 use Rattle.plain_versions.specs.Dying.{ByKey, IsDeathCount, IsDeathCountAt, deaths_by, deletes, is_between, one_if, replaces}
@@ -219,9 +219,6 @@ walk_starts stored low high rest under rising listed = record {
   listed = listed;
 }
 
-number_at : (t i : ℕ) → is_at (nat_cmp t) i ≡ (t == i)
-number_at t i = grind (arith, nat_tests)
-
 -- nothing is listed at or below where the timestamps begin
 not_listed : (a b : ℕ) (es : Listed) (y : List ℕ) (i : ℕ) → AreBetween a b es → i ≤ a → listed_in es y i ≡ false
 not_listed a b [] y i rising low = refl
@@ -229,10 +226,6 @@ not_listed a b (e ∷ es) y i rising low =
     let above : a < e.0 = rising.0 in
     let off : is_at (nat_cmp i) e.0 ≡ false = grind (arith, nat_tests) in
     rw off (not_listed e.0 b es y i rising.2 (omega arith))
-
-none_of : (o : Option After) → is_some o ≡ false → o ≡ None
-none_of None e = refl
-none_of (Some a) e = cc
 
 pub walk_goes_on : (stored : Stored) (low high count m k t : ℕ) (keys : BTreeSet (List ℕ)) (es : Listed) → HasWalked stored low high count ((t, keys) ∷ es) → IsDeathCountAt (version_at stored) t keys m → k ≡ min (count + m) (2 ^ 64 - 1)
     → HasWalked stored low high k es

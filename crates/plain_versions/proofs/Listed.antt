@@ -1,13 +1,12 @@
 -- The versions that an index lists between two timestamps.
 use Rattle.std.proofs.Common.{◌≡◌, ℕ, ◌<◌, ◌≤◌, ◌==◌, true, List, [], ◌∷◌, ◌++◌, sym, ◌∙◌, inl, inr, arith}
 use Rattle.std.specs.Prelude.{◌↔◌}
-use Rattle.std.specs.BTreeMap.{is_at}
-use Rattle.std.specs.Ordering.{nat_cmp}
 use Rattle.std.proofs.lemmas.Bool.{both_ways, eqb-true}
 use Rattle.std.proofs.lemmas.Bool.Decides.{nat_tests}
 use Rattle.spans.specs.Collection.{VersionName}
 use Rattle.spans.proofs.Members.{Has, has_append}
 use Rattle.spans.proofs.Steps.{by_test}
+use Rattle.spans.proofs.Sets.{number_at}
 use Rattle.plain_versions.specs.declared.written.Written.{Written}
 use Rattle.plain_versions.specs.Chains.{Stored}
 use Rattle.plain_versions.specs.Streams.{names_at}
@@ -26,9 +25,6 @@ in_bounds a b (e ∷ es) v are i = elim ((has_append v (names_at e.0 (in_order e
   | inl here ↦ (let at = ((in_names e.0 (in_order e.1.keys) v).0 here).0 in (omega (arith, are.0), omega (arith, are.1)))
   | inr there ↦ (let more = in_bounds e.0 b es v are.2 there in (omega (arith, are.0, more.0), more.1))
 ]
-
-number_at : (t i : ℕ) → is_at (nat_cmp t) i ≡ (t == i)
-number_at t i = grind (arith, nat_tests)
 
 has_listed : (a b : ℕ) (es : Listed) (v : VersionName) → AreBetween a b es → Has v (listed_names es) ↔ (listed_in es v.key v.ts ≡ true)
 has_listed a b [] v are = (λ i. absurd i, λ e. cc)

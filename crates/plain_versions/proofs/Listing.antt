@@ -1,7 +1,7 @@
 -- What is listed after the keys of one transaction changed.
-use Rattle.std.proofs.Common.{◌≡◌, ℕ, ◌<◌, ◌≤◌, ◌==◌, Bool, true, false, cond, ◌&&◌, ◌||◌, List, [], ◌∷◌, length, Option, refl, sym, ◌∙◌, ap, subst, arith}
+use Rattle.std.proofs.Common.{◌≡◌, ℕ, ◌<◌, ◌≤◌, ◌==◌, Bool, true, false, cond, ◌&&◌, ◌||◌, List, [], ◌∷◌, Option, refl, sym, ◌∙◌, ap, subst, arith}
 use Rattle.std.specs.Prelude.{bytes_eq}
-use Rattle.std.specs.List.{filter, list_any, AllByRecursion}
+use Rattle.std.specs.List.{filter, AllByRecursion}
 use Rattle.std.specs.List.Sorted.{IsStrictlySortedBy}
 use Rattle.std.specs.Map.{lookup, keys_of}
 use Rattle.std.specs.BTreeMap.{BTreeMap, is_at}
@@ -12,17 +12,13 @@ use Rattle.std.specs.Ordering.{nat_cmp}
 use Rattle.std.specs.declared.cmp.Ordering.TheVariants.{Less}
 use Rattle.std.proofs.lemmas.Bool.{eqb-true}
 use Rattle.std.proofs.lemmas.Bool.Decides.{nat_tests}
-use Rattle.std.proofs.lemmas.Map.Text.{is_eq-slice_cmp}
-use Rattle.timestamps.specs.Bytes.{key_cmp}
 use Rattle.spans.proofs.Steps.{by_test}
+use Rattle.spans.proofs.Sets.{number_at}
 use Rattle.plain_versions.specs.Written.{Listed, is_among, listed_in, AreBetween}
 
 -- the look-ups after the keys of t became w
 abbrev pub IsPutAt : Listed → Listed → ℕ → Option (BTreeSet (List ℕ)) → Type 0
 IsPutAt es fs t w = (q : ℕ) → lookup (is_at (nat_cmp q)) fs ≡ cond (is_at (nat_cmp t) q) w (lookup (is_at (nat_cmp q)) es)
-
-number_at : (t i : ℕ) → is_at (nat_cmp t) i ≡ (t == i)
-number_at t i = grind (arith, nat_tests)
 
 listed_too : (es fs : Listed) (x : List ℕ) (t : ℕ) (w : Option (BTreeSet (List ℕ))) → IsPutAt es fs t w → ((y : List ℕ) → is_among w y ≡ (bytes_eq x y || listed_in es y t))
     → (y : List ℕ) (i : ℕ) → listed_in fs y i ≡ (((t == i) && bytes_eq x y) || listed_in es y i)
@@ -42,18 +38,6 @@ pub unlisted : (es fs : Listed) (x : List ℕ) (t : ℕ) (w : Option (BTreeSet (
 unlisted es fs x t w put among y i = ap (λ o. is_among o y) (put i) ∙ by_test (t == i)
     (λ here. rw (number_at t i, here) (among y ∙ ap (λ n. cond (bytes_eq x y) false (listed_in es y n)) (eqb-true t i here)))
     (λ there. rw (number_at t i, there) refl)
-
--- a set that one key came to, or went from
-pub one_more : (x y : List ℕ) (b c : Bool) → c ≡ cond (is_at (key_cmp x) y) true b → c ≡ (bytes_eq x y || b)
-one_more x y b c e = e ∙ ap (λ h. cond h true b) (is_eq-slice_cmp x y) ∙ by_test (bytes_eq x y) (λ on. rw on refl) (λ off. rw off refl)
-
-pub one_less : (x y : List ℕ) (b c : Bool) → c ≡ cond (is_at (key_cmp x) y) false b → c ≡ cond (bytes_eq x y) false b
-one_less x y b c e = e ∙ ap (λ h. cond h false b) (is_eq-slice_cmp x y)
-
--- nothing is in an empty set
-pub none_in : (keys : List (List ℕ)) (y : List ℕ) → length keys ≡ 0 → list_any (is_at (key_cmp y)) keys ≡ false
-none_in [] y none = refl
-none_in (x ∷ keys) y none = absurd (omega arith)
 
 -- ---- a part of the timestamps
 

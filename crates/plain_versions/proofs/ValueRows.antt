@@ -6,7 +6,7 @@ use Rattle.std.specs.BTreeMap.{is_at}
 use Rattle.std.specs.Ordering.{is_lt}
 use Rattle.std.specs.declared.cmp.Ordering.TheVariants.{Less}
 use Rattle.std.proofs.lemmas.Bool.{and_from, both_ways, eq-eqb, or_right}
-use Rattle.std.proofs.lemmas.List.{length-append}
+use Rattle.std.proofs.lemmas.List.{length-append, take_all, take_at, append-nil}
 use Rattle.timestamps.specs.Bytes.{key_cmp}
 use Rattle.timestamps.specs.declared.row.Row.{Row}
 use Rattle.spans.specs.declared.span.Span.{Span}
@@ -21,7 +21,6 @@ use Rattle.plain_versions.specs.Versions.{Chain, version_in, settled}
 use Rattle.plain_versions.specs.Chains.{Stored, or_none, versions_at}
 use Rattle.plain_versions.specs.InSpans.{within}
 use Rattle.plain_versions.specs.Snapshots.{is_past, AreValueRows, value_row, value_rows}
-use Rattle.plain_versions.proofs.AddedRows.{and_none, take_all, take_full}
 use Rattle.plain_versions.proofs.ByKey.{AreByKey, by_key, by_key_within}
 use Rattle.plain_versions.proofs.Changes.{is_within}
 
@@ -152,11 +151,11 @@ pub record AreFilling (table : Table) (span : Span) (t max : ℕ) (es : Stored) 
   pub left : take max (rows ++ value_rows table span t es) ≡ whole
 
 pub filling_full : (table : Table) (span : Span) (t max : ℕ) (es : Stored) (rows whole : List Row) → max ≤ length rows → AreFilling table span t max es rows whole → rows ≡ whole
-filling_full table span t max es rows whole full f = let few = f.few in sym (take_full max rows (value_rows table span t es) (omega arith)) ∙ f.left
+filling_full table span t max es rows whole full f = let few = f.few in sym (take_at rows (value_rows table span t es) max (omega arith)) ∙ f.left
 
 pub filling_ends : (table : Table) (span : Span) (t max : ℕ) (es : Stored) (rows whole : List Row) → es ≡ [] → AreFilling table span t max es rows whole → rows ≡ whole
 filling_ends table span t max es rows whole none f =
-    sym (ap (λ (ds : Stored). take max (rows ++ value_rows table span t ds)) none ∙ ap (take max) (and_none rows) ∙ take_all max rows f.few) ∙ f.left
+    sym (ap (λ (ds : Stored). take max (rows ++ value_rows table span t ds)) none ∙ ap (take max) (append-nil rows) ∙ take_all max rows f.few) ∙ f.left
 
 pub filling_one : (table : Table) (span : Span) (t max : ℕ) (es rest : Stored) (x : List ℕ) (vs : Chain) (a : After) (rows more whole : List Row) → in_span span x ≡ true → (max ≤ length rows → ⊥) → es ≡ (x, vs) ∷ rest → a ≡ value_of table vs t → more ≡ rows ++ value_row t x a
     → AreFilling table span t max es rows whole → AreFilling table span t max rest more whole

@@ -1,7 +1,6 @@
 -- What is listed after the keys of one value changed.
-use Rattle.std.proofs.Common.{◌≡◌, ℕ, Bool, true, false, cond, ◌&&◌, ◌||◌, List, [], ◌∷◌, length, Option, None, refl, sym, ◌∙◌, ap, subst, arith}
+use Rattle.std.proofs.Common.{◌≡◌, ℕ, Bool, true, false, cond, ◌&&◌, ◌||◌, List, [], Option, None, refl, sym, ◌∙◌, ap, subst}
 use Rattle.std.specs.Prelude.{bytes_eq}
-use Rattle.std.specs.List.{list_any}
 use Rattle.std.specs.Map.{lookup}
 use Rattle.std.specs.BTreeMap.{BTreeMap, is_at}
 use Rattle.std.specs.BTreeSet.{BTreeSet}
@@ -47,18 +46,6 @@ pub listed_less : (es fs : Keyed) (x v : List ℕ) (w : Option (BTreeSet (List �
 listed_less es fs x v w put among y u = ap (λ o. is_among o y) (put u) ∙ by_test (bytes_eq v u)
     (λ here. rw (at_bytes v u, here) (among y ∙ ap (λ n. cond (bytes_eq x y) false (listed_in es y n)) (same_key v u here)))
     (λ there. rw (at_bytes v u, there) refl)
-
--- a set that one key came to, or went from
-pub one_more : (x y : List ℕ) (b c : Bool) → c ≡ cond (is_at (key_cmp x) y) true b → c ≡ (bytes_eq x y || b)
-one_more x y b c e = e ∙ ap (λ h. cond h true b) (at_bytes x y) ∙ by_test (bytes_eq x y) (λ on. rw on refl) (λ off. rw off refl)
-
-pub one_less : (x y : List ℕ) (b c : Bool) → c ≡ cond (is_at (key_cmp x) y) false b → c ≡ cond (bytes_eq x y) false b
-one_less x y b c e = e ∙ ap (λ h. cond h false b) (at_bytes x y)
-
--- nothing is in an empty set
-pub none_in : (keys : List (List ℕ)) (y : List ℕ) → length keys ≡ 0 → list_any (is_at (key_cmp y)) keys ≡ false
-none_in [] y none = refl
-none_in (x ∷ keys) y none = absurd (omega arith)
 
 -- nothing is listed where no value has keys
 pub none_listed : (es : Keyed) → es ≡ [] → (x v : List ℕ) → listed_in es x v ≡ false

@@ -1,10 +1,5 @@
--- What holds after a refusal.
-use Rattle.std.proofs.Common.{Result, Ok, Err, Option, Some, None, ◌≡◌, refl}
-use Rattle.std.specs.Prelude.{OnErr}
-
-pub on_err : {T E P : Type 0} (r : Result T E) → P → OnErr r P
-on_err (Ok x) p = tt
-on_err (Err e) p = p
+-- Where there is no value.
+use Rattle.std.proofs.Common.{Option, Some, None, ◌≡◌, refl}
 
 -- what is no value is none
 pub none_of : {A : Type 0} (o : Option A) → ((x : A) → o ≡ Some x → ⊥) → o ≡ None

@@ -10,7 +10,7 @@ use Rattle.std.proofs.lemmas.Bool.{false_from_ne_true, or_cases, or_left, or_rig
 use Rattle.timestamps.specs.Bytes.{key_cmp}
 use Rattle.spans.specs.declared.span.Span.{Span}
 use Rattle.spans.specs.Keys.{in_span, IsPairIn, KeysRise}
-use Rattle.spans.proofs.Keyed.{IsIn, RisingKeys, key_clash}
+use Rattle.spans.proofs.Keyed.{IsIn, key_clash}
 use Rattle.spans.proofs.Steps.{by_test, same_key, key_itself}
 use Rattle.replica.specs.Rows.{value_at, AreRowsOf}
 use Rattle.replica.specs.Starts.{AreInside}
@@ -54,18 +54,6 @@ are_rows_of es rising = record {
   rising = rows_rise es rising;
   each = λ x v. (λ i. at_pair es x v (rows_rise es rising) i, λ e. pair_at es x v e);
 }
-
-key_above : (y : List ℕ) (ks : List (List ℕ)) → AllByRecursion (λ z. key_cmp y z ≡ Less) ks → (x : List ℕ) → IsIn x ks → key_cmp y x ≡ Less
-key_above y [] all x i = absurd i
-key_above y (k ∷ ks) all x i = elim i [
-  | inl here ↦ subst (λ z. key_cmp y z ≡ Less) here all.0
-  | inr there ↦ key_above y ks all.1 x there
-]
-
-pub keys_rise : (ks : List (List ℕ)) → IsStrictlySortedBy key_cmp ks → RisingKeys ks
-unfolding IsStrictlySortedBy
-keys_rise [] rising = tt
-keys_rise (k ∷ ks) rising = (key_above k ks rising.0, keys_rise ks rising.1)
 
 pub is_in_set : (ks : List (List ℕ)) (x : List ℕ) → IsIn x ks ↔ (list_any (is_at (key_cmp x)) ks ≡ true)
 is_in_set [] x = (λ i. absurd i, λ e. cc)

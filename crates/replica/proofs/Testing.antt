@@ -1,12 +1,11 @@
 -- The tests of the rows that a replica begins with.
 use Rattle.std.proofs.Common.{◌≡◌, ℕ, zero, suc, ◌+◌, ◌-◌, ◌<◌, ◌≤◌, ◌==◌, true, false, List, [], ◌∷◌, length, get_or, refl, sym, ◌∙◌, ap, subst, arith}
 use Rattle.std.specs.Map.{keys_of}
-use Rattle.std.specs.Ordering.{is_lt}
-use Rattle.std.specs.declared.cmp.Ordering.{Ordering}
-use Rattle.std.specs.declared.cmp.Ordering.TheVariants.{Less, Equal, Greater}
+use Rattle.std.specs.declared.cmp.Ordering.TheVariants.{Less}
 use Rattle.std.proofs.lemmas.Cmp.{nat_list_cmp_total}
 use Rattle.std.proofs.lemmas.Bool.Decides.{nat_tests}
 use Rattle.std.proofs.lemmas.Map.Keys.{sorted_from_all_adjacent}
+use Rattle.std.proofs.lemmas.Map.Entries.{length-keys_of}
 use Rattle.timestamps.specs.Bytes.{key_cmp}
 use Rattle.spans.specs.declared.span.Span.{Span}
 use Rattle.spans.specs.Keys.{in_span, KeysRise}
@@ -15,15 +14,6 @@ use Rattle.replica.proofs.Rising.{rows_rise, rise_at, keys_at}
 
 abbrev Pairs : Type 0
 Pairs = List (List ℕ × List ℕ)
-
-pub is_less : (o : Ordering) → is_lt o ≡ true → o ≡ Less
-is_less Less e = refl
-is_less Equal e = cc
-is_less Greater e = cc
-
-keys_length : (es : Pairs) → length (keys_of es) ≡ length es
-keys_length [] = refl
-keys_length (e ∷ es) = ap suc (keys_length es)
 
 at_any : (es : Pairs) (i : ℕ) (d e : List ℕ × List ℕ) → i < length es → get_or es i d ≡ get_or es i e
 at_any [] i d e low = absurd (omega arith)
@@ -59,7 +49,7 @@ rising_more es i x y so_far some low first second less k d below = by_test (k + 
 
 pub rising_all : (es : Pairs) → AreRisingTo es (length es) → KeysRise es
 rising_all es all = rows_rise es (sorted_from_all_adjacent nat_list_cmp_total (keys_of es) [] (λ k low.
-    let below : k + 1 < length es = omega (arith, keys_length es) in
+    let below : k + 1 < length es = omega (arith, length-keys_of es) in
     let d : List ℕ × List ℕ = ([], []) in
     ap (λ x. key_cmp x (get_or (keys_of es) (k + 1) [])) (keys_at es k d) ∙ ap (λ x. key_cmp (get_or es k d).0 x) (keys_at es (k + 1) d) ∙ all k d below))
 

@@ -2,6 +2,7 @@
 use Rattle.std.proofs.Common.{◌≡◌, ℕ, Bool, true, false, cond, ◌&&◌, ◌||◌, List, Option, Some, None, refl, sym, ◌∙◌, ap}
 use Rattle.std.specs.Prelude.{bytes_eq, ◌↔◌}
 use Rattle.std.proofs.lemmas.Bool.{false_from_ne_true, both_ways}
+use Rattle.std.proofs.Math.Bool.{and-true, and-false, or-false}
 use Rattle.std.specs.BTreeMap.{is_at}
 use Rattle.timestamps.specs.Bytes.{key_cmp}
 use Rattle.spans.specs.Serial.{Map, put}
@@ -34,18 +35,6 @@ put_at m n k o changed x = changed x ∙ ap (λ b. cond b o (m x)) (at_bytes k x
 at_key : (m : Map) (k x : List ℕ) (o : Option (List ℕ)) → m k ≡ o → bytes_eq k x ≡ true → m x ≡ o
 at_key m k x o e here = ap m (sym (same_key k x here)) ∙ e
 
-and_true : (b : Bool) → (b && true) ≡ b
-and_true true = refl
-and_true false = refl
-
-and_false : (b : Bool) → (b && false) ≡ false
-and_false true = refl
-and_false false = refl
-
-or_false : (b : Bool) → (b || false) ≡ b
-or_false true = refl
-or_false false = refl
-
 less_same : (b : Bool) → cond b false b ≡ false
 less_same true = refl
 less_same false = refl
@@ -55,22 +44,22 @@ tied_new m n l g k a tied none is more x v = more x v ∙ by_test (bytes_eq k x)
     (λ here.
     let before : l x v ≡ false = tied x v ∙ ap (λ o. has_value o v) (at_key m k x None none here) in
     let after : n x ≡ Some a = is x ∙ rw here refl in
-    rw (here, before, after, and_true (bytes_eq a v)) (or_false (bytes_eq a v)))
+    rw (here, before, after, and-true (bytes_eq a v)) (or-false (bytes_eq a v)))
     (λ there.
     let after : n x ≡ m x = is x ∙ rw there refl in
-    rw (there, after, and_false (bytes_eq a v)) (tied x v))
+    rw (there, after, and-false (bytes_eq a v)) (tied x v))
 
 pub tied_other : (m n : Map) (l f g : Lists) (k a b : List ℕ) → AreTied m l → m k ≡ Some b → bytes_eq b a ≡ false → IsPut m n k (Some a) → IsMore l f k a → IsLess f g k b → AreTied n g
 tied_other m n l f g k a b tied some apart is more less x v = less x v ∙ ap (cond (bytes_eq b v && bytes_eq k x) false) (more x v) ∙ by_test (bytes_eq k x)
     (λ here.
     let before : l x v ≡ bytes_eq b v = tied x v ∙ ap (λ o. has_value o v) (at_key m k x (Some b) some here) in
     let after : n x ≡ Some a = is x ∙ rw here refl in
-    rw (here, before, after, and_true (bytes_eq b v), and_true (bytes_eq a v)) (by_test (bytes_eq b v)
+    rw (here, before, after, and-true (bytes_eq b v), and-true (bytes_eq a v)) (by_test (bytes_eq b v)
     (λ old. rw old (sym (false_from_ne_true (bytes_eq a v) (λ new. both_ways (bytes_eq b a) apart (ap (bytes_eq b) (same_key a v new ∙ sym (same_key b v old)) ∙ key_itself b)))))
-    (λ other. rw other (or_false (bytes_eq a v)))))
+    (λ other. rw other (or-false (bytes_eq a v)))))
     (λ there.
     let after : n x ≡ m x = is x ∙ rw there refl in
-    rw (there, after, and_false (bytes_eq b v), and_false (bytes_eq a v)) (tied x v))
+    rw (there, after, and-false (bytes_eq b v), and-false (bytes_eq a v)) (tied x v))
 
 -- what was listed is taken out again
 pub tied_back : (m : Map) (l f g : Lists) (k a : List ℕ) → AreTied m l → m k ≡ None → IsMore l f k a → IsLess f g k a → AreTied m g
@@ -78,18 +67,18 @@ tied_back m l f g k a tied none more less x v = less x v ∙ ap (cond (bytes_eq 
     (λ here.
     let before : m x ≡ None = at_key m k x None none here in
     let unlisted : l x v ≡ false = tied x v ∙ ap (λ o. has_value o v) before in
-    rw (here, before, unlisted, and_true (bytes_eq a v), or_false (bytes_eq a v)) (less_same (bytes_eq a v)))
-    (λ there. rw (there, and_false (bytes_eq a v)) (tied x v))
+    rw (here, before, unlisted, and-true (bytes_eq a v), or-false (bytes_eq a v)) (less_same (bytes_eq a v)))
+    (λ there. rw (there, and-false (bytes_eq a v)) (tied x v))
 
 pub tied_less : (m n : Map) (l g : Lists) (k b : List ℕ) → AreTied m l → m k ≡ Some b → IsPut m n k None → IsLess l g k b → AreTied n g
 tied_less m n l g k b tied some is less x v = less x v ∙ by_test (bytes_eq k x)
     (λ here.
     let before : l x v ≡ bytes_eq b v = tied x v ∙ ap (λ o. has_value o v) (at_key m k x (Some b) some here) in
     let after : n x ≡ None = is x ∙ rw here refl in
-    rw (here, before, after, and_true (bytes_eq b v)) (less_same (bytes_eq b v)))
+    rw (here, before, after, and-true (bytes_eq b v)) (less_same (bytes_eq b v)))
     (λ there.
     let after : n x ≡ m x = is x ∙ rw there refl in
-    rw (there, after, and_false (bytes_eq b v)) (tied x v))
+    rw (there, after, and-false (bytes_eq b v)) (tied x v))
 
 -- the value that a key has is put there again
 pub put_same : (m : Map) (k a b : List ℕ) → m k ≡ Some b → bytes_eq b a ≡ true → IsPut m m k (Some a)

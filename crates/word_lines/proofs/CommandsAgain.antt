@@ -2,7 +2,7 @@
 use Rattle.std.proofs.Common.{◌≡◌, ℕ, ◌^◌, ◌<◌, ◌≤◌, false, List, [], ◌∷◌, ◌++◌, length, Option, Some, None, Ok, refl, sym, ap, ◌∙◌, arith}
 use Rattle.std.specs.Prelude.{codes, decimal, bytes_eq, nat_lt}
 use Rattle.std.specs.List.{AllByRecursion}
-use Rattle.std.proofs.lemmas.Bool.{lt-ltb, le-ltb, le-leb, eq-eqb}
+use Rattle.std.proofs.lemmas.Bool.{lt-ltb, le-ltb, le-leb, eq-eqb, false_from_ne_true}
 use Rattle.std.proofs.lemmas.List.{append-nil}
 use Rattle.std.proofs.lemmas.List.Splits.{join_with_byte-slice_split}
 use Rattle.std.proofs.lemmas.Slice.Eq.{bytes_eq-Decides}
@@ -21,7 +21,7 @@ use Rattle.json_lines.specs.Messages.{IsKey}
 use Rattle.word_lines.specs.Limits.{IsNumber, IsValue, IsBound, IsSpan, IsCommand}
 use Rattle.word_lines.specs.Reading.{◌>>=◌, number_at, session_at, bytes_at, key_at, value_at, bound_at, span_at, number_and_key_at, number_and_span_at, opening_at, opening_every_at, row_at, arguments_at, command_of, command_at}
 use Rattle.word_lines.proofs.NumberWords.{number_only}
-use Rattle.word_lines.proofs.SpelledWords.{some_of, some_is, not_true, spelled_only}
+use Rattle.word_lines.proofs.SpelledWords.{some_of, some_is, spelled_only}
 use Rattle.word_lines.proofs.Joining.{some_words}
 use Rattle.word_lines.proofs.ReadCommands.{command_words_found}
 use Rattle.word_lines.proofs.JoinedParts.{IsWord, text_again, words_again}
@@ -56,7 +56,7 @@ module _ (format : Format) where
 no_dash : (bound : List ℕ) → 1 ≤ length bound → AreBytes bound → bytes_eq (spelling bound) (codes "-") ≡ false
 unfolding bytes_of
 no_dash bound some fits =
-    not_true _ (λ t. let none : some_of bound ≡ some_of [] = sym (spelled_only bound fits) ∙ ap bytes_of ((bytes_eq-Decides (spelling bound) (codes "-")).0 t) in
+    false_from_ne_true _ (λ t. let none : some_of bound ≡ some_of [] = sym (spelled_only bound fits) ∙ ap bytes_of ((bytes_eq-Decides (spelling bound) (codes "-")).0 t) in
     absurd (omega (arith, ap length (some_is bound [] none))))
 
 module _ (format : Format) where

@@ -2,7 +2,7 @@
 use Rattle.std.proofs.Common.{◌≡◌, ℕ, ◌+◌, ◌-◌, ◌<◌, Bool, true, false, cond, List, [], ◌∷◌, ◌++◌, length, get_or, take, Option, Some, Result, Ok, Err, refl, sym, ap, subst, ◌∙◌, inl, inr, arith}
 use Rattle.std.specs.Prelude.{codes, decimal, bytes_eq, ok_or, not, ◌==◌, nat_lt}
 use Rattle.std.specs.List.{AllByRecursion, list_all, list_any}
-use Rattle.std.proofs.lemmas.Bool.{eqb-true, cases_lt}
+use Rattle.std.proofs.lemmas.Bool.{eqb-true, cases_lt, not-false}
 use Rattle.std.proofs.lemmas.List.{take_more, take_all, append-nil, nil_from_length, length-append, get_or_past}
 use Rattle.std.proofs.lemmas.List.Splits.{join_with_byte-slice_split}
 use Rattle.std.proofs.lemmas.Slice.Eq.{bytes_eq-Decides}
@@ -190,17 +190,13 @@ with_newline line e =
       | inr none ↦ absurd (omega (arith, sym last ∙ get_or_past line (length line - 1) 0 (omega arith)))
     ]
 
-not_false : (b : Bool) → not b ≡ false → b ≡ true
-not_false true e = refl
-not_false false e = absurd cc
-
 module _ (format : Format) where
   pub text_found : (line text : List ℕ) → text_at format line ≡ Ok text → line ≡ text ++ 10 ∷ []
   unfolding text_at
   text_found line text e =
       let long = refused (nat_lt (line_limit format) (length (without_newline line))) LineTooLong (cond (not (has_newline line)) (Err NoNewline) (Ok (without_newline line))) text e in
       let ends = refused (not (has_newline line)) NoNewline (pure (without_newline line)) text long.1 in
-      let newline : has_newline line ≡ true = not_false (has_newline line) ends.0 in
+      let newline : has_newline line ≡ true = not-false (has_newline line) ends.0 in
       let is : without_newline line ≡ take (length line - 1) line = ap (λ (b : Bool). cond b (take (length line - 1) line) line) newline in
       with_newline line newline ∙ ap (λ (x : List ℕ). x ++ 10 ∷ []) (sym is ∙ ok_is (without_newline line) text ends.1)
 

@@ -2,7 +2,7 @@
 use Rattle.std.proofs.Common.{◌≡◌, ℕ, ◌+◌, ◌*◌, ◌-◌, ◌/◌, ◌%◌, ◌<◌, ◌≤◌, Bool, true, false, cond, List, [], ◌∷◌, ◌++◌, length, Option, Some, None, refl, sym, ap, subst, ◌∙◌, ◌⊎◌, inl, inr, arith}
 use Rattle.std.specs.Prelude.{codes, bytes_eq, ◌&&◌, ◌==◌, nat_le, not, option_and_then}
 use Rattle.std.specs.List.{flat_map}
-use Rattle.std.proofs.lemmas.Bool.{leb-true, lt-ltb, le-ltb, le-leb, eqb-true, eqb-false, cases_Bool, cases_lt}
+use Rattle.std.proofs.lemmas.Bool.{leb-true, lt-ltb, le-ltb, le-leb, eqb-true, eqb-false, cases_Bool, cases_lt, false_from_ne_true}
 use Rattle.std.proofs.lemmas.List.{append-nil, nil_from_length}
 use Rattle.std.proofs.lemmas.Slice.Eq.{bytes_eq-Decides}
 use Rattle.word_lines.specs.Spelling.{is_plain, hex_digit, hex_value, escape, escaped, spelled, spelling, with_front, first_at, unspelled, bytes_of, AreBytes}
@@ -185,20 +185,15 @@ pub spelled_found : (word bytes : List ℕ) → bytes_of word ≡ Some bytes →
 unfolding bytes_of
 spelled_found word bytes e = found_by (length word == 0) (bytes_eq word (codes "-")) (bytes_eq word (codes "%2D")) word bytes refl refl refl e
 
--- what isn't true is false
-pub not_true : (b : Bool) → (b ≡ true → ⊥) → b ≡ false
-not_true true never = absurd (never refl)
-not_true false never = refl
-
 no_escape : (bytes : List ℕ) → some_of bytes ≡ None → ⊥
 no_escape bytes e = cc
 
 only_by : (word bytes : List ℕ) → unspelled word ≡ Some bytes → (bytes ≡ [] → ⊥) → (bytes ≡ 45 ∷ [] → ⊥) → bytes_of word ≡ Some bytes
 unfolding bytes_of unspelled
 only_by word bytes read some dash =
-    let z : (length word == 0) ≡ false = not_true _ (λ t. some (some_is bytes [] (sym read ∙ ap unspelled (nil_from_length word (eqb-true _ _ t))))) in
-    let d : bytes_eq word (codes "-") ≡ false = not_true _ (λ t. dash (some_is bytes (45 ∷ []) (sym read ∙ ap unspelled ((bytes_eq-Decides word (codes "-")).0 t)))) in
-    let p : bytes_eq word (codes "%2D") ≡ false = not_true _ (λ t. no_escape bytes (sym read ∙ ap unspelled ((bytes_eq-Decides word (codes "%2D")).0 t))) in
+    let z : (length word == 0) ≡ false = false_from_ne_true _ (λ t. some (some_is bytes [] (sym read ∙ ap unspelled (nil_from_length word (eqb-true _ _ t))))) in
+    let d : bytes_eq word (codes "-") ≡ false = false_from_ne_true _ (λ t. dash (some_is bytes (45 ∷ []) (sym read ∙ ap unspelled ((bytes_eq-Decides word (codes "-")).0 t)))) in
+    let p : bytes_eq word (codes "%2D") ≡ false = false_from_ne_true _ (λ t. no_escape bytes (sym read ∙ ap unspelled ((bytes_eq-Decides word (codes "%2D")).0 t))) in
     ap (λ (b : Bool). cond b None (cond (bytes_eq word (codes "-")) (some_of []) (cond (bytes_eq word (codes "%2D")) (some_of (codes "-")) (unspelled word)))) z
     ∙ ap (λ (b : Bool). cond b (some_of []) (cond (bytes_eq word (codes "%2D")) (some_of (codes "-")) (unspelled word))) d
     ∙ ap (λ (b : Bool). cond b (some_of (codes "-")) (unspelled word)) p

@@ -1,5 +1,5 @@
-use Rattle.std.proofs.Common.{◌≡◌, ◌∙◌, ◌+◌, ℕ, Option, take, drop, true, false, Result, Ok, Err, sym, subst, arith}
-use Rattle.std.specs.Result.{OnErr}
+use Rattle.std.proofs.Common.{◌≡◌, ◌∙◌, ◌+◌, ℕ, Option, take, drop, true, false, sym, subst, arith}
+use Rattle.spans.proofs.Results.{any_err}
 use Rattle.trace_check.specs.Checkers.{StandsFor}
 use Rattle.trace_check.specs.Traces.{IsFirstWrong, IsInPlace, MayLackIn}
 use Rattle.trace_check.proofs.TraceSteps.{next_is, parts_at, wrong_at, wrong_is_no_trace, few_before}
@@ -9,11 +9,6 @@ pub loop-event-preserved : goal.loop-event-preserved
 loop-event-preserved c =
     subst (StandsFor c.take.new.self) (sym (next_is c.args.events.now c.loop-event.event-index c.event-item.result c.loop-event-test.true c.event-item.is))
     (c.in_ok-take.ensures.taken c.if-not-branch.false (take c.loop-event.event-index c.args.events.now) c.loop-event.invariant (few_before c.args.events.now c.loop-event.event-index c.loop-event-test.true (omega arith)))
-
--- what holds does so at an error too
-at_any_error : {T E P : Type 0} (r : Result T E) → P → OnErr r P
-at_any_error (Ok x) p = tt
-at_any_error (Err e) p = p
 
 -- memory may be lacking at the event that found none
 pub returns-in_err-take-clause-memory : goal.returns-in_err-take-clause-memory
@@ -31,7 +26,7 @@ returns-in_err-take-clause-memory c =
       may = wants.0;
       accepted = wants.1 (few_before events c.loop-event.event-index c.loop-event-test.true (omega arith));
     } in
-    at_any_error c.from_residual.result at
+    any_err c.from_residual.result at
 
 pub returns-then-not-branch : goal.returns-then-not-branch
 returns-then-not-branch c =

@@ -1,10 +1,11 @@
 use Rattle.std.proofs.Common.{rules, ◌++◌, ◌∷◌, map, reverse, length, sym, ap, ◌∙◌, subst, arith}
 use Rattle.std.proofs.lemmas.Grind.{common_steps}
+use Rattle.std.proofs.lemmas.List.{length_push}
 use Rattle.spans.specs.Legal.{IsGapless}
 use Rattle.engine.specs.Runs.{call_of}
 use Rattle.engine.specs.Engine.{StandsFor}
 use Rattle.spans.proofs.Histories.{gapless_more, turned_more}
-use Rattle.engine.proofs.Runs.{counted_more, calls_more}
+use Rattle.engine.proofs.Runs.{calls_more}
 use Rattle.engine.proofs.Engine.run_in.Goals as goal
 
 pub event-event-requires : goal.event-event-requires
@@ -20,8 +21,8 @@ loop-seat-preserved c = let before = c.loop-seat.invariant in let grown = c.in-O
       ∙ ap (λ call. map call_of c.loop-seat.events.items ++ call ∷ c.next.new.self.rest.items) c.event-event.ensures.call
       ∙ ap (λ rest. map call_of c.loop-seat.events.items ++ rest) (sym c.in-Some.ensures.steps.0)
       ∙ before.calls;
-  steps = c.event-event.ensures.steps ∙ (omega (arith, before.steps, ap length grown, counted_more c.loop-seat.events.items c.event-event.result));
-  left = omega (arith, before.left, c.in-Some.ensures.steps.1, ap length grown, counted_more c.loop-seat.events.items c.event-event.result);
+  steps = c.event-event.ensures.steps ∙ (omega (arith, before.steps, ap length grown, length_push c.loop-seat.events.items c.event-event.result));
+  left = omega (arith, before.left, c.in-Some.ensures.steps.1, ap length grown, length_push c.loop-seat.events.items c.event-event.result);
   filled = omega (arith, before.filled, c.in-Some.ensures.steps.1, c.in-Ok.ensures.len);
   room = omega (arith, before.room, c.in-Ok.ensures.capacity);
 }

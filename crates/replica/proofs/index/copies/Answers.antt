@@ -1,6 +1,6 @@
 use Rattle.std.proofs.Common.{subst, sym, ap, ◌∙◌, ◌++◌}
 use Rattle.spans.proofs.Keyed.{RisingKeys}
-use Rattle.replica.proofs.Rising.{keys_rise}
+use Rattle.spans.proofs.Ascending.{rising_keys}
 use Rattle.replica.proofs.Keys.{copied_more, copied_all}
 use Rattle.replica.proofs.index.copies.Goals as goal
 
@@ -12,4 +12,4 @@ pub returns-clause-all : goal.returns-clause-all
 returns-clause-all c = copied_all c.loop-key.copies.items c.loop-key.key-iterator c.args.keys.now.keys c.loop-key.invariant c.in-None.ensures.steps.0
 
 pub returns-clause-rising : goal.returns-clause-rising
-returns-clause-rising c = subst RisingKeys (sym (copied_all c.loop-key.copies.items c.loop-key.key-iterator c.args.keys.now.keys c.loop-key.invariant c.in-None.ensures.steps.0)) (keys_rise c.args.keys.now.keys c.iter-ahead.ensures.ordered)
+returns-clause-rising c = subst RisingKeys (sym (copied_all c.loop-key.copies.items c.loop-key.key-iterator c.args.keys.now.keys c.loop-key.invariant c.in-None.ensures.steps.0)) (rising_keys c.args.keys.now.keys c.iter-ahead.ensures.ordered)

@@ -1,5 +1,6 @@
+use Rattle.spans.proofs.Results.{both_ok}
 use Rattle.mvto_rules.specs.Holding.{holding}
-use Rattle.mvto_rules.proofs.Noting.{both_ok, spot_read}
+use Rattle.mvto_rules.proofs.Noting.{spot_read}
 use Rattle.mvto_rules.proofs.rules.Rules.mark.Goals as goal
 
 pub returns-clause-ok : goal.returns-clause-ok

@@ -1,5 +1,5 @@
+use Rattle.spans.proofs.Results.{both_ok}
 use Rattle.mvto_rules.specs.Holding.{marked_of}
-use Rattle.mvto_rules.proofs.Noting.{both_ok}
 use Rattle.mvto_rules.proofs.Scanning.{are_apart, scanned}
 use Rattle.mvto_rules.proofs.rules.Rules.mark_all.Goals as goal
 

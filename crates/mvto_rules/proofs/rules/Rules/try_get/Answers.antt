@@ -2,12 +2,13 @@ use Rattle.std.proofs.Common.{ap, arith, refl, subst, sym, ◌<◌, ◌∙◌}
 use Rattle.std.specs.Option.{option_copied}
 use Rattle.spans.specs.Legal.{is_accepted}
 use Rattle.spans.specs.declared.calls.replies.Reply.TheVariants.{Found}
+use Rattle.spans.proofs.Results.{any_err}
 use Rattle.kept.specs.Changes.{IsReadBy}
 use Rattle.kept.specs.Finding.{seen}
 use Rattle.version_chain.specs.Stores.{is_committed_in, version_in}
 use Rattle.mvto_rules.specs.Holding.{holding}
 use Rattle.mvto_rules.specs.Sights.{sight_of}
-use Rattle.mvto_rules.proofs.Noting.{any_err, own_is_read}
+use Rattle.mvto_rules.proofs.Noting.{own_is_read}
 use Rattle.mvto_rules.proofs.Replies.{get_refused}
 use Rattle.mvto_rules.proofs.Seeing.{found_there, other_is, own_is, reply_is}
 use Rattle.mvto_rules.proofs.rules.Rules.try_get.Goals as goal

@@ -1,6 +1,6 @@
 use Rattle.std.proofs.Common.{ap, refl, sym, ◌∙◌}
+use Rattle.spans.proofs.Results.{any_err}
 use Rattle.mvto_rules.specs.Holding.{holding}
-use Rattle.mvto_rules.proofs.Noting.{any_err}
 use Rattle.mvto_rules.proofs.Seeing.{found_there}
 use Rattle.mvto_rules.proofs.AtClosed.{none_unless, read_done, read_refused, read_wanting}
 use Rattle.mvto_rules.proofs.rules.Rules.try_read_at.Goals as goal

@@ -1,10 +1,10 @@
 use Rattle.std.proofs.Common.{None, subst, sym, ◌≡◌, ◌∙◌}
+use Rattle.spans.proofs.Results.{any_err}
 use Rattle.kept.specs.Changes.{IsScannedBy}
 use Rattle.mvto_rules.specs.Holding.{holding, marked_of}
 use Rattle.mvto_rules.specs.Readings.{IsReading}
 use Rattle.mvto_rules.specs.Scans.{AreAllMade, first_blocker, keys_in}
 use Rattle.mvto_rules.specs.declared.reading.Reading.TheVariants.{Stopped, Through}
-use Rattle.mvto_rules.proofs.Noting.{any_err}
 use Rattle.mvto_rules.proofs.Scanning.{keys_are, refused_reply, scan_accepted, stopped_reply, through_reply}
 use Rattle.mvto_rules.proofs.rules.Rules.try_scan.Goals as goal
 

@@ -1,7 +1,7 @@
 use Rattle.std.proofs.Common.{sym, ◌∙◌}
+use Rattle.spans.proofs.Results.{any_err}
 use Rattle.mvto_rules.specs.Holding.{holding}
 use Rattle.mvto_rules.specs.Scans.{keys_in}
-use Rattle.mvto_rules.proofs.Noting.{any_err}
 use Rattle.mvto_rules.proofs.Scanning.{keys_are}
 use Rattle.mvto_rules.proofs.AtClosed.{none_unless, scan_done, scan_refused, scan_wanting}
 use Rattle.mvto_rules.proofs.rules.Rules.try_scan_at.Goals as goal

@@ -2,11 +2,11 @@ use Rattle.std.proofs.Common.{ap, false, subst, true}
 use Rattle.std.specs.Option.{option_copied}
 use Rattle.spans.specs.Legal.{is_accepted}
 use Rattle.spans.specs.declared.calls.replies.Reply.TheVariants.{Written}
+use Rattle.spans.proofs.Results.{any_err}
 use Rattle.kept.specs.Changes.{IsAbortedBy, IsWritten}
 use Rattle.kept.specs.Marks.{IsLate}
 use Rattle.kept.specs.Replies.{unless_refused}
 use Rattle.mvto_rules.specs.Holding.{holding}
-use Rattle.mvto_rules.proofs.Noting.{any_err}
 use Rattle.mvto_rules.proofs.Replies.{write_refused, write_tested}
 use Rattle.mvto_rules.proofs.rules.Rules.try_write.Goals as goal
 

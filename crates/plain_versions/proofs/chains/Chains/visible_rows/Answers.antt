@@ -1,15 +1,16 @@
 use Rattle.std.proofs.Common.{ap, sym, ◌∙◌, ◌++◌}
+use Rattle.std.proofs.lemmas.List.{append-nil}
 use Rattle.spans.specs.Newest.{newest}
 use Rattle.plain_versions.specs.Chains.{Stored}
 use Rattle.plain_versions.specs.Versions.{Chain, version_in}
-use Rattle.plain_versions.proofs.ByKey.{all_rows, none_more, rows_of}
+use Rattle.plain_versions.proofs.ByKey.{all_rows, rows_of}
 use Rattle.plain_versions.proofs.chains.Chains.visible_rows.Goals as goal
 
 pub returns : goal.returns
 returns c =
     let value = λ (vs : Chain). (newest (version_in vs) c.args.ts).after in
     c.from_vec.ensures
-    ∙ sym (none_more c.loop-key.rows.items)
+    ∙ sym (append-nil c.loop-key.rows.items)
     ∙ ap (λ (es : Stored). c.loop-key.rows.items ++ rows_of value es) (sym c.in-None.ensures.steps.0)
     ∙ c.loop-key.invariant
     ∙ all_rows value c.args.span.now c.args.self.now c.in_span-key-items.ensures.rising

@@ -1,11 +1,15 @@
 use Rattle.std.proofs.Common.{rules, ap, sym, ◌≡◌, ◌∙◌, ◌||◌, Some, None}
+use Rattle.std.proofs.lemmas.List.{nil_from_length}
 use Rattle.std.specs.Prelude.{bytes_eq}
 use Rattle.std.specs.Map.{lookup}
 use Rattle.std.specs.BTreeMap.{is_at}
 use Rattle.std.specs.BTreeMap.Entry.{entry_value, map_with_value}
 use Rattle.std.specs.Ordering.{nat_cmp}
+use Rattle.std.specs.List.{list_any}
+use Rattle.timestamps.specs.Bytes.{key_cmp}
+use Rattle.spans.proofs.Sets.{one_more}
 use Rattle.plain_versions.specs.Written.{is_among}
-use Rattle.plain_versions.proofs.Listing.{listed_put, one_more, none_in}
+use Rattle.plain_versions.proofs.Listing.{listed_put}
 use Rattle.plain_versions.proofs.written.Written.add.Goals as goal
 
 pub returns-in_ok-insert-in-Occupied-clause-ok : goal.returns-in_ok-insert-in-Occupied-clause-ok
@@ -19,4 +23,4 @@ returns-in_ok-insert-in-Vacant-clause-ok c =
     let none : lookup (is_at (nat_cmp c.args.ts)) c.args.self.now.keys.entries ≡ None = search rules in
     listed_put c.args.self.now.keys c.self-in-Vacant-2-1.given.0 (map_with_value c.in_ok-entry.field-0 c.insert-in-Vacant.new.self) c.args.key.now c.in_ok-key.key c.args.ts (Some c.insert-in-Vacant.new.self) (search rules) c.in_ok-key.ensures.bytes (c.in_ok-entry.ensures.update.0 c.insert-in-Vacant.new.self).0
     (λ y. one_more c.in_ok-key.key y _ _ (c.in_ok-insert-in-Vacant.ensures.updates.0 y)
-    ∙ ap (λ b. bytes_eq c.in_ok-key.key y || b) (none_in c.new-keys.result.keys y c.new-keys.ensures.len ∙ sym (ap (λ o. is_among o y) none)))
+    ∙ ap (λ b. bytes_eq c.in_ok-key.key y || b) (ap (list_any (is_at (key_cmp y))) (nil_from_length c.new-keys.result.keys c.new-keys.ensures.len) ∙ sym (ap (λ o. is_among o y) none)))

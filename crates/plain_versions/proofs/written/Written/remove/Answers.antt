@@ -3,8 +3,9 @@ use Rattle.std.specs.Prelude.{is_some, bytes_eq}
 use Rattle.std.specs.Map.{lookup}
 use Rattle.std.specs.BTreeMap.{is_at}
 use Rattle.std.specs.Ordering.{nat_cmp}
+use Rattle.spans.proofs.Sets.{one_less}
 use Rattle.plain_versions.specs.Written.{is_among}
-use Rattle.plain_versions.proofs.Listing.{IsPutAt, unlisted, one_less}
+use Rattle.plain_versions.proofs.Listing.{IsPutAt, unlisted}
 use Rattle.plain_versions.proofs.written.Written.remove.Goals as goal
 
 pub returns-in-Some : goal.returns-in-Some

@@ -1,19 +1,21 @@
 use Rattle.std.proofs.Common.{ap, sym, ◌≡◌, ◌∙◌, ◌||◌, Some, None, refl, rules, subst}
+use Rattle.std.proofs.lemmas.List.{nil_from_length}
 use Rattle.std.specs.Prelude.{bytes_eq, is_some}
 use Rattle.std.specs.List.{list_any}
 use Rattle.std.specs.Map.{lookup}
 use Rattle.std.specs.BTreeMap.{is_at}
 use Rattle.timestamps.specs.Bytes.{key_cmp}
+use Rattle.spans.proofs.Sets.{one_more}
+use Rattle.spans.proofs.Results.{any_err}
 use Rattle.replica.specs.Indexes.{is_among}
-use Rattle.replica.proofs.Rests.{on_err}
-use Rattle.replica.proofs.Listed.{ArePutAt, listed_put, listed_same, one_more, none_in}
+use Rattle.replica.proofs.Listed.{ArePutAt, listed_put, listed_same}
 use Rattle.replica.proofs.index.Index.add.Goals as goal
 
 pub returns-in_err-insert-in-Some-clause-err : goal.returns-in_err-insert-in-Some-clause-err
 returns-in_err-insert-in-Some-clause-err c =
     let found : lookup (is_at (key_cmp c.in_ok-copy.field-0)) c.args.self.now.keys.entries ≡ Some c.in-Some.keys.now = sym c.in-Some.ensures.value in
     let put : ArePutAt c.args.self.now.keys.entries (c.get_mut.follows.lender c.insert.new.self).entries c.in_ok-copy.field-0 (Some c.insert.new.self) = ((c.get_mut.follows.holds c.insert.new.self).3 (ap is_some found)).0 in
-    on_err c.from_residual-in_err-insert-in-Some.result (listed_same c.args.self.now.keys (c.get_mut.follows.lender c.insert.new.self) (c.get_mut.follows.lender c.insert.new.self) c.in_ok-copy.field-0 (Some c.insert.new.self) refl put
+    any_err c.from_residual-in_err-insert-in-Some.result (listed_same c.args.self.now.keys (c.get_mut.follows.lender c.insert.new.self) (c.get_mut.follows.lender c.insert.new.self) c.in_ok-copy.field-0 (Some c.insert.new.self) refl put
     (λ y. ap (list_any (is_at (key_cmp y))) c.in_err-insert-in-Some.ensures.err ∙ ap (λ o. is_among o y) (sym found)))
 
 pub returns-in_ok-insert-in-Some-clause-ok : goal.returns-in_ok-insert-in-Some-clause-ok
@@ -31,4 +33,4 @@ returns-in_ok-insert-in-None-2-clause-ok c =
     subst (λ es. ArePutAt es c.insert-in-None-2.new.self.entries c.in_ok-copy.field-0 (Some c.insert-in-None.new.self)) same c.in_ok-insert-in-None-2.ensures.updates.0 in
     listed_put c.args.self.now.keys c.insert-in-None-2.new.self c.insert-in-None-2.new.self c.args.key.now c.in_ok-key.key c.args.value.now c.in_ok-copy.field-0 (Some c.insert-in-None.new.self) refl c.in_ok-key.ensures.bytes c.in_ok-copy.ensures.bytes put
     (λ y. one_more c.in_ok-key.key y _ _ (c.in_ok-insert-in-None.ensures.updates.0 y)
-    ∙ ap (λ b. bytes_eq c.in_ok-key.key y || b) (none_in c.new-keys.result.keys y c.new-keys.ensures.len ∙ sym (ap (λ o. is_among o y) none)))
+    ∙ ap (λ b. bytes_eq c.in_ok-key.key y || b) (ap (list_any (is_at (key_cmp y))) (nil_from_length c.new-keys.result.keys c.new-keys.ensures.len) ∙ sym (ap (λ o. is_among o y) none)))

@@ -1,10 +1,13 @@
 use Rattle.std.proofs.Common.{ap, sym, ◌∙◌, Some, None, cond, false, rules, ◌≡◌}
+use Rattle.std.proofs.lemmas.List.{nil_from_length}
 use Rattle.std.specs.Prelude.{is_some, bytes_eq}
 use Rattle.std.specs.Map.{lookup}
 use Rattle.std.specs.BTreeMap.{is_at}
+use Rattle.std.specs.List.{list_any}
 use Rattle.timestamps.specs.Bytes.{key_cmp}
+use Rattle.spans.proofs.Sets.{one_less}
 use Rattle.replica.specs.Indexes.{is_among}
-use Rattle.replica.proofs.Listed.{ArePutAt, listed_less, put_at_twice, one_less, none_in}
+use Rattle.replica.proofs.Listed.{ArePutAt, listed_less, put_at_twice}
 use Rattle.replica.proofs.index.Index.remove.Goals as goal
 
 pub returns-then-is_empty : goal.returns-then-is_empty
@@ -13,7 +16,7 @@ returns-then-is_empty c =
     let put : ArePutAt c.args.self.now.keys.entries (c.get_mut.follows.lender c.remove.new.self).entries c.args.value (Some c.remove.new.self) = ((c.get_mut.follows.holds c.remove.new.self).3 (ap is_some found)).0 in
     let out : ArePutAt c.args.self.now.keys.entries c.remove-then-is_empty.new.self.entries c.args.value None = put_at_twice c.args.self.now.keys.entries _ c.remove-then-is_empty.new.self.entries c.args.value _ None put c.remove-then-is_empty.ensures.updates.0 in
     listed_less c.args.self.now.keys.entries _ c.args.key.now c.args.value None out
-    (λ y. sym (none_in c.remove.new.self.keys y (c.is_empty.ensures.0 (search rules))) ∙ one_less c.args.key.now y _ _ (c.remove.ensures.updates.0 y) ∙ ap (λ o. cond (bytes_eq c.args.key.now y) false (is_among o y)) (sym found))
+    (λ y. sym (ap (list_any (is_at (key_cmp y))) (nil_from_length c.remove.new.self.keys (c.is_empty.ensures.0 (search rules)))) ∙ one_less c.args.key.now y _ _ (c.remove.ensures.updates.0 y) ∙ ap (λ o. cond (bytes_eq c.args.key.now y) false (is_among o y)) (sym found))
 
 pub returns : goal.returns
 returns c =
