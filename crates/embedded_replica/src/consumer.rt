@@ -9,6 +9,7 @@ use json_lines::buffer::copy_front;
 use json_lines::{MessageFault, read_message};
 use replica::{Fault, Replica};
 use spans::calls::{Cmd, Message};
+use spans::limits::MAX_SEATS;
 use spans::span::Span;
 use std::alloc::{AllocError, Global};
 use text_format::Format;
@@ -53,7 +54,7 @@ impl Consumer {
         ensures ok { IfOk result (λ c. Begins line.now (replica_of c)) }
         ensures err { IfErr result (IsUnopened line.now) }
     {
-        let cmd = match read_command(alloc, line, 64, Format::Two) {
+        let cmd = match read_command(alloc, line, MAX_SEATS, Format::Two) {
             Ok((_, cmd)) => cmd,
             Err(ReadError::Fault(fault)) => return Err(BeginError::Fault(fault)),
             Err(ReadError::NoMemory) => return Err(BeginError::NoMemory),
