@@ -1,17 +1,17 @@
 //! A list of bytes that only proofs read: nothing of it is there at run time.
 //!
 //! A contract that speaks of all bytes that a reader gave, or a writer took, needs those bytes by name, and nothing at
-//! run time keeps them. A [`ByteLog`] is such a list: it grows by a piece. The adapters of `sessions` over any reader
-//! and writer are its callers.
+//! run time keeps them. A [`ByteLog`] is such a list, and a [`Growth`] makes it longer. The adapters of `sessions` over
+//! any reader and writer are its callers.
 //!
-//! 1. The log of `new` is empty. `and` gives a log that is longer by exactly the bytes of the piece.
+//! 1. The log of `new` is empty. `and` gives a log that is longer by exactly the bytes of the growth.
 //! 2. A log by itself says nothing of a device. The function that grows the log ties it to the device: its contract
-//!    says that the piece is the bytes of that read or write.
+//!    says that the growth is the bytes of that read or write.
 //!
 //! ```text
-//! let log = ByteLog::new();                          bytes: []
-//! let log = log.and(&Piece { bytes: b"ab" });        bytes: [97, 98]
-//! let log = log.and(&Piece { bytes: b"c" });         bytes: [97, 98, 99]
+//! let log = ByteLog::new();                           bytes: []
+//! let log = log.and(&Growth { bytes: b"ab" });        bytes: [97, 98]
+//! let log = log.and(&Growth { bytes: b"c" });         bytes: [97, 98, 99]
 //! ```
 //!
 //! Costs, at run time:
@@ -42,7 +42,7 @@ impl Model for ByteLog {
 
 /// Bytes by which a log grows.
 #[derive(Clone, Copy)]
-pub struct Piece<'a> {
+pub struct Growth<'a> {
     pub bytes: &'a [u8],
 }
 
@@ -54,10 +54,10 @@ impl ByteLog {
         ByteLog {}
     }
 
-    /// These bytes, and behind them those of the piece.
+    /// These bytes, and behind them those of the growth.
     #[inline(always)]
-    pub fn and(&self, _piece: &Piece<'_>) -> ByteLog
-        ensures { result.bytes ≡ self.now.bytes ++ _piece.now.bytes.now }
+    pub fn and(&self, _growth: &Growth<'_>) -> ByteLog
+        ensures { result.bytes ≡ self.now.bytes ++ _growth.now.bytes.now }
     {
         ByteLog {}
     }

@@ -13,6 +13,7 @@ use crate::typed::NoPosition;
 use engine::Engine;
 use json_lines::buffer::copy_front;
 use spans::calls::Event;
+use spans::limits::MAX_SEATS;
 use std::alloc::{AllocError, Global};
 use text_format::Format;
 use word_lines::commands::read_command;
@@ -64,7 +65,7 @@ impl Database {
         // Memory is wanted only for the name of a command with a key, a value or a span.
         ensures memory { IfErr result (λ e. e ≡ NoMemory → WantsMemory (verb_at Two table 64 line.now)) }
     {
-        let (seat, cmd) = match read_command(self.alloc, line, 64, Format::Two) {
+        let (seat, cmd) = match read_command(self.alloc, line, MAX_SEATS, Format::Two) {
             Ok(read) => read,
             Err(ReadError::Fault(fault)) => return Err(CallError::Fault(fault)),
             Err(ReadError::NoMemory) => return Err(CallError::NoMemory),

@@ -29,8 +29,8 @@ use Rattle.replica.specs.Tests.{ready_in}
 use Rattle.replica.specs.Starts.{Start, seeded_start, initial_start}
 use Rattle.embedded_replica.specs.declared.consumer.Consumer.{Consumer}
 use Rattle.embedded_replica.specs.declared.consumer.Opening.{Opening}
-use Rattle.embedded_replica.specs.declared.consumer.OpenError.{OpenError}
-use Rattle.embedded_replica.specs.declared.consumer.OpenError.TheVariants as errors
+use Rattle.embedded_replica.specs.declared.consumer.BeginError.{BeginError}
+use Rattle.embedded_replica.specs.declared.consumer.BeginError.TheVariants as errors
 use Rattle.embedded_replica.specs.declared.consumer.TakeError.{TakeError}
 use Rattle.embedded_replica.specs.declared.consumer.TakeError.TheVariants as takes
 
@@ -73,7 +73,7 @@ pub record Begins (line : List ℕ) (new : Replica) : Type 0 where
   pub begins : BeginsBy command (Some new)
 
 -- why none begins; only the line of a command with a key, a value or a span may want memory
-abbrev pub IsUnopened : List ℕ → OpenError → Type 0
+abbrev pub IsUnopened : List ℕ → BeginError → Type 0
 IsUnopened line (errors.Fault f) = command_at Two table 64 line ≡ Err f
 IsUnopened line errors.NoFeed = (seat : ℕ) × (command : Cmd) × (command_at Two table 64 line ≡ Ok (seat, command)) × BeginsBy command None
 IsUnopened line errors.NoMemory = WantsMemory (verb_at Two table 64 line)

@@ -9,6 +9,7 @@ use json_lines::buffer::copy_front;
 use json_lines::{MessageFault, read_message};
 use replica::{Fault, Replica};
 use spans::calls::{Cmd, Message};
+use spans::limits::MAX_SEATS;
 use spans::span::Span;
 use std::alloc::{AllocError, Global};
 use text_format::Format;
@@ -26,7 +27,7 @@ pub struct Consumer {
 
 /// Why no consumer begins by a line.
 #[derive(Clone, Copy, Debug)]
-pub enum OpenError {
+pub enum BeginError {
     /// The line is faulty.
     Fault(LineFault),
     /// The line's command opens no feed, or opens it above the greatest timestamp.
@@ -49,19 +50,19 @@ impl Consumer {
     ///
     /// It begins empty. One of an initial feed is told what the span held at the cursor; any other is to be told only
     /// of a feed whose span held nothing there.
-    pub fn open(alloc: Global, line: &[u8]) -> Result<Consumer, OpenError>
+    pub fn open(alloc: Global, line: &[u8]) -> Result<Consumer, BeginError>
         ensures ok { IfOk result (λ c. Begins line.now (replica_of c)) }
         ensures err { IfErr result (IsUnopened line.now) }
     {
-        let cmd = match read_command(alloc, line, 64, Format::Two) {
+        let cmd = match read_command(alloc, line, MAX_SEATS, Format::Two) {
             Ok((_, cmd)) => cmd,
-            Err(ReadError::Fault(fault)) => return Err(OpenError::Fault(fault)),
-            Err(ReadError::NoMemory) => return Err(OpenError::NoMemory),
+            Err(ReadError::Fault(fault)) => return Err(BeginError::Fault(fault)),
+            Err(ReadError::NoMemory) => return Err(BeginError::NoMemory),
         };
         match begun(alloc, cmd) {
             Ok(Some(replica)) => Ok(Consumer { alloc, replica }),
-            Ok(None) => Err(OpenError::NoFeed),
-            Err(_) => Err(OpenError::NoMemory),
+            Ok(None) => Err(BeginError::NoFeed),
+            Err(_) => Err(BeginError::NoMemory),
         }
     }
 

@@ -35,4 +35,4 @@
 mod consumer;
 mod showing;
 
-pub use consumer::{Consumer, OpenError, TakeError};
+pub use consumer::{BeginError, Consumer, TakeError};

@@ -2,14 +2,14 @@
 ghost use Rattle.std.specs.Prelude.{◌≡◌, ◌++◌, OnOk, flat_map, IfOk};
 ghost use Rattle.word_lines.specs.Replies.{row_line};
 
-use replica::Rows;
+use replica::KeysAndValues;
 use std::alloc::{AllocError, Global};
 use timestamps::key::Key;
 use timestamps::value::Value;
 use word_lines::spelling::put_spelling;
 
 /// The lines of rows.
-pub(crate) fn text_of(alloc: Global, rows: Rows<'_>) -> Result<Vec<u8>, AllocError>
+pub(crate) fn text_of(alloc: Global, rows: KeysAndValues<'_>) -> Result<Vec<u8>, AllocError>
     ensures { IfOk result (λ text. text.items ≡ flat_map row_line rows.entry) }
 {
     let mut text = Vec::new(alloc);

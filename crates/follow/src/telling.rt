@@ -25,7 +25,7 @@ use crate::ending::FollowEnd;
 use crate::fault::FollowFault;
 use crate::options::Shown;
 use crate::report::Report;
-use replica::{Replica, Rows};
+use replica::{KeysAndValues, Replica};
 use sessions::{Sink, WriteFailed};
 use spans::calls::Message;
 use std::alloc::{AllocError, Global};
@@ -183,7 +183,11 @@ fn full<K: Sink>(report: &mut Report, output: &mut K) -> Result<(), FollowEnd>
 }
 
 /// Tells the rows, and writes each block of them that is full.
-fn tell_rows<K: Sink>(report: &mut Report, rows: Rows<'_>, output: &mut K) -> Result<(), FollowEnd>
+fn tell_rows<K: Sink>(
+    report: &mut Report,
+    rows: KeysAndValues<'_>,
+    output: &mut K,
+) -> Result<(), FollowEnd>
     ensures ok { OnOk result (HasTold (K.writes output.old) (K.writes output.new) (pending_of report.old.kept) (pending_of report.new.kept) (flat_map row_line rows.entry)) }
     ensures err { IfErr result (λ end. IsCut end (K.writes output.old) (K.writes output.new) (pending_of report.old.kept) (pending_of report.new.kept) (flat_map row_line rows.entry)) }
 {

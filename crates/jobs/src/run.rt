@@ -3,13 +3,14 @@ ghost use Rattle.jobs.specs.Ends.{IsRun};
 
 use crate::ending::End;
 use sessions::{Config, Sink, Source, serve};
+use spans::limits::MAX_SEATS;
 use std::alloc::Global;
 use std::sync::Wait;
 use text_format::Format;
 
 /// What a database is opened with where the command line doesn't say.
 pub const DEFAULTS: Config = Config {
-    seats: 64,
+    seats: MAX_SEATS as u32,
     ring: 1024,
     first: 0,
 };

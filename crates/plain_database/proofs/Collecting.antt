@@ -21,7 +21,7 @@ use Rattle.plain_versions.specs.Chains.{version_at}
 use Rattle.plain_versions.specs.Dying.{IsDeathCount, is_between, is_delete_between, replaces_between}
 use Rattle.plain_feeds.proofs.FeedTies.{feeds_kept}
 use Rattle.plain_feeds.proofs.ProtectionTies.{protections_kept}
-use Rattle.plain_database.specs.declared.database.Database.{Database}
+use Rattle.plain_database.specs.declared.database.PlainDatabase.{PlainDatabase}
 use Rattle.plain_database.specs.Tied.{IsTied, StandsFor}
 use Rattle.plain_database.proofs.Dying.{died_count, dead_rises, dead_then_is}
 
@@ -34,17 +34,17 @@ reaches : (p : List Effect) → AllAllowed p → (to n : ℕ) → n ≡ collecti
 reaches p all to n is = record { rises = omega (arith, is); through = horizon_low (Collects n ∷ p) ((to, is), all) }
 
 -- deletes and replaced values are those of the history
-same_delete : (db : Database) (p : List Effect) → IsTied db p → (n : ℕ) (v : VersionName) → is_delete_between (version_at db.chains) db.horizon n v ≡ is_delete_between (version_of p) (horizon_of p) n v
+same_delete : (db : PlainDatabase) (p : List Effect) → IsTied db p → (n : ℕ) (v : VersionName) → is_delete_between (version_at db.chains) db.horizon n v ≡ is_delete_between (version_of p) (horizon_of p) n v
 same_delete db p tied n v = ap (λ o. is_between db.horizon n v.ts && is_delete o) (tied.versions v.key v.ts) ∙ ap (λ low. is_between low n v.ts && is_delete (version_of p v.key v.ts)) tied.horizon_at
 
-same_replaced : (db : Database) (p : List Effect) → IsTied db p → (n : ℕ) (v : VersionName) → replaces_between (version_at db.chains) db.horizon n v ≡ replaces_between (version_of p) (horizon_of p) n v
+same_replaced : (db : PlainDatabase) (p : List Effect) → IsTied db p → (n : ℕ) (v : VersionName) → replaces_between (version_at db.chains) db.horizon n v ≡ replaces_between (version_of p) (horizon_of p) n v
 same_replaced db p tied n v =
     ap (λ o. is_between db.horizon n v.ts && (is_some o && is_some (newest (version_at db.chains v.key) (v.ts - 1)).after)) (tied.versions v.key v.ts)
     ∙ ap (λ (m : Seen). is_between db.horizon n v.ts && (is_some (version_of p v.key v.ts) && is_some m.after)) (newest_same (version_at db.chains v.key) (version_of p v.key) (v.ts - 1) (λ i low. tied.versions v.key i))
     ∙ ap (λ low. is_between low n v.ts && (is_some (version_of p v.key v.ts) && is_some (newest (version_of p v.key) (v.ts - 1)).after)) tied.horizon_at
 
 -- so many die
-pub died_between : (db : Database) (p : List Effect) → AllAllowed p → IsTied db p → (to n removed : ℕ) → n ≡ collection_horizon p to → IsDeathCount (version_at db.chains) db.horizon n removed
+pub died_between : (db : PlainDatabase) (p : List Effect) → AllAllowed p → IsTied db p → (to n removed : ℕ) → n ≡ collection_horizon p to → IsDeathCount (version_at db.chains) db.horizon n removed
     → removed ≡ min (length (dead_of (Collects n ∷ p)) - length (dead_of p)) (2 ^ 64 - 1)
 died_between db p all tied to n removed is counted =
     let r = reaches p all to n is in
@@ -57,7 +57,7 @@ died_between db p all tied to n removed is counted =
     omega (arith, sum, counted.sum, counted.are_deletes.count, counted.are_replaced.count)
 
 -- the horizon moves
-tied_collects : (db : Database) (p : List Effect) (to n removed : ℕ) → AllAllowed p → IsTied db p → n ≡ collection_horizon p to → removed ≡ length (dead_of (Collects n ∷ p)) - length (dead_of p)
+tied_collects : (db : PlainDatabase) (p : List Effect) (to n removed : ℕ) → AllAllowed p → IsTied db p → n ≡ collection_horizon p to → removed ≡ length (dead_of (Collects n ∷ p)) - length (dead_of p)
     → IsTied (record db { horizon = n; dead = min (db.dead + removed) (2 ^ 64 - 1) }) (Collects n ∷ p)
 tied_collects db p to n removed all tied is died = record {
   closed_at = tied.closed_at;
@@ -91,7 +91,7 @@ collected p k seat to n removed right = elim right [
 ]
 
 -- a collection
-pub stands_collects : (db : Database) (h : List Event) (dead k seat to n removed : ℕ) → dead ≡ min (db.dead + removed) (2 ^ 64 - 1)
+pub stands_collects : (db : PlainDatabase) (h : List Event) (dead k seat to n removed : ℕ) → dead ≡ min (db.dead + removed) (2 ^ 64 - 1)
     → StandsFor db h → IsRightEvent (effects_of h) (event k seat (Collect to) (Collected n removed)) → StandsFor (record db { horizon = n; dead = dead }) (event k seat (Collect to) (Collected n removed) ∷ h)
 stands_collects db h dead k seat to n removed is stands right =
     let c = collected (effects_of h) k seat to n removed right in

@@ -22,12 +22,12 @@ use Rattle.kept.proofs.Counts.{write_set_length}
 use Rattle.plain_versions.specs.Chains.{version_at, wrote}
 use Rattle.plain_versions.specs.Counting.{IsCountOf}
 use Rattle.plain_versions.specs.Written.{is_version}
-use Rattle.plain_database.specs.declared.database.Database.{Database}
+use Rattle.plain_database.specs.declared.database.PlainDatabase.{PlainDatabase}
 use Rattle.plain_database.specs.Tied.{IsTied}
 
 -- ---- all versions
 
-pub all_versions : (db : Database) (p : List Effect) → AllAllowed p → IsTied db p → (n : ℕ) → IsCountOf (is_version db.chains) n → n ≡ length (versions_of p)
+pub all_versions : (db : PlainDatabase) (p : List Effect) → AllAllowed p → IsTied db p → (n : ℕ) → IsCountOf (is_version db.chains) n → n ≡ length (versions_of p)
 all_versions db p all tied n c =
     sym c.count ∙ same_length c.all (versions_of p) c.distinct (versions_distinct p all) (λ v. let here = c.each v in let there = has_versions p all v in (
       λ i. there.1 (sym (ap is_some (tied.versions v.key v.ts)) ∙ here.0 i),
@@ -36,7 +36,7 @@ all_versions db p all tied n c =
 
 -- ---- those of a transaction
 
-pub count_is : (db : Database) (p : List Effect) → IsTied db p → (t n : ℕ) → is_aborted p t ≡ false → IsCountOf (wrote db.chains t) n → n ≡ write_count p t
+pub count_is : (db : PlainDatabase) (p : List Effect) → IsTied db p → (t n : ℕ) → is_aborted p t ≡ false → IsCountOf (wrote db.chains t) n → n ≡ write_count p t
 count_is db p tied t n live c =
     sym c.count ∙ same_length c.all (write_set p t) c.distinct (rising_distinct (write_set p t) (write_set_rises p t)) (λ x. let here = c.each x in let there = has_in x (write_set p t) in (
       λ i. in_has x (write_set p t) (there.1 (sym (same x) ∙ here.0 i)),
@@ -54,7 +54,7 @@ none_holds (first ∷ tests) test none i = by_test first.0
     (λ isnt. elim i [ inl here ↦ sym (ap (λ (one : Bool × Refusal). one.0) here) ∙ isnt | inr there ↦ none_holds tests test (rw isnt at none) there ])
 
 -- what a commit is answered that no test refuses
-pub commit_answers : (db : Database) (p : List Effect) (seat t n : ℕ) → IsTied db p → None ≡ first_refusal (transaction_tests p seat t) → IsCountOf (wrote db.chains t) n → Committed n ≡ answer_of p seat (Commit t)
+pub commit_answers : (db : PlainDatabase) (p : List Effect) (seat t n : ℕ) → IsTied db p → None ≡ first_refusal (transaction_tests p seat t) → IsCountOf (wrote db.chains t) n → Committed n ≡ answer_of p seat (Commit t)
 commit_answers db p seat t n tied here c =
     let open' : (is_committed p t || is_aborted p t) ≡ false = none_holds (transaction_tests p seat t) (is_committed p t || is_aborted p t, Ended) here (inr (inr (inr (inl refl)))) in
     ap Committed (count_is db p tied t n (or_parts _ _ open').1 c) ∙ sym (tests_past (transaction_tests p seat t) [] (Committed (write_count p t)) (sym here))

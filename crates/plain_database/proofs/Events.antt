@@ -15,9 +15,9 @@ use Rattle.spans.specs.Versions.{visible}
 use Rattle.spans.specs.Legal.{IsRightEvent}
 use Rattle.spans.proofs.Copies.{IsActive}
 use Rattle.spans.proofs.Legal.{right_allowed, legal_allowed}
-use Rattle.plain_versions.specs.declared.transactions.Outcome.TheVariants as outcomes
+use Rattle.plain_versions.specs.declared.transactions.Decision.TheVariants as decisions
 use Rattle.plain_database.specs.declared.span_reads.Scan.{Scan as SpanRead}
-use Rattle.plain_database.specs.declared.database.Database.{Database}
+use Rattle.plain_database.specs.declared.database.PlainDatabase.{PlainDatabase}
 use Rattle.plain_versions.specs.Transactions.{Table, transaction_at, begun, decided, hard_closed, IsSetAt}
 use Rattle.plain_versions.specs.Chains.{Stored, IsWritten, IsCleared}
 use Rattle.plain_database.specs.Reads.{KeyReads, HasReadToo}
@@ -29,21 +29,21 @@ use Rattle.plain_database.specs.Tied.{IsTied, StandsFor}
 use Rattle.plain_database.proofs.Ties.{tied_still, tied_begins, tied_reads, tied_scans, tied_writes, tied_commits, tied_aborts, tied_snapshot, tied_snapshot_scan, tied_hard_closes, goes}
 
 -- an event that did nothing
-pub stands_still : (db : Database) (h : List Event) (n seat : ℕ) (cmd : Cmd) (reply : Reply) → effect seat cmd reply ≡ NoEffect → StandsFor db h → IsRightEvent (effects_of h) (event n seat cmd reply)
+pub stands_still : (db : PlainDatabase) (h : List Event) (n seat : ℕ) (cmd : Cmd) (reply : Reply) → effect seat cmd reply ≡ NoEffect → StandsFor db h → IsRightEvent (effects_of h) (event n seat cmd reply)
     → StandsFor db (event n seat cmd reply ∷ h)
 stands_still db h n seat cmd reply none stands right = record {
   legal = (right, stands.legal);
   tied = subst (λ e. IsTied db (e ∷ effects_of h)) (sym none) (tied_still db (effects_of h) stands.tied);
 }
 
-pub stands_begins : (db : Database) (table : Table) (h : List Event) (n seat t : ℕ) → IsSetAt db.transactions table t (begun seat)
+pub stands_begins : (db : PlainDatabase) (table : Table) (h : List Event) (n seat t : ℕ) → IsSetAt db.transactions table t (begun seat)
     → StandsFor db h → IsRightEvent (effects_of h) (event n seat (Begin t) Started) → StandsFor (record db { transactions = table }) (event n seat (Begin t) Started ∷ h)
 stands_begins db table h n seat t set stands right = record {
   legal = (right, stands.legal);
   tied = tied_begins db (effects_of h) t seat table set stands.tied (right_allowed (effects_of h) (event n seat (Begin t) Started) right).1;
 }
 
-pub stands_reads : (db : Database) (reads : KeyReads) (h : List Event) (n seat t : ℕ) (x : List ℕ) (v : After) (k : ℕ) → HasReadToo db.reads reads t x k → k ≡ (visible (effects_of h) x t).ts
+pub stands_reads : (db : PlainDatabase) (reads : KeyReads) (h : List Event) (n seat t : ℕ) (x : List ℕ) (v : After) (k : ℕ) → HasReadToo db.reads reads t x k → k ≡ (visible (effects_of h) x t).ts
     → StandsFor db h → IsRightEvent (effects_of h) (event n seat (Get t x) (Found v)) → StandsFor (record db { reads = reads }) (event n seat (Get t x) (Found v) ∷ h)
 stands_reads db reads h n seat t x v k more at stands right = record {
   legal = (right, stands.legal);
@@ -51,7 +51,7 @@ stands_reads db reads h n seat t x v k more at stands right = record {
 }
 
 -- a span was scanned: of each of its keys the sources have the version that its reader sees
-pub stands_scans : (db : Database) (scans : List (ℕ × List SpanRead)) (h : List Event) (n seat t : ℕ) (span : Span) (sources : List (List ℕ × ℕ)) (rows : List (List ℕ × List ℕ))
+pub stands_scans : (db : PlainDatabase) (scans : List (ℕ × List SpanRead)) (h : List Event) (n seat t : ℕ) (span : Span) (sources : List (List ℕ × ℕ)) (rows : List (List ℕ × List ℕ))
     → ((y : List ℕ) → in_span span y ≡ true → source_at sources y ≡ (visible (effects_of h) y t).ts) → HasScanToo db.scans scans t (scan_of span sources)
     → StandsFor db h → IsRightEvent (effects_of h) (event n seat (Scan t span) (Rows rows)) → StandsFor (record db { scans = scans }) (event n seat (Scan t span) (Rows rows) ∷ h)
 stands_scans db scans h n seat t span sources rows given more stands right = record {
@@ -59,14 +59,14 @@ stands_scans db scans h n seat t span sources rows given more stands right = rec
   tied = tied_scans db (effects_of h) scans t span sources rows stands.tied given more;
 }
 
-pub stands_puts : (db : Database) (chains : Stored) (h : List Event) (n seat t : ℕ) (x v : List ℕ) → IsWritten db.chains chains x t (Some v)
+pub stands_puts : (db : PlainDatabase) (chains : Stored) (h : List Event) (n seat t : ℕ) (x v : List ℕ) → IsWritten db.chains chains x t (Some v)
     → StandsFor db h → IsRightEvent (effects_of h) (event n seat (Put t x v) Written) → StandsFor (record db { chains = chains }) (event n seat (Put t x v) Written ∷ h)
 stands_puts db chains h n seat t x v is stands right = record {
   legal = (right, stands.legal);
   tied = tied_writes db (effects_of h) chains t x (Some v) is stands.tied (right_allowed (effects_of h) (event n seat (Put t x v) Written) right).0;
 }
 
-pub stands_dels : (db : Database) (chains : Stored) (h : List Event) (n seat t : ℕ) (x : List ℕ) → IsWritten db.chains chains x t None
+pub stands_dels : (db : PlainDatabase) (chains : Stored) (h : List Event) (n seat t : ℕ) (x : List ℕ) → IsWritten db.chains chains x t None
     → StandsFor db h → IsRightEvent (effects_of h) (event n seat (Del t x) Written) → StandsFor (record db { chains = chains }) (event n seat (Del t x) Written ∷ h)
 stands_dels db chains h n seat t x is stands right = record {
   legal = (right, stands.legal);
@@ -74,37 +74,37 @@ stands_dels db chains h n seat t x is stands right = record {
 }
 
 -- the transaction of t is aborted, and its versions are gone
-abbrev pub AreAborted : Database → Database → ℕ → Type 0
+abbrev pub AreAborted : PlainDatabase → PlainDatabase → ℕ → Type 0
 AreAborted db db' t =
-    IsSetAt db.transactions db'.transactions t (option_map (decided outcomes.Aborted))
+    IsSetAt db.transactions db'.transactions t (option_map (decided decisions.Aborted))
     × IsCleared db.chains db'.chains (λ i. t == i)
     × (db' ≡ record db { transactions = db'.transactions; chains = db'.chains })
 
-aborts : (db db' : Database) (p : List Effect) (t : ℕ) → AreAborted db db' t → IsTied db p → IsActive p t → IsTied db' (Aborts t ∷ p)
-aborts db db' p t are tied active = subst (λ (d : Database). IsTied d (Aborts t ∷ p)) (sym are.2) (tied_aborts db p t db'.transactions db'.chains are.0 are.1 tied active)
+aborts : (db db' : PlainDatabase) (p : List Effect) (t : ℕ) → AreAborted db db' t → IsTied db p → IsActive p t → IsTied db' (Aborts t ∷ p)
+aborts db db' p t are tied active = subst (λ (d : PlainDatabase). IsTied d (Aborts t ∷ p)) (sym are.2) (tied_aborts db p t db'.transactions db'.chains are.0 are.1 tied active)
 
-pub stands_late_put : (db db' : Database) (h : List Event) (n seat t : ℕ) (x v : List ℕ) → AreAborted db db' t
+pub stands_late_put : (db db' : PlainDatabase) (h : List Event) (n seat t : ℕ) (x v : List ℕ) → AreAborted db db' t
     → StandsFor db h → IsRightEvent (effects_of h) (event n seat (Put t x v) (Refused TooLate)) → StandsFor db' (event n seat (Put t x v) (Refused TooLate) ∷ h)
 stands_late_put db db' h n seat t x v are stands right = record {
   legal = (right, stands.legal);
   tied = aborts db db' (effects_of h) t are stands.tied (right_allowed (effects_of h) (event n seat (Put t x v) (Refused TooLate)) right);
 }
 
-pub stands_late_del : (db db' : Database) (h : List Event) (n seat t : ℕ) (x : List ℕ) → AreAborted db db' t
+pub stands_late_del : (db db' : PlainDatabase) (h : List Event) (n seat t : ℕ) (x : List ℕ) → AreAborted db db' t
     → StandsFor db h → IsRightEvent (effects_of h) (event n seat (Del t x) (Refused TooLate)) → StandsFor db' (event n seat (Del t x) (Refused TooLate) ∷ h)
 stands_late_del db db' h n seat t x are stands right = record {
   legal = (right, stands.legal);
   tied = aborts db db' (effects_of h) t are stands.tied (right_allowed (effects_of h) (event n seat (Del t x) (Refused TooLate)) right);
 }
 
-pub stands_aborts : (db db' : Database) (h : List Event) (n seat t : ℕ) → AreAborted db db' t
+pub stands_aborts : (db db' : PlainDatabase) (h : List Event) (n seat t : ℕ) → AreAborted db db' t
     → StandsFor db h → IsRightEvent (effects_of h) (event n seat (Abort t) Aborted) → StandsFor db' (event n seat (Abort t) Aborted ∷ h)
 stands_aborts db db' h n seat t are stands right = record {
   legal = (right, stands.legal);
   tied = aborts db db' (effects_of h) t are stands.tied (right_allowed (effects_of h) (event n seat (Abort t) Aborted) right);
 }
 
-pub stands_commits : (db : Database) (table : Table) (h : List Event) (n seat t keys : ℕ) → IsSetAt db.transactions table t (option_map (decided outcomes.Committed))
+pub stands_commits : (db : PlainDatabase) (table : Table) (h : List Event) (n seat t keys : ℕ) → IsSetAt db.transactions table t (option_map (decided decisions.Committed))
     → StandsFor db h → IsRightEvent (effects_of h) (event n seat (Commit t) (Committed keys)) → StandsFor (record db { transactions = table }) (event n seat (Commit t) (Committed keys) ∷ h)
 stands_commits db table h n seat t keys set stands right = record {
   legal = (right, stands.legal);
@@ -133,7 +133,7 @@ open_does_nothing kind seat span cursor reply other = by_parts kind.initial kind
     by_parts true (Some gap) _ other = refl
 
 -- what was kept of an opening is kept of one of the same kind
-pub opens_alike : {kind same : Kind} (db db' : Database) (seat : ℕ) (span : Span) (cursor : ℕ) (reply : Reply) → kind ≡ same → Records db seat (open_cmd kind span cursor) reply db' → Records db seat (open_cmd same span cursor) reply db'
+pub opens_alike : {kind same : Kind} (db db' : PlainDatabase) (seat : ℕ) (span : Span) (cursor : ℕ) (reply : Reply) → kind ≡ same → Records db seat (open_cmd kind span cursor) reply db' → Records db seat (open_cmd same span cursor) reply db'
 opens_alike db db' seat span cursor reply is kept = subst (λ k. Records db seat (open_cmd k span cursor) reply db') is kept
 
 pub late_is : (reply : Reply) → is_late reply ≡ true → reply ≡ Refused TooLate
@@ -150,16 +150,16 @@ del_does_nothing seat t x Written isnt other = absurd (other refl)
 del_does_nothing seat t x (Refused TooLate) isnt other = cc
 del_does_nothing seat t x _ isnt other = refl
 
-pub stands_read_at : (db : Database) (h : List Event) (n seat t : ℕ) (x : List ℕ) (reply : Reply) → StandsFor db h → IsRightEvent (effects_of h) (event n seat (ReadAt t x) reply) → StandsFor db (event n seat (ReadAt t x) reply ∷ h)
+pub stands_read_at : (db : PlainDatabase) (h : List Event) (n seat t : ℕ) (x : List ℕ) (reply : Reply) → StandsFor db h → IsRightEvent (effects_of h) (event n seat (ReadAt t x) reply) → StandsFor db (event n seat (ReadAt t x) reply ∷ h)
 stands_read_at db h n seat t x (Found v) stands right = record { legal = (right, stands.legal); tied = tied_snapshot db (effects_of h) t x v stands.tied }
 stands_read_at db h n seat t x _ stands right = record { legal = (right, stands.legal); tied = tied_still db (effects_of h) stands.tied }
 
 -- a snapshot was scanned, or not
-pub stands_scan_at : (db : Database) (h : List Event) (n seat t : ℕ) (span : Span) (reply : Reply) → StandsFor db h → IsRightEvent (effects_of h) (event n seat (ScanAt t span) reply) → StandsFor db (event n seat (ScanAt t span) reply ∷ h)
+pub stands_scan_at : (db : PlainDatabase) (h : List Event) (n seat t : ℕ) (span : Span) (reply : Reply) → StandsFor db h → IsRightEvent (effects_of h) (event n seat (ScanAt t span) reply) → StandsFor db (event n seat (ScanAt t span) reply ∷ h)
 stands_scan_at db h n seat t span (Rows rows) stands right = record { legal = (right, stands.legal); tied = tied_snapshot_scan db (effects_of h) t span rows stands.tied }
 stands_scan_at db h n seat t span _ stands right = record { legal = (right, stands.legal); tied = tied_still db (effects_of h) stands.tied }
 
-pub stands_hard_closes : (db : Database) (table : Table) (chains : Stored) (h : List Event) (n seat to at aborted : ℕ)
+pub stands_hard_closes : (db : PlainDatabase) (table : Table) (chains : Stored) (h : List Event) (n seat to at aborted : ℕ)
     → ((i : ℕ) → transaction_at table i ≡ option_map (hard_closed (nat_le i to)) (transaction_at db.transactions i)) → IsCleared db.chains chains (goes db to)
     → StandsFor db h → IsRightEvent (effects_of h) (event n seat (CloseHard to) (Closed at aborted)) → StandsFor (record db { closed = at; transactions = table; chains = chains }) (event n seat (CloseHard to) (Closed at aborted) ∷ h)
 stands_hard_closes db table chains h n seat to at aborted set cleared stands right = record {

@@ -20,7 +20,7 @@ use Rattle.spans.proofs.Listing.{IsSettled, first_none}
 use Rattle.plain_feeds.specs.declared.record.FeedRecord.{FeedRecord}
 use Rattle.plain_feeds.specs.FeedTie.{LeadsTo}
 use Rattle.plain_feeds.specs.Records.{feed_part}
-use Rattle.plain_database.specs.declared.database.Database.{Database}
+use Rattle.plain_database.specs.declared.database.PlainDatabase.{PlainDatabase}
 use Rattle.plain_database.specs.Streams.{HasCommitted}
 use Rattle.plain_database.specs.Tied.{IsTied, StandsFor}
 use Rattle.plain_database.proofs.ClosedRange.{closed_in_range}
@@ -32,7 +32,7 @@ no_timestamp zero none low = refl
 no_timestamp (suc n) none low = absurd (none (omega arith, low))
 
 -- where closed is no timestamp, nothing is closed
-pub nothing_closed : (db : Database) (h : List Event) → StandsFor db h → ((1 ≤ db.closed) × (db.closed ≤ MAX) → ⊥) → closed_of (effects_of h) ≡ 0
+pub nothing_closed : (db : PlainDatabase) (h : List Event) → StandsFor db h → ((1 ≤ db.closed) × (db.closed ≤ MAX) → ⊥) → closed_of (effects_of h) ≡ 0
 nothing_closed db h stands none = sym stands.tied.closed_at ∙ no_timestamp db.closed none (let low = closed_in_range h stands.legal in omega (arith, stands.tied.closed_at, low))
 
 -- where nothing is closed, no row is left to be told
@@ -56,7 +56,7 @@ nothing_next p f feed max settled none =
     due_none kind n = rw (le-ltb n 0 (omega arith)) refl
 
 -- the chains of a database have the committed versions
-pub committed_tied : (db : Database) (p : List Effect) → AllAllowed p → IsTied db p → HasCommitted db p
+pub committed_tied : (db : PlainDatabase) (p : List Effect) → AllAllowed p → IsTied db p → HasCommitted db p
 committed_tied db p all tied y t = rw (tied.committed t, tied.versions y t) (by_done (is_committed p t) refl)
   where
     by_done : (done : Bool) → is_committed p t ≡ done → cond done (version_of p y t) None ≡ cond done (write_of p t y) None
@@ -70,7 +70,7 @@ rows_of_record p f max o feed x is has =
     ap (λ v. take max (untold_rows p f v)) same
 
 -- a feed was told messages
-pub stands_polls : (db : Database) (feeds : List FeedRecord) (h : List Event) (n seat f max : ℕ) (ms : List Message) → ((m : ℕ) → LeadsTo db.feeds (Polls f m ms) feeds)
+pub stands_polls : (db : PlainDatabase) (feeds : List FeedRecord) (h : List Event) (n seat f max : ℕ) (ms : List Message) → ((m : ℕ) → LeadsTo db.feeds (Polls f m ms) feeds)
     → StandsFor db h → IsRightEvent (effects_of h) (event n seat (Poll f max) (Messages ms)) → StandsFor (record db { feeds = feeds }) (event n seat (Poll f max) (Messages ms) ∷ h)
 stands_polls db feeds h n seat f max ms tells stands right = record {
   legal = (right, stands.legal);

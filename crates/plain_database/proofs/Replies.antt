@@ -21,8 +21,8 @@ use Rattle.spans.specs.Newest.{Version as Seen, version_at as seen_at}
 use Rattle.spans.specs.Answer.{first_refusal, transaction_tests, snapshot_tests, answer_of}
 use Rattle.spans.proofs.Steps.{by_test, newest_only, newest_like}
 use Rattle.spans.proofs.Refusals.{tests_past}
-use Rattle.plain_versions.specs.declared.versions.Version.{Version}
-use Rattle.plain_database.specs.declared.database.Database.{Database}
+use Rattle.plain_versions.specs.declared.versions.LentVersion.{LentVersion}
+use Rattle.plain_database.specs.declared.database.PlainDatabase.{PlainDatabase}
 use Rattle.plain_versions.specs.Versions.{IsBest}
 use Rattle.plain_versions.specs.Counting.{IsCountOf}
 use Rattle.plain_versions.specs.Transactions.{transaction_at, committed_in, is_undecided_through, IsDecidedThrough}
@@ -32,12 +32,12 @@ use Rattle.plain_database.specs.Answering.{Accepts, Answers, AnswersCounted, May
 
 -- ---- a read
 
-abbrev pub place : Option Version → Seen
+abbrev pub place : Option LentVersion → Seen
 place None = seen_at 0 None
 place (Some v) = seen_at v.ts v.after.now
 
 -- the version that is found is the visible one
-pub found_visible : (db : Database) (h : List Event) (x : List ℕ) (t : ℕ) (o : Option Version) → StandsFor db h → IsBest (versions_at db.chains x) t o → visible (effects_of h) x t ≡ place o
+pub found_visible : (db : PlainDatabase) (h : List Event) (x : List ℕ) (t : ℕ) (o : Option LentVersion) → StandsFor db h → IsBest (versions_at db.chains x) t o → visible (effects_of h) x t ≡ place o
 found_visible db h x t None stands best = newest_only _ _ _ _ (newest_like _ _ t 0 None (stands.tied.versions x) best)
 found_visible db h x t (Some v) stands best = newest_only _ _ _ _ (newest_like _ _ t v.ts v.after.now (stands.tied.versions x) best.0)
 
@@ -51,14 +51,14 @@ get_blocks : (p : List Effect) (seat t : ℕ) (x : List ℕ) → None ≡ first_
 get_blocks p seat t x here shut = sym (tests_past (transaction_tests p seat t) ((is_blocked p x t, Blocked (visible p x t).ts) ∷ []) (Found (visible p x t).after) (sym here) ∙ rw shut refl)
 
 -- no version is there
-pub get_none : (db : Database) (h : List Event) (seat t : ℕ) (x : List ℕ) → StandsFor db h → None ≡ first_refusal (transaction_tests (effects_of h) seat t) → IsBest (versions_at db.chains x) t None
+pub get_none : (db : PlainDatabase) (h : List Event) (seat t : ℕ) (x : List ℕ) → StandsFor db h → None ≡ first_refusal (transaction_tests (effects_of h) seat t) → IsBest (versions_at db.chains x) t None
     → Found None ≡ answer_of (effects_of h) seat (Get t x)
 get_none db h seat t x stands here best =
     let is = found_visible db h x t None stands best in
     ap (λ (n : Seen). Found n.after) (sym is) ∙ get_answers (effects_of h) seat t x here (blocked_at (effects_of h) x t 0 (ap (λ (n : Seen). n.ts) is))
 
 -- a version is there that may be read
-pub get_found : (db : Database) (h : List Event) (seat t : ℕ) (x : List ℕ) (v : Version) → StandsFor db h → None ≡ first_refusal (transaction_tests (effects_of h) seat t) → IsBest (versions_at db.chains x) t (Some v)
+pub get_found : (db : PlainDatabase) (h : List Event) (seat t : ℕ) (x : List ℕ) (v : LentVersion) → StandsFor db h → None ≡ first_refusal (transaction_tests (effects_of h) seat t) → IsBest (versions_at db.chains x) t (Some v)
     → ((v.ts == t) || committed_in (transaction_at db.transactions v.ts)) ≡ true → Found v.after.now ≡ answer_of (effects_of h) seat (Get t x)
 get_found db h seat t x v stands here best free =
     let is = found_visible db h x t (Some v) stands best in
@@ -71,7 +71,7 @@ get_found db h seat t x v stands here best free =
     no_block true false c f = rw f refl
 
 -- a version is there that may not be read
-pub get_blocked : (db : Database) (h : List Event) (seat t : ℕ) (x : List ℕ) (v : Version) → StandsFor db h → None ≡ first_refusal (transaction_tests (effects_of h) seat t) → IsBest (versions_at db.chains x) t (Some v)
+pub get_blocked : (db : PlainDatabase) (h : List Event) (seat t : ℕ) (x : List ℕ) (v : LentVersion) → StandsFor db h → None ≡ first_refusal (transaction_tests (effects_of h) seat t) → IsBest (versions_at db.chains x) t (Some v)
     → ((v.ts == t) || committed_in (transaction_at db.transactions v.ts)) ≡ false → Refused (Blocked v.ts) ≡ answer_of (effects_of h) seat (Get t x)
 get_blocked db h seat t x v stands here best shut =
     let is = ap (λ (n : Seen). n.ts) (found_visible db h x t (Some v) stands best) in
@@ -85,7 +85,7 @@ get_blocked db h seat t x v stands here best shut =
 
 -- ---- closing
 
-pub close_answers : (db : Database) (h : List Event) (seat to at n : ℕ) → StandsFor db h → to ≤ MAX → at ≡ max db.closed n → IsDecidedThrough db.transactions to n
+pub close_answers : (db : PlainDatabase) (h : List Event) (seat to at n : ℕ) → StandsFor db h → to ≤ MAX → at ≡ max db.closed n → IsDecidedThrough db.transactions to n
     → Closed at 0 ≡ answer_of (effects_of h) seat (Close to)
 close_answers db h seat to at n stands low is is' = rw (not_above) (ap (λ (m : ℕ). Closed m 0) (is ∙ rw (stands.tied.closed_at, decided_through_is db (effects_of h) to n stands.tied is') refl))
   where
@@ -94,7 +94,7 @@ close_answers db h seat to at n stands low is is' = rw (not_above) (ap (λ (m : 
 
 -- ---- snapshots and hard closings
 
-pub read_at_answers : (db : Database) (h : List Event) (seat t : ℕ) (x : List ℕ) (o : Option Version) → StandsFor db h → None ≡ first_refusal (snapshot_tests (effects_of h) t) → IsBest (versions_at db.chains x) t o
+pub read_at_answers : (db : PlainDatabase) (h : List Event) (seat t : ℕ) (x : List ℕ) (o : Option LentVersion) → StandsFor db h → None ≡ first_refusal (snapshot_tests (effects_of h) t) → IsBest (versions_at db.chains x) t o
     → Found (place o).after ≡ answer_of (effects_of h) seat (ReadAt t x)
 read_at_answers db h seat t x o stands here best =
     ap Found (ap (λ (n : Seen). n.after) (sym (found_visible db h x t o stands best)) ∙ closed_value (effects_of h) (legal_allowed h stands.legal) x t low)
@@ -105,7 +105,7 @@ read_at_answers db h seat t x o stands here best =
         (λ above. let no : None ≡ Some (NotClosed (closed_of (effects_of h))) = rw above at here in cc)
         (λ below. ltb-false (closed_of (effects_of h)) t below)
 
-pub close_hard_answers : (db : Database) (h : List Event) (seat to at n : ℕ) → StandsFor db h → to ≤ MAX → at ≡ max db.closed to → IsCountOf (is_undecided_through db.transactions to) n
+pub close_hard_answers : (db : PlainDatabase) (h : List Event) (seat to at n : ℕ) → StandsFor db h → to ≤ MAX → at ≡ max db.closed to → IsCountOf (is_undecided_through db.transactions to) n
     → Closed at n ≡ answer_of (effects_of h) seat (CloseHard to)
 close_hard_answers db h seat to at n stands low is is' = rw (not_above) (rw (is, stands.tied.closed_at) (ap (λ (m : ℕ). Closed (max (closed_of (effects_of h)) to) m)
     (open_count_through db (effects_of h) to n (legal_allowed h stands.legal) stands.tied is')))
@@ -115,12 +115,12 @@ close_hard_answers db h seat to at n stands low is is' = rw (not_above) (rw (is,
 
 -- ---- what is answered to every seat is answered to one
 
-pub answer_at : (r : Result Reply AllocError) (db : Database) (seat : ℕ) (cmd : Cmd)
+pub answer_at : (r : Result Reply AllocError) (db : PlainDatabase) (seat : ℕ) (cmd : Cmd)
     → IfOk r (λ reply. (s : ℕ) → Answers db s cmd reply) → IfOk r (λ reply. AnswersCounted db seat cmd reply)
 answer_at (Ok reply) db seat cmd answers = λ h stands few. answers seat h stands
 answer_at (Err e) db seat cmd answers = tt
 
-pub failure_at : (r : Result Reply AllocError) (db : Database) (seat : ℕ) (cmd : Cmd) → may_lack_memory cmd ≡ true
+pub failure_at : (r : Result Reply AllocError) (db : PlainDatabase) (seat : ℕ) (cmd : Cmd) → may_lack_memory cmd ≡ true
     → OnErr r ((s : ℕ) → Accepts db s cmd) → OnErr r (MayLackMemory db seat cmd)
 failure_at (Ok reply) db seat cmd may fails = tt
 failure_at (Err e) db seat cmd may fails = λ h stands. (fails seat h stands, may)

@@ -16,7 +16,7 @@ use Rattle.kept.proofs.Contained.{contains_has}
 use Rattle.plain_versions.specs.Chains.{version_at}
 use Rattle.plain_versions.specs.Dying.{IsDeathCount}
 use Rattle.plain_versions.specs.Reports.{AreOpen, IsOpenReport}
-use Rattle.plain_database.specs.declared.database.Database.{Database}
+use Rattle.plain_database.specs.declared.database.PlainDatabase.{PlainDatabase}
 use Rattle.plain_database.specs.Reports.{AreCounted, IsCounted, IsUntoldCount}
 use Rattle.plain_database.specs.Tied.{IsTied, StandsFor, aborted_in, owner_in}
 use Rattle.plain_database.proofs.Counting.{count_is}
@@ -25,13 +25,13 @@ use Rattle.plain_database.proofs.Undecided.{open_at}
 
 -- ---- transactions
 
-transaction_right : (db : Database) (p : List Effect) → IsTied db p → (n : TransactionReport) → IsOpenReport db.transactions db.chains n → (owner_of p n.timestamp ≡ Some n.seat) × (n.keys ≡ write_count p n.timestamp)
+transaction_right : (db : PlainDatabase) (p : List Effect) → IsTied db p → (n : TransactionReport) → IsOpenReport db.transactions db.chains n → (owner_of p n.timestamp ≡ Some n.seat) × (n.keys ≡ write_count p n.timestamp)
 transaction_right db p tied n is = (
   sym (tied.owners n.timestamp) ∙ ap owner_in is.stands,
   count_is db p tied n.timestamp n.keys (sym (tied.aborted n.timestamp) ∙ ap aborted_in is.stands) is.keys,
 )
 
-pub transactions_are : (db : Database) (p : List Effect) → IsTied db p → (ns : List TransactionReport) → AreOpen db.transactions db.chains ns → AreUndecided p ns
+pub transactions_are : (db : PlainDatabase) (p : List Effect) → IsTied db p → (ns : List TransactionReport) → AreOpen db.transactions db.chains ns → AreUndecided p ns
 transactions_are db p tied ns open' = record {
   rising = open'.all.rising;
   each = λ t. let c = contains_has t (map (λ (n : TransactionReport). n.timestamp) ns) in let h = open'.all.each t in (
@@ -44,7 +44,7 @@ transactions_are db p tied ns open' = record {
 
 -- ---- what a collection would drop
 
-pub removable_is : (db : Database) (h : List Event) (n removed : ℕ) → StandsFor db h → length h < 18446744073709551615 → n ≡ collection_horizon (effects_of h) db.closed
+pub removable_is : (db : PlainDatabase) (h : List Event) (n removed : ℕ) → StandsFor db h → length h < 18446744073709551615 → n ≡ collection_horizon (effects_of h) db.closed
     → IsDeathCount (version_at db.chains) db.horizon n removed → removed ≡ removable_of (effects_of h)
 removable_is db h n removed stands few reached counted =
     let p = effects_of h in
@@ -58,7 +58,7 @@ pub all_taken : (n : ℕ) (rows all : List Row) → rows ≡ take n all → leng
 all_taken n rows all is few = omega (arith, ap length is, length-take n all)
 
 -- a live report of a feed, and the count
-pub feed_counted : (db : Database) (n : FeedReport) (k : ℕ) → IsUntoldCount db n.number k → IsCounted db n (record n { untold = Some k })
+pub feed_counted : (db : PlainDatabase) (n : FeedReport) (k : ℕ) → IsUntoldCount db n.number k → IsCounted db n (record n { untold = Some k })
 feed_counted db n k counted = record {
   number = refl;
   right = λ h stands r. record {
@@ -77,14 +77,14 @@ feed_counted db n k counted = record {
 }
 
 -- the counts leave the numbers
-counted_numbers : (db : Database) (ns ms : List FeedReport) → AreCounted db ns ms → map (λ (n : FeedReport). n.number) ms ≡ map (λ (n : FeedReport). n.number) ns
+counted_numbers : (db : PlainDatabase) (ns ms : List FeedReport) → AreCounted db ns ms → map (λ (n : FeedReport). n.number) ms ≡ map (λ (n : FeedReport). n.number) ns
 counted_numbers db [] [] all = refl
 counted_numbers db [] (m ∷ ms) all = absurd all
 counted_numbers db (n ∷ ns) [] all = absurd all
 counted_numbers db (n ∷ ns) (m ∷ ms) all =
     ap (λ k. k ∷ map (λ (n : FeedReport). n.number) ms) all.0.number ∙ ap (λ l. n.number ∷ l) (counted_numbers db ns ms all.1)
 
-counted_right : (db : Database) (h : List Event) → StandsFor db h → (ns ms : List FeedReport) → AreCounted db ns ms → All (IsFeedReport false (effects_of h)) ns → All (IsFeedReport true (effects_of h)) ms
+counted_right : (db : PlainDatabase) (h : List Event) → StandsFor db h → (ns ms : List FeedReport) → AreCounted db ns ms → All (IsFeedReport false (effects_of h)) ns → All (IsFeedReport true (effects_of h)) ms
 counted_right db h stands [] [] all right = All-nil (IsFeedReport true (effects_of h))
 counted_right db h stands [] (m ∷ ms) all right = absurd all
 counted_right db h stands (n ∷ ns) [] all right = absurd all
@@ -93,7 +93,7 @@ counted_right db h stands (n ∷ ns) (m ∷ ms) all right =
     (counted_right db h stands ns ms all.1 (All-tail (IsFeedReport false (effects_of h)) n ns right))
 
 -- all are counted
-pub feeds_counted : (db : Database) (h : List Event) (ns ms : List FeedReport) → StandsFor db h → AreCounted db ns ms → AreFeeds false (effects_of h) ns → AreFeeds true (effects_of h) ms
+pub feeds_counted : (db : PlainDatabase) (h : List Event) (ns ms : List FeedReport) → StandsFor db h → AreCounted db ns ms → AreFeeds false (effects_of h) ns → AreFeeds true (effects_of h) ms
 feeds_counted db h ns ms stands all are = record {
   numbers = counted_numbers db ns ms all ∙ are.numbers;
   right = counted_right db h stands ns ms all are.right;

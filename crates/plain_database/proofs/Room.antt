@@ -18,7 +18,7 @@ use Rattle.spans.proofs.Histories.{made_at_most, opened_at_most, effect_count}
 use Rattle.spans.proofs.Refusals.{tests_past}
 use Rattle.plain_versions.specs.Chains.{version_at}
 use Rattle.plain_versions.specs.Dying.{IsDeathCount}
-use Rattle.plain_database.specs.declared.database.Database.{Database}
+use Rattle.plain_database.specs.declared.database.PlainDatabase.{PlainDatabase}
 use Rattle.plain_database.specs.Tied.{StandsFor}
 use Rattle.plain_database.proofs.Collecting.{died_between}
 use Rattle.plain_database.proofs.Counting.{versions_few, dead_few}
@@ -39,18 +39,18 @@ dead_fit h legal few n =
     omega (arith, fewer, versions_few (effects_of h) (legal_allowed h legal), effect_count h)
 
 -- the next protection has the next number
-pub protect_answers : (db : Database) (h : List Event) (seat t made id : ℕ) → StandsFor db h → length h < 18446744073709551615 → None ≡ first_refusal (horizon_tests (effects_of h) t) → made ≡ db.protections.made → id ≡ min (made + 1) (2 ^ 64 - 1)
+pub protect_answers : (db : PlainDatabase) (h : List Event) (seat t made id : ℕ) → StandsFor db h → length h < 18446744073709551615 → None ≡ first_refusal (horizon_tests (effects_of h) t) → made ≡ db.protections.made → id ≡ min (made + 1) (2 ^ 64 - 1)
     → Protected id ≡ answer_of (effects_of h) seat (Protect t)
 protect_answers db h seat t made id stands few here was is =
     let next : id ≡ suc (protections_made (effects_of h)) = omega (arith, made_fits h few, stands.tied.protections.made) in
     ap Protected next ∙ sym (tests_past (horizon_tests (effects_of h) t) [] (Protected (suc (protections_made (effects_of h)))) (sym here))
 
 -- and so has the next feed
-pub next_opened : (db : Database) (h : List Event) (opened f : ℕ) → StandsFor db h → length h < 18446744073709551615 → opened ≡ length db.feeds → f ≡ min (opened + 1) (2 ^ 64 - 1) → Opened f ≡ Opened (suc (feeds_opened (effects_of h)))
+pub next_opened : (db : PlainDatabase) (h : List Event) (opened f : ℕ) → StandsFor db h → length h < 18446744073709551615 → opened ≡ length db.feeds → f ≡ min (opened + 1) (2 ^ 64 - 1) → Opened f ≡ Opened (suc (feeds_opened (effects_of h)))
 next_opened db h opened f stands few was is = ap Opened (omega (arith, opened_fits h few, stands.tied.feeds.opened))
 
 -- how many versions a collection that takes the horizon to n drops
-pub collection_drops : (db : Database) (h : List Event) (to n removed : ℕ) → StandsFor db h → length h < 18446744073709551615 → n ≡ collection_horizon (effects_of h) to
+pub collection_drops : (db : PlainDatabase) (h : List Event) (to n removed : ℕ) → StandsFor db h → length h < 18446744073709551615 → n ≡ collection_horizon (effects_of h) to
     → IsDeathCount (version_at db.chains) db.horizon n removed → removed ≡ length (dead_of (Collects n ∷ effects_of h)) - length (dead_of (effects_of h))
 collection_drops db h to n removed stands few reached counted =
     let p = effects_of h in
@@ -58,7 +58,7 @@ collection_drops db h to n removed stands few reached counted =
     omega (arith, died, dead_fit h stands.legal few n)
 
 -- what a collection that takes the horizon to n is answered
-pub collect_answers : (db : Database) (h : List Event) (seat to n removed : ℕ) → StandsFor db h → length h < 18446744073709551615 → to ≤ MAX → n ≡ collection_horizon (effects_of h) to
+pub collect_answers : (db : PlainDatabase) (h : List Event) (seat to n removed : ℕ) → StandsFor db h → length h < 18446744073709551615 → to ≤ MAX → n ≡ collection_horizon (effects_of h) to
     → IsDeathCount (version_at db.chains) db.horizon n removed → Collected n removed ≡ answer_of (effects_of h) seat (Collect to)
 collect_answers db h seat to n removed stands few low reached counted =
     let p = effects_of h in
@@ -66,7 +66,7 @@ collect_answers db h seat to n removed stands few low reached counted =
     (ap (Collected n) (collection_drops db h to n removed stands few reached counted) ∙ ap (λ m. Collected m (length (dead_of (Collects m ∷ p)) - length (dead_of p))) reached)
 
 -- how many versions aren't dead
-pub kept_versions : (db : Database) (h : List Event) (all versions : ℕ) → StandsFor db h → length h < 18446744073709551615
+pub kept_versions : (db : PlainDatabase) (h : List Event) (all versions : ℕ) → StandsFor db h → length h < 18446744073709551615
     → all ≡ length (versions_of (effects_of h)) → versions ≡ all - db.dead → versions ≡ length (versions_of (effects_of h)) - length (dead_of (effects_of h))
 kept_versions db h all versions stands few whole is =
     let p = effects_of h in
@@ -74,7 +74,7 @@ kept_versions db h all versions stands few whole is =
     omega (arith, gone, dead_fit h stands.legal few (horizon_of p))
 
 -- what is counted
-pub stats_answers : (db : Database) (h : List Event) (seat versions undecided feeds : ℕ) → StandsFor db h
+pub stats_answers : (db : PlainDatabase) (h : List Event) (seat versions undecided feeds : ℕ) → StandsFor db h
     → versions ≡ length (versions_of (effects_of h)) - length (dead_of (effects_of h))
     → undecided ≡ length (undecided_timestamps (effects_of h)) → feeds ≡ length (live_feeds (effects_of h))
     → replies.Stats versions undecided feeds db.closed db.horizon ≡ answer_of (effects_of h) seat Stats

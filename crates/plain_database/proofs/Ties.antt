@@ -13,11 +13,11 @@ use Rattle.spans.proofs.Steps.{by_test}
 use Rattle.spans.proofs.Copies.{IsActive, AllAllowed}
 use Rattle.spans.proofs.Open.{open_above}
 use Rattle.plain_versions.specs.declared.transactions.Transaction.{Transaction}
-use Rattle.plain_versions.specs.declared.transactions.State.{State}
-use Rattle.plain_versions.specs.declared.transactions.State.TheVariants as states
-use Rattle.plain_database.specs.declared.database.Database.{Database}
-use Rattle.plain_versions.specs.declared.transactions.Outcome.{Outcome}
-use Rattle.plain_versions.specs.declared.transactions.Outcome.TheVariants as outcomes
+use Rattle.spans.specs.declared.state.State.{State}
+use Rattle.spans.specs.declared.state.State.TheVariants as states
+use Rattle.plain_database.specs.declared.database.PlainDatabase.{PlainDatabase}
+use Rattle.plain_versions.specs.declared.transactions.Decision.{Decision}
+use Rattle.plain_versions.specs.declared.transactions.Decision.TheVariants as decisions
 use Rattle.plain_versions.specs.Transactions.{Table, transaction_at, begun, decided, is_committed_state, is_aborted_state, state_closed, hard_closed, is_undecided_at, committed_in, IsSetAt}
 use Rattle.plain_versions.specs.Chains.{Stored, IsWritten, IsCleared}
 use Rattle.plain_database.specs.Reads.{KeyReads, lies_between, goes_across, HasReadToo}
@@ -46,16 +46,16 @@ IsOfProtection (Protects id t) = Unit {0}
 IsOfProtection (Releases id) = Unit {0}
 IsOfProtection _ = ⊥
 
-owner_decided : (b : Bool) (s : Outcome) (o : Option Transaction) → owner_in (cond b (option_map (decided s) o) o) ≡ owner_in o
+owner_decided : (b : Bool) (s : Decision) (o : Option Transaction) → owner_in (cond b (option_map (decided s) o) o) ≡ owner_in o
 owner_decided true s None = refl
 owner_decided true s (Some x) = refl
 owner_decided false s o = refl
 
-owner_some : (db : Database) (p : List Effect) (t : ℕ) → IsTied db p → IsActive p t → (i : ℕ) → (t == i) ≡ true → is_some (owner_in (transaction_at db.transactions i)) ≡ true
+owner_some : (db : PlainDatabase) (p : List Effect) (t : ℕ) → IsTied db p → IsActive p t → (i : ℕ) → (t == i) ≡ true → is_some (owner_in (transaction_at db.transactions i)) ≡ true
 owner_some db p t tied active i same = subst (λ n. is_some (owner_in (transaction_at db.transactions n)) ≡ true) (eqb-true t i same) (ap is_some (tied.owners t) ∙ active.begun)
 
 -- an event that did nothing
-pub tied_still : (db : Database) (p : List Effect) → IsTied db p → IsTied db (NoEffect ∷ p)
+pub tied_still : (db : PlainDatabase) (p : List Effect) → IsTied db p → IsTied db (NoEffect ∷ p)
 tied_still db p tied = record {
   closed_at = tied.closed_at;
   owners = tied.owners;
@@ -71,7 +71,7 @@ tied_still db p tied = record {
 }
 
 -- a transaction that wasn't there begins
-pub tied_begins : (db : Database) (p : List Effect) (t seat : ℕ) (table : Table) → IsSetAt db.transactions table t (begun seat) → IsTied db p → owner_of p t ≡ None
+pub tied_begins : (db : PlainDatabase) (p : List Effect) (t seat : ℕ) (table : Table) → IsSetAt db.transactions table t (begun seat) → IsTied db p → owner_of p t ≡ None
     → IsTied (record db { transactions = table }) (Begins t seat ∷ p)
 tied_begins db p t seat table set tied unowned = record {
   closed_at = tied.closed_at;
@@ -99,7 +99,7 @@ tied_begins db p t seat table set tied unowned = record {
     gone i same = subst (λ n. transaction_at db.transactions n ≡ None) (eqb-true t i same) (no_owner (transaction_at db.transactions t) (tied.owners t ∙ unowned))
 
 -- a key is read
-pub tied_reads : (db : Database) (p : List Effect) (reads : KeyReads) (t : ℕ) (x : List ℕ) (v : After) (k : ℕ) → IsTied db p → HasReadToo db.reads reads t x k → k ≡ (visible p x t).ts
+pub tied_reads : (db : PlainDatabase) (p : List Effect) (reads : KeyReads) (t : ℕ) (x : List ℕ) (v : After) (k : ℕ) → IsTied db p → HasReadToo db.reads reads t x k → k ≡ (visible p x t).ts
     → IsTied (record db { reads = reads }) (Reads t x v ∷ p)
 tied_reads db p reads t x v k tied more is = record {
   closed_at = tied.closed_at;
@@ -118,7 +118,7 @@ tied_reads db p reads t x v k tied more is = record {
 }
 
 -- a span is scanned: of each of its keys the sources have the version that its reader sees
-pub tied_scans : (db : Database) (p : List Effect) (scans : List (ℕ × List Scan)) (t : ℕ) (span : Span) (sources : List (List ℕ × ℕ)) (rows : List (List ℕ × List ℕ)) → IsTied db p
+pub tied_scans : (db : PlainDatabase) (p : List Effect) (scans : List (ℕ × List Scan)) (t : ℕ) (span : Span) (sources : List (List ℕ × ℕ)) (rows : List (List ℕ × List ℕ)) → IsTied db p
     → ((y : List ℕ) → in_span span y ≡ true → source_at sources y ≡ (visible p y t).ts) → HasScanToo db.scans scans t (scan_of span sources) → IsTied (record db { scans = scans }) (Scans t span rows ∷ p)
 tied_scans db p scans t span sources rows tied given more = record {
   closed_at = tied.closed_at;
@@ -149,7 +149,7 @@ tied_scans db p scans t span sources rows tied given more = record {
         (λ outside. rw outside refl)
 
 -- a key is written
-pub tied_writes : (db : Database) (p : List Effect) (chains : Stored) (t : ℕ) (x : List ℕ) (a : After) → IsWritten db.chains chains x t a → IsTied db p → IsActive p t
+pub tied_writes : (db : PlainDatabase) (p : List Effect) (chains : Stored) (t : ℕ) (x : List ℕ) (a : After) → IsWritten db.chains chains x t a → IsTied db p → IsActive p t
     → IsTied (record db { chains = chains }) (Writes t x a ∷ p)
 tied_writes db p chains t x a written tied active = record {
   closed_at = tied.closed_at;
@@ -170,11 +170,11 @@ tied_writes db p chains t x a written tied active = record {
 }
 
 -- a transaction commits
-pub tied_commits : (db : Database) (p : List Effect) (t : ℕ) (table : Table) → IsSetAt db.transactions table t (option_map (decided outcomes.Committed)) → IsTied db p → IsActive p t
+pub tied_commits : (db : PlainDatabase) (p : List Effect) (t : ℕ) (table : Table) → IsSetAt db.transactions table t (option_map (decided decisions.Committed)) → IsTied db p → IsActive p t
     → IsTied (record db { transactions = table }) (Commits t ∷ p)
 tied_commits db p t table set tied active = record {
   closed_at = tied.closed_at;
-  owners = λ i. ap owner_in (set i) ∙ owner_decided (t == i) outcomes.Committed (transaction_at db.transactions i) ∙ tied.owners i;
+  owners = λ i. ap owner_in (set i) ∙ owner_decided (t == i) decisions.Committed (transaction_at db.transactions i) ∙ tied.owners i;
   committed = λ i. ap committed_in (set i) ∙ by_test (t == i)
       (λ same. rw same (committed_now (transaction_at db.transactions i) (owner_some db p t tied active i same)))
       (λ other. rw other (tied.committed i));
@@ -190,20 +190,20 @@ tied_commits db p t table set tied active = record {
   protections = protections_kept db.protections p (Commits t) tt tied.protections;
 }
   where
-    committed_now : (o : Option Transaction) → is_some (owner_in o) ≡ true → committed_in (option_map (decided outcomes.Committed) o) ≡ true
+    committed_now : (o : Option Transaction) → is_some (owner_in o) ≡ true → committed_in (option_map (decided decisions.Committed) o) ≡ true
     committed_now None e = e
     committed_now (Some x) e = refl
 
-    not_aborted : (o : Option Transaction) → aborted_in (option_map (decided outcomes.Committed) o) ≡ false
+    not_aborted : (o : Option Transaction) → aborted_in (option_map (decided decisions.Committed) o) ≡ false
     not_aborted None = refl
     not_aborted (Some x) = refl
 
 -- a transaction aborts
-pub tied_aborts : (db : Database) (p : List Effect) (t : ℕ) (table : Table) (chains : Stored) → IsSetAt db.transactions table t (option_map (decided outcomes.Aborted)) → IsCleared db.chains chains (λ i. t == i) → IsTied db p → IsActive p t
+pub tied_aborts : (db : PlainDatabase) (p : List Effect) (t : ℕ) (table : Table) (chains : Stored) → IsSetAt db.transactions table t (option_map (decided decisions.Aborted)) → IsCleared db.chains chains (λ i. t == i) → IsTied db p → IsActive p t
     → IsTied (record db { transactions = table; chains = chains }) (Aborts t ∷ p)
 tied_aborts db p t table chains set cleared tied active = record {
   closed_at = tied.closed_at;
-  owners = λ i. ap owner_in (set i) ∙ owner_decided (t == i) outcomes.Aborted (transaction_at db.transactions i) ∙ tied.owners i;
+  owners = λ i. ap owner_in (set i) ∙ owner_decided (t == i) decisions.Aborted (transaction_at db.transactions i) ∙ tied.owners i;
   committed = λ i. ap committed_in (set i) ∙ by_test (t == i)
       (λ same. rw same (not_committed (transaction_at db.transactions i) ∙ sym (subst (λ n. is_committed p n ≡ false) (eqb-true t i same) active.uncommitted)))
       (λ other. rw other (tied.committed i));
@@ -219,16 +219,16 @@ tied_aborts db p t table chains set cleared tied active = record {
   protections = protections_kept db.protections p (Aborts t) tt tied.protections;
 }
   where
-    aborted_now : (o : Option Transaction) → is_some (owner_in o) ≡ true → aborted_in (option_map (decided outcomes.Aborted) o) ≡ true
+    aborted_now : (o : Option Transaction) → is_some (owner_in o) ≡ true → aborted_in (option_map (decided decisions.Aborted) o) ≡ true
     aborted_now None e = e
     aborted_now (Some x) e = refl
 
-    not_committed : (o : Option Transaction) → committed_in (option_map (decided outcomes.Aborted) o) ≡ false
+    not_committed : (o : Option Transaction) → committed_in (option_map (decided decisions.Aborted) o) ≡ false
     not_committed None = refl
     not_committed (Some x) = refl
 
 -- closed moves
-pub tied_closes : (db : Database) (p : List Effect) (at : ℕ) → IsTied db p → IsTied (record db { closed = at }) (Closes at ∷ p)
+pub tied_closes : (db : PlainDatabase) (p : List Effect) (at : ℕ) → IsTied db p → IsTied (record db { closed = at }) (Closes at ∷ p)
 tied_closes db p at tied = record {
   closed_at = refl;
   owners = tied.owners;
@@ -244,7 +244,7 @@ tied_closes db p at tied = record {
 }
 
 -- a snapshot is read
-pub tied_snapshot : (db : Database) (p : List Effect) (t : ℕ) (x : List ℕ) (v : After) → IsTied db p → IsTied db (SnapshotReads t x v ∷ p)
+pub tied_snapshot : (db : PlainDatabase) (p : List Effect) (t : ℕ) (x : List ℕ) (v : After) → IsTied db p → IsTied db (SnapshotReads t x v ∷ p)
 tied_snapshot db p t x v tied = record {
   closed_at = tied.closed_at;
   owners = tied.owners;
@@ -260,7 +260,7 @@ tied_snapshot db p t x v tied = record {
 }
 
 -- a snapshot is scanned
-pub tied_snapshot_scan : (db : Database) (p : List Effect) (t : ℕ) (span : Span) (rows : List (List ℕ × List ℕ)) → IsTied db p → IsTied db (SnapshotScans t span rows ∷ p)
+pub tied_snapshot_scan : (db : PlainDatabase) (p : List Effect) (t : ℕ) (span : Span) (rows : List (List ℕ × List ℕ)) → IsTied db p → IsTied db (SnapshotScans t span rows ∷ p)
 tied_snapshot_scan db p t span rows tied = record {
   closed_at = tied.closed_at;
   owners = tied.owners;
@@ -276,23 +276,23 @@ tied_snapshot_scan db p t span rows tied = record {
 }
 
 -- something of a feed happens
-pub tied_feeds : (db : Database) (p : List Effect) (e : Effect) (feeds : List FeedRecord) → IsOfFeed e → IsTied db p → FeedsTied feeds (e ∷ p) → IsTied (record db { feeds = feeds }) (e ∷ p)
+pub tied_feeds : (db : PlainDatabase) (p : List Effect) (e : Effect) (feeds : List FeedRecord) → IsOfFeed e → IsTied db p → FeedsTied feeds (e ∷ p) → IsTied (record db { feeds = feeds }) (e ∷ p)
 tied_feeds db p (Opens f seat kind span cursor) feeds is tied now = record { closed_at = tied.closed_at; owners = tied.owners; committed = tied.committed; aborted = tied.aborted; keys = tied.keys; versions = tied.versions; reads = tied.reads; horizon_at = tied.horizon_at; dead_count = tied.dead_count; feeds = now; protections = protections_kept db.protections p (Opens f seat kind span cursor) tt tied.protections }
 tied_feeds db p (Polls f max ms) feeds is tied now = record { closed_at = tied.closed_at; owners = tied.owners; committed = tied.committed; aborted = tied.aborted; keys = tied.keys; versions = tied.versions; reads = tied.reads; horizon_at = tied.horizon_at; dead_count = tied.dead_count; feeds = now; protections = protections_kept db.protections p (Polls f max ms) tt tied.protections }
 tied_feeds db p (Cancels f) feeds is tied now = record { closed_at = tied.closed_at; owners = tied.owners; committed = tied.committed; aborted = tied.aborted; keys = tied.keys; versions = tied.versions; reads = tied.reads; horizon_at = tied.horizon_at; dead_count = tied.dead_count; feeds = now; protections = protections_kept db.protections p (Cancels f) tt tied.protections }
 tied_feeds db p _ feeds is tied now = absurd is
 
 -- something of a protection happens
-pub tied_protections : (db : Database) (p : List Effect) (e : Effect) (protections : Standing) → IsOfProtection e → IsTied db p → ProtectionsTied protections (e ∷ p) → IsTied (record db { protections = protections }) (e ∷ p)
+pub tied_protections : (db : PlainDatabase) (p : List Effect) (e : Effect) (protections : Standing) → IsOfProtection e → IsTied db p → ProtectionsTied protections (e ∷ p) → IsTied (record db { protections = protections }) (e ∷ p)
 tied_protections db p (Protects id t) protections is tied now = record { closed_at = tied.closed_at; owners = tied.owners; committed = tied.committed; aborted = tied.aborted; keys = tied.keys; versions = tied.versions; reads = tied.reads; horizon_at = tied.horizon_at; dead_count = tied.dead_count; feeds = feeds_kept db.feeds p (Protects id t) tt tied.feeds; protections = now }
 tied_protections db p (Releases id) protections is tied now = record { closed_at = tied.closed_at; owners = tied.owners; committed = tied.committed; aborted = tied.aborted; keys = tied.keys; versions = tied.versions; reads = tied.reads; horizon_at = tied.horizon_at; dead_count = tied.dead_count; feeds = feeds_kept db.feeds p (Releases id) tt tied.feeds; protections = now }
 tied_protections db p _ protections is tied now = absurd is
 
 -- closed moves hard
-abbrev pub goes : Database → ℕ → ℕ → Bool
+abbrev pub goes : PlainDatabase → ℕ → ℕ → Bool
 goes db to = is_undecided_at db.transactions db.closed to
 
-pub tied_hard_closes : (db : Database) (p : List Effect) (to at : ℕ) (table : Table) (chains : Stored)
+pub tied_hard_closes : (db : PlainDatabase) (p : List Effect) (to at : ℕ) (table : Table) (chains : Stored)
     → ((i : ℕ) → transaction_at table i ≡ option_map (hard_closed (nat_le i to)) (transaction_at db.transactions i)) → IsCleared db.chains chains (goes db to) → IsTied db p → AllAllowed p
     → IsTied (record db { closed = at; transactions = table; chains = chains }) (HardCloses to at ∷ p)
 tied_hard_closes db p to at table chains set cleared tied all = record {

@@ -9,9 +9,9 @@ use Rattle.spans.proofs.Members.{Has, same_length, distinct_filter, has_filter, 
 use Rattle.spans.proofs.Horizon.{least_low}
 use Rattle.kept.proofs.Counts.{has_undecided}
 use Rattle.plain_versions.specs.declared.transactions.Transaction.{Transaction}
-use Rattle.plain_versions.specs.declared.transactions.State.{State}
-use Rattle.plain_versions.specs.declared.transactions.State.TheVariants as states
-use Rattle.plain_database.specs.declared.database.Database.{Database}
+use Rattle.spans.specs.declared.state.State.{State}
+use Rattle.spans.specs.declared.state.State.TheVariants as states
+use Rattle.plain_database.specs.declared.database.PlainDatabase.{PlainDatabase}
 use Rattle.plain_versions.specs.Counting.{IsCountOf}
 use Rattle.plain_versions.specs.Transactions.{transaction_at, is_open_state, is_committed_state, is_aborted_state, open_in, committed_in, is_undecided_through, IsDecidedThrough}
 use Rattle.plain_database.specs.Tied.{owner_in, aborted_in, IsTied}
@@ -27,18 +27,18 @@ open_is : (o : Option Transaction) → open_in o ≡ (is_some (owner_in o) && (n
 open_is None = refl
 open_is (Some x) = open_state x.state
 
-pub open_at : (db : Database) (p : List Effect) → IsTied db p → (t : ℕ) → open_in (transaction_at db.transactions t) ≡ is_undecided p t
+pub open_at : (db : PlainDatabase) (p : List Effect) → IsTied db p → (t : ℕ) → open_in (transaction_at db.transactions t) ≡ is_undecided p t
 open_at db p tied t = open_is (transaction_at db.transactions t) ∙ rw (tied.owners t, tied.committed t, tied.aborted t) refl
 
 -- ---- how many
 
-pub open_count : (db : Database) (p : List Effect) (n : ℕ) → AllAllowed p → IsTied db p → IsCountOf (λ t. open_in (transaction_at db.transactions t)) n → n ≡ length (undecided_timestamps p)
+pub open_count : (db : PlainDatabase) (p : List Effect) (n : ℕ) → AllAllowed p → IsTied db p → IsCountOf (λ t. open_in (transaction_at db.transactions t)) n → n ≡ length (undecided_timestamps p)
 open_count db p n all tied c = sym c.count ∙ same_length c.all (undecided_timestamps p) c.distinct (open_distinct p all) (λ t. let here = c.each t in let there = has_undecided p t in (
   λ i. there.1 (sym (open_at db p tied t) ∙ here.0 i),
   λ i. here.1 (open_at db p tied t ∙ there.0 i),
 ))
 
-pub open_count_through : (db : Database) (p : List Effect) (to n : ℕ) → AllAllowed p → IsTied db p → IsCountOf (is_undecided_through db.transactions to) n → n ≡ length (filter (λ t. nat_le t to) (undecided_timestamps p))
+pub open_count_through : (db : PlainDatabase) (p : List Effect) (to n : ℕ) → AllAllowed p → IsTied db p → IsCountOf (is_undecided_through db.transactions to) n → n ≡ length (filter (λ t. nat_le t to) (undecided_timestamps p))
 open_count_through db p to n all tied c =
     sym c.count
     ∙ same_length c.all (filter (λ t. nat_le t to) (undecided_timestamps p)) c.distinct (distinct_filter (λ t. nat_le t to) (undecided_timestamps p) (open_distinct p all))
@@ -71,7 +71,7 @@ least_is to n ts low all reached =
       | inr there ↦ (let down = least_reached to there.0 ts there.1 in let at = there.2 in omega arith)
     ]
 
-pub decided_through_is : (db : Database) (p : List Effect) (to n : ℕ) → IsTied db p → IsDecidedThrough db.transactions to n → n ≡ decided_through p to
+pub decided_through_is : (db : PlainDatabase) (p : List Effect) (to n : ℕ) → IsTied db p → IsDecidedThrough db.transactions to n → n ≡ decided_through p to
 decided_through_is db p to n tied is = least_is to n (undecided_timestamps p) is.most
     (λ t i. is.below t (open_at db p tied t ∙ (has_undecided p t).0 i))
     (elim is.reached [

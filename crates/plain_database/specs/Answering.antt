@@ -8,44 +8,44 @@ use Rattle.spans.specs.Answer.{answer_of}
 use Rattle.spans.specs.Effects.{Effect, effects_of, event}
 use Rattle.spans.specs.Feeds.{Feed, feed_of, next_messages}
 use Rattle.spans.specs.Legal.{IsRightEvent, is_accepted, may_lack_memory}
-use Rattle.plain_database.specs.declared.database.Database.{Database}
+use Rattle.plain_database.specs.declared.database.PlainDatabase.{PlainDatabase}
 use Rattle.plain_database.specs.Tied.{StandsFor}
 
 -- this holds of the effects of each history that the database stands for
-abbrev pub AfterEach : Database → (List Effect → Type 0) → Type 0
+abbrev pub AfterEach : PlainDatabase → (List Effect → Type 0) → Type 0
 AfterEach db P = (h : List Event) → StandsFor db h → P (effects_of h)
 
 -- the same, of each history whose events a `u64` can count
-abbrev pub AfterCounted : Database → (List Effect → Type 0) → Type 0
+abbrev pub AfterCounted : PlainDatabase → (List Effect → Type 0) → Type 0
 AfterCounted db P = (h : List Event) → StandsFor db h → length h < 18446744073709551615 → P (effects_of h)
 
 -- after each history that the database stands for, this is the answer to the seat's command
-abbrev pub Answers : Database → ℕ → Cmd → Reply → Type 0
+abbrev pub Answers : PlainDatabase → ℕ → Cmd → Reply → Type 0
 Answers db seat cmd reply = (h : List Event) → StandsFor db h → reply ≡ answer_of (effects_of h) seat cmd
 
 -- the same, after each history whose events a `u64` can count
-abbrev pub AnswersCounted : Database → ℕ → Cmd → Reply → Type 0
+abbrev pub AnswersCounted : PlainDatabase → ℕ → Cmd → Reply → Type 0
 AnswersCounted db seat cmd reply =
     (h : List Event) → StandsFor db h → length h < 18446744073709551615 → reply ≡ answer_of (effects_of h) seat cmd
 
 -- the answer is no refusal
-abbrev pub Accepts : Database → ℕ → Cmd → Type 0
+abbrev pub Accepts : PlainDatabase → ℕ → Cmd → Type 0
 Accepts db seat cmd = (h : List Event) → StandsFor db h → is_accepted (answer_of (effects_of h) seat cmd) ≡ true
 
 -- the answer is no refusal, and the command may lack memory
-abbrev pub MayLackMemory : Database → ℕ → Cmd → Type 0
+abbrev pub MayLackMemory : PlainDatabase → ℕ → Cmd → Type 0
 MayLackMemory db seat cmd =
     (h : List Event) → StandsFor db h → (is_accepted (answer_of (effects_of h) seat cmd) ≡ true) × (may_lack_memory cmd ≡ true)
 
 -- where the database stands for a history after which the reply to the seat's command is right, the other stands for
 -- both, whatever the command's position
-abbrev pub Records : Database → ℕ → Cmd → Reply → Database → Type 0
+abbrev pub Records : PlainDatabase → ℕ → Cmd → Reply → PlainDatabase → Type 0
 Records db seat cmd reply db' =
     (h : List Event) (n : ℕ) → StandsFor db h → IsRightEvent (effects_of h) (event n seat cmd reply)
     → StandsFor db' (event n seat cmd reply ∷ h)
 
 -- these are the next messages of the feed, at most max
-abbrev pub AreNext : Database → ℕ → ℕ → List Message → Type 0
+abbrev pub AreNext : PlainDatabase → ℕ → ℕ → List Message → Type 0
 AreNext db f max ms =
     (h : List Event) (feed : Feed) → StandsFor db h → feed_of (effects_of h) f ≡ Some feed
     → ms ≡ next_messages (effects_of h) f feed max

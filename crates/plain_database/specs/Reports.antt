@@ -6,21 +6,21 @@ use Rattle.spans.specs.declared.report.FeedReport.{FeedReport}
 use Rattle.spans.specs.Effects.{effects_of}
 use Rattle.spans.specs.Feeds.{Feed, feed_of, untold_rows}
 use Rattle.spans.specs.Report.{IsFeedReport}
-use Rattle.plain_database.specs.declared.database.Database.{Database}
+use Rattle.plain_database.specs.declared.database.PlainDatabase.{PlainDatabase}
 use Rattle.plain_database.specs.Answering.{AfterEach}
 use Rattle.plain_database.specs.Tied.{StandsFor}
 
 -- the feed has still to tell so many rows
-abbrev pub IsUntoldCount : Database → ℕ → ℕ → Type 0
+abbrev pub IsUntoldCount : PlainDatabase → ℕ → ℕ → Type 0
 IsUntoldCount db f n =
     (h : List Event) (feed : Feed) → StandsFor db h → feed_of (effects_of h) f ≡ Some feed
     → n ≡ length (untold_rows (effects_of h) f feed)
 
 -- where the first is the report of a feed without that count, the second is the one with it
-pub record IsCounted (db : Database) (live whole : FeedReport) : Type 0 where
+pub record IsCounted (db : PlainDatabase) (live whole : FeedReport) : Type 0 where
   pub number : whole.number ≡ live.number
   pub right : AfterEach db (λ p. IsFeedReport false p live → IsFeedReport true p whole)
 
 -- the same, report by report
-abbrev pub AreCounted : Database → List FeedReport → List FeedReport → Type 0
+abbrev pub AreCounted : PlainDatabase → List FeedReport → List FeedReport → Type 0
 AreCounted db lives wholes = AllZip (IsCounted db) lives wholes

@@ -11,7 +11,7 @@ use Rattle.spans.specs.Legal.{IsLegal}
 use Rattle.plain_feeds.specs.FeedTie.{FeedsTied}
 use Rattle.plain_feeds.specs.ProtectionTie.{ProtectionsTied}
 use Rattle.plain_versions.specs.declared.transactions.Transaction.{Transaction}
-use Rattle.plain_database.specs.declared.database.Database.{Database}
+use Rattle.plain_database.specs.declared.database.PlainDatabase.{PlainDatabase}
 use Rattle.plain_versions.specs.Transactions.{transaction_at, committed_in, has_aborted}
 use Rattle.plain_versions.specs.Chains.{version_at}
 use Rattle.plain_database.specs.Dying.{dead_then}
@@ -26,11 +26,11 @@ aborted_in None = false
 aborted_in (Some x) = has_aborted x
 
 -- the closed timestamp that the database keeps
-abbrev pub closed_timestamp : Database → ℕ
+abbrev pub closed_timestamp : PlainDatabase → ℕ
 closed_timestamp db = db.closed
 
 -- each map says what the definitions say of p
-pub record IsTied (db : Database) (p : List Effect) : Type 0 where
+pub record IsTied (db : PlainDatabase) (p : List Effect) : Type 0 where
   pub closed_at : db.closed ≡ closed_of p
   pub owners : (t : ℕ) → owner_in (transaction_at db.transactions t) ≡ owner_of p t
   pub committed : (t : ℕ) → committed_in (transaction_at db.transactions t) ≡ is_committed p t
@@ -44,6 +44,6 @@ pub record IsTied (db : Database) (p : List Effect) : Type 0 where
   pub protections : ProtectionsTied db.protections p
 
 -- the database is what a legal history led to, whose newest event stands first
-pub record StandsFor (db : Database) (h : List Event) : Type 0 where
+pub record StandsFor (db : PlainDatabase) (h : List Event) : Type 0 where
   pub legal : IsLegal h
   pub tied : IsTied db (effects_of h)

@@ -3,11 +3,11 @@ ghost use Rattle.std.specs.Prelude.{ℕ};
 ghost use Rattle.spans.specs.declared.calls.commands.Cmd.TheVariants.{Close, CloseHard};
 ghost use Rattle.plain_database.specs.Answering.{Answers, Records};
 
-use crate::database::Database;
+use crate::database::PlainDatabase;
 use spans::calls::{Refusal, Reply};
 use timestamps::ts::MAX;
 
-impl Database {
+impl PlainDatabase {
     pub(crate) fn answer_close(&self, to: u64) -> Reply
         ensures { (seat : ℕ) → Answers self.now seat (Close to) result }
     {

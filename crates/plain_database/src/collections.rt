@@ -3,12 +3,12 @@ ghost use Rattle.std.specs.Prelude.{ℕ};
 ghost use Rattle.spans.specs.declared.calls.commands.Cmd.TheVariants.{Collect};
 ghost use Rattle.plain_database.specs.Answering.{AnswersCounted, Records};
 
-use crate::database::Database;
+use crate::database::PlainDatabase;
 use plain_feeds::horizon_reached;
 use spans::calls::{Refusal, Reply};
 use timestamps::ts::MAX;
 
-impl Database {
+impl PlainDatabase {
     pub(crate) fn answer_collect(&self, to: u64) -> Reply
         ensures { (seat : ℕ) → AnswersCounted self.now seat (Collect to) result }
     {

@@ -11,7 +11,7 @@ use std::alloc::{AllocError, Global};
 
 /// What a history led to.
 #[derive(Drop)]
-pub struct Database {
+pub struct PlainDatabase {
     pub(crate) alloc: Global,
     pub(crate) closed: u64,
     pub(crate) transactions: Transactions,
@@ -24,17 +24,17 @@ pub struct Database {
     pub(crate) protections: Protections,
 }
 
-impl Database {
+impl PlainDatabase {
     ghost use Rattle.spans.specs.Legal.{is_accepted, may_lack_memory};
     ghost use Rattle.spans.specs.Transactions.{closed_of};
     ghost use Rattle.plain_database.specs.Answering.{AfterEach, AnswersCounted, MayLackMemory, Records};
     ghost use Rattle.plain_database.specs.Tied.{StandsFor, closed_timestamp};
 
     /// The database of the empty history.
-    pub fn new(alloc: Global) -> Database
+    pub fn new(alloc: Global) -> PlainDatabase
         ensures { StandsFor result [] }
     {
-        Database {
+        PlainDatabase {
             alloc,
             closed: 0,
             transactions: Transactions::new(alloc),

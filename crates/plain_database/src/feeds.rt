@@ -9,7 +9,7 @@ ghost use Rattle.spans.specs.Legal.{is_accepted};
 ghost use Rattle.plain_feeds.specs.FeedTie.{IsOpened};
 ghost use Rattle.plain_database.specs.Answering.{Accepts, AfterCounted, Answers, AreNext, Records};
 
-use crate::database::Database;
+use crate::database::PlainDatabase;
 use spans::calls::{Messages, Refusal, Reply};
 use spans::kind::Kind;
 use spans::span::Span;
@@ -33,7 +33,7 @@ fn is_gap(gap: Option<u64>) -> bool
     }
 }
 
-impl Database {
+impl PlainDatabase {
     /// The answer to an opening of a feed of this kind: its tests in order.
     pub(crate) fn answer_open(&self, kind: Kind, cursor: u64) -> Reply
         ensures { AfterCounted self.now (λ p. result ≡ opening_answer kind p cursor) }

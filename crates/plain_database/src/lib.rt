@@ -6,7 +6,7 @@
 //! protections and feeds in `plain_feeds`. Reads of keys and of spans are here, each with the timestamps that it read
 //! from. [`limit_law::law_of_limits`] states that the limit of a report is how far a collection goes.
 //!
-//! 1. A [`Database`](database::Database) has a map for each thing that a history is asked about.
+//! 1. A [`PlainDatabase`](database::PlainDatabase) has a map for each thing that a history is asked about.
 //! 2. A closing forgets no transaction and no read, and a collection drops no version. Only aborts and hard closings
 //!    drop versions.
 //! 3. Messages told to feeds are forgotten, and each feed's place is kept.

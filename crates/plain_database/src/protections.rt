@@ -5,12 +5,12 @@ ghost use Rattle.spans.specs.Answer.{first_refusal, horizon_tests};
 ghost use Rattle.spans.specs.Legal.{is_accepted};
 ghost use Rattle.plain_database.specs.Answering.{AfterEach, Answers, AnswersCounted, Records};
 
-use crate::database::Database;
+use crate::database::PlainDatabase;
 use spans::calls::{Refusal, Reply};
 use std::alloc::AllocError;
 use timestamps::ts::MAX;
 
-impl Database {
+impl PlainDatabase {
     pub(crate) fn answer_protect(&self, t: u64) -> Reply
         ensures { (seat : ℕ) → AnswersCounted self.now seat (Protect t) result }
     {

@@ -6,13 +6,13 @@ ghost use Rattle.plain_feeds.specs.Reports.{AreOpened};
 ghost use Rattle.plain_database.specs.Answering.{AfterCounted, AfterEach};
 ghost use Rattle.plain_database.specs.Reports.{AreCounted, IsCounted, IsUntoldCount};
 
-use crate::database::Database;
+use crate::database::PlainDatabase;
 use plain_feeds::horizon_reached;
 use spans::report::{FeedReport, Report};
 use std::alloc::AllocError;
 use timestamps::ts::Ts;
 
-impl Database {
+impl PlainDatabase {
     /// What an operator may ask of it: the whole report, or the live one, which leaves out the two counts that need a walk.
     /// It changes nothing.
     pub fn report(&self, whole: bool) -> Result<Report, AllocError>

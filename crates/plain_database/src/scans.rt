@@ -7,12 +7,12 @@ ghost use Rattle.spans.specs.Legal.{is_accepted};
 ghost use Rattle.plain_database.specs.Answering.{Accepts, AfterEach, Answers, Records};
 ghost use Rattle.plain_database.specs.Replies.{block_tests, rows_seen};
 
-use crate::database::Database;
+use crate::database::PlainDatabase;
 use spans::calls::{Refusal, Reply, Rows};
 use spans::span::Span;
 use std::alloc::AllocError;
 
-impl Database {
+impl PlainDatabase {
     pub(crate) fn answer_scan(&self, seat: u8, ts: u64, span: &Span) -> Result<Reply, AllocError>
         ensures answer { IfOk result (λ reply. Answers self.now seat (Scan ts span.now) reply) }
         ensures memory { OnErr result (Accepts self.now seat (Scan ts span.now)) }

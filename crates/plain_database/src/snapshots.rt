@@ -5,14 +5,14 @@ ghost use Rattle.spans.specs.Answer.{first_refusal, snapshot_tests};
 ghost use Rattle.plain_database.specs.Answering.{Accepts, AfterEach, Answers};
 ghost use Rattle.plain_database.specs.Replies.{rows_committed};
 
-use crate::database::Database;
+use crate::database::PlainDatabase;
 use spans::calls::{Refusal, Reply, Rows};
 use spans::span::Span;
 use std::alloc::AllocError;
 use timestamps::key::Key;
 use timestamps::row::copy_after;
 
-impl Database {
+impl PlainDatabase {
     pub(crate) fn answer_read_at(&self, t: u64, key: &Key) -> Result<Reply, AllocError>
         ensures answer { IfOk result (λ reply. (seat : ℕ) → Answers self.now seat (ReadAt t key.now) reply) }
         ensures memory { OnErr result ((seat : ℕ) → Accepts self.now seat (ReadAt t key.now)) }

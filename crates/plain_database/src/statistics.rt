@@ -5,10 +5,10 @@ ghost use Rattle.spans.specs.Collection.{dead_of, versions_of};
 ghost use Rattle.spans.specs.Transactions.{undecided_timestamps};
 ghost use Rattle.plain_database.specs.Answering.{AfterCounted, AfterEach, AnswersCounted};
 
-use crate::database::Database;
+use crate::database::PlainDatabase;
 use spans::calls::Reply;
 
-impl Database {
+impl PlainDatabase {
     /// The versions are counted without the dead ones.
     pub(crate) fn answer_stats(&self) -> Reply
         ensures { (seat : ℕ) → AnswersCounted self.now seat Stats result }

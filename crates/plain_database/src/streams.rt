@@ -6,7 +6,7 @@ ghost use Rattle.plain_versions.specs.Snapshots.{AreNextValues};
 ghost use Rattle.plain_versions.specs.Streams.{AreNextRows};
 ghost use Rattle.plain_database.specs.Streams.{AreLeft, IsInSnapshot};
 
-use crate::database::Database;
+use crate::database::PlainDatabase;
 use plain_feeds::{FeedRecord, Place};
 use spans::span::Span;
 use std::alloc::AllocError;
@@ -14,7 +14,7 @@ use timestamps::key::Key;
 use timestamps::row::Row;
 use timestamps::ts::Ts;
 
-impl Database {
+impl PlainDatabase {
     /// The first `max` rows of a feed's list through `through` that it was not told.
     pub(crate) fn rows_left(
         &self,

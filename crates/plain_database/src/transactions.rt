@@ -6,21 +6,22 @@ ghost use Rattle.spans.specs.Legal.{is_accepted};
 ghost use Rattle.spans.specs.Versions.{visible};
 ghost use Rattle.plain_versions.specs.Chains.{IsCleared};
 ghost use Rattle.plain_versions.specs.Transactions.{committed_in, decided, transaction_at, IsSetAt};
-ghost use Rattle.plain_versions.specs.declared.transactions.Outcome.TheVariants as outcomes;
+ghost use Rattle.plain_versions.specs.declared.transactions.Decision.TheVariants as decisions;
 ghost use Rattle.plain_database.specs.Answering.{Accepts, AfterEach, Answers, Records};
 ghost use Rattle.plain_database.specs.Late.{is_late};
 ghost use Rattle.plain_database.specs.Replies.{write_answer};
 
-use crate::database::Database;
-use plain_versions::{Outcome, State};
+use crate::database::PlainDatabase;
+use plain_versions::Decision;
 use spans::calls::{Refusal, Reply};
+use spans::state::State;
 use std::alloc::AllocError;
 use timestamps::key::Key;
 use timestamps::row::copy_after;
 use timestamps::ts::MAX;
 use timestamps::value::Value;
 
-impl Database {
+impl PlainDatabase {
     pub(crate) fn answer_begin(&self, ts: u64) -> Reply
         ensures { (seat : ℕ) → Answers self.now seat (Begin ts) result }
     {
@@ -171,7 +172,7 @@ impl Database {
         ensures { (seat : ℕ) → Records self.old seat (Commit ts) reply.now self.new }
     {
         match reply {
-            Reply::Committed { keys: _ } => self.transactions.decide(ts, Outcome::Committed),
+            Reply::Committed { keys: _ } => self.transactions.decide(ts, Decision::Committed),
             _ => {}
         }
     }
@@ -196,14 +197,14 @@ impl Database {
 
     /// Aborts a transaction. Its versions go.
     fn abort(&mut self, ts: u64)
-        ensures transactions { IsSetAt self.old.transactions self.new.transactions ts (option_map (decided outcomes.Aborted)) }
+        ensures transactions { IsSetAt self.old.transactions self.new.transactions ts (option_map (decided decisions.Aborted)) }
         ensures chains { IsCleared self.old.chains self.new.chains (λ i. ts == i) }
         ensures rest { self.new ≡ record self.old {
           transactions = self.new.transactions;
           chains = self.new.chains;
         } }
     {
-        self.transactions.decide(ts, Outcome::Aborted);
+        self.transactions.decide(ts, Decision::Aborted);
         self.chains.drop_of(ts);
     }
 

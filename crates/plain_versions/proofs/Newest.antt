@@ -7,7 +7,7 @@ use Rattle.std.proofs.lemmas.Bool.Decides.{nat_tests}
 use Rattle.spans.specs.Effects.{After}
 use Rattle.spans.specs.Newest.{Version as Seen, version_at as seen_at, newest, IsNewest}
 use Rattle.spans.proofs.Steps.{newest_only}
-use Rattle.plain_versions.specs.declared.versions.Version.{Version}
+use Rattle.plain_versions.specs.declared.versions.LentVersion.{LentVersion}
 use Rattle.plain_versions.specs.Scans.{stopped_by}
 use Rattle.plain_versions.specs.Transactions.{Table, transaction_at, committed_in}
 use Rattle.plain_versions.specs.Versions.{Chain, version_in, settled, IsBestOf}
@@ -92,11 +92,11 @@ above_none k other = grind (arith, other)
 
 -- ---- what was found
 
-abbrev pub place_of : Option Version → Seen
+abbrev pub place_of : Option LentVersion → Seen
 place_of None = seen_at 0 None
 place_of (Some v) = seen_at v.ts v.after.now
 
-pub best_is : (f : ℕ → Option After) (t : ℕ) (o : Option Version) → IsBestOf f t o → newest f t ≡ place_of o
+pub best_is : (f : ℕ → Option After) (t : ℕ) (o : Option LentVersion) → IsBestOf f t o → newest f t ≡ place_of o
 best_is f t None best = newest_only f t 0 None best
 best_is f t (Some v) best = newest_only f t v.ts v.after.now best.0
 

@@ -6,8 +6,8 @@ use Rattle.std.proofs.lemmas.List.Elements.{All-append, All-cons, All-nil}
 use Rattle.spans.specs.declared.report.TransactionReport.{TransactionReport}
 use Rattle.spans.proofs.Members.{has_append}
 use Rattle.plain_versions.specs.declared.transactions.Transaction.{Transaction}
-use Rattle.plain_versions.specs.declared.transactions.State.{State}
-use Rattle.plain_versions.specs.declared.transactions.State.TheVariants.{Undecided, Committed, Aborted}
+use Rattle.spans.specs.declared.state.State.{State}
+use Rattle.spans.specs.declared.state.State.TheVariants.{Undecided, Committed, Aborted}
 use Rattle.plain_versions.specs.Chains.{Stored, wrote}
 use Rattle.plain_versions.specs.Counting.{IsCountOf}
 use Rattle.plain_versions.specs.Reports.{AreAllOpen, AreOpen, IsOpenReport}

@@ -4,10 +4,10 @@ use Rattle.std.specs.Map.{lookup}
 use Rattle.std.specs.BTreeMap.{is_at}
 use Rattle.std.specs.Ordering.{nat_cmp}
 use Rattle.plain_versions.specs.declared.transactions.Transaction.{Transaction}
-use Rattle.plain_versions.specs.declared.transactions.State.{State}
-use Rattle.plain_versions.specs.declared.transactions.State.TheVariants.{Undecided, Committed, Aborted}
-use Rattle.plain_versions.specs.declared.transactions.Outcome.{Outcome}
-use Rattle.plain_versions.specs.declared.transactions.Outcome.TheVariants as outcomes
+use Rattle.spans.specs.declared.state.State.{State}
+use Rattle.spans.specs.declared.state.State.TheVariants.{Undecided, Committed, Aborted}
+use Rattle.plain_versions.specs.declared.transactions.Decision.{Decision}
+use Rattle.plain_versions.specs.declared.transactions.Decision.TheVariants as decisions
 
 -- the transactions, each with its timestamp
 abbrev pub Table : Type 0
@@ -30,13 +30,13 @@ abbrev pub begun : ℕ → Option Transaction → Option Transaction
 begun seat o = Some (unwrap_or o (new_transaction seat))
 
 -- how far one is that ended so
-abbrev pub state_after : Outcome → State
-state_after outcomes.Committed = Committed
-state_after outcomes.Aborted = Aborted
+abbrev pub state_after : Decision → State
+state_after decisions.Committed = Committed
+state_after decisions.Aborted = Aborted
 
 -- the transaction, ended so
-abbrev pub decided : Outcome → Transaction → Transaction
-decided outcome x = record x { state = state_after outcome }
+abbrev pub decided : Decision → Transaction → Transaction
+decided decision x = record x { state = state_after decision }
 
 abbrev pub is_committed_state : State → Bool
 is_committed_state Undecided = false

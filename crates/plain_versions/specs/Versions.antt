@@ -5,7 +5,7 @@ use Rattle.std.specs.BTreeMap.{is_at}
 use Rattle.std.specs.Ordering.{nat_cmp}
 use Rattle.spans.specs.Effects.{After}
 use Rattle.spans.specs.Newest.{IsNewest}
-use Rattle.plain_versions.specs.declared.versions.Version.{Version}
+use Rattle.plain_versions.specs.declared.versions.LentVersion.{LentVersion}
 use Rattle.plain_versions.specs.Transactions.{Table, transaction_at, committed_in}
 
 -- the versions of a key: what each transaction that wrote it left there
@@ -25,9 +25,9 @@ abbrev pub settled : Table → Chain → ℕ → Option After
 settled table versions k = if committed_in (transaction_at table k) then version_in versions k else None
 
 -- of the versions, the one with the greatest timestamp at most t was found
-abbrev pub IsBestOf : (ℕ → Option After) → ℕ → Option Version → Type 0
+abbrev pub IsBestOf : (ℕ → Option After) → ℕ → Option LentVersion → Type 0
 IsBestOf versions t None = IsNewest versions t 0 None
 IsBestOf versions t (Some v) = IsNewest versions t v.ts v.after.now × (0 < v.ts)
 
-abbrev pub IsBest : Chain → ℕ → Option Version → Type 0
+abbrev pub IsBest : Chain → ℕ → Option LentVersion → Type 0
 IsBest versions t found = IsBestOf (version_in versions) t found

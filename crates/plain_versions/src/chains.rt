@@ -12,7 +12,7 @@ ghost use Rattle.plain_versions.specs.Written.{is_version};
 use crate::chain_map::ChainMap;
 use crate::in_span::InSpan;
 use crate::transactions::Transactions;
-use crate::versions::Version;
+use crate::versions::LentVersion;
 use crate::written::Written;
 use spans::span::Span;
 use std::alloc::{AllocError, Global};
@@ -52,7 +52,7 @@ impl Chains {
     }
 
     /// The version of the key with the greatest timestamp at most `ts`. A version at 0 is left out.
-    pub fn newest(&self, key: &Key, ts: u64) -> Option<Version<'_>>
+    pub fn newest(&self, key: &Key, ts: u64) -> Option<LentVersion<'_>>
         ensures { IsBest (versions_at self.now key.now) ts result }
     {
         match self.map.get(key) {

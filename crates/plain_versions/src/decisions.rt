@@ -3,18 +3,19 @@ ghost use Rattle.std.specs.Prelude.{◌≡◌, ℕ, nat_le, option_map};
 ghost use Rattle.plain_versions.specs.Transactions.{decided, hard_closed, transaction_at, IsSetAt};
 ghost use Rattle.plain_versions.specs.Undecided.{AreUndecided};
 
-use crate::transactions::{Outcome, State, Transaction};
+use crate::transactions::{Decision, Transaction};
+use spans::state::State;
 use std::collections::{BTreeMap, BTreeSet};
 use timestamps::ts_key::TsKey;
 
 /// Notes how the transaction of `ts` ended, where there is one.
-pub(crate) fn decide_at(table: &mut BTreeMap<TsKey, Transaction>, ts: u64, outcome: Outcome)
-    ensures { IsSetAt table.old.entries table.new.entries ts (option_map (decided outcome)) }
+pub(crate) fn decide_at(table: &mut BTreeMap<TsKey, Transaction>, ts: u64, decision: Decision)
+    ensures { IsSetAt table.old.entries table.new.entries ts (option_map (decided decision)) }
 {
     if let Some(transaction) = table.get_mut(&TsKey(ts)) {
-        transaction.state = match outcome {
-            Outcome::Committed => State::Committed,
-            Outcome::Aborted => State::Aborted,
+        transaction.state = match decision {
+            Decision::Committed => State::Committed,
+            Decision::Aborted => State::Aborted,
         };
     }
 }
@@ -35,7 +36,7 @@ pub(crate) fn abort_open(
         if oldest > to {
             break;
         }
-        decide_at(table, oldest, Outcome::Aborted);
+        decide_at(table, oldest, Decision::Aborted);
         undecided.pop_first();
     }
 }

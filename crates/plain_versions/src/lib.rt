@@ -56,5 +56,5 @@ mod written;
 
 pub use chains::Chains;
 pub use sources::Sources;
-pub use transactions::{Outcome, State, Transaction, Transactions};
-pub use versions::{Version, Versions};
+pub use transactions::{Decision, Transaction, Transactions};
+pub use versions::{LentVersion, Versions};

@@ -6,6 +6,7 @@ ghost use Rattle.plain_versions.specs.Undecided.{AreUndecidedBetween};
 ghost use Rattle.plain_versions.specs.Transactions.{transaction_at, committed_in, open_in, begun, decided, hard_closed, is_undecided_through, IsDecidedThrough, IsSetAt};
 
 use crate::decisions::{abort_open, decide_at};
+use spans::state::State;
 use std::alloc::{AllocError, Global};
 use std::collections::btree_map::Entry;
 use std::collections::btree_set::Range;
@@ -14,17 +15,9 @@ use std::marker::Model;
 use std::ops::Bound;
 use timestamps::ts_key::TsKey;
 
-/// How far a transaction is.
-#[derive(Clone, Copy, Debug, PartialEq, Eq, Drop)]
-pub enum State {
-    Undecided,
-    Committed,
-    Aborted,
-}
-
 /// How a transaction ends.
 #[derive(Clone, Copy, Debug, PartialEq, Eq, Drop)]
-pub enum Outcome {
+pub enum Decision {
     Committed,
     Aborted,
 }
@@ -104,10 +97,10 @@ impl Transactions {
     }
 
     /// Notes how a transaction ended. Where none has this timestamp, nothing changes.
-    pub fn decide(&mut self, ts: u64, outcome: Outcome)
-        ensures { IsSetAt self.old self.new ts (option_map (decided outcome)) }
+    pub fn decide(&mut self, ts: u64, decision: Decision)
+        ensures { IsSetAt self.old self.new ts (option_map (decided decision)) }
     {
-        decide_at(&mut self.table, ts, outcome);
+        decide_at(&mut self.table, ts, decision);
         self.undecided.remove(&TsKey(ts));
     }
 

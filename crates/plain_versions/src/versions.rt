@@ -13,7 +13,7 @@ use timestamps::value::Value;
 
 /// What a transaction wrote at a key, lent.
 #[derive(Clone, Copy)]
-pub struct Version<'a> {
+pub struct LentVersion<'a> {
     pub ts: u64,
     /// The value that it wrote last, or `None` for a delete.
     pub after: &'a Option<Value>,
@@ -58,7 +58,7 @@ impl Versions {
     }
 
     /// The version with the greatest timestamp at most `ts`. A version at 0 is left out.
-    pub(crate) fn newest(&self, ts: u64) -> Option<Version<'_>>
+    pub(crate) fn newest(&self, ts: u64) -> Option<LentVersion<'_>>
         ensures { IsBest self.now ts result }
     {
         match self.map.range(..=TsKey(ts)).next_back() {
@@ -67,13 +67,17 @@ impl Versions {
                 if found.0 == 0 {
                     return None;
                 }
-                Some(Version { ts: found.0, after })
+                Some(LentVersion { ts: found.0, after })
             }
         }
     }
 
     /// Of the committed versions, the one with the greatest timestamp at most `t`.
-    pub(crate) fn newest_settled(&self, transactions: &Transactions, t: u64) -> Option<Version<'_>>
+    pub(crate) fn newest_settled(
+        &self,
+        transactions: &Transactions,
+        t: u64,
+    ) -> Option<LentVersion<'_>>
         ensures { IsBestOf (settled transactions.now self.now) t result }
     {
         let mut through = t;

@@ -49,4 +49,4 @@ mod seed;
 mod table;
 
 pub use fault::Fault;
-pub use replica::{Replica, Rows};
+pub use replica::{KeysAndValues, Replica};

@@ -17,7 +17,7 @@ use timestamps::row::Row;
 use timestamps::value::Value;
 
 /// The rows of a replica, lent: pairs of a key and its value, keys rising.
-pub type Rows<'a> = Iter<'a, Key, Value>;
+pub type KeysAndValues<'a> = Iter<'a, Key, Value>;
 
 /// The rows of a span, as a feed tells them.
 #[derive(Debug, Drop)]
@@ -233,7 +233,7 @@ impl Replica {
     }
 
     /// The rows, keys rising.
-    pub fn rows(&self) -> Rows<'_>
+    pub fn rows(&self) -> KeysAndValues<'_>
         ensures { AreRowsOf (view_in self.now) result }
     {
         self.table.iter()

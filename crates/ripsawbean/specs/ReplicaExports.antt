@@ -10,8 +10,8 @@ use Rattle.replica.specs.declared.fault.Fault.{Fault}
 use Rattle.replica.specs.declared.fault.Fault.TheVariants as faults
 use Rattle.replica.specs.Replicas.{view_in, through_in, complete_in}
 use Rattle.embedded_replica.specs.declared.consumer.Consumer.{Consumer}
-use Rattle.embedded_replica.specs.declared.consumer.OpenError.{OpenError}
-use Rattle.embedded_replica.specs.declared.consumer.OpenError.TheVariants as opening
+use Rattle.embedded_replica.specs.declared.consumer.BeginError.{BeginError}
+use Rattle.embedded_replica.specs.declared.consumer.BeginError.TheVariants as opening
 use Rattle.embedded_replica.specs.declared.consumer.TakeError.{TakeError}
 use Rattle.embedded_replica.specs.declared.consumer.TakeError.TheVariants as taking
 use Rattle.embedded_replica.specs.Consumers.{replica_of, Begins, IsUnopened, HasTaken, IsRefused, IsReady, IsNoMessage, AreKey, IsNoKey, ShowsRows}
@@ -22,7 +22,7 @@ number_or_none None = 18446744073709551615
 number_or_none (Some t) = t
 
 -- the numbers of what is refused
-abbrev pub open_number : OpenError → ℕ
+abbrev pub open_number : BeginError → ℕ
 open_number (opening.Fault f) = code_of f
 open_number opening.NoFeed = 22
 open_number opening.NoMemory = 12
@@ -54,7 +54,7 @@ abbrev pub Opened : List ℕ → Option Consumer → ℕ → Option Consumer →
 Opened line (Some old) number new = (number ≡ 17) × (new ≡ Some old)
 Opened line None zero (Some new) = Begins line (replica_of new)
 Opened line None zero None = ⊥
-Opened line None (suc n) new = (new ≡ None) × (error : OpenError) × IsUnopened line error × (suc n ≡ open_number error)
+Opened line None (suc n) new = (new ≡ None) × (error : BeginError) × IsUnopened line error × (suc n ≡ open_number error)
 
 -- the line was taken, or nothing changed
 abbrev pub TakenBy : List ℕ → Consumer → ℕ → Consumer → Type 0

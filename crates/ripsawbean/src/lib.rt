@@ -70,6 +70,7 @@ mod typed;
 
 use crate::handle::Handle;
 use embedded::{CallError, Database};
+use spans::limits::MAX_RING;
 use std::alloc::Global;
 
 /// A key has no byte, or more than 256.
@@ -100,7 +101,7 @@ pub extern "C" fn ripsawbean_open(alloc: Global, handle: &mut Handle, ring: u32)
     ensures refused { IfSome (refusal_of ring handle.old.database) (λ n. (result ≡ n) × (handle.new.database ≡ handle.old.database)) }
     ensures opened { IfNone (refusal_of ring handle.old.database) (Opened result handle.new.database) }
 {
-    if ring == 0 || ring > 65536 {
+    if ring == 0 || ring > MAX_RING {
         return RING;
     }
     if handle.is_open() {

@@ -31,12 +31,12 @@ ghost use Rattle.std.specs.Prelude.{◌≡◌, None};
 ghost use Rattle.text_format.specs.declared.Format.TheVariants.{Two};
 ghost use Rattle.word_lines.specs.Memory.{WantsMemory, verb_at};
 ghost use Rattle.word_lines.specs.Table.{table};
-ghost use Rattle.embedded_replica.specs.declared.consumer.OpenError.TheVariants.{NoMemory};
+ghost use Rattle.embedded_replica.specs.declared.consumer.BeginError.TheVariants.{NoMemory};
 ghost use Rattle.ripsawbean.specs.ReplicaExports.{Opened, Taken, TakenBy, Told, NoTime, Hidden, ReadyBy, CompleteBy, GotBy, RowsBy, number_or_none, open_number, line_number, message_number, take_number, key_number};
 
 use crate::replica_handle::ReplicaHandle;
 use crate::{CLOSED, KEY_LENGTH, NO_MEMORY, OPEN};
-use embedded_replica::{Consumer, OpenError, TakeError};
+use embedded_replica::{BeginError, Consumer, TakeError};
 use json_lines::MessageFault;
 use replica::Fault;
 use std::alloc::Global;
@@ -308,14 +308,14 @@ fn number_or_none(time: Option<u64>) -> u64
     time.unwrap_or(NONE)
 }
 
-fn open_number(error: OpenError) -> u8
+fn open_number(error: BeginError) -> u8
     ensures number { result ≡ open_number error }
     ensures memory { result ≡ 12 → error ≡ NoMemory }
 {
     match error {
-        OpenError::Fault(fault) => fault.code(),
-        OpenError::NoFeed => NO_FEED,
-        OpenError::NoMemory => NO_MEMORY,
+        BeginError::Fault(fault) => fault.code(),
+        BeginError::NoFeed => NO_FEED,
+        BeginError::NoMemory => NO_MEMORY,
     }
 }
 

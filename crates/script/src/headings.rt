@@ -7,15 +7,13 @@ ghost use Rattle.script.specs.Memory.{name_bytes, names_at, names_of, ok_has};
 
 use crate::reply_reading::{Shape, read_reply};
 use spans::calls::Cmd;
+use spans::limits::MAX_SEATS;
 use std::alloc::Global;
 use text_format::Format;
 use word_lines::arguments::take_number;
 use word_lines::commands::{take_arguments, take_form, take_seat};
 use word_lines::fault::{LineFault, ReadError};
 use word_lines::words::{Words, text_of, words_of};
-
-/// How many seats a transcript can have.
-const SEATS: u8 = 64;
 
 /// What the first line of an event says.
 #[derive(Drop)]
@@ -47,7 +45,7 @@ fn take_heading(alloc: Global, words: &mut Words, format: Format) -> Result<Head
     ensures memory { IfErr result (λ e. e ≡ NoMemory → ok_has name_bytes (names_of words.old) ≡ true) }
 {
     let position = take_number(words)?;
-    let seat = take_seat(words, SEATS)?;
+    let seat = take_seat(words, MAX_SEATS)?;
     let form = take_form(words)?;
     let mut answer = words_behind_arrow(words, form.arguments)?;
     let cmd = take_arguments(alloc, form.verb, words, format)?;

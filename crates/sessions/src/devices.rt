@@ -5,7 +5,7 @@ ghost use Rattle.std.specs.Io.KnownBytes.{ReadConsumes, WriteAppends};
 
 use crate::sink::{Sink, WriteFailed};
 use crate::source::{ReadFailed, Source};
-use byte_log::{ByteLog, Piece};
+use byte_log::{ByteLog, Growth};
 use std::io::{Read, Write};
 
 /// A reader, with what proofs know of its reads: what they gave, and one byte for each that failed.
@@ -46,14 +46,14 @@ impl<R: Read> Source for Reading<R> {
     {
         match self.reader.read(block) {
             Ok(count) => {
-                self.given = self.given.and(&Piece {
+                self.given = self.given.and(&Growth {
                     bytes: &block[..count],
                 });
                 self.ended = count == 0;
                 Ok(count)
             }
             Err(_) => {
-                self.failed = self.failed.and(&Piece { bytes: &[0] });
+                self.failed = self.failed.and(&Growth { bytes: &[0] });
                 Err(ReadFailed)
             }
         }
@@ -96,17 +96,17 @@ impl<W: Write> Sink for Writing<W> {
     {
         match self.writer.write(bytes) {
             Ok(0) => {
-                self.failed = self.failed.and(&Piece { bytes: &[0] });
+                self.failed = self.failed.and(&Growth { bytes: &[0] });
                 Err(WriteFailed)
             }
             Ok(count) => {
-                self.taken = self.taken.and(&Piece {
+                self.taken = self.taken.and(&Growth {
                     bytes: &bytes[..count],
                 });
                 Ok(count)
             }
             Err(_) => {
-                self.failed = self.failed.and(&Piece { bytes: &[0] });
+                self.failed = self.failed.and(&Growth { bytes: &[0] });
                 Err(WriteFailed)
             }
         }

@@ -7,6 +7,7 @@ ghost use Rattle.shared_db.specs.Whole.{IsWhole};
 use crate::config::{Config, OpenError};
 use crate::served::Served;
 use engine::Engine;
+use spans::limits::{MAX_RING, MAX_SEATS};
 use std::alloc::Global;
 use ticket_lock::TicketLock;
 use timestamps::oracle::{Oracle, OraclePass};
@@ -38,10 +39,10 @@ impl Db {
         ensures ok { IfOk result (λ r. IsOpened config r.0 r.1.items r.2.items) }
         ensures err { IfErr result (IsReason config) }
     {
-        if config.seats == 0 || config.seats > 64 {
+        if config.seats == 0 || config.seats > MAX_SEATS as u32 {
             return Err(OpenError::SeatCount);
         }
-        if config.ring == 0 || config.ring > 65536 {
+        if config.ring == 0 || config.ring > MAX_RING {
             return Err(OpenError::RingSize);
         }
         let Ok(engine) = Box::new(alloc, Engine::new(alloc, config.ring)) else {

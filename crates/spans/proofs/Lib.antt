@@ -27,7 +27,7 @@ pub mod Listing
 pub mod Floors
 pub mod Complete
 pub mod GoingOn
-pub mod Limits
+pub mod ReportLimit
 pub mod Horizon
 pub mod FeedFloors
 pub mod Dead

@@ -41,6 +41,7 @@ pub mod bound;
 pub mod calls;
 pub mod kind;
 pub mod law;
+pub mod limits;
 mod pieces;
 pub mod report;
 pub mod span;

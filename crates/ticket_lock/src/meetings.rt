@@ -9,7 +9,7 @@ ghost use Rattle.ticket_lock.specs.Steps.{HearsOf};
 
 use crate::chronicle::Chronicle;
 use crate::lock::{Seat, TicketLock};
-use crate::plays::{CatchUp, HearReport, Report};
+use crate::plays::{CatchUp, HearReport, SplitReport};
 use crate::rule::{Pass, SERVING};
 
 impl<T: Chronicle> TicketLock<T> {
@@ -20,7 +20,7 @@ impl<T: Chronicle> TicketLock<T> {
         ensures from { IsSamePass from.old from.new × (from.new.me ≡ (telling from.old.me.0, from.old.me.1)) }
         ensures to { IsSamePass to.old to.new × HearsOf T.seat_of from.old.me.0.kept.seen from.old.me.0.kept.known to.old.me to.new.me }
     {
-        let report = self.board.shared.split_seat::<Report>(from);
+        let report = self.board.shared.split_seat::<SplitReport>(from);
         self.board.shared.join_seat::<HearReport>(to, report);
         self.board.shared.load::<CatchUp>(to, SERVING);
     }

@@ -109,9 +109,9 @@ impl<T: Chronicle> Play<Option<T>, View<T::Entry>> for EnterGatherer {
 }
 
 /// Splits off a report of what a seat has seen.
-pub struct Report;
+pub struct SplitReport;
 
-impl<E> Split<View<E>> for Report {
+impl<E> Split<View<E>> for SplitReport {
     ghost use Rattle.ticket_lock.specs.Views.{telling, report_of};
 
     ghost left = { telling };

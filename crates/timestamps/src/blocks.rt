@@ -51,9 +51,9 @@ pub type Board = Table<(), Draws, u64, EachOnce, Global>;
 pub type Pass = Seat<(), Draws>;
 
 /// A load.
-pub struct Look;
+pub struct Load;
 
-impl Play<(), Draws> for Look {
+impl Play<(), Draws> for Load {
     ghost use Rattle.timestamps.specs.Blocks.{Looks};
 
     ghost then = { Looks };

@@ -24,7 +24,7 @@ ghost use Rattle.timestamps.specs.Numbers.{timestamps_of, AreApart};
 ghost use Rattle.timestamps.specs.declared.lease.TheConstants.{BLOCKS, BLOCK_SIZE};
 
 use crate::blocks::{
-    Board, Borrow, Compare, Draw, Enter, HandOut, Look, NEXT, Pass, Return, TakeBack,
+    Board, Borrow, Compare, Draw, Enter, HandOut, Load, NEXT, Pass, Return, TakeBack,
 };
 use crate::lease::{BLOCKS, Lease};
 use atomic_table::Table;
@@ -115,7 +115,7 @@ impl Oracle {
         ensures reason { IfErr result (IsReason (earlier pass.new) (loaded pass.new)) }
     {
         let shared = &self.board.shared;
-        let block = shared.load::<Look>(&mut pass.seat, NEXT);
+        let block = shared.load::<Load>(&mut pass.seat, NEXT);
         if block >= BLOCKS {
             return Err(DrawError::Spent);
         }

@@ -6,12 +6,12 @@ use Rattle.spans.specs.declared.calls.events.Event.{Event}
 use Rattle.spans.specs.Effects.{effect, effects_of}
 use Rattle.spans.specs.Answer.{answer_of}
 use Rattle.spans.specs.Legal.{is_accepted, may_lack_memory}
-use Rattle.plain_database.specs.declared.database.Database.{Database}
+use Rattle.plain_database.specs.declared.database.PlainDatabase.{PlainDatabase}
 use Rattle.plain_database.specs.Tied.{StandsFor}
 use Rattle.plain_database.proofs.Events.{stands_still}
 use Rattle.spans.proofs.Histories.{wanting_does_nothing}
 
 -- a command that may want memory found none: the database stands for that event too
-pub stands_wanting : (db : Database) (h : List Event) (e : Event) → StandsFor db h → e.reply ≡ Refused NoMemory → is_accepted (answer_of (effects_of h) e.seat e.cmd) ≡ true → may_lack_memory e.cmd ≡ true → StandsFor db (e ∷ h)
+pub stands_wanting : (db : PlainDatabase) (h : List Event) (e : Event) → StandsFor db h → e.reply ≡ Refused NoMemory → is_accepted (answer_of (effects_of h) e.seat e.cmd) ≡ true → may_lack_memory e.cmd ≡ true → StandsFor db (e ∷ h)
 stands_wanting db h e stands wants accepted may =
     stands_still db h e.position e.seat e.cmd e.reply (ap (effect e.seat e.cmd) wants ∙ wanting_does_nothing e.seat e.cmd) stands (inr (wants, accepted, may))

@@ -4,7 +4,7 @@ use Rattle.spans.specs.declared.calls.events.Event.{Event}
 use Rattle.spans.specs.Answer.{answer_of}
 use Rattle.spans.specs.Effects.{effects_of}
 use Rattle.spans.specs.Legal.{IsLegal, IsGapless, IsRightEvent, is_accepted, may_lack_memory}
-use Rattle.plain_database.specs.declared.database.Database.{Database}
+use Rattle.plain_database.specs.declared.database.PlainDatabase.{PlainDatabase}
 use Rattle.plain_database.specs.Tied.{StandsFor}
 
 -- where the first event stands
@@ -55,15 +55,15 @@ pub record MayLackIn (events : List Event) : Type 0 where
   pub accepted : is_accepted (answer_of (effects_of (reverse before)) event.seat event.cmd) ≡ true
 
 -- whatever history the database stands for, this is whether the event is right after it
-abbrev pub Judges : Database → Event → Bool → Type 0
+abbrev pub Judges : PlainDatabase → Event → Bool → Type 0
 Judges db e right = (h : List Event) → StandsFor db h → length h < 18446744073709551615 → (right ≡ true) ↔ IsRightEvent (effects_of h) e
 
 -- whatever history the database stands for, the event's command may lack memory, and the answer to it is no refusal
-abbrev pub MayLack : Database → Event → Type 0
+abbrev pub MayLack : PlainDatabase → Event → Type 0
 MayLack db e =
     (h : List Event) → StandsFor db h
     → (may_lack_memory e.cmd ≡ true) × (length h < 18446744073709551615 → is_accepted (answer_of (effects_of h) e.seat e.cmd) ≡ true)
 
 -- where the event is right, the database stands for the history with it
-abbrev pub TakesIn : Database → Database → Event → Bool → Type 0
+abbrev pub TakesIn : PlainDatabase → PlainDatabase → Event → Bool → Type 0
 TakesIn db db' e right = right ≡ true → (h : List Event) → StandsFor db h → length h < 18446744073709551615 → StandsFor db' (e ∷ h)

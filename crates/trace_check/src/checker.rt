@@ -4,7 +4,7 @@ ghost use Rattle.trace_check.specs.Checkers.{StandsFor, JudgesNext, MayLackNext,
 ghost use Rattle.trace_check.specs.Traces.{IsInPlace};
 
 use crate::taking::take_in;
-use plain_database::database::Database;
+use plain_database::database::PlainDatabase;
 use spans::calls::Event;
 use spans::report::Report;
 use std::alloc::{AllocError, Global};
@@ -12,7 +12,7 @@ use std::alloc::{AllocError, Global};
 /// The events that were taken so far are legal and have no gap. It holds what they left, and not the events.
 #[derive(Drop)]
 pub struct Checker {
-    database: Database,
+    database: PlainDatabase,
     /// Where the latest event stands, if there was one.
     last: Option<u64>,
 }
@@ -23,7 +23,7 @@ impl Checker {
         ensures { StandsFor result [] }
     {
         Checker {
-            database: Database::new(alloc),
+            database: PlainDatabase::new(alloc),
             last: None,
         }
     }

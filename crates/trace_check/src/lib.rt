@@ -1,9 +1,9 @@
 //! The independent checker: whether a list of events is one that the definitions allow.
 //!
 //! `jobs` hands a [`Checker`](checker::Checker) the events one by one, the oldest first, and `races` calls [`check`]. A
-//! checker asks the [`Database`](plain_database::database::Database), which is the definitions as one plain program,
-//! for the one right answer after the events so far, and compares the reply with it exactly. [`check`] hands over a
-//! list of events, and names the first that isn't right.
+//! checker asks the [`PlainDatabase`](plain_database::database::PlainDatabase), which is the definitions as one plain
+//! program, for the one right answer after the events so far, and compares the reply with it exactly. [`check`] hands
+//! over a list of events, and names the first that isn't right.
 //!
 //! 1. The database stands for the events taken so far, which are legal and have no gap.
 //! 2. An event has to stand one place further than the event before. It is right where its reply is the answer.

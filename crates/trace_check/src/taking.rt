@@ -6,12 +6,12 @@ ghost use Rattle.spans.specs.Legal.{is_accepted, may_lack_memory};
 ghost use Rattle.trace_check.specs.Traces.{Judges, MayLack, TakesIn};
 
 use crate::same::same_reply;
-use plain_database::database::Database;
+use plain_database::database::PlainDatabase;
 use spans::calls::{Cmd, Event, Refusal, Reply};
 use std::alloc::AllocError;
 
 /// Whether an event is right after those that the database took in. Where it is, it is taken in too.
-pub(crate) fn take_in(database: &mut Database, event: &Event) -> Result<bool, AllocError>
+pub(crate) fn take_in(database: &mut PlainDatabase, event: &Event) -> Result<bool, AllocError>
     ensures right { IfOk result (Judges database.old event.now) }
     ensures taken { IfOk result (TakesIn database.old database.new event.now) }
     ensures refused { IfOk result (λ right. right ≡ false → database.new ≡ database.old) }

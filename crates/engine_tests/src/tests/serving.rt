@@ -1,6 +1,7 @@
 //! An engine that is asked after each line of a script.
 use engine::Engine;
 use script::scripts::read_script;
+use spans::limits::MAX_RING;
 use std::alloc::Global;
 use text_format::Format;
 
@@ -20,7 +21,7 @@ pub(super) fn is_served(alloc: Global, row: &str, script: &str) -> Option<bool> 
 
 /// Where a feed is served from, after each line.
 fn served(alloc: Global, ring: u32, feed: u64, script: &str) -> Option<Vec<u8>> {
-    if ring == 0 || ring > 65536 {
+    if ring == 0 || ring > MAX_RING {
         return None;
     }
     let calls = read_script(alloc, script.as_bytes(), 3, Format::One).ok()?;

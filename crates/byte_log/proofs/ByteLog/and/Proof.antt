@@ -17,7 +17,7 @@ use denote.Triple.Entry.{alive}
 use denote.Triple.Walked.{Stays, walk_of, says, stay_dropped, Goes-dropped, ends_at}
 use Rattle.byte_log.proofs.Free.{stored, IsStored, log_Makes}
 use Rattle.byte_log.specs.contracts.ByteLog.{the_row}
-use Rattle.byte_log.specs.contracts.Piece as Piece
+use Rattle.byte_log.specs.contracts.Growth as Growth
 use Rattle.byte_log.specs.declared.ByteLog.{ByteLog}
 use Rattle.byte_log.specs.contracts.ByteLog.and as f
 use Rattle.byte_log.proofs.ByteLog.and.Statement.{statement}
@@ -30,11 +30,11 @@ pub and_spec : {M : Type 1} → statement M
 and_spec 𝓤 𝓛 𝓜 𝓡 wired =
     let c = f.clauses 𝓛 𝓜.mem 𝓡.returns in let W = walk_of 𝓛 f.ended stayed c in
     let log_goes = Goes-dropped 𝓛 3 (RefOf (0 ∷ []) tt (plain (λ _. the_row)) (λ _. tt)) yes (λ κs x w. refl) in
-    let piece_goes = Goes-dropped 𝓛 3 (RefOf (1 ∷ []) tt (plain (λ κs. Piece.the_row (named_lft 3 2 tt κs))) (λ _. tt)) yes (λ κs x w. refl) in
-    proved 𝓛 f.ended stayed c 𝓜 𝓡 (log_goes, (piece_goes, tt))
+    let growth_goes = Goes-dropped 𝓛 3 (RefOf (1 ∷ []) tt (plain (λ κs. Growth.the_row (named_lft 3 2 tt κs))) (λ _. tt)) yes (λ κs x w. refl) in
+    proved 𝓛 f.ended stayed c 𝓜 𝓡 (log_goes, (growth_goes, tt))
     f.Key.name code.function (code.unfolded 𝓤 𝓛.H 𝓜 𝓡 wired)
     (λ κs. (shr_vals, (shr_vals, tt)))
-    (λ κs. (shr_Tells (named 0) κs.0 the_row, (shr_Tells (named 1) κs.1.0 (Piece.the_row (named_lft 3 2 tt κs)), tt)))
+    (λ κs. (shr_Tells (named 0) κs.0 the_row, (shr_Tells (named 1) κs.1.0 (Growth.the_row (named_lft 3 2 tt κs)), tt)))
     (λ κs qs bounds a _ are.
     let y : W.Ghost = ((κs, qs, bounds, a, (shr_vals a.0, (shr_vals a.1.0, tt))), tt) in
     let longer : ByteLog = record { bytes = a.0.now.bytes ++ a.1.0.now.bytes.now } in

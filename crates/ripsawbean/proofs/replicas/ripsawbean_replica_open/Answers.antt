@@ -4,7 +4,7 @@ use Rattle.text_format.specs.declared.Format.TheVariants.{Two}
 use Rattle.word_lines.specs.Memory.{WantsMemory, verb_at}
 use Rattle.word_lines.specs.Table.{table}
 use Rattle.embedded_replica.specs.declared.consumer.Consumer.{Consumer}
-use Rattle.embedded_replica.specs.declared.consumer.OpenError.TheVariants.{NoMemory}
+use Rattle.embedded_replica.specs.declared.consumer.BeginError.TheVariants.{NoMemory}
 use Rattle.embedded_replica.specs.Consumers.{replica_of}
 use Rattle.embedded_replica.proofs.Opening.{begins_wants}
 use Rattle.ripsawbean.specs.ReplicaExports.{Opened}

@@ -1,5 +1,5 @@
 use Rattle.std.proofs.Common.{false, ap, ◌++◌, ◌∙◌}
-use Rattle.spans.proofs.Limits.{report_limit}
+use Rattle.spans.proofs.ReportLimit.{report_limit}
 use Rattle.report_lines.specs.Lines.{report_text}
 use Rattle.embedded.proofs.database.Database.state.Goals as goal
 

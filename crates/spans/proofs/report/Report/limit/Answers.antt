@@ -1,7 +1,7 @@
 use Rattle.std.proofs.Common.{true, false, map, ◌∙◌}
 use Rattle.spans.specs.declared.report.Holder.TheVariants as holders
 use Rattle.spans.specs.Report.{limit, told_protection, told_feed}
-use Rattle.spans.proofs.Limits.{report_limit, first_least-append}
+use Rattle.spans.proofs.ReportLimit.{report_limit, first_least-append}
 use Rattle.spans.proofs.report.Report.limit.Goals as goal
 
 pub returns-clause-exact : goal.returns-clause-exact

@@ -1,6 +1,6 @@
 use Rattle.std.proofs.Common.{reverse}
 use Rattle.std.proofs.lemmas.Result.{IfOk-weaker}
-use Rattle.spans.proofs.Limits.{report_limit}
+use Rattle.spans.proofs.ReportLimit.{report_limit}
 use Rattle.trace_check.proofs.TraceSteps.{turned_few}
 use Rattle.trace_check.proofs.checker.Checker.report.Goals as goal
 

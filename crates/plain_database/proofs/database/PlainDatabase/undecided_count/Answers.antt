@@ -1,0 +1,7 @@
+use Rattle.spans.specs.Effects.{effects_of}
+use Rattle.spans.proofs.Legal.{legal_allowed}
+use Rattle.plain_database.proofs.Undecided.{open_count}
+use Rattle.plain_database.proofs.database.PlainDatabase.undecided_count.Goals as goal
+
+pub returns : goal.returns
+returns c = λ h stands. open_count c.args.self.now (effects_of h) c.undecided_count.result (legal_allowed h stands.legal) stands.tied c.undecided_count.ensures

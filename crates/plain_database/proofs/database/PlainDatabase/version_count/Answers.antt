@@ -1,0 +1,7 @@
+use Rattle.spans.specs.Effects.{effects_of}
+use Rattle.spans.proofs.Legal.{legal_allowed}
+use Rattle.plain_database.proofs.Counting.{all_versions}
+use Rattle.plain_database.proofs.database.PlainDatabase.version_count.Goals as goal
+
+pub returns : goal.returns
+returns c = λ h stands. all_versions c.args.self.now (effects_of h) (legal_allowed h stands.legal) stands.tied c.version_count.result c.version_count.ensures
