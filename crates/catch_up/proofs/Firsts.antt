@@ -6,7 +6,7 @@ use Rattle.std.specs.Map.{keys_of}
 use Rattle.std.specs.Ordering.{is_lt}
 use Rattle.std.specs.declared.cmp.Ordering.TheVariants.{Less}
 use Rattle.std.proofs.lemmas.Bool.{and_from, both_ways, eq-eqb, or_right}
-use Rattle.std.proofs.lemmas.List.{append-nil, take_at, take_all as first_all}
+use Rattle.std.proofs.lemmas.List.{append-nil, take_at, take_all as first_all, length-append}
 use Rattle.timestamps.specs.Bytes.{key_cmp}
 use Rattle.timestamps.specs.declared.row.Row.{Row}
 use Rattle.spans.specs.Effects.{After}
@@ -200,10 +200,6 @@ one_length span t x a = by_test (in_span span x) (λ inside. rw inside (at_lengt
     at_length None = omega arith
     at_length (Some v) = omega arith
 
-both_length : (xs ys : List Row) → length (xs ++ ys) ≡ length xs + length ys
-both_length [] ys = omega arith
-both_length (x ∷ xs) ys = let h : length (xs ++ ys) ≡ length xs + length ys = both_length xs ys in omega arith
-
 pub snap_goes_on : (s : Stored) (span : Span) (key : Option (List ℕ)) (t m n : ℕ) (x : List ℕ) (vs : List Version) (rest : List Entry) (rows rows' : List Row) (o : Option (Bor Version)) → IsSnapping s span key t n ((x, vs) ∷ rest) rows → length rows < n → m ≡ t
     → MatchOption o (IsNoneUpTo vs m) (λ v. IsNewestOf vs m v.now) → IfSome (option_copied o) (λ v. 1 ≤ v.ts) → rows' ≡ rows ++ one_in span t x (value_in (option_copied o)) → IsSnapping s span key t n rest rows'
 snap_goes_on s span key t m n x vs rest rows rows' o snap low same newest named more =
@@ -213,7 +209,7 @@ snap_goes_on s span key t m n x vs rest rows rows' o snap low same newest named 
       told = ap (λ l. l ++ firsts_at s span t (keys_of rest)) here ∙ append_assoc rows (one_in span t x (found_at s t x)) (firsts_at s span t (keys_of rest)) ∙ snap.told;
       chains = snap.chains.1;
       few =
-          let l : length rows' ≡ length rows + length (one_in span t x (found_at s t x)) = ap length here ∙ both_length rows (one_in span t x (found_at s t x)) in
+          let l : length rows' ≡ length rows + length (one_in span t x (found_at s t x)) = ap length here ∙ length-append rows (one_in span t x (found_at s t x)) in
           let one : length (one_in span t x (found_at s t x)) ≤ 1 = one_length span t x (found_at s t x) in
           omega arith;
     }

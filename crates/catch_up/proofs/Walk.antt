@@ -4,7 +4,7 @@ use Rattle.std.proofs.lemmas.Bool.{both_ways}
 use Rattle.std.specs.Prelude.{is_some}
 use Rattle.std.specs.Map.Iter.{TakesFirst, deref_pair}
 use Rattle.std.proofs.Math.Seq.{take-append-add}
-use Rattle.std.proofs.lemmas.List.{append-nil, take_at, take_all as first_all}
+use Rattle.std.proofs.lemmas.List.{append-nil, take_at, take_all as first_all, length_push}
 use Rattle.timestamps.specs.declared.row.Row.{Row}
 use Rattle.spans.specs.Keys.{in_span}
 use Rattle.spans.specs.Streams.{row_lt}
@@ -77,10 +77,6 @@ least_first r (s ∷ rows) rising i least = elim i [
   | inr there ↦ absurd (both_ways _ (least s (inl refl)) (rising.0 r there))
 ]
 
-length_more : (xs : List Row) (q : Row) → length (xs ++ q ∷ []) ≡ length xs + 1
-length_more [] q = omega arith
-length_more (p ∷ xs) q = let h : length (xs ++ q ∷ []) ≡ length xs + 1 = length_more xs q in omega arith
-
 -- the next row is taken
 pub walk_takes : (s : Stored) (span : Span) (ts : ℕ) (key : Option (List ℕ)) (through n t : ℕ) (x : Option (List ℕ)) (missing missing' : ℕ) (rows rows' : List Row) (r : Row) → IsWalked s span ts key through n t x missing rows
     → IsNext s span t x through r → missing ≡ missing' + 1 → rows' ≡ rows ++ r ∷ [] → IsWalked s span ts key through n r.ts (Some r.key) missing' rows'
@@ -98,7 +94,7 @@ walk_takes s span ts key through n t x missing missing' rows rows' r walked next
     );
   };
   told = subst (AreLeftIn s span ts key through) (ap (λ l. rows ++ l) parts.1 ∙ sym (append_assoc rows (r ∷ []) parts.0) ∙ ap (λ l. l ++ parts.0) (sym more)) walked.told;
-  count = let c : length rows + missing ≡ n = walked.count in let l : length rows' ≡ length rows + 1 = ap length more ∙ length_more rows r in omega arith;
+  count = let c : length rows + missing ≡ n = walked.count in let l : length rows' ≡ length rows + 1 = ap length more ∙ length_push rows r in omega arith;
 }
   where
     parts : (rest : List Row) × (walked.rest ≡ r ∷ rest)

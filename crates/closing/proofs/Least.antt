@@ -1,12 +1,11 @@
 -- The least protected timestamp is that of the first by timestamp.
-use Rattle.std.proofs.Common.{Bool, List, None, Option, Some, ap, arith, false, inl, inr, length, min, refl, subst, sym, true, ℕ, ◌<◌, ◌≤◌, ◌==◌, ◌⊎◌, ◌≡◌, ◌++◌, ◌∷◌, ◌∙◌, []}
+use Rattle.std.proofs.Common.{Bool, List, None, Option, Some, ap, arith, false, inl, inr, min, refl, subst, sym, true, ℕ, ◌≤◌, ◌==◌, ◌⊎◌, ◌≡◌, ◌++◌, ◌∷◌, ◌∙◌, []}
 use Rattle.std.specs.Prelude.{map}
 use Rattle.std.specs.List.Sorted.{IsStrictlySortedBy}
-use Rattle.std.specs.List.{AllByRecursion, list_any}
+use Rattle.std.specs.List.{AllByRecursion}
 use Rattle.std.specs.Map.{keys_of, lookup}
 use Rattle.std.specs.Ordering.{is_eq, is_gt, nat_cmp}
 use Rattle.std.specs.BTreeMap.{is_at}
-use Rattle.std.specs.BTreeSet.{BTreeSet, contains}
 use Rattle.std.specs.declared.cmp.Ordering.TheVariants.{Less}
 use Rattle.std.proofs.lemmas.Bool.{eq-eqb, eqb-true}
 use Rattle.std.proofs.lemmas.Bool.Decides.{nat_tests}
@@ -16,7 +15,7 @@ use Rattle.spans.specs.Collection.{Protection}
 use Rattle.spans.specs.Transactions.{least_of}
 use Rattle.spans.proofs.Open.{IsAmong}
 use Rattle.spans.proofs.Steps.{by_test}
-use Rattle.kept.proofs.Dead.{least_low}
+use Rattle.spans.proofs.Horizon.{least_low}
 use Rattle.closing.specs.Standing.{newest_first, protection}
 use Rattle.closing.specs.Ties.{is_just, pair_cmp}
 use Rattle.closing.proofs.Tying.{AreAlike}
@@ -96,14 +95,6 @@ pub first_least : (c : ℕ × ℕ → Bool) (es : List (ℕ × ℕ)) (first : �
 first_least c es first rising alike has least n = least_is first.0 n (times es)
     (is_among first.1 first.0 es (just (lookup (is_at (nat_cmp first.1)) es) first.0 (sym (alike first.0 first.1) ∙ has)))
     (λ t i. let at = has_number t es rising i in not_above first.0 first.1 t at.0 (least (t, at.0) (alike t at.0 ∙ rw at.1 (eq-eqb t t refl))))
-
--- a set of no keys has none
-pub none_in : (s : BTreeSet (ℕ × ℕ)) → (0 < length s.keys → ⊥) → (q : ℕ × ℕ) → contains pair_cmp s q ≡ false
-none_in s empty q = no_keys s.keys empty
-  where
-    no_keys : (ks : List (ℕ × ℕ)) → (0 < length ks → ⊥) → list_any (is_at (pair_cmp q)) ks ≡ false
-    no_keys [] empty = refl
-    no_keys (k ∷ ks) empty = absurd (empty (omega arith))
 
 -- where there is no pair, nothing is protected
 pub none_least : (c : ℕ × ℕ → Bool) (es : List (ℕ × ℕ)) → AreAlike c (λ id. lookup (is_at (nat_cmp id)) es) → ((q : ℕ × ℕ) → c q ≡ false) → (n : ℕ) → n ≡ least_of n (times es)

@@ -2,8 +2,9 @@
 use Rattle.std.proofs.Common.{Bool, None, Option, Some, ap, arith, cond, false, refl, sym, true, ℕ, ◌&&◌, ◌==◌, ◌≡◌, ◌∙◌}
 use Rattle.std.specs.Ordering.{nat_cmp}
 use Rattle.std.specs.BTreeMap.{is_at}
-use Rattle.std.proofs.lemmas.Bool.{eqb-true}
+use Rattle.std.proofs.lemmas.Bool.{eqb-true, and_parts}
 use Rattle.std.proofs.lemmas.Bool.Decides.{nat_tests}
+use Rattle.std.proofs.Math.Bool.{and-false}
 use Rattle.spans.proofs.Steps.{by_test}
 use Rattle.closing.specs.Ties.{is_just, pair_cmp}
 use Rattle.closing.proofs.Numbers.{same_number}
@@ -18,10 +19,6 @@ same_pair t id s k = grind (arith, nat_tests)
 turned : (a b : ℕ) → (a == b) ≡ (b == a)
 turned a b = grind (arith, nat_tests)
 
-and_false : (b : Bool) → (b && false) ≡ false
-and_false true = refl
-and_false false = refl
-
 -- a new number with its timestamp
 pub alike_put : (c c' : ℕ × ℕ → Bool) (g g' : ℕ → Option ℕ) (t id : ℕ) → g id ≡ None → AreAlike c g
     → ((q : ℕ × ℕ) → c' q ≡ cond (is_at (pair_cmp (t, id)) q) true (c q)) → ((k : ℕ) → g' k ≡ cond (is_at (nat_cmp id) k) (Some t) (g k)) → AreAlike c' g'
@@ -29,7 +26,7 @@ alike_put c c' g g' t id free alike put add s k = by_test (k == id)
     (λ same. let now : g' k ≡ Some t = add k ∙ rw (same_number id k, same) refl in by_test (s == t)
     (λ here. put (s, k) ∙ rw (same_pair t id s k, here, same) (sym (ap (λ o. is_just o s) now ∙ turned t s ∙ here)))
     (λ there. put (s, k) ∙ rw (same_pair t id s k, there) (alike s k ∙ ap (λ o. is_just o s) (ap g (eqb-true k id same) ∙ free) ∙ sym (ap (λ o. is_just o s) now ∙ turned t s ∙ there))))
-    (λ other. let now : g' k ≡ g k = add k ∙ rw (same_number id k, other) refl in put (s, k) ∙ rw (same_pair t id s k, other, and_false (s == t)) (alike s k ∙ ap (λ o. is_just o s) (sym now)))
+    (λ other. let now : g' k ≡ g k = add k ∙ rw (same_number id k, other) refl in put (s, k) ∙ rw (same_pair t id s k, other, and-false (s == t)) (alike s k ∙ ap (λ o. is_just o s) (sym now)))
 
 -- a number goes with its timestamp
 pub alike_taken : (c c' : ℕ × ℕ → Bool) (g g' : ℕ → Option ℕ) (t id : ℕ) → g id ≡ Some t → AreAlike c g
@@ -38,7 +35,7 @@ alike_taken c c' g g' t id stood alike take drop s k = by_test (k == id)
     (λ same. let now : g' k ≡ None = drop k ∙ rw (same_number id k, same) refl in by_test (s == t)
     (λ here. take (s, k) ∙ rw (same_pair t id s k, here, same) (sym (ap (λ o. is_just o s) now)))
     (λ there. take (s, k) ∙ rw (same_pair t id s k, there) (alike s k ∙ ap (λ o. is_just o s) (ap g (eqb-true k id same) ∙ stood) ∙ turned t s ∙ there ∙ sym (ap (λ o. is_just o s) now))))
-    (λ other. let now : g' k ≡ g k = drop k ∙ rw (same_number id k, other) refl in take (s, k) ∙ rw (same_pair t id s k, other, and_false (s == t)) (alike s k ∙ ap (λ o. is_just o s) (sym now)))
+    (λ other. let now : g' k ≡ g k = drop k ∙ rw (same_number id k, other) refl in take (s, k) ∙ rw (same_pair t id s k, other, and-false (s == t)) (alike s k ∙ ap (λ o. is_just o s) (sym now)))
 
 -- a new pair that is taken back
 pub alike_again : (c c' c'' : ℕ × ℕ → Bool) (g : ℕ → Option ℕ) (t id : ℕ) → g id ≡ None → AreAlike c g
@@ -47,9 +44,5 @@ alike_again c c' c'' g t id free alike put take s k = by_test (is_at (pair_cmp (
     (λ is. take (s, k) ∙ rw is (sym (ap (λ o. is_just o s) (ap g (same k is) ∙ free))))
     (λ isnt. take (s, k) ∙ rw isnt (put (s, k) ∙ rw isnt (alike s k)))
   where
-    right : (a b : Bool) → (a && b) ≡ true → b ≡ true
-    right true b e = e
-    right false b e = cc
-
     same : (k : ℕ) → is_at (pair_cmp (t, id)) (s, k) ≡ true → k ≡ id
-    same k is = eqb-true k id (right (s == t) (k == id) (sym (same_pair t id s k) ∙ is))
+    same k is = eqb-true k id (and_parts (s == t) (k == id) (sym (same_pair t id s k) ∙ is)).1

@@ -9,15 +9,11 @@ use Rattle.std.proofs.lemmas.Map.Text.{is_eq-slice_cmp}
 use Rattle.timestamps.specs.Bytes.{key_cmp}
 use Rattle.spans.specs.KeyOrder.{below_high, from_low, key_lt}
 use Rattle.spans.proofs.Steps.{by_test, same_key}
+use Rattle.spans.proofs.KeyOrder.{less_is}
 
 -- at or below
 abbrev pub IsLow : List ℕ → List ℕ → Type 0
 IsLow a b = (key_cmp a b ≡ Less) ⊎ (a ≡ b)
-
-less_is : (o : Ordering) → is_lt o ≡ true → o ≡ Less
-less_is Less e = refl
-less_is Equal e = cc
-less_is Greater e = cc
 
 pub low_unless : (a b : List ℕ) (o : Ordering) → key_cmp a b ≡ o → (o ≡ Greater → ⊥) → IsLow a b
 low_unless a b Less is not' = inl is

@@ -8,6 +8,7 @@ use Rattle.spans.specs.KeyOrder.{key_lt}
 use Rattle.spans.specs.Kept.{Kept, Place}
 use Rattle.spans.proofs.Steps.{by_test}
 use Rattle.spans.proofs.RowOrder.{name_order}
+use Rattle.spans.proofs.Lists.{take_both}
 use Rattle.kept.proofs.LeftRows.{parts_left}
 use Rattle.version_chain.specs.Following.{is_after_place}
 use Rattle.version_chain.specs.Stores.{Stored, is_committed_in, version_in}
@@ -21,15 +22,13 @@ use Rattle.spans.specs.declared.calls.messages.Message.TheVariants as messages
 use Rattle.feed.specs.Live.{Live}
 use Rattle.feed.specs.Standing.{AreNextAt}
 use Rattle.feed.specs.Telling.{AreRowsTold}
-use Rattle.std.proofs.lemmas.List.{length-take, take-map}
-
-and_true : (b : Bool) → (b && true) ≡ b
-and_true true = refl
-and_true false = refl
+use Rattle.std.proofs.lemmas.List.{length-take, take-map, take-take}
+use Rattle.std.proofs.Math.Bool.{and-true, and-false}
+use Rattle.std.proofs.lemmas.Result.{IfOk-weaker}
 
 -- without a last row
 pub after_none : (n : ℕ) (r : Row) → (nat_lt n r.ts && is_after_name None r) ≡ nat_lt n r.ts
-after_none n r = and_true (nat_lt n r.ts)
+after_none n r = and-true (nat_lt n r.ts)
 
 -- with one at or below what all is told through
 pub after_low : (n : ℕ) (last : VersionName) (r : Row) → last.ts ≤ n → (nat_lt n r.ts && is_after_name (Some last) r) ≡ nat_lt n r.ts
@@ -41,12 +40,8 @@ after_low n last r low = by_test (nat_lt n r.ts)
 pub after_high : (n : ℕ) (last : VersionName) (r : Row) → n < last.ts → (nat_lt n r.ts && is_after_name (Some last) r) ≡ is_after_place last.ts (Some last.key) r.key r.ts
 after_high n last r high = by_test (name_lt last r)
     (λ is. let l : last.ts ≤ r.ts = not_below is in let on : nat_lt n r.ts ≡ true = lt-ltb n r.ts (omega arith) in rw (on, is) refl)
-    (λ isnt. rw isnt (and_false (nat_lt n r.ts)))
+    (λ isnt. rw isnt (and-false (nat_lt n r.ts)))
   where
-    and_false : (b : Bool) → (b && false) ≡ false
-    and_false true = refl
-    and_false false = refl
-
     not_below : name_lt last r ≡ true → last.ts ≤ r.ts
     not_below e = elim (or_cases _ _ e) [
       | inl less ↦ (let l : last.ts < r.ts = ltb-true _ _ less in omega arith)
@@ -151,14 +146,6 @@ passed_left place above version r i = by place.row refl
         let low : q.ts ≤ r.ts = name_order q r after in
         clash q.ts place.cursor r.ts high low i.at
 
--- what is taken of two lists
-take_both : (m : ℕ) (xs ys : List Row) → take m xs ++ take (m - length xs) ys ≡ take m (xs ++ ys)
-take_both zero xs ys = let none : 0 - length xs ≡ 0 = omega arith in rw none refl
-take_both (suc m) [] ys = ap (λ n. take n ys) (let all : suc m - 0 ≡ suc m = omega arith in all)
-take_both (suc m) (x ∷ xs) ys =
-    let less : suc m - suc (length xs) ≡ m - length xs = omega arith in
-    ap (λ n. x ∷ (take m xs ++ take n ys)) less ∙ ap (λ l. x ∷ l) (take_both m xs ys)
-
 -- what is kept of a store alone
 abbrev stored_as : Stored → ℕ → Kept
 stored_as s through = record { closed = through; horizon = 0; version = version_in s; committed = is_committed_in s; marked = λ x t. false; transaction = λ t. None; protections = []; protections_made = 0; feed = λ f. None; feeds_opened = 0 }
@@ -173,17 +160,6 @@ both_next s place through n room firsts stored rows f is st both = record {
       let rest : room ≡ n - length f.all = omega arith in
       both ∙ ap (λ l. l ++ stored) f.first ∙ ap (λ l. take n f.all ++ l) (st.first ∙ ap (λ m. take m st.all) rest) ∙ take_both n f.all st.all;
 }
-
--- what holds of a value that may be missing, in other words
-pub if_ok_more : {A E : Type 0} (r : Result A E) (P Q : A → Type 0) → ((x : A) → P x → Q x) → IfOk r P → IfOk r Q
-if_ok_more (Ok x) P Q more h = more x h
-if_ok_more (Err e) P Q more h = h
-
-take_less : {A : Type 0} (m n : ℕ) (xs : List A) → m ≤ n → take m (take n xs) ≡ take m xs
-take_less zero n xs low = refl
-take_less (suc m) zero xs low = absurd (omega arith)
-take_less (suc m) (suc n) [] low = refl
-take_less (suc m) (suc n) (x ∷ xs) low = ap (λ l. x ∷ l) (take_less m n xs (omega arith))
 
 -- one more than the most that are told shows whether more are left
 more_is : (n most : ℕ) (got all : List Row) → got ≡ take n all → n ≡ min (most + 1) 18446744073709551615 → length got < 9223372036854775808 → nat_lt most (length got) ≡ nat_lt most (length all)
@@ -201,5 +177,5 @@ pub told_of_store : (store : Stored) (l : Live) (closed most n : ℕ) (got : Lis
 told_of_store store l closed most n got ms more is next one fits small rows more_so = record {
   rows = next.all;
   left = record { ring = λ isnt. absurd (both_ways _ isnt is); stored = λ on. (next.left, more_so ∙ more_is n most got next.all next.first one small) };
-  first = rows ∙ ap (map messages.Row) (ap (take most) next.first ∙ take_less most n next.all (omega arith)) ∙ sym (take-map messages.Row most next.all);
+  first = rows ∙ ap (map messages.Row) (ap (take most) next.first ∙ take-take most n next.all (omega arith)) ∙ sym (take-map messages.Row most next.all);
 }

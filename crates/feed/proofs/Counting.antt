@@ -4,6 +4,7 @@ use Rattle.std.specs.Prelude.{is_some, nat_eq, ◌↔◌}
 use Rattle.std.specs.List.{AllByRecursion, IsDistinct}
 use Rattle.std.specs.Map.{keys_of, lookup}
 use Rattle.std.proofs.lemmas.Bool.{both_ways, eq-eqb, eqb-true}
+use Rattle.std.proofs.lemmas.Map.Entries.{length-keys_of}
 use Rattle.spans.proofs.Members.{AreDistinct, Has}
 use Rattle.spans.proofs.Steps.{by_test}
 use Rattle.feed.specs.Standing.{IsCountOf}
@@ -30,13 +31,9 @@ has_key f (e ∷ es) = let more = has_key f es in by_test (nat_eq f e.0)
       λ s. inr (more.1 s),
     ))
 
-keys_length : (es : Lives) → length (keys_of es) ≡ length es
-keys_length [] = refl
-keys_length (e ∷ es) = ap suc (keys_length es)
-
 pub counted : (opened n : ℕ) (es : Lives) → IsDistinct nat_eq (keys_of es) → n ≡ length es → IsCountOf (record { opened = opened; live = es }) n
 counted opened n es d is = record {
   feeds = keys_of es;
   those = record { distinct = distinct (keys_of es) d; each = λ f. has_key f es };
-  count = keys_length es ∙ sym is;
+  count = length-keys_of es ∙ sym is;
 }

@@ -14,14 +14,6 @@ use Rattle.feed.specs.Standing.{Standing, live_in, place_in}
 use Rattle.feed.specs.Ties.{is_floor, pair_cmp}
 use Rattle.feed.proofs.Tying.{AreAlike}
 
--- a set of no keys has none
-pub none_in : (s : BTreeSet (ℕ × ℕ)) → (0 < length s.keys → ⊥) → (q : ℕ × ℕ) → contains pair_cmp s q ≡ false
-none_in s empty q = no_keys s.keys empty
-  where
-    no_keys : (ks : List (ℕ × ℕ)) → (0 < length ks → ⊥) → list_any (is_at (pair_cmp q)) ks ≡ false
-    no_keys [] empty = refl
-    no_keys (k ∷ ks) empty = absurd (empty (omega arith))
-
 floor_in : (c : ℕ × ℕ → Bool) (g : ℕ → Option Live) (f : ℕ) (l : Live) → AreAlike c g → g f ≡ Some l → c (place_floor l.place, f) ≡ true
 floor_in c g f l alike is = alike (place_floor l.place) f ∙ ap (λ o. is_floor o (place_floor l.place)) is ∙ eq-eqb (place_floor l.place) (place_floor l.place) refl
 

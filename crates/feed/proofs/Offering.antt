@@ -1,7 +1,7 @@
 -- Rows that are offered one by one are offered as the rings want it, of which the crate `kept` speaks.
 use Rattle.std.proofs.Common.{Bool, List, None, Option, Some, [], ap, false, inl, inr, filter, refl, sym, true, ℕ, ◌&&◌, ◌≡◌, ◌++◌, ◌∷◌, ◌∙◌, append_assoc}
 use Rattle.std.specs.Prelude.{not, option_map}
-use Rattle.std.proofs.lemmas.Bool.{and_parts}
+use Rattle.std.proofs.lemmas.Bool.{and_parts, not-true}
 use Rattle.std.proofs.lemmas.List.{append-nil}
 use Rattle.std.proofs.lemmas.List.Elements.{filter-append}
 use Rattle.timestamps.specs.declared.row.Row.{Row}
@@ -15,16 +15,12 @@ use Rattle.feed.specs.Standing.{AreChanged, IsBoth, IsSentBehind, Standing, is_b
 pub offered_none : (l : Live) → IsOfferedAll [] l l
 offered_none l = record { place = refl; ring = λ isnt. (isnt, sym (append-nil l.ring)) }
 
-not_true : (b : Bool) → not b ≡ true → b ≡ false
-not_true true e = cc
-not_true false e = refl
-
 -- one row more
 pub offered_more : (rows : List Row) (r : Row) (l m l' : Live) → IsOfferedAll rows l m → IsOffered r m l' → IsOfferedAll (rows ++ r ∷ []) l l'
 offered_more rows r l m l' all one = by_test (wants m r)
     (λ is.
     let both = and_parts _ _ is in
-    let isnt : m.behind ≡ false = not_true m.behind both.0 in
+    let isnt : m.behind ≡ false = not-true m.behind both.0 in
     let so = all.ring isnt in
     let wanted' : wanted l.place.span l.place.after r ≡ true = ap (λ (p : Place). wanted p.span p.after r) (sym all.place) ∙ both.1 in
     elim (one.offered is) [

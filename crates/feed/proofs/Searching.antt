@@ -2,6 +2,7 @@
 use Rattle.std.proofs.Common.{[], ◌∷◌, length, get_or, List, None, Option, Some, arith, false, inl, inr, refl, subst, true, zero, suc, ℕ, ◌+◌, ◌<◌, ◌≡◌, ◌≤◌}
 use Rattle.std.specs.Prelude.{MatchOption, slice_get}
 use Rattle.std.proofs.lemmas.Bool.{both_ways, cases_lt}
+use Rattle.std.proofs.lemmas.Option.{slice_get-get_or}
 use Rattle.spans.proofs.Steps.{by_test}
 use Rattle.feed.specs.declared.hulls.Hull.{Hull}
 use Rattle.feed.specs.Slots.{Slots}
@@ -51,8 +52,3 @@ none_right held x n a m b none mid rest j f l h = elim (cases_lt j (m + 1)) [ in
 pub in_other_words : {A : Type 0} (o : Option A) (P P' : Type 0) (Q Q' : A → Type 0) → (P → P') → ((x : A) → Q x → Q' x) → MatchOption o P Q → MatchOption o P' Q'
 in_other_words None P P' Q Q' none some h = none h
 in_other_words (Some x) P P' Q Q' none some h = some x h
-
-pub get_some : {A : Type 0} (xs : List A) (i : ℕ) (d : A) → i < length xs → slice_get xs i ≡ Some (get_or xs i d)
-get_some [] i d low = absurd (omega arith)
-get_some (x ∷ xs) zero d low = refl
-get_some (x ∷ xs) (suc i) d low = get_some xs i d (omega arith)

@@ -3,7 +3,7 @@ use Rattle.std.proofs.Common.{Bool, List, None, Option, Some, [], ap, arith, fal
 use Rattle.std.specs.Prelude.{cond, is_some, nat_eq, nat_lt, option_map, position, slice_get}
 use Rattle.std.specs.List.{position_or_len}
 use Rattle.std.specs.Map.{keys_of, set_value}
-use Rattle.std.proofs.lemmas.Bool.{and_from, and_parts, eq-eqb, eqb-true}
+use Rattle.std.proofs.lemmas.Bool.{and_from, and_parts, eq-eqb, eqb-true, eqb-false}
 use Rattle.spans.proofs.Steps.{by_test}
 use Rattle.feed.specs.declared.hulls.Hull.{Hull}
 use Rattle.feed.specs.declared.slots.Slot.{Slot}
@@ -37,9 +37,6 @@ high_more [] e i x is = cc
 high_more (d ∷ es) e zero x is = is
 high_more (d ∷ es) e (suc i) x is = high_more es e i x is
 
-apart_from : (i c : ℕ) → (i == c) ≡ false → i ≡ c → ⊥
-apart_from i c off same = let on : (i == c) ≡ true = eq-eqb i c same in let no' : true ≡ false = sym on ∙ off in cc
-
 -- a slot that came last, but for what it holds
 pub hulls_more : (k : ℕ) (es es' : Slots) (e : ℕ × Slot) (hulls : List (Option Hull)) (place n : ℕ) → es' ≡ es ++ e ∷ [] → place ≡ length es → AreHulls k es (holds_at es) hulls 0 n → AreHulls k es' (held_but place (holds_at es')) hulls 0 n
 hulls_more k es es' e hulls place n more at h = subst (λ fs. AreHulls k fs (held_but place (holds_at fs)) hulls 0 n) (sym more)
@@ -48,7 +45,7 @@ hulls_more k es es' e hulls place n more at h = subst (λ fs. AreHulls k fs (hel
     (λ here. let off : held_but place (holds_at (es ++ e ∷ [])) i x ≡ false = rw here refl in let no' : false ≡ true = sym off ∙ is in cc)
     (λ there.
     let on : held_but place (holds_at (es ++ e ∷ [])) i x ≡ holds_at (es ++ e ∷ []) i x = rw there refl in
-    ap (λ o. entry_holds o x) (sym (get_more es e i (λ same. apart_from i place there (same ∙ sym at)))) ∙ sym on ∙ is))
+    ap (λ o. entry_holds o x) (sym (get_more es e i (λ same. eqb-false i place there (same ∙ sym at)))) ∙ sym on ∙ is))
     (reaches_kept es (es ++ e ∷ []) (λ i x. (low_more es e i x, high_more es e i x)))
     h)
 
@@ -93,7 +90,7 @@ hulls_set k f w es es' s hulls place n stood put at h = subst (λ fs. AreHulls k
     (λ here. let off : held_but place (holds_at new) i x ≡ false = rw here refl in let no' : false ≡ true = sym off ∙ is in cc)
     (λ there.
     let on : held_but place (holds_at new) i x ≡ holds_at new i x = rw there refl in
-    ap (λ o. entry_holds o x) (sym (other_set f w es (sourced w s) i (λ same. apart_from i place there (same ∙ sym there_is)))) ∙ sym on ∙ is))
+    ap (λ o. entry_holds o x) (sym (other_set f w es (sourced w s) i (λ same. eqb-false i place there (same ∙ sym there_is)))) ∙ sym on ∙ is))
     (reaches_kept es new (λ i x. (λ is. low_set f w es s i x stood ∙ is, λ is. high_set f w es s i x stood ∙ is)))
     h)
   where

@@ -9,6 +9,8 @@ use Rattle.spans.specs.Kept.{last_name}
 use Rattle.spans.specs.Feeds.{last_resolved}
 use Rattle.spans.specs.declared.calls.messages.Message.{Message}
 use Rattle.spans.specs.declared.calls.messages.Message.TheVariants as messages
+use Rattle.spans.proofs.Lists.{take_again, take_few}
+use Rattle.spans.proofs.Feeding.{last_join, resolved_join}
 use Rattle.kept.specs.Places.{moved}
 use Rattle.kept.specs.Replies.{messages_left}
 use Rattle.version_chain.specs.Stores.{Stored}
@@ -17,12 +19,6 @@ use Rattle.feed.specs.Standing.{IsPolledBy, IsPut, Standing, live_in}
 use Rattle.feed.specs.Telling.{AreRowsLeft, AreRowsTold, IsTold}
 use Rattle.feed.specs.declared.live.telling.Told.{Told}
 use Rattle.feed.proofs.Rows.{drop_none}
-
--- the first of what begins with the first
-pub take_again : {A : Type 0} (n : ℕ) (xs ys : List A) → take n (take n xs ++ ys) ≡ take n (xs ++ ys)
-take_again zero xs ys = refl
-take_again (suc n) [] ys = refl
-take_again (suc n) (x ∷ xs) ys = ap (λ l. x ∷ l) (take_again n xs ys)
 
 -- the last row of some messages, or else that of before
 pub last_name_is : (o : Option VersionName) (ms : List Message) → row_or (last_name None ms) o ≡ last_name o ms
@@ -36,25 +32,11 @@ last_name_is o (messages.Row r ∷ ms) = some_row (name_of r) o ms
     some_row n o (messages.Resolved t ∷ ms) = some_row n o ms
 last_name_is o (messages.Resolved t ∷ ms) = last_name_is o ms
 
--- one message more
-pub resolved_more : (n : ℕ) (ms : List Message) (m : Message) → last_resolved n (ms ++ m ∷ []) ≡ last_resolved (last_resolved n ms) (m ∷ [])
-resolved_more n [] m = refl
-resolved_more n (messages.Row r ∷ ms) m = resolved_more n ms m
-resolved_more n (messages.Resolved t ∷ ms) m = resolved_more (max n t) ms m
-
-pub row_more : (o : Option VersionName) (ms : List Message) (m : Message) → last_name o (ms ++ m ∷ []) ≡ last_name (last_name o ms) (m ∷ [])
-row_more o [] m = refl
-row_more o (messages.Row r ∷ ms) m = row_more (Some (name_of r)) ms m
-row_more o (messages.Resolved t ∷ ms) m = row_more o ms m
-
 pub next_resolved : (n i : ℕ) (ms : List Message) (m : Message) → i < length ms → m ≡ get_or ms i m → last_resolved n (take (i + 1) ms) ≡ last_resolved (last_resolved n (take i ms)) (m ∷ [])
-next_resolved n i ms m low is = ap (last_resolved n) (take_more ms i m low ∙ ap (λ d. take i ms ++ d ∷ []) (sym is)) ∙ resolved_more n (take i ms) m
+next_resolved n i ms m low is = ap (last_resolved n) (take_more ms i m low ∙ ap (λ d. take i ms ++ d ∷ []) (sym is)) ∙ resolved_join n (take i ms) (m ∷ [])
 
 pub next_row : (i : ℕ) (ms : List Message) (m : Message) → i < length ms → m ≡ get_or ms i m → last_name None (take (i + 1) ms) ≡ last_name (last_name None (take i ms)) (m ∷ [])
-next_row i ms m low is = ap (last_name None) (take_more ms i m low ∙ ap (λ d. take i ms ++ d ∷ []) (sym is)) ∙ row_more None (take i ms) m
-
-few_taken : (n : ℕ) (ms : List Message) → length (take n ms) ≤ n
-few_taken n ms = let long : length (take n ms) ≡ min n (length ms) = length-take n ms in omega arith
+next_row i ms m low is = ap (last_name None) (take_more ms i m low ∙ ap (λ d. take i ms ++ d ∷ []) (sym is)) ∙ last_join None (take i ms) (m ∷ [])
 
 -- the rows of a feed that is served from its ring
 pub told_of_ring : (store : Stored) (l : Live) (closed most : ℕ) (ms : List Message) → l.behind ≡ false → ms ≡ map messages.Row (take most l.ring) → AreRowsTold store l closed most ms false
@@ -65,7 +47,7 @@ told_of_ring store l closed most ms isnt rows = record {
 }
 
 pub told_few : (store : Stored) (l : Live) (closed most : ℕ) (ms : List Message) (behind : Bool) → AreRowsTold store l closed most ms behind → length ms ≤ most
-told_few store l closed most ms behind rows = subst (λ ns. length ns ≤ most) (sym rows.first) (few_taken most (map messages.Row rows.rows))
+told_few store l closed most ms behind rows = subst (λ ns. length ns ≤ most) (sym rows.first) (take_few most (map messages.Row rows.rows))
 
 -- with the resolved message
 pub told_due : (store : Stored) (l : Live) (closed most : ℕ) (ms : List Message) (behind : Bool) (due : Option ℕ) (told : Told) → AreRowsTold store l closed most ms behind → due_in l closed ≡ due_at due → told.behind ≡ behind

@@ -6,9 +6,11 @@ use Rattle.std.specs.BTreeSet.{BTreeSet, contains}
 use Rattle.std.specs.Map.{lookup}
 use Rattle.std.proofs.lemmas.Bool.{and_parts, eqb-true}
 use Rattle.std.proofs.lemmas.Bool.Decides.{nat_tests}
+use Rattle.std.proofs.Math.Bool.{and-false}
 use Rattle.spans.specs.Feeds.{start_at}
 use Rattle.spans.specs.declared.kind.Kind.{Kind}
 use Rattle.spans.proofs.Steps.{by_test}
+use Rattle.spans.proofs.Listing.{start_low}
 use Rattle.kept.specs.Places.{place_floor}
 use Rattle.feed.specs.Live.{Live}
 use Rattle.feed.specs.Ties.{AreTied, IsFloorMoved, is_floor, pair_cmp}
@@ -23,10 +25,6 @@ AreNumbered n g = (f : ℕ) (l : Live) → g f ≡ Some l → f ≤ n
 
 same_pair : (t f s k : ℕ) → is_at (pair_cmp (t, f)) (s, k) ≡ ((t == s) && (f == k))
 same_pair t f s k = grind (arith, nat_tests)
-
-and_false : (b : Bool) → (b && false) ≡ false
-and_false true = refl
-and_false false = refl
 
 pub none_beyond : (n f : ℕ) (g : ℕ → Option Live) → AreNumbered n g → f ≡ n + 1 → g f ≡ None
 none_beyond n f g low beyond = by (g f) refl
@@ -44,7 +42,7 @@ module _ (c c' : ℕ × ℕ → Bool) (t f : ℕ) (put : (q : ℕ × ℕ) → c'
   put_there s k there = put (s, k) ∙ rw (same_pair t f s k, there) refl
 
   put_other : (s k : ℕ) → (f == k) ≡ false → c' (s, k) ≡ c (s, k)
-  put_other s k other = put (s, k) ∙ rw (same_pair t f s k, other, and_false (t == s)) refl
+  put_other s k other = put (s, k) ∙ rw (same_pair t f s k, other, and-false (t == s)) refl
 
 -- the floor of f was taken out
 module _ (c c' : ℕ × ℕ → Bool) (t f : ℕ) (taken : (q : ℕ × ℕ) → c' q ≡ cond (is_at (pair_cmp (t, f)) q) false (c q)) where
@@ -55,7 +53,7 @@ module _ (c c' : ℕ × ℕ → Bool) (t f : ℕ) (taken : (q : ℕ × ℕ) → 
   taken_there s k there = taken (s, k) ∙ rw (same_pair t f s k, there) refl
 
   taken_other : (s k : ℕ) → (f == k) ≡ false → c' (s, k) ≡ c (s, k)
-  taken_other s k other = taken (s, k) ∙ rw (same_pair t f s k, other, and_false (t == s)) refl
+  taken_other s k other = taken (s, k) ∙ rw (same_pair t f s k, other, and-false (t == s)) refl
 
 -- f became o
 abbrev pub IsSet : (ℕ → Option Live) → (ℕ → Option Live) → ℕ → Option Live → Type 0
@@ -130,7 +128,7 @@ alike_moved c c' g g' b a f l l' floor floor' stood alike moved set s k = by_tes
     (λ there. by_test (b == s)
     (λ here'. moved (s, k) ∙ rw (same_pair a f s k, there, same_pair b f s k, here', same) refl ∙ sym (now ∙ there))
     (λ there'. moved (s, k) ∙ rw (same_pair a f s k, there, same_pair b f s k, there') refl ∙ alike s k ∙ ap (λ o. is_floor o s) (ap g (sym (eqb-true f k same)) ∙ stood) ∙ floor_is l b s floor ∙ there' ∙ sym (now ∙ there))))
-    (λ other. moved (s, k) ∙ rw (same_pair a f s k, same_pair b f s k, other, and_false (a == s), and_false (b == s)) refl ∙ alike s k ∙ ap (λ o. is_floor o s) (sym (set_other g g' f k (Some l') set other)))
+    (λ other. moved (s, k) ∙ rw (same_pair a f s k, same_pair b f s k, other, and-false (a == s), and-false (b == s)) refl ∙ alike s k ∙ ap (λ o. is_floor o s) (sym (set_other g g' f k (Some l') set other)))
 
 -- numbers after a change of one feed
 pub numbered_set : (n m f : ℕ) (g g' : ℕ → Option Live) (o : Option Live) → n ≤ m → f ≤ m → AreNumbered n g → IsSet g g' f o → AreNumbered m g'
@@ -150,7 +148,3 @@ tied_moved opened b a f es fs floors floors' l l' tied floor floor' stood moved 
   numbered = numbered_set opened opened f (λ k. lookup (nat_eq k) es) (λ k. lookup (nat_eq k) fs) (Some l') (omega arith) (tied.numbered f l stood) tied.numbered set;
   each = alike_moved (contains pair_cmp floors) (contains pair_cmp floors') (λ k. lookup (nat_eq k) es) (λ k. lookup (nat_eq k) fs) b a f l l' floor floor' stood tied.each moved set;
 }
-
--- a feed starts at its cursor or below it
-pub start_low : (kind : Kind) (cursor : ℕ) → start_at kind cursor ≤ cursor
-start_low kind cursor = by_test kind.initial (λ is. rw is (omega arith)) (λ isnt. rw isnt (omega arith))

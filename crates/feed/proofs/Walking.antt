@@ -4,7 +4,7 @@ use Rattle.std.specs.Prelude.{nat_eq, nat_lt, not, option_map, slice_get}
 use Rattle.std.specs.List.{AllByRecursion, IsDistinct}
 use Rattle.std.specs.Map.{keys_of, lookup}
 use Rattle.std.specs.BTreeSet.{BTreeSet}
-use Rattle.std.proofs.lemmas.Bool.{both_ways, cases_lt, eq-eqb, eqb-true}
+use Rattle.std.proofs.lemmas.Bool.{both_ways, cases_lt, eq-eqb, eqb-true, eqb-false, not-true, and_parts}
 use Rattle.timestamps.specs.declared.row.Row.{Row}
 use Rattle.spans.specs.Keys.{in_span}
 use Rattle.spans.proofs.Steps.{by_test}
@@ -17,9 +17,6 @@ use Rattle.feed.specs.Standing.{IsBoth, IsSentBehind}
 use Rattle.feed.specs.Ties.{AreTied, is_floor}
 use Rattle.feed.specs.declared.slots.Slot.{Slot}
 use Rattle.feed.specs.declared.slots.ServedFrom.TheVariants.{Ended, Store}
-
-apart_from : (f g : ℕ) → (f == g) ≡ false → f ≡ g → ⊥
-apart_from f g off same = both_ways _ off (eq-eqb f g same)
 
 -- the number stands at a place from n on
 abbrev pub IsAhead : List ℕ → ℕ → ℕ → Type 0
@@ -60,8 +57,8 @@ walked_step R n i f ks es fs fs' distinct walked low at skipped step = record {
         | inr is ↦ elim (cases_lt is.0 i) [
           | inl less ↦ inl (subst (IsBoth R (lookup (nat_eq g) es)) (sym (step.others g off)) (subst (λ o. IsBoth R o (lookup (nat_eq g) fs)) (walked.ahead g is) (skipped is.0 g is.1 less is.2)))
           | inr over ↦ by_test (i == is.0)
-              (λ same. absurd (let j : i ≡ is.0 = eqb-true i is.0 same in let e : Some f ≡ Some g = sym at ∙ ap (slice_get ks) j ∙ is.2 in apart_from f g off (let v : f ≡ g = cc in v)))
-              (λ more. inr (is.0, (let apart = apart_from i is.0 more in let l : i ≤ is.0 = over in above i is.0 l apart), is.2))
+              (λ same. absurd (let j : i ≡ is.0 = eqb-true i is.0 same in let e : Some f ≡ Some g = sym at ∙ ap (slice_get ks) j ∙ is.2 in eqb-false f g off (let v : f ≡ g = cc in v)))
+              (λ more. inr (is.0, (let apart = eqb-false i is.0 more in let l : i ≤ is.0 = over in above i is.0 l apart), is.2))
         ]
       ]);
 }
@@ -168,14 +165,10 @@ offered_place r l l' offered = by_test (wants l r)
     (λ is. elim (offered.offered is) [ inl e ↦ ap (λ (v : Live). v.place) e | inr e ↦ ap (λ (v : Live). v.place) e ])
     (λ isnt. ap (λ (v : Live). v.place) (offered.others isnt))
 
-not_true : (b c : Bool) → (not b && c) ≡ true → b ≡ false
-not_true true c e = cc
-not_true false c e = refl
-
 -- and one that isn't behind then wasn't before
 pub offered_ahead : (r : Row) (l l' : Live) → IsOffered r l l' → l'.behind ≡ false → l.behind ≡ false
 offered_ahead r l l' offered isnt = by_test (wants l r)
-    (λ is. not_true l.behind (wanted l.place.span l.place.after r) is)
+    (λ is. not-true l.behind (and_parts (not l.behind) (wanted l.place.span l.place.after r) is).0)
     (λ off. ap (λ (v : Live). v.behind) (sym (offered.others off)) ∙ isnt)
 
 -- changes that leave the places leave the floors

@@ -15,10 +15,11 @@ use Rattle.spans.proofs.Copies.{closed_grows, Allowed, AllAllowed}
 use Rattle.spans.proofs.Open.{begun_among, open_above, least_below}
 use Rattle.spans.proofs.Steps.{by_test}
 use Rattle.spans.proofs.WriteSets.{has, has_written}
-use Rattle.kept.proofs.Dead.{least_low}
+use Rattle.spans.proofs.Dead.{committed_is}
+use Rattle.spans.proofs.Horizon.{least_low}
 use Rattle.kept.specs.Marks.{IsForgotten}
 use Rattle.kept.specs.Table.{has_ended, is_open, keys_of, reach, IsOldest}
-use Rattle.kept.proofs.Dead.{committed_is, committed_stands}
+use Rattle.kept.proofs.Dead.{committed_stands}
 use Rattle.kept.proofs.Marking.{marks_aborted}
 use Rattle.kept.proofs.Staying.{to_kept, kept_stays, marks_of}
 

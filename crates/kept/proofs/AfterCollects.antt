@@ -11,7 +11,7 @@ use Rattle.spans.specs.Reads.{too_late}
 use Rattle.spans.specs.Versions.{committed_version_of, version_of}
 use Rattle.spans.proofs.Copies.{Allowed, AllAllowed}
 use Rattle.spans.proofs.Steps.{newest_is, by_test}
-use Rattle.kept.proofs.Dead.{dead_is}
+use Rattle.spans.proofs.Dead.{dead_is}
 use Rattle.kept.proofs.Staying.{to_kept, marks_of}
 
 -- a greater horizon leaves the dead dead

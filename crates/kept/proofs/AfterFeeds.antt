@@ -1,9 +1,8 @@
 -- What is kept after the commands on feeds and protections.
-use Rattle.std.proofs.Common.{Bool, List, not, refl, None, Option, arith, false, subst, suc, ap, true, Some, sym, cond, ◌≡◌, ◌<◌, ◌==◌, ◌∷◌, ◌++◌, ◌∙◌, ℕ, []}
+use Rattle.std.proofs.Common.{Bool, List, not, refl, None, Option, arith, false, suc, ap, true, Some, sym, cond, ◌≡◌, ◌<◌, ◌==◌, ◌∷◌, ◌++◌, ◌∙◌, ℕ}
 use Rattle.std.proofs.lemmas.Bool.{eqb-true}
-use Rattle.std.specs.Prelude.{filter, option_map, is_some}
-use Rattle.spans.specs.Collection.{Protection, VersionName}
-use Rattle.spans.specs.Consumer.{name_of}
+use Rattle.std.specs.Prelude.{filter, option_map}
+use Rattle.spans.specs.Collection.{Protection}
 use Rattle.spans.specs.declared.kind.Kind.{Kind}
 use Rattle.spans.specs.Effects.{Releases, Opens, Polls, Cancels, Protects, Effect}
 use Rattle.spans.specs.Feeds.{told_to, Feed, is_cancelled, feeds_opened, last_resolved, feed_of, start_at, start_of}
@@ -11,19 +10,9 @@ use Rattle.spans.specs.Kept.{Place, Kept, IsKeptOf, last_name}
 use Rattle.spans.specs.declared.calls.messages.Message.{Message}
 use Rattle.spans.specs.declared.span.Span.{Span}
 use Rattle.spans.proofs.Copies.{Allowed, AllAllowed}
-use Rattle.spans.proofs.Feeding.{unopened, resolved_join}
+use Rattle.spans.proofs.Feeding.{unopened, resolved_join, uncancelled, last_join}
 use Rattle.spans.proofs.Steps.{by_test}
 use Rattle.kept.specs.Places.{moved}
-use Rattle.spans.specs.declared.calls.messages.Message.TheVariants as messages
-
--- a feed that wasn't opened wasn't cancelled
-pub uncancelled : (p : List Effect) → AllAllowed p → (f : ℕ) → feeds_opened p < f → is_cancelled p f ≡ false
-uncancelled [] all f above = refl
-uncancelled (Opens g seat kind span cursor ∷ p) all f above = uncancelled p all.1 f (omega arith)
-uncancelled (Cancels g ∷ p) all f above = by_test (g == f)
-    (λ same. absurd (let none : feed_of p g ≡ None = subst (λ n. feed_of p n ≡ None) (sym (eqb-true g f same)) (unopened p all.1 f above).0 in let no : false ≡ true = ap is_some (sym none) ∙ all.0 in cc))
-    (λ other. rw other (uncancelled p all.1 f above))
-uncancelled (_ ∷ p) all f above = uncancelled p all.1 f above
 
 -- after an opening
 pub after_opens : (k : Kept) (p : List Effect) → AllAllowed p → IsKeptOf k p → (f seat : ℕ) (kind : Kind) (span : Span) (cursor : ℕ) → Allowed p (Opens f seat kind span cursor) → (φ : ℕ → Option Place)
@@ -62,12 +51,6 @@ after_cancels k p fits f φ fs = record {
   opened = fits.opened;
 }
 
--- the row that is told last of two lists of messages
-row_join : (o : Option VersionName) (ms ns : List Message) → last_name o (ms ++ ns) ≡ last_name (last_name o ms) ns
-row_join o [] ns = refl
-row_join o (messages.Row r ∷ ms) ns = row_join (Some (name_of r)) ms ns
-row_join o (messages.Resolved t ∷ ms) ns = row_join o ms ns
-
 -- after a poll
 pub after_polls : (k : Kept) (p : List Effect) → IsKeptOf k p → (f m : ℕ) (ms : List Message) → (φ : ℕ → Option Place) → ((g : ℕ) → φ g ≡ cond (f == g) (option_map (moved ms) (k.feed g)) (k.feed g)) → IsKeptOf (record k { feed = φ }) (Polls f m ms ∷ p)
 after_polls k p fits f m ms φ fs = record {
@@ -95,7 +78,7 @@ after_polls k p fits f m ms φ fs = record {
     by_feed : (ns : List Message) (b : Bool) (o : Option Feed) → option_map (moved ms) (cond b None (option_map (after_messages ns) o)) ≡ cond b None (option_map (after_messages (ns ++ ms)) o)
     by_feed ns true o = refl
     by_feed ns false None = refl
-    by_feed ns false (Some feed) = rw (resolved_join (start_of feed) ns ms, row_join None ns ms) refl
+    by_feed ns false (Some feed) = rw (resolved_join (start_of feed) ns ms, last_join None ns ms) refl
 
 -- after a protection
 pub after_protects : (k : Kept) (p : List Effect) → IsKeptOf k p → (id t : ℕ) → IsKeptOf (record k { protections = record { id = id; at = t } ∷ k.protections; protections_made = suc k.protections_made }) (Protects id t ∷ p)

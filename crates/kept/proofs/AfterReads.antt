@@ -11,9 +11,10 @@ use Rattle.spans.specs.Transactions.{closed_of}
 use Rattle.spans.specs.Versions.{visible, committed_version_of, version_of, is_blocked}
 use Rattle.spans.proofs.Copies.{Allowed, AllAllowed}
 use Rattle.spans.proofs.Steps.{same_key, newest_is, by_test}
+use Rattle.spans.proofs.Horizon.{horizon_low}
 use Rattle.kept.specs.Finding.{IsNextAbove, seen}
 use Rattle.kept.specs.Marks.{until, IsMarkedBy, IsNoted}
-use Rattle.kept.proofs.Dead.{horizon_low, kept_above}
+use Rattle.kept.proofs.Dead.{kept_above}
 use Rattle.kept.proofs.Marking.{own_read, marks_read}
 use Rattle.kept.proofs.Reading.{seen_is, kept_newest, IsSeen}
 use Rattle.kept.proofs.Staying.{to_kept, marks_of}

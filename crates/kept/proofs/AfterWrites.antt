@@ -15,7 +15,8 @@ use Rattle.spans.specs.Versions.{committed_version_of, version_of, write_of, wri
 use Rattle.spans.proofs.Copies.{Allowed, AllAllowed}
 use Rattle.spans.proofs.Steps.{version_wrote, same_key, by_test}
 use Rattle.spans.proofs.WriteSets.{has, has_written}
-use Rattle.kept.proofs.Dead.{kept_is, committed_is, committed_stands}
+use Rattle.spans.proofs.Dead.{committed_is}
+use Rattle.kept.proofs.Dead.{kept_is, committed_stands}
 use Rattle.kept.proofs.Marking.{marks_aborted, marks_written, crossed_like}
 use Rattle.kept.proofs.Staying.{to_kept, kept_stays, marks_of}
 

@@ -27,8 +27,8 @@ use Rattle.kept.specs.Places.{live_feed}
 use Rattle.kept.specs.Table.{is_open}
 use Rattle.kept.proofs.AfterCloses.{open_is}
 use Rattle.spans.proofs.Members.{among_has, distinct_filter, has_filter, open_distinct, same_length}
-use Rattle.kept.proofs.FeedFloors.{is_live}
-use Rattle.kept.proofs.Floors.{live_is, place_at}
+use Rattle.spans.proofs.FeedFloors.{is_live, live_is}
+use Rattle.kept.proofs.Floors.{place_at}
 use Rattle.kept.proofs.VersionCounts.{stored_count}
 
 -- a list of those that pass the test is as long as any other

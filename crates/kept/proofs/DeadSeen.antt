@@ -10,30 +10,14 @@ use Rattle.spans.specs.Newest.{newest}
 use Rattle.spans.specs.Transactions.{is_committed}
 use Rattle.spans.specs.Versions.{committed_version_of, version_of, write_of}
 use Rattle.spans.proofs.Copies.{AllAllowed, Allowed}
-use Rattle.spans.proofs.Steps.{by_test, newest_is, version_wrote}
+use Rattle.spans.proofs.Steps.{by_test, newest_is, version_wrote, newest_reaches, newest_fewer}
 use Rattle.kept.specs.Finding.{is_dropped, is_dead_in, kept_committed}
 use Rattle.kept.specs.Lists.{AreThose}
 use Rattle.kept.proofs.AfterCollects.{after_collects, dead_grows, removed_is}
 use Rattle.spans.proofs.Members.{distinct_filter, has_filter, same_length}
-use Rattle.kept.proofs.Dead.{committed_is, committed_stands, dead_is, kept_is, older_dead}
+use Rattle.kept.proofs.Dead.{committed_stands, kept_is}
 use Rattle.spans.proofs.VersionNames.{has_versions, versions_distinct}
-
--- the newest version is at or above each that is in reach
-newest_reaches : (f : ℕ → Option After) (t i : ℕ) (a : After) → i ≤ t → f i ≡ Some a → i ≤ (newest f t).ts
-newest_reaches f t i a low is = by_test (nat_lt (newest f t).ts i)
-    (λ below. absurd (let none : f i ≡ None = (newest_is f t).gap i (ltb-true _ _ below) low in let no' : None ≡ Some a = sym none ∙ is in cc))
-    (λ isnt. grind (arith, nat_tests))
-
--- of fewer versions the newest is no newer
-newest_fewer : (f g : ℕ → Option After) (t : ℕ) → ((j : ℕ) → f j ≡ None → g j ≡ None) → (newest g t).ts ≤ (newest f t).ts
-newest_fewer f g t fewer = elim (newest_is g t).has [
-  | inl zeroth ↦ omega (arith, zeroth.0)
-  | inr some ↦ by_version (f (newest g t).ts) refl some.1
-]
-  where
-    by_version : (o : Option After) → f (newest g t).ts ≡ o → g (newest g t).ts ≡ Some (newest g t).after → (newest g t).ts ≤ (newest f t).ts
-    by_version None e is = absurd (let no' : None ≡ Some (newest g t).after = sym (fewer _ e) ∙ is in cc)
-    by_version (Some a) e is = newest_reaches f t (newest g t).ts a (newest_is g t).at_most e
+use Rattle.spans.proofs.Dead.{committed_is, dead_is, older_dead}
 
 -- a kept version that is committed is a committed one
 kept_fewer : (k : Kept) (p : List Effect) → AllAllowed p → IsKeptOf k p → (x : List ℕ) (j : ℕ) → committed_version_of p x j ≡ None → kept_committed k x j ≡ None
@@ -69,7 +53,7 @@ newer_is k p all fits x n i done live = by_test (nat_lt i (newest (committed_ver
       | inl zeroth ↦ absurd (omega (arith, zeroth.0))
       | inr some ↦ lt-ltb i _ (above l some.1) ∙ sym below
     ])
-    (λ isnt. (let fewer : (newest (kept_committed k x) n).ts ≤ (newest (committed_version_of p x) n).ts = newest_fewer (committed_version_of p x) (kept_committed k x) n (λ j none. kept_fewer k p all fits x j none) in grind (arith, nat_tests)))
+    (λ isnt. (let fewer : (newest (kept_committed k x) n).ts ≤ (newest (committed_version_of p x) n).ts = newest_fewer (committed_version_of p x) (kept_committed k x) n (λ j low none. kept_fewer k p all fits x j none) in grind (arith, nat_tests)))
   where
     above : i < (newest (committed_version_of p x) n).ts → committed_version_of p x (newest (committed_version_of p x) n).ts ≡ Some (newest (committed_version_of p x) n).after → i < (newest (kept_committed k x) n).ts
     above l some = by_test (is_dead p (version_name x (newest (committed_version_of p x) n).ts))

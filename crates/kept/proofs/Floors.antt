@@ -1,27 +1,23 @@
 -- The floor of a feed from its place, and how far a collection goes.
-use Rattle.std.proofs.Common.{Bool, List, not, refl, inr, None, Option, arith, map, subst, false, ap, true, Some, inl, sym, ◌≡◌, ◌<◌, ◌≤◌, ◌⊎◌, ◌==◌, ◌-◌, ◌∷◌, ◌++◌, ◌∙◌, ℕ, []}
-use Rattle.std.proofs.lemmas.Bool.{eqb-true}
-use Rattle.std.proofs.lemmas.Bool.Decides.{nat_tests}
-use Rattle.std.specs.Prelude.{max, filter, min}
+use Rattle.std.proofs.Common.{Bool, List, refl, inr, None, Option, arith, map, subst, false, ap, true, Some, inl, sym, ◌≡◌, ◌<◌, ◌≤◌, ◌-◌, ◌∷◌, ◌++◌, ◌∙◌, ℕ, []}
+use Rattle.std.specs.Prelude.{max, min}
 use Rattle.timestamps.specs.declared.row.Row.{Row}
 use Rattle.spans.specs.Collection.{horizon_of, live_feeds, floor_of, Protection, LiveFeed, VersionName, floor_after, collection_horizon, protections_of}
 use Rattle.spans.specs.Consumer.{name_of}
-use Rattle.spans.specs.Effects.{Opens, Cancels, Effect}
+use Rattle.spans.specs.Effects.{Effect}
 use Rattle.spans.specs.FeedRight.{DividesList, RowsFollowResolved, RowsAreAbove, least_gap}
-use Rattle.spans.specs.Feeds.{told_to, rows_in, Feed, is_cancelled, feeds_opened, last_resolved, feed_of, resolved_of, start_of}
+use Rattle.spans.specs.Feeds.{told_to, rows_in, Feed, is_cancelled, last_resolved, feed_of, resolved_of, start_of}
 use Rattle.spans.specs.Kept.{Place, last_name, place_with, Kept, IsKeptOf}
 use Rattle.spans.specs.Transactions.{closed_of, least_of}
 use Rattle.spans.specs.declared.calls.messages.Message.{Message}
 use Rattle.spans.proofs.Copies.{AllAllowed}
-use Rattle.spans.proofs.Feeding.{unopened, fed, ResolvedRise, apart_rises, some_gap}
-use Rattle.spans.proofs.Steps.{by_test}
+use Rattle.spans.proofs.Feeding.{fed, ResolvedRise, apart_rises, some_gap}
 use Rattle.spans.proofs.Listing.{in_list, listed_above, listed_low, start_low}
 use Rattle.spans.proofs.StreamOrder.{IsRowIn, in_append}
-use Rattle.kept.proofs.Dead.{least_low}
 use Rattle.spans.proofs.Members.{Has}
+use Rattle.spans.proofs.Horizon.{least_low, least_join}
+use Rattle.spans.proofs.FeedFloors.{floor_from, is_live, live_is}
 use Rattle.kept.specs.Places.{place_floor, IsLeastFloor, or_min, live_feed, row_floor}
-use Rattle.kept.proofs.AfterFeeds.{uncancelled}
-use Rattle.kept.proofs.FeedFloors.{floor_from, is_live}
 use Rattle.spans.specs.declared.calls.messages.Message.TheVariants as messages
 
 -- the floor after messages is the place's, where the messages are right
@@ -56,35 +52,6 @@ told_through_is p all f feed is =
 -- the floor of a place is the floor of its feed
 pub place_floor_is : (p : List Effect) → AllAllowed p → (f : ℕ) (feed : Feed) → feed_of p f ≡ Some feed → place_floor (place_with p f feed) ≡ max feed.cursor (floor_after feed.cursor (told_to p f))
 place_floor_is p all f feed is = sym (floor_from feed.cursor (start_of feed) (told_to p f) (start_low feed.kind feed.cursor) ∙ ap (max feed.cursor) (told_through_is p all f feed is))
-
--- a feed that is listed lives
-pub live_is : (p : List Effect) → AllAllowed p → (f c : ℕ) → Has (live_feed f c) (live_feeds p) → (feed : Feed) × (feed_of p f ≡ Some feed) × (is_cancelled p f ≡ false) × (feed.cursor ≡ c)
-live_is [] all f c i = absurd i
-live_is (Opens g seat kind span cursor ∷ p) all f c i = by_test (g == f)
-    (λ same.
-    let e : g ≡ f = eqb-true g f same in
-    let above : feeds_opened p < f = omega (arith, all.0.0) in
-    elim i [
-      | inl here ↦ (record { seat = seat; kind = kind; span = span; cursor = cursor }, rw same refl, uncancelled p all.1 f above, ap (λ (n : LiveFeed). n.cursor) here)
-      | inr there ↦ absurd (let was = live_is p all.1 f c there in let no : None ≡ Some was.0 = sym (unopened p all.1 f above).0 ∙ was.1 in cc)
-    ])
-    (λ other. elim i [
-      | inl here ↦ absurd (let e : g ≡ f = ap (λ (n : LiveFeed). n.number) here in grind (arith, nat_tests))
-      | inr there ↦ (let was = live_is p all.1 f c there in (was.0, rw other was.1, was.2, was.3))
-    ])
-live_is (Cancels g ∷ p) all f c i =
-    let k = still g (live_feeds p) i in
-    let was = live_is p all.1 f c k.0 in (was.0, was.1, rw (k.1) was.2, was.3)
-  where
-    still : (g : ℕ) (ws : List LiveFeed) → Has (live_feed f c) (filter (λ n. not (n.number == g)) ws) → Has (live_feed f c) ws × ((g == f) ≡ false)
-    still g [] i = absurd i
-    still g (w ∷ ws) i = by_test (w.number == g)
-        (λ is. let m = still g ws (rw is at i) in (inr m.0, m.1))
-        (λ isnt. let j : (w ≡ live_feed f c) ⊎ Has (live_feed f c) (filter (λ n. not (n.number == g)) ws) = rw isnt at i in elim j [
-          | inl here ↦ (inl here, (let e : w.number ≡ f = ap (λ (n : LiveFeed). n.number) here in grind (arith, nat_tests)))
-          | inr there ↦ (let m = still g ws there in (inr m.0, m.1))
-        ])
-live_is (_ ∷ p) all f c i = live_is p all.1 f c i
 
 -- the floors of the feeds
 abbrev floors : List Effect → List LiveFeed → List ℕ
@@ -135,11 +102,6 @@ least_floor_is k p all fits (Some m) h n =
     let top : least_of n (floors p (live_feeds p)) ≤ m = omega (arith, place_floor_is p all h.0.0 l.0 l.1) in
     let first : least_of n (floors p (live_feeds p)) ≤ n = least_low n (floors p (live_feeds p)) in
     omega arith
-
--- the least over two lists
-least_join : (n : ℕ) (ms ns : List ℕ) → least_of n (ms ++ ns) ≡ least_of (least_of n ns) ms
-least_join n [] ns = refl
-least_join n (m ∷ ms) ns = ap (min m) (least_join n ms ns)
 
 -- how far a collection goes
 pub horizon_reached : (k : Kept) (p : List Effect) → AllAllowed p → IsKeptOf k p → (to : ℕ) (lp lf : Option ℕ) → ((n : ℕ) → or_min lp n ≡ least_of n (map (λ (n : Protection). n.at) k.protections)) → IsLeastFloor k.feed lf

@@ -1,5 +1,5 @@
 -- The rows that are left for a feed, in two parts.
-use Rattle.std.proofs.Common.{false, true, sym, List, Some, [], ap, arith, inl, inr, length, refl, subst, take, zero, suc, ℕ, ◌++◌, ◌-◌, ◌<◌, ◌∙◌, ◌∷◌, ◌≡◌, ◌≤◌}
+use Rattle.std.proofs.Common.{false, true, sym, List, Some, [], ap, arith, inl, inr, length, subst, take, ℕ, ◌++◌, ◌-◌, ◌<◌, ◌∙◌, ◌≡◌, ◌≤◌}
 use Rattle.std.proofs.lemmas.Bool.{and_parts, lt-ltb, ltb-true, or_left}
 use Rattle.std.proofs.lemmas.List.{take-take}
 use Rattle.std.specs.Prelude.{true}
@@ -13,6 +13,7 @@ use Rattle.spans.specs.declared.calls.events.Event.{Event}
 use Rattle.spans.proofs.RowOrder.{name_order}
 use Rattle.spans.proofs.StreamOrder.{in_append, rises_append}
 use Rattle.spans.proofs.Taking.{resolved_grows}
+use Rattle.spans.proofs.Lists.{take_both}
 use Rattle.kept.specs.Places.{AreFirsts, AreLeft, AreNext, AreStored, IsFirst}
 use Rattle.kept.specs.StandsFor.{StandsFor}
 use Rattle.kept.proofs.Floors.{placed_by}
@@ -26,14 +27,6 @@ parts_left k place firsts stored f s = record {
     λ i. elim i [ inl j ↦ join.1 (inl ((f.each r).1 j)) | inr j ↦ join.1 (inr ((s.each r).1 j)) ],
   );
 }
-
--- what is taken of two lists
-take_both : (m : ℕ) (xs ys : List Row) → take m xs ++ take (m - length xs) ys ≡ take m (xs ++ ys)
-take_both zero xs ys = let none : 0 - length xs ≡ 0 = omega arith in rw none refl
-take_both (suc m) [] ys = ap (λ n. take n ys) (let all : suc m - 0 ≡ suc m = omega arith in all)
-take_both (suc m) (x ∷ xs) ys =
-    let less : suc m - suc (length xs) ≡ m - length xs = omega arith in
-    ap (λ n. x ∷ (take m xs ++ take n ys)) less ∙ ap (λ l. x ∷ l) (take_both m xs ys)
 
 -- so the next are those of the first part, and of the second where there is room
 pub parts_next : (k : Kept) (place : Place) (max : ℕ) (firsts stored : List Row) → AreFirsts k.version place firsts → AreStored k.version k.committed place k.closed stored → AreNext k place max (take max firsts ++ take (max - length firsts) stored)

@@ -15,7 +15,6 @@ pub mod DeadSeen
 pub mod Counts
 pub mod Scans
 pub mod Untold
-pub mod FeedFloors
 pub mod Polling
 pub mod Floors
 pub mod RingRows

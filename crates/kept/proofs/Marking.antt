@@ -12,8 +12,9 @@ use Rattle.spans.specs.Versions.{visible, committed_version_of, version_of, writ
 use Rattle.spans.proofs.Copies.{kept, IsActive, AllAllowed, found_whole}
 use Rattle.spans.proofs.Marks.{late_across}
 use Rattle.spans.proofs.Steps.{newest_is, by_test}
+use Rattle.spans.proofs.Horizon.{horizon_low}
 use Rattle.kept.specs.Marks.{until, IsPiece, IsMarkedBy}
-use Rattle.kept.proofs.Dead.{horizon_low, kept_above}
+use Rattle.kept.proofs.Dead.{kept_above}
 
 -- a version that stands wasn't too late, and isn't
 pub timely : (p : List Effect) → AllAllowed p → (x : List ℕ) (t : ℕ) (a : After) → version_of p x t ≡ Some a → too_late p x t ≡ false

@@ -16,9 +16,9 @@ use Rattle.spans.proofs.Copies.{AllAllowed, not_both}
 use Rattle.spans.proofs.Feeding.{due_if, feeding, untold_is}
 use Rattle.spans.proofs.RowOrder.{name_order}
 use Rattle.spans.proofs.Steps.{map_at_is, version_wrote}
+use Rattle.spans.proofs.FeedFloors.{floors_high}
 use Rattle.kept.specs.Places.{AreLeft, is_beyond, place_floor, row_floor}
 use Rattle.kept.proofs.Dead.{kept_above, kept_is}
-use Rattle.kept.proofs.FeedFloors.{floors_high}
 use Rattle.kept.proofs.Floors.{place_floor_is}
 use Rattle.kept.proofs.Reading.{settled_is}
 use Rattle.kept.proofs.Untold.{beyond_is, only_rows}

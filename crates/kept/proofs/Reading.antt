@@ -13,7 +13,9 @@ use Rattle.spans.proofs.Copies.{AllAllowed}
 use Rattle.spans.proofs.Steps.{version_wrote, newest_only, newest_is, newest_same, by_test}
 use Rattle.kept.specs.Finding.{seen, is_seen_blocked}
 use Rattle.spans.proofs.Closed.{closed_version, closed_committed}
-use Rattle.kept.proofs.Dead.{horizon_low, IsDropped, no_kept, older_dead, dead_is, committed_stands}
+use Rattle.spans.proofs.Horizon.{horizon_low}
+use Rattle.spans.proofs.Dead.{IsDropped, older_dead, dead_is}
+use Rattle.kept.proofs.Dead.{no_kept, committed_stands}
 
 -- the value of the visible version, and the version itself unless it was dropped
 pub record IsSeen (p : List Effect) (x : List ℕ) (t : ℕ) (n : Version) : Type 0 where

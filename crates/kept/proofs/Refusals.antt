@@ -1,6 +1,6 @@
 -- The tests of a command of a transaction, from the table.
 use Rattle.std.proofs.Common.{Bool, List, None, Option, Some, [], ap, arith, cond, false, not, refl, sym, true, ℕ, ◌++◌, ◌||◌, ◌∙◌, ◌∷◌, ◌≡◌, ◌≤◌}
-use Rattle.std.proofs.lemmas.Bool.{leb-false, lt-ltb, or_parts}
+use Rattle.std.proofs.lemmas.Bool.{leb-false, lt-ltb, or_parts, not-false}
 use Rattle.std.proofs.lemmas.Bool.Decides.{nat_tests}
 use Rattle.std.specs.Prelude.{is_some, nat_le, nat_lt, option_map}
 use Rattle.timestamps.specs.declared.ts.TheConstants.{MAX}
@@ -15,24 +15,10 @@ use Rattle.spans.specs.declared.calls.replies.Refusal.TheVariants.{Ended, NoTxn,
 use Rattle.spans.specs.declared.calls.replies.Reply.{Reply}
 use Rattle.spans.specs.declared.calls.replies.Reply.TheVariants.{Refused}
 use Rattle.spans.proofs.Copies.{IsActive}
-use Rattle.spans.proofs.Legal.{not_false}
 use Rattle.spans.proofs.Steps.{by_test}
+use Rattle.spans.proofs.Refusals.{tests_past, tests_met}
 use Rattle.kept.specs.Replies.{unless_refused}
 use Rattle.kept.specs.Table.{has_ended, keys_of, refusal, transaction_refusal}
-
--- tests of which none applies are passed
-tests_past : (tests more : List (Bool × Refusal)) (reply : Reply) → first_refusal tests ≡ None → first_refusal_or (tests ++ more) reply ≡ first_refusal_or more reply
-tests_past [] more reply none = refl
-tests_past (test ∷ tests) more reply none = by_test test.0
-    (λ is. let no' : Some test.1 ≡ None = rw is at none in cc)
-    (λ isnt. rw isnt (tests_past tests more reply (rw isnt at none)))
-
--- tests of which one applies refuse
-tests_met : (tests more : List (Bool × Refusal)) (reply : Reply) (r : Refusal) → first_refusal tests ≡ Some r → first_refusal_or (tests ++ more) reply ≡ Refused r
-tests_met [] more reply r some = cc
-tests_met (test ∷ tests) more reply r some = by_test test.0
-    (λ is. rw is (let e : Some test.1 ≡ Some r = rw is at some in let e' : test.1 ≡ r = cc in ap Refused e'))
-    (λ isnt. rw isnt (tests_met tests more reply r (rw isnt at some)))
 
 -- a number that is in range passes its test
 pub within : (to : ℕ) (reply : Reply) → to ≤ MAX → first_refusal_or ((nat_lt MAX to, TsRange) ∷ []) reply ≡ reply
@@ -52,7 +38,7 @@ active_of p seat t none =
     let c = test_past (not (is_owner (owner_of p t) seat), NotOwner) ((is_committed p t || is_aborted p t, Ended) ∷ []) b.1 in
     let d = test_past (is_committed p t || is_aborted p t, Ended) [] c.1 in
     let both = or_parts (is_committed p t) (is_aborted p t) d.0 in
-    record { above = leb-false t (closed_of p) a.0; begun = not_false (is_some (owner_of p t)) b.0; uncommitted = both.0; unaborted = both.1 }
+    record { above = leb-false t (closed_of p) a.0; begun = not-false (is_some (owner_of p t)) b.0; uncommitted = both.0; unaborted = both.1 }
 
 -- the table gives the first test that applies
 pub refusal_is : (k : Kept) (p : List Effect) → IsKeptOf k p → (seat t : ℕ) → refusal k seat t ≡ first_refusal (transaction_tests p seat t)

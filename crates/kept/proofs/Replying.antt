@@ -23,6 +23,7 @@ use Rattle.spans.specs.declared.span.Span.{Span}
 use Rattle.spans.proofs.Copies.{AllAllowed}
 use Rattle.spans.proofs.Feeding.{due_if, unopened}
 use Rattle.spans.proofs.Steps.{by_test}
+use Rattle.spans.proofs.Horizon.{horizon_low}
 use Rattle.kept.specs.Collecting.{IsCollected, reached}
 use Rattle.kept.specs.Finding.{AreKeysOf, is_seen_blocked, seen}
 use Rattle.kept.specs.Lists.{AreThose}
@@ -33,7 +34,6 @@ use Rattle.kept.specs.Table.{IsOldest, is_open, keys_of, reach, refusal}
 use Rattle.kept.specs.WorkedKept.{versions}
 use Rattle.kept.proofs.AfterCloses.{reach_is}
 use Rattle.kept.proofs.Counts.{cut_count, feeds_count, undecided_count, versions_count, write_set_length}
-use Rattle.kept.proofs.Dead.{horizon_low}
 use Rattle.kept.proofs.Floors.{horizon_reached}
 use Rattle.kept.proofs.Late.{late_is}
 use Rattle.kept.proofs.Polling.{poll_is}

@@ -23,13 +23,14 @@ use Rattle.spans.proofs.Feeding.{ResolvedRise, feed_rises, feeding, unopened}
 use Rattle.spans.proofs.Legal.{legal_allowed}
 use Rattle.spans.proofs.Members.{Has, has_filter}
 use Rattle.spans.proofs.Steps.{by_test}
+use Rattle.spans.proofs.FeedFloors.{live_is}
 use Rattle.kept.specs.Places.{live_feed}
 use Rattle.kept.specs.Reports.{AreLive, AreOpen, IsKeptReport, feed_report, if_above, resolved_at, transaction_report}
 use Rattle.kept.specs.StandsFor.{StandsFor}
 use Rattle.kept.proofs.AfterCloses.{open_is}
 use Rattle.kept.proofs.Contained.{contains_has}
 use Rattle.kept.proofs.Counts.{has_live, has_number, number_has, versions_count, write_set_length}
-use Rattle.kept.proofs.Floors.{live_is, place_floor_is, placed_by, told_through_is}
+use Rattle.kept.proofs.Floors.{place_floor_is, placed_by, told_through_is}
 use Rattle.kept.proofs.Rising.{Falls, Rises, has_last, increasing_rises, rises_last, same_rising}
 
 -- ---- transactions

@@ -3,7 +3,7 @@ use Rattle.std.proofs.Common.{Bool, List, Some, [], ap, append_assoc, arith, con
 use Rattle.std.proofs.lemmas.Bool.{both_ways, eq-eqb, eqb-true, false_from_ne_true, lt-ltb, ltb-true}
 use Rattle.std.proofs.lemmas.Bool.Decides.{nat_tests}
 use Rattle.std.proofs.lemmas.List.{append-nil}
-use Rattle.std.proofs.lemmas.List.Elements.{filter_map-append}
+use Rattle.std.proofs.lemmas.List.Elements.{filter_map-append, filter-append}
 use Rattle.std.specs.Prelude.{filter, max, nat_lt}
 use Rattle.timestamps.specs.declared.row.Row.{Row}
 use Rattle.spans.specs.declared.kind.Kind.{Kind}
@@ -29,13 +29,6 @@ use Rattle.kept.proofs.Floors.{place_at}
 use Rattle.kept.proofs.Polling.{left_is}
 use Rattle.spans.specs.declared.calls.messages.Message.TheVariants as messages
 
--- a filter over two lists joined
-filter_join : (q : Row → Bool) (xs ys : List Row) → filter q (xs ++ ys) ≡ filter q xs ++ filter q ys
-filter_join q [] ys = refl
-filter_join q (x ∷ xs) ys = by_test (q x)
-    (λ is. rw is (ap (λ l. x ∷ l) (filter_join q xs ys)))
-    (λ isnt. rw isnt (filter_join q xs ys))
-
 -- what the stream goes on with are the wanted ones of all rows
 pub stream_split : (p : List Effect) (span : Span) (c m n : ℕ) → m ≤ n → stream_of p span c n ≡ stream_of p span c m ++ filter (wanted span c) (stream_of p whole m n)
 stream_split p span c m zero low = let e : m ≡ 0 = omega arith in rw e refl
@@ -50,7 +43,7 @@ stream_split p span c m (suc n) low =
     ap (λ l. l ++ cond (nat_lt c (suc n) && is_committed p (suc n)) (rows_of p span (suc n)) []) before
     ∙ append_assoc (stream_of p span c m) (filter (wanted span c) (stream_of p whole m n)) (cond (nat_lt c (suc n) && is_committed p (suc n)) (rows_of p span (suc n)) [])
     ∙ ap (λ l. stream_of p span c m ++ (filter (wanted span c) (stream_of p whole m n) ++ l)) (now (is_committed p (suc n)) ∙ ap (λ b. filter (wanted span c) (cond (b && is_committed p (suc n)) (rows_of p whole (suc n)) [])) (sym is))
-    ∙ ap (λ l. stream_of p span c m ++ l) (sym (filter_join (wanted span c) (stream_of p whole m n) (cond (nat_lt m (suc n) && is_committed p (suc n)) (rows_of p whole (suc n)) []))))
+    ∙ ap (λ l. stream_of p span c m ++ l) (sym (filter-append (wanted span c) (stream_of p whole m n) (cond (nat_lt m (suc n) && is_committed p (suc n)) (rows_of p whole (suc n)) []))))
   where
     none : (p : List Effect) (span : Span) (c n : ℕ) → n ≤ c → stream_of p span c n ≡ []
     none p span c zero low = refl

@@ -10,8 +10,9 @@ use Rattle.spans.specs.Versions.{committed_version_of, version_of, write_of}
 use Rattle.spans.specs.declared.span.Span.{Span}
 use Rattle.spans.proofs.Copies.{AllAllowed, Allowed, closed_stays}
 use Rattle.spans.proofs.Steps.{by_test, newest_same}
+use Rattle.spans.proofs.Horizon.{horizon_low}
 use Rattle.kept.specs.Changes.{IsAlike}
-use Rattle.kept.proofs.Dead.{high_live, horizon_low, kept_above}
+use Rattle.kept.proofs.Dead.{high_live, kept_above}
 use Rattle.kept.proofs.Marking.{MarksAt, crossed_like, marks_kept}
 
 -- at or below closed nothing changes

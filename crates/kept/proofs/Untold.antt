@@ -1,22 +1,21 @@
 -- The rows that a feed was not told are those beyond its place.
-use Rattle.std.proofs.Common.{List, refl, inr, None, Option, arith, subst, false, ap, true, Some, inl, sym, append_assoc, ◌≡◌, ◌<◌, ◌∷◌, ◌++◌, ◌∙◌, ℕ, []}
+use Rattle.std.proofs.Common.{List, refl, inr, None, Option, subst, false, true, Some, inl, sym, ◌≡◌, ◌∷◌, ◌∙◌, ℕ, []}
 use Rattle.std.proofs.lemmas.Bool.{and_from, lt-ltb, false_from_ne_true, both_ways, and_parts}
-use Rattle.std.specs.Prelude.{max, ◌↔◌}
+use Rattle.std.specs.Prelude.{◌↔◌}
 use Rattle.timestamps.specs.declared.row.Row.{Row}
 use Rattle.spans.specs.Collection.{VersionName}
 use Rattle.spans.specs.Consumer.{is_after_name, name_of}
 use Rattle.spans.specs.Effects.{Effect}
-use Rattle.spans.specs.FeedRight.{DividesList}
-use Rattle.spans.specs.Feeds.{told_to, rows_in, Feed, last_resolved, feed_of, list_of, start_of}
+use Rattle.spans.specs.Feeds.{told_to, rows_in, Feed, feed_of, start_of}
 use Rattle.spans.specs.Kept.{last_name, place_with}
 use Rattle.spans.specs.Streams.{row_lt}
 use Rattle.spans.specs.Transactions.{closed_of}
 use Rattle.spans.specs.declared.calls.messages.Message.{Message}
 use Rattle.spans.proofs.Copies.{AllAllowed}
-use Rattle.spans.proofs.Feeding.{cancel_front, AllBelow, IsFeeding}
-use Rattle.spans.proofs.Listing.{IsListed, in_list, list_above, list_rises, listed_above}
+use Rattle.spans.proofs.Feeding.{IsFeeding}
+use Rattle.spans.proofs.Listing.{IsListed, in_list, list_rises, listed_above}
 use Rattle.spans.proofs.StreamOrder.{rows_clash, RisingRows, IsRowIn, in_append, rises_parts}
-use Rattle.spans.proofs.Streaming.{RowsAbove}
+use Rattle.spans.proofs.FeedFloors.{rest_above}
 use Rattle.kept.specs.Places.{is_beyond}
 use Rattle.spans.specs.declared.calls.messages.Message.TheVariants as messages
 
@@ -43,22 +42,6 @@ only_rows (r ∷ rs) (s ∷ ss) h k same =
         | inr later' ↦ absurd (rows_clash r s (h.0 s later') (k.0 r later))
       ]
     ]
-
--- a row of rows above t is above t
-above_in : (t : ℕ) (rows : List Row) (r : Row) → RowsAbove t rows → IsRowIn r rows → t < r.ts
-above_in t [] r h i = absurd i
-above_in t (s ∷ rows) r h i = elim i [ inl here ↦ subst (λ (q : Row). t < q.ts) here h.0 | inr there ↦ above_in t rows r h.1 there ]
-
--- what wasn't told is above the resolved messages
-pub rest_above : (p : List Effect) (feed : Feed) (n : ℕ) (before rest : List Row) (ms : List Message) → before ++ (rows_in ms ++ rest) ≡ list_of p feed (closed_of p) → DividesList p feed before ms → AllBelow (closed_of p) ms
-    → (r : Row) → IsRowIn r rest → n < r.ts → last_resolved n ms < r.ts
-rest_above p feed n before rest [] is h below r i low = low
-rest_above p feed n before rest (messages.Row s ∷ ms) is h below r i low = rest_above p feed n (before ++ s ∷ []) rest ms (append_assoc before (s ∷ []) (rows_in ms ++ rest) ∙ is) h below r i low
-rest_above p feed n before rest (messages.Resolved t ∷ ms) is h below r i low =
-    let more = list_above p feed t (closed_of p) below.0 in
-    let e : rows_in ms ++ rest ≡ more.0 = cancel_front (list_of p feed t) (rows_in ms ++ rest) more.0 (ap (λ l. l ++ (rows_in ms ++ rest)) (sym h.0) ∙ is ∙ more.1) in
-    let above : t < r.ts = above_in t (rows_in ms ++ rest) r (subst (RowsAbove t) (sym e) more.2) ((in_append r (rows_in ms) rest).1 (inr i)) in
-    rest_above p feed (max n t) before rest ms is h.1 below.1 r i (omega arith)
 
 -- a row after all that were told comes after the last
 after_all : (ms : List Message) (o : Option VersionName) (r : Row) → is_after_name o r ≡ true → ((s : Row) → IsRowIn s (rows_in ms) → row_lt s r ≡ true) → is_after_name (last_name o ms) r ≡ true

@@ -1,22 +1,14 @@
 -- The versions that are kept are counted by those of the history.
-use Rattle.std.proofs.Common.{Bool, List, not, refl, None, Option, arith, false, ap, true, sym, length, cond, ◌≡◌, ◌-◌, ◌+◌, ◌∷◌, ◌∙◌, ℕ, []}
+use Rattle.std.proofs.Common.{Bool, List, not, refl, None, Option, arith, false, ap, true, sym, length, cond, ◌≡◌, ◌-◌, ◌+◌, ◌∷◌, ◌∙◌, ℕ}
 use Rattle.std.specs.Prelude.{filter, is_some, ◌↔◌}
 use Rattle.spans.specs.Collection.{VersionName, versions_of, dead_of, is_dead}
 use Rattle.spans.specs.Effects.{Collects, After, Effect}
 use Rattle.spans.specs.Kept.{Kept, IsKeptOf, kept_version}
 use Rattle.spans.specs.Versions.{version_of}
 use Rattle.spans.proofs.Copies.{Allowed, AllAllowed}
-use Rattle.spans.proofs.Steps.{by_test}
-use Rattle.spans.proofs.Members.{Has, AreDistinct}
+use Rattle.spans.proofs.Members.{Has, AreDistinct, parted}
 use Rattle.spans.proofs.Members.{distinct_filter, has_filter, same_length}
 use Rattle.spans.proofs.VersionNames.{versions_distinct, has_versions}
-
--- a list is what fails the test and what passes it
-parted : {A : Type 0} (q : A → Bool) (xs : List A) → length xs ≡ length (filter (λ x. not (q x)) xs) + length (filter q xs)
-parted q [] = refl
-parted q (x ∷ xs) = let more = parted q xs in by_test (q x)
-    (λ is. rw is (omega (arith, more)))
-    (λ isnt. rw isnt (omega (arith, more)))
 
 -- any list that has each version of the store once is as long as the versions less the dead
 pub stored_count : (k : Kept) (p : List Effect) → AllAllowed p → IsKeptOf k p → (vs : List VersionName) → AreDistinct vs → ((v : VersionName) → Has v vs ↔ (is_some (k.version v.key v.ts) ≡ true))

@@ -1,5 +1,5 @@
 -- The keys of a set in the words of std, and what stays in order.
-use Rattle.std.proofs.Common.{◌≡◌, ℕ, Bool, true, false, cond, ◌||◌, List, [], ◌∷◌, Option, Some, None, refl, sym, ◌∙◌, ap, subst, inl, inr, ◌&&◌, Result, Ok, Err, OnOk, OnErr, ◌<◌, length, suc, arith}
+use Rattle.std.proofs.Common.{◌≡◌, ℕ, Bool, true, false, cond, ◌||◌, List, [], ◌∷◌, Option, Some, None, refl, sym, ◌∙◌, ap, subst, inl, inr, Result, Ok, Err, OnOk, OnErr, ◌<◌, length, suc, arith}
 use Rattle.std.specs.Prelude.{IfNone, IfOk, IfSome, bytes_eq, filter}
 use Rattle.std.specs.List.{items_where_true, list_any}
 use Rattle.std.specs.List.Retain.{IsFiltered}
@@ -8,18 +8,18 @@ use Rattle.std.specs.BTreeMap.{is_at}
 use Rattle.std.specs.BTreeMap.Range.{range_contains}
 use Rattle.std.specs.BTreeSet as sets
 use Rattle.std.specs.Set.{remove_key}
-use Rattle.std.specs.Ordering.{match_ordering, ordering_reverse}
+use Rattle.std.specs.Ordering.{ordering_reverse}
 use Rattle.std.specs.declared.alloc.AllocError.{AllocError}
-use Rattle.std.specs.declared.cmp.Ordering.{Ordering}
 use Rattle.std.specs.declared.cmp.Ordering.TheVariants.{Equal, Greater, Less}
 use Rattle.std.specs.declared.ops.Bound.TheVariants.{Excluded, Unbounded}
 use Rattle.std.proofs.lemmas.Bool.{both_ways}
 use Rattle.std.proofs.lemmas.Cmp.{nat_list_cmp_total, tied_itself}
 use Rattle.std.proofs.lemmas.Map.Lookups.{exact_bytes}
 use Rattle.std.proofs.lemmas.Map.Text.{is_eq-slice_cmp}
+use Rattle.std.proofs.Math.Bool.{and-true}
 use Rattle.timestamps.specs.Bytes.{key_cmp}
 use Rattle.spans.specs.KeyOrder.{key_lt}
-use Rattle.spans.specs.Keys.{insert_key, insert_where}
+use Rattle.spans.specs.Keys.{insert_key}
 use Rattle.spans.proofs.Keyed.{IsIn, RisingKeys, add_rises}
 use Rattle.spans.proofs.Steps.{by_test, key_itself, same_key}
 use Rattle.spans.proofs.WriteSets.{has, has_in}
@@ -27,20 +27,11 @@ use Rattle.key_set.specs.Sets.{AreInOrder, first_above, keys_in}
 
 -- ---- in the words of std
 
--- all keys lie between no bounds
-pub whole : (keys : List (List ℕ)) → filter (range_contains key_cmp Unbounded Unbounded) keys ≡ keys
-whole [] = refl
-whole (x ∷ keys) = ap (λ l. x ∷ l) (whole keys)
-
 -- those above a key lie between it and no bound
 above_is : (x : List ℕ) (keys : List (List ℕ)) → filter (range_contains key_cmp (Excluded x) Unbounded) keys ≡ filter (key_lt x) keys
 above_is x [] = refl
-above_is x (y ∷ keys) = ap (λ b. cond b (y ∷ filter (range_contains key_cmp (Excluded x) Unbounded) keys) (filter (range_contains key_cmp (Excluded x) Unbounded) keys)) (alone (key_lt x y))
+above_is x (y ∷ keys) = ap (λ b. cond b (y ∷ filter (range_contains key_cmp (Excluded x) Unbounded) keys) (filter (range_contains key_cmp (Excluded x) Unbounded) keys)) (and-true (key_lt x y))
     ∙ ap (λ l. cond (key_lt x y) (y ∷ l) l) (above_is x keys)
-  where
-    alone : (b : Bool) → (b && true) ≡ b
-    alone true = refl
-    alone false = refl
 
 either_way : (x y : List ℕ) → bytes_eq x y ≡ bytes_eq y x
 either_way x y = by_test (bytes_eq x y)
@@ -55,15 +46,6 @@ tells x y = is_eq-slice_cmp x y ∙ either_way x y
 pub found_is : (x : List ℕ) (keys : List (List ℕ)) → list_any (is_at (key_cmp x)) keys ≡ has x keys
 found_is x [] = refl
 found_is x (y ∷ keys) = ap (λ b. b || list_any (is_at (key_cmp x)) keys) (tells x y) ∙ ap (λ b. bytes_eq y x || b) (found_is x keys)
-
-pub put_is : (x : List ℕ) (keys : List (List ℕ)) → sets.insert_key key_cmp keys x ≡ insert_key x keys
-put_is x [] = refl
-put_is x (y ∷ keys) = by_order (key_cmp x y) (put_is x keys)
-  where
-    by_order : (o : Ordering) → sets.insert_key key_cmp keys x ≡ insert_key x keys → match_ordering o (x ∷ y ∷ keys) (y ∷ keys) (y ∷ sets.insert_key key_cmp keys x) ≡ insert_where o x y keys (insert_key x keys)
-    by_order Less more = refl
-    by_order Equal more = refl
-    by_order Greater more = ap (λ l. y ∷ l) more
 
 taken_is : (x : List ℕ) (keys : List (List ℕ)) → remove_key (is_at (key_cmp x)) keys ≡ remove_key (λ y. bytes_eq y x) keys
 taken_is x [] = refl
@@ -194,14 +176,6 @@ rises_above (Err e) x y keys keys' ok err above rising = subst RisingKeys (ap (�
 pub in_ok : (r : Result Bool AllocError) (b c : Bool) → IfOk r (λ new. new ≡ b) → b ≡ c → IfOk r (λ new. new ≡ c)
 in_ok (Ok new) b c is same = is ∙ same
 in_ok (Err e) b c is same = tt
-
-pub in_err : (r : Result Bool AllocError) {P : Type 0} → P → OnErr r P
-in_err (Ok new) p = tt
-in_err (Err e) p = p
-
-pub in_err_too : (r : Result Bool AllocError) {P Q : Type 0} → (P → Q) → OnErr r P → OnErr r Q
-in_err_too (Ok new) f p = tt
-in_err_too (Err e) f p = f p
 
 -- ---- the keys that a test keeps
 

@@ -1,13 +1,11 @@
 -- Readers of which some are forgotten.
-use Rattle.std.proofs.Common.{ℕ, List, Bool, true, false, ◌&&◌, ◌≡◌, ◌<◌, ◌≤◌, ◌⊎◌, inl, inr, refl, sym, ap, ◌∙◌, arith, nat_lt, lt-ltb}
+use Rattle.std.proofs.Common.{ℕ, List, Bool, true, ◌&&◌, ◌≡◌, ◌<◌, ◌≤◌, ◌⊎◌, inl, inr, sym, ap, ◌∙◌, arith, nat_lt, lt-ltb}
+use Rattle.std.proofs.Math.Bool.{and_self_left}
+use Rattle.std.proofs.lemmas.Bool.{and_parts}
 use Rattle.std.specs.List.{filter}
 use Rattle.kept.specs.Marks.{IsPiece}
 use Rattle.read_marks.specs.Readers.{is_kept, is_reader}
 use Rattle.read_marks.proofs.Splitting.{filtered_reader}
-
-second : (a b : Bool) → (a && b) ≡ true → b ≡ true
-second true b h = h
-second false b h = cc
 
 -- a piece's readers, less those that are forgotten
 module _ (forgotten : ℕ) where
@@ -24,9 +22,9 @@ module _ (forgotten : ℕ) where
     is = which p.is;
     least = p.least;
     most = p.most;
-    greatest = λ n h. p.greatest n (second (nat_lt forgotten n) (m n) h);
+    greatest = λ n h. p.greatest n (and_parts (nat_lt forgotten n) (m n) h).1;
     outside = λ n out. ap (λ b. nat_lt forgotten n && b) (p.outside n out);
-    inside = λ n over up h. p.inside n over up (second (nat_lt forgotten n) (m' n) h);
+    inside = λ n over up h. p.inside n over up (and_parts (nat_lt forgotten n) (m' n) h).1;
   }
     where
       late : forgotten < p.top
@@ -65,10 +63,6 @@ piece_becomes m m' n' ts low high same p = record {
   inside = λ j over up h. p.inside j over up (sym (same j) ∙ h);
 }
 
-twice : (a b : Bool) → (a && (a && b)) ≡ (a && b)
-twice true b = refl
-twice false b = refl
-
 -- those that are forgotten may go
 pub kept_filter : (forgotten : ℕ) (xs : List ℕ) (j : ℕ) → is_kept forgotten (filter (nat_lt forgotten) xs) j ≡ is_kept forgotten xs j
-kept_filter forgotten xs j = ap (λ b. nat_lt forgotten j && b) (filtered_reader forgotten xs j) ∙ twice (nat_lt forgotten j) (is_reader xs j)
+kept_filter forgotten xs j = ap (λ b. nat_lt forgotten j && b) (filtered_reader forgotten xs j) ∙ and_self_left (nat_lt forgotten j) (is_reader xs j)

@@ -1,5 +1,6 @@
 -- From a key on and below the next text is that key alone.
-use Rattle.std.proofs.Common.{ℕ, List, Bool, true, false, not, ◌&&◌, ◌≡◌, refl, ap, ◌∙◌, Some}
+use Rattle.std.proofs.Common.{ℕ, List, not, ◌&&◌, ◌≡◌, refl, ap, ◌∙◌, Some, sym}
+use Rattle.std.proofs.Math.Bool.{not-not}
 use Rattle.std.specs.Ordering.{ordering_reverse, is_eq, is_lt, is_le}
 use Rattle.std.specs.declared.cmp.Ordering.{Ordering}
 use Rattle.std.specs.declared.cmp.Ordering.TheVariants.{Less, Equal, Greater}
@@ -19,10 +20,6 @@ above-turn s x Less is = rw (nat_list_cmp_total.antisymm x s ∙ ap ordering_rev
 above-turn s x Equal is = rw (nat_list_cmp_total.antisymm x s ∙ ap ordering_reverse is) refl
 above-turn s x Greater is = rw (nat_list_cmp_total.antisymm x s ∙ ap ordering_reverse is) refl
 
-not-not : (b : Bool) → b ≡ not (not b)
-not-not true = refl
-not-not false = refl
-
 equal-turn : (r : Ordering) → (is_le r && not (is_lt r)) ≡ is_eq r
 equal-turn Less = refl
 equal-turn Equal = refl
@@ -30,7 +27,7 @@ equal-turn Greater = refl
 
 in-key : (key x : List ℕ) → (is_le (key_cmp key x) && not (is_le (key_cmp (successor key) x))) ≡ is_eq (key_cmp key x)
 in-key key x =
-    ap (λ b. is_le (key_cmp key x) && b) (above-turn (successor key) x (key_cmp (successor key) x) refl ∙ not-not (key_lt x (successor key)) ∙ ap not (above_successor key x)) ∙ equal-turn (key_cmp key x)
+    ap (λ b. is_le (key_cmp key x) && b) (above-turn (successor key) x (key_cmp (successor key) x) refl ∙ sym (not-not (key_lt x (successor key))) ∙ ap not (above_successor key x)) ∙ equal-turn (key_cmp key x)
 
 picks-key : (p : Patch) → p.hi ≡ Some (successor p.lo) → (x : List ℕ) → picks p x ≡ is_eq (key_cmp p.lo x)
 picks-key p end x = rw end (in-key p.lo x)

@@ -9,6 +9,7 @@ use Rattle.std.specs.declared.cmp.Ordering.{Ordering}
 use Rattle.std.specs.declared.cmp.Ordering.TheVariants.{Less, Equal, Greater}
 use Rattle.std.specs.Cmp.{alike_right}
 use Rattle.std.proofs.lemmas.Slice.Eq.{bytes_eq-Decides}
+use Rattle.std.proofs.Math.Bool.{not-not}
 use Rattle.std.specs.Cmp.Lexicographic.{nat_list_cmp_total}
 use Rattle.timestamps.specs.Bytes.{key_cmp}
 use Rattle.spans.specs.KeyOrder.{below_high}
@@ -69,10 +70,6 @@ none-turn false w h = refl
 picked-none : (r : List ℕ → Bool) (es : Entries) → picked_at (λ _. false) r false es ≡ false
 picked-none r [] = refl
 picked-none r (e ∷ es) = none-turn (r e.0) _ (picked-none r es)
-
-not-not : (b : Bool) → not (not b) ≡ b
-not-not true = refl
-not-not false = refl
 
 picked-bounds : (lo : List ℕ) (hi : Option (List ℕ)) (x : List ℕ) (m : BTreeMap (List ℕ) (List ℕ)) → IsStrictlySortedBy key_cmp (keys_of m.entries) → IsSome (lookup (is_at (key_cmp lo)) m.entries) → IsEnd m hi
     → (patch : Patch) → patch.lo ≡ lo → patch.hi ≡ hi → picked_at (picks patch) (reaches x) false m.entries ≡ (reaches x lo && below_high hi x)

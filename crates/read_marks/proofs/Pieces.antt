@@ -1,6 +1,7 @@
 -- Edits of readers, as what is asked of marks: a piece's gap has one reader afterwards, and what is forgotten stays so.
 use Rattle.std.proofs.Common.{ℕ, List, [], zero, suc, ◌∷◌, Bool, true, false, ◌&&◌, ◌||◌, ◌==◌, ◌≡◌, ◌<◌, ◌≤◌, ◌-◌, ◌⊎◌, inl, inr, refl, sym, ap, ◌∙◌, arith, Option, Some, None, map, nat_lt, unwrap_or, length, ltb-true}
 use Rattle.std.proofs.lemmas.Bool.{eqb-true, eqb-false, ltb-false}
+use Rattle.std.proofs.Math.Bool.{or-false}
 use Rattle.std.specs.List.{Contains}
 use Rattle.kept.specs.Marks.{IsPiece}
 use Rattle.spans.specs.Keys.{in_span}
@@ -80,10 +81,6 @@ own_piece-is m m' ts j low p = own-turn m m' ts j (j == ts) low refl p
 span-turn : (a b c m' m : Bool) → (a ≡ true → m' ≡ (c || m)) → (a ≡ false → m' ≡ ((b && c) || m)) → m' ≡ (((a || b) && c) || m)
 span-turn true b c m' m here there = here refl
 span-turn false b c m' m here there = there refl
-
-or-false : (b : Bool) → (b || false) ≡ b
-or-false true = refl
-or-false false = refl
 
 -- the keys of the spans have ts for a reader
 pub span_edit : (ts : ℕ) (x : List ℕ) (m m' : ℕ → Bool) (spans : List Span) → 0 < ts → AreEdited (λ p. holds p x) ts (map (λ span. patch_of (own_piece ts span)) spans) m m' → (j : ℕ) → m' j ≡ ((in_any spans x && (j == ts)) || m j)

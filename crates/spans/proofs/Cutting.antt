@@ -1,14 +1,14 @@
 -- The parts of a span between rising keys.
-use Rattle.std.proofs.Common.{Bool, List, None, Option, Some, ap, arith, cond, drop, false, get_or, length, refl, subst, suc, sym, true, zero, ℕ, ◌&&◌, ◌<◌, ◌≤◌, ◌||◌, ◌≡◌, ◌++◌, ◌∷◌, ◌∙◌, []}
+use Rattle.std.proofs.Common.{Bool, List, Option, Some, ap, arith, cond, drop, false, get_or, length, refl, subst, suc, sym, true, zero, ℕ, ◌&&◌, ◌<◌, ◌≤◌, ◌||◌, ◌≡◌, ◌++◌, ◌∷◌, ◌∙◌, []}
 use Rattle.std.specs.Prelude.{bytes_eq, not}
 use Rattle.std.specs.Ordering.{is_eq, is_lt, ordering_reverse}
 use Rattle.std.specs.declared.cmp.Ordering.{Ordering}
 use Rattle.std.specs.declared.cmp.Ordering.TheVariants.{Equal, Greater, Less}
-use Rattle.std.proofs.lemmas.Bool.{or_left, or_right}
-use Rattle.std.proofs.lemmas.Cmp.{nat_list_cmp_total}
+use Rattle.std.proofs.lemmas.Bool.{or_left, or_right, and_parts}
 use Rattle.std.proofs.lemmas.List.{at_drop_all}
 use Rattle.std.proofs.lemmas.List.Kept.{AllPairs-cons}
 use Rattle.std.proofs.lemmas.Map.Text.{is_eq-slice_cmp}
+use Rattle.std.proofs.Math.Bool.{and-false}
 use Rattle.timestamps.specs.Bytes.{key_cmp}
 use Rattle.spans.specs.Keys.{in_span}
 use Rattle.spans.specs.Pieces.{AreApart, NoneOverlap, is_held}
@@ -19,6 +19,7 @@ use Rattle.spans.proofs.Keyed.{IsIn, RisingKeys}
 use Rattle.spans.proofs.Steps.{by_test, same_key}
 use Rattle.spans.proofs.Succeeding.{above_successor}
 use Rattle.spans.proofs.WriteSets.{has, has_in}
+use Rattle.spans.proofs.KeyOrder.{above_low, less_is, turned, under_high}
 
 abbrev pub span_of : Option (List ℕ) → Option (List ℕ) → Span
 span_of lo hi = record { lo = lo; hi = hi }
@@ -33,24 +34,6 @@ pub all_parts : (done : List Span) (lo first hi hi' : Option (List ℕ)) (ks : L
     → done ++ parts lo hi (drop i ks) ≡ parts first hi ks → done ++ span_of lo hi' ∷ [] ≡ parts first hi ks
 all_parts done lo first hi hi' ks i end same so_far = ap (λ h. done ++ span_of lo h ∷ []) same ∙ sym (at_drop_all (λ l. done ++ parts lo hi l) ks i end) ∙ so_far
 
-less_is : (o : Ordering) → is_lt o ≡ true → o ≡ Less
-less_is Less e = refl
-less_is Equal e = cc
-less_is Greater e = cc
-
-turned : (x y : List ℕ) (o : Ordering) → key_cmp y x ≡ o → key_cmp x y ≡ ordering_reverse o
-turned x y o e = nat_list_cmp_total.antisymm x y ∙ ap ordering_reverse e
-
-above_low : (lo : Option (List ℕ)) (k x : List ℕ) → from_low lo k ≡ true → key_cmp k x ≡ Less → from_low lo x ≡ true
-above_low None k x from less = refl
-above_low (Some low) k x from less = by_test (key_lt x low)
-    (λ is. let k_low : key_cmp k low ≡ Less = nat_list_cmp_total.trans k x low less (less_is (key_cmp x low) is) in let no' : not (is_lt (key_cmp k low)) ≡ true = from in let e : not (is_lt Less) ≡ true = subst (λ o. not (is_lt o) ≡ true) k_low no' in cc)
-    (λ isnt. ap not isnt)
-
-under_high : (hi : Option (List ℕ)) (k x : List ℕ) → below_high hi k ≡ true → key_cmp x k ≡ Less → below_high hi x ≡ true
-under_high None k x below less = refl
-under_high (Some high) k x below less = ap is_lt (nat_list_cmp_total.trans x k high less (less_is (key_cmp k high) below))
-
 not_among : (x k : List ℕ) (ks : List (List ℕ)) → key_cmp x k ≡ Less → ((y : List ℕ) → IsIn y ks → key_cmp k y ≡ Less) → has x ks ≡ false
 not_among x k ks less above = by_test (has x ks)
     (λ is. let more : key_cmp k x ≡ Less = above x ((has_in x ks).1 is) in let back : key_cmp k x ≡ Greater = turned k x Less less in cc)
@@ -59,16 +42,12 @@ not_among x k ks less above = by_test (has x ks)
 other_key : (x k : List ℕ) (o : Ordering) → key_cmp x k ≡ o → bytes_eq k x ≡ is_eq (ordering_reverse o)
 other_key x k o e = sym (is_eq-slice_cmp k x) ∙ ap is_eq (turned k x o e)
 
-and_false : (b : Bool) → (b && false) ≡ false
-and_false true = refl
-and_false false = refl
-
 low_alone : (b : Bool) → ((b && true) || false) ≡ ((b && true) && true)
 low_alone true = refl
 low_alone false = refl
 
 one_out : (a b : Bool) → ((a && false) || false) ≡ ((a && b) && false)
-one_out a b = rw (and_false a, and_false (a && b)) refl
+one_out a b = rw (and-false a, and-false (a && b)) refl
 
 -- the part below k and the rest
 cut : (x k : List ℕ) (lo hi : Option (List ℕ)) (ks : List (List ℕ)) (o : Ordering) → key_cmp x k ≡ o → from_low lo k ≡ true → below_high hi k ≡ true → ((y : List ℕ) → IsIn y ks → key_cmp k y ≡ Less)
@@ -76,14 +55,6 @@ cut : (x k : List ℕ) (lo hi : Option (List ℕ)) (ks : List (List ℕ)) (o : O
 cut x k lo hi ks Less e low high above = rw (under_high hi k x high e, not_among x k ks e above) (low_alone (from_low lo x))
 cut x k lo hi ks Equal e low high above = one_out (from_low lo x) (below_high hi x)
 cut x k lo hi ks Greater e low high above = rw (above_low lo k x low (turned k x Greater e)) refl
-
-left_true : (a b : Bool) → (a && b) ≡ true → a ≡ true
-left_true true b e = refl
-left_true false b e = cc
-
-right_true : (a b : Bool) → (a && b) ≡ true → b ≡ true
-right_true true b e = e
-right_true false b e = cc
 
 apart_from_key : (a b c : Bool) → (b ≡ true → a ≡ false) → (a && not c) ≡ (a && not (b || c))
 apart_from_key a true c h = rw (h refl) refl
@@ -98,7 +69,7 @@ parts_hold lo hi [] rising x = only (from_low lo x && below_high hi x)
     only false = refl
 parts_hold lo hi (k ∷ ks) rising x = by_test (from_low lo k && below_high hi k)
     (λ inside. rw (inside, parts_hold (Some (successor k)) hi ks rising.1 x, above_successor k x, turned k x (key_cmp x k) refl, other_key x k (key_cmp x k) refl)
-    (cut x k lo hi ks (key_cmp x k) refl (left_true _ _ inside) (right_true (from_low lo k) _ inside) rising.0))
+    (cut x k lo hi ks (key_cmp x k) refl (and_parts _ _ inside).0 (and_parts (from_low lo k) _ inside).1 rising.0))
     (λ outside. rw (outside, parts_hold lo hi ks rising.1 x) (apart_from_key (from_low lo x && below_high hi x) (bytes_eq k x) (has x ks)
     (λ same. subst (λ y. (from_low lo y && below_high hi y) ≡ false) (same_key k x same) outside)))
 
@@ -121,8 +92,8 @@ parts_apart lo hi (k ∷ ks) rising = by_test (from_low lo k && below_high hi k)
     (λ inside. rw inside (AllPairs-cons AreApart (span_of lo (Some k)) (parts (Some (successor k)) hi ks)
     (λ j d low x first. by_test (in_span (get_or (parts (Some (successor k)) hi ks) j d) x)
     (λ both. let held : is_held (parts (Some (successor k)) hi ks) x ≡ true = held_at (parts (Some (successor k)) hi ks) j d x low both in
-    let above : key_lt k x ≡ true = sym (above_successor k x) ∙ left_true _ _ (left_true _ _ (sym (parts_hold (Some (successor k)) hi ks rising.1 x) ∙ held)) in
-    let under : key_lt x k ≡ true = right_true (from_low lo x) _ first in
+    let above : key_lt k x ≡ true = sym (above_successor k x) ∙ (and_parts _ _ (and_parts _ _ (sym (parts_hold (Some (successor k)) hi ks rising.1 x) ∙ held)).0).0 in
+    let under : key_lt x k ≡ true = (and_parts (from_low lo x) _ first).1 in
     let e : key_cmp k x ≡ Greater = turned k x Less (less_is (key_cmp x k) under) in
     let f : key_cmp k x ≡ Less = less_is (key_cmp k x) above in cc)
     (λ one. one))

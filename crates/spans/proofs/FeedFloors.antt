@@ -86,7 +86,7 @@ floor_high h s n c (suc m) false [] low top high = low
 floor_high h s n c (suc m) b (r ∷ rows) low top high = floor_high h s (r.ts - 1) c m b rows (high r (inl refl)) top (λ q i. high q (inr i))
 
 -- the floor after two lists of messages
-floor_append : (n : ℕ) (ms ns : List Message) → floor_after n (ms ++ ns) ≡ floor_after (floor_after n ms) ns
+pub floor_append : (n : ℕ) (ms ns : List Message) → floor_after n (ms ++ ns) ≡ floor_after (floor_after n ms) ns
 floor_append n [] ns = refl
 floor_append n (messages.Row r ∷ ms) ns = floor_append (r.ts - 1) ms ns
 floor_append n (messages.Resolved t ∷ ms) ns = floor_append t ms ns

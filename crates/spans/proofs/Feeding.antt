@@ -1,5 +1,5 @@
 -- Each feed tells its list.
-use Rattle.std.proofs.Common.{◌≡◌, ℕ, zero, suc, ◌+◌, ◌-◌, ◌<◌, ◌≤◌, ◌==◌, Bool, true, false, not, cond, List, [], ◌∷◌, ◌++◌, map, length, take, drop, Some, None, refl, sym, ◌∙◌, ap, subst, arith, append_assoc}
+use Rattle.std.proofs.Common.{◌≡◌, ℕ, zero, suc, ◌+◌, ◌-◌, ◌<◌, ◌≤◌, ◌==◌, Bool, true, false, not, cond, List, [], ◌∷◌, ◌++◌, map, length, take, drop, Some, None, refl, sym, ◌∙◌, ap, subst, arith, append_assoc, Option}
 use Rattle.std.specs.Prelude.{max, filter, is_some}
 use Rattle.std.proofs.lemmas.List.{append-nil}
 use Rattle.std.proofs.lemmas.List.Elements.{filter_map-append}
@@ -14,6 +14,9 @@ use Rattle.spans.specs.Effects.{Effect, Opens, Polls, Cancels}
 use Rattle.spans.specs.Transactions.{closed_of}
 use Rattle.spans.specs.Feeds.{Feed, feed_of, feeds_opened, is_cancelled, told_to, row_in, rows_in, last_resolved, list_of, start_of, resolved_of, asked_gap, is_due, due_message, untold_rows, next_messages}
 use Rattle.spans.specs.FeedRight.{DividesList, ResolvedApart, least_gap, ReachesClosed, IsSilentAfterCancel, LeavesNothingDue, RowsAreAbove, RowsFollowResolved, FeedIsRight}
+use Rattle.spans.specs.Collection.{VersionName}
+use Rattle.spans.specs.Consumer.{name_of}
+use Rattle.spans.specs.Kept.{last_name}
 use Rattle.spans.proofs.Steps.{by_test}
 use Rattle.spans.proofs.Copies.{Allowed, AllAllowed, closed_grows}
 use Rattle.spans.proofs.StreamOrder.{RisingRows, is_told, left_untold}
@@ -228,6 +231,12 @@ pub resolved_join : (n : ℕ) (ms ns : List Message) → last_resolved n (ms ++ 
 resolved_join n [] ns = refl
 resolved_join n (messages.Row r ∷ ms) ns = resolved_join n ms ns
 resolved_join n (messages.Resolved t ∷ ms) ns = resolved_join (max n t) ms ns
+
+-- the row that is told last of two lists of messages
+pub last_join : (o : Option VersionName) (ms ns : List Message) → last_name o (ms ++ ns) ≡ last_name (last_name o ms) ns
+last_join o [] ns = refl
+last_join o (messages.Row r ∷ ms) ns = last_join (Some (name_of r)) ms ns
+last_join o (messages.Resolved t ∷ ms) ns = last_join o ms ns
 
 resolved_rows : (n : ℕ) (rs : List Row) (ms : List Message) → last_resolved n (map messages.Row rs ++ ms) ≡ last_resolved n ms
 resolved_rows n [] ms = refl

@@ -1,5 +1,5 @@
 -- The horizon never falls, and stays at or below closed and each protection that stands.
-use Rattle.std.proofs.Common.{◌≡◌, ℕ, ◌≤◌, ◌==◌, not, List, [], ◌∷◌, ◌++◌, map, ap, inl, inr, arith}
+use Rattle.std.proofs.Common.{◌≡◌, ℕ, ◌≤◌, ◌==◌, not, List, [], ◌∷◌, ◌++◌, map, ap, inl, inr, arith, refl}
 use Rattle.std.specs.Prelude.{min}
 use Rattle.spans.specs.Effects.{Effect, Closes, HardCloses, Protects, Releases, Collects}
 use Rattle.spans.specs.Transactions.{closed_of, least_of}
@@ -12,6 +12,11 @@ use Rattle.spans.proofs.Members.{has_filter}
 pub least_low : (n : ℕ) (ms : List ℕ) → least_of n ms ≤ n
 least_low n [] = omega arith
 least_low n (m ∷ ms) = omega (arith, least_low n ms)
+
+-- the least over two lists
+pub least_join : (n : ℕ) (ms ns : List ℕ) → least_of n (ms ++ ns) ≡ least_of (least_of n ns) ms
+least_join n [] ns = refl
+least_join n (m ∷ ms) ns = ap (min m) (least_join n ms ns)
 
 -- the horizon is at or below closed
 pub horizon_low : (p : List Effect) → AllAllowed p → horizon_of p ≤ closed_of p

@@ -1,7 +1,7 @@
 -- A right reply's deed is allowed.
 use Rattle.std.proofs.Common.{◌≡◌, ℕ, suc, ◌==◌, Bool, true, false, not, ◌&&◌, List, [], ◌∷◌, ◌++◌, ◌-◌, length, Option, Some, None, refl, sym, ◌∙◌, ap, subst, inl, inr}
 use Rattle.std.specs.Prelude.{is_some, bytes_eq, map, filter, nat_lt, nat_le, max}
-use Rattle.std.proofs.lemmas.Bool.{or_parts, and_parts, cond_both, leb-false, ltb-false, ltb-true, both_ways}
+use Rattle.std.proofs.lemmas.Bool.{or_parts, and_parts, cond_both, leb-false, ltb-false, ltb-true, both_ways, not-false}
 use Rattle.spans.specs.declared.calls.commands.Cmd.{Cmd}
 use Rattle.spans.specs.declared.calls.commands.Cmd.TheVariants.{Begin, Get, Scan, Put, Del, Commit, Abort, Close, CloseHard, Protect, Release, Collect, Open, OpenInitial, OpenEvery, OpenInitialEvery, Poll, Cancel, Stats, ReadAt, ScanAt}
 use Rattle.spans.specs.declared.calls.replies.Reply.{Reply}
@@ -21,7 +21,7 @@ use Rattle.timestamps.specs.declared.ts.TheConstants.{MAX}
 use Rattle.spans.specs.Legal.{IsRightEvent, IsLegal}
 use Rattle.spans.specs.Serial.{IsOneCopy}
 use Rattle.spans.specs.Keys.{in_span, insert_key, pairs_of}
-use Rattle.spans.proofs.Steps.{by_test, same_key, newest_is, version_wrote}
+use Rattle.spans.proofs.Steps.{by_test, same_key, newest_is, version_wrote, none_of}
 use Rattle.spans.proofs.Keyed.{IsIn, RisingKeys, added_in, stays_in, add_rises, filter_in, are_rows}
 use Rattle.spans.proofs.Copies.{IsActive, Allowed, AllAllowed, one_copy}
 
@@ -34,14 +34,6 @@ pub unless_is : (P : Reply → Type 0) (tests : List (Bool × Refusal)) (reply :
 unless_is P [] reply follows = follows
 unless_is P (test ∷ tests) reply follows =
     cond_both test.0 (Refused test.1) (first_refusal_or tests reply) P follows.0 (λ isnt. unless_is P tests reply (follows.1 isnt))
-
-pub not_false : (b : Bool) → not b ≡ false → b ≡ true
-not_false true h = refl
-not_false false h = cc
-
-pub none_of : {A : Type 0} (o : Option A) → is_some o ≡ false → o ≡ None
-none_of None h = refl
-none_of (Some a) h = cc
 
 -- past its tests a transaction is open
 pub in_txn : (P : Reply → Type 0) (p : List Effect) (seat t : ℕ) (more : List (Bool × Refusal)) (reply : Reply)
@@ -56,7 +48,7 @@ in_txn P p seat t more reply ended no_txn not_owner here = unless_is P (transact
         λ _. ended,
         λ is_undecided.
             let both = or_parts (is_committed p t) (is_aborted p t) is_undecided in
-            here (record { above = leb-false t (closed_of p) above; begun = not_false _ has; uncommitted = both.0; unaborted = both.1 }),
+            here (record { above = leb-false t (closed_of p) above; begun = not-false _ has; uncommitted = both.0; unaborted = both.1 }),
       ),
     ),
   ),
@@ -110,7 +102,7 @@ each_key P test why (y ∷ ys) reply refused here = (
 -- the answer's deed is allowed
 pub answer_allowed : (p : List Effect) (seat : ℕ) (cmd : Cmd) → Allowed p (effect seat cmd (answer_of p seat cmd))
 answer_allowed p seat (Begin t) = unless_is (λ r. Allowed p (effect seat (Begin t) r)) ((not (is_timestamp t), TsRange) ∷ (nat_le t (closed_of p), BelowClosed (closed_of p)) ∷ (is_some (owner_of p t), TsUsed) ∷ []) Started
-    (λ _. tt, λ ts. (λ _. tt, λ above. (λ _. tt, λ fresh. (leb-false t (closed_of p) above, none_of _ fresh, ltb-true 0 t (and_parts _ _ (not_false _ ts)).0))))
+    (λ _. tt, λ ts. (λ _. tt, λ above. (λ _. tt, λ fresh. (leb-false t (closed_of p) above, none_of _ fresh, ltb-true 0 t (and_parts _ _ (not-false _ ts)).0))))
 answer_allowed p seat (Get t x) = in_txn (λ r. Allowed p (effect seat (Get t x) r)) p seat t ((is_blocked p x t, Blocked (visible p x t).ts) ∷ []) (Found (visible p x t).after) tt tt tt
     (λ here. (λ _. tt, λ free. (here, free, refl)))
 answer_allowed p seat (Scan t span) = in_txn P p seat t (map (λ x. (is_blocked p x t, Blocked (visible p x t).ts)) (filter (in_span span) (written_keys p))) reply tt tt tt
@@ -149,7 +141,7 @@ answer_allowed p seat (Poll f max) = by_feed (feed_of p f) refl
     by_feed None is = tt
     by_feed (Some feed) is = unless_is (λ r. Allowed p (effect seat (Poll f max) r)) ((is_cancelled p f, FeedCancelled) ∷ (not (feed.seat == seat), NotOwner) ∷ []) (Messages (next_messages p f feed max))
         (λ _. tt, λ live. (λ _. tt, λ _. (feed, is, live, refl)))
-answer_allowed p seat (Cancel f) = unless_is (λ r. Allowed p (effect seat (Cancel f) r)) ((not (is_some (feed_of p f)), NoFeed) ∷ (is_cancelled p f, FeedCancelled) ∷ []) Cancelled (λ _. tt, λ has. (λ _. tt, λ _. not_false _ has))
+answer_allowed p seat (Cancel f) = unless_is (λ r. Allowed p (effect seat (Cancel f) r)) ((not (is_some (feed_of p f)), NoFeed) ∷ (is_cancelled p f, FeedCancelled) ∷ []) Cancelled (λ _. tt, λ has. (λ _. tt, λ _. not-false _ has))
 answer_allowed p seat (ReadAt t x) = unless_is (λ r. Allowed p (effect seat (ReadAt t x) r)) ((nat_lt (closed_of p) t, NotClosed (closed_of p)) ∷ (nat_lt t (horizon_of p), BelowHorizon (horizon_of p)) ∷ []) (Found (committed_value p x t)) (λ _. tt, λ low. (λ _. tt, λ _. (ltb-false (closed_of p) t low, refl)))
 answer_allowed p seat (ScanAt t span) = unless_is (λ r. Allowed p (effect seat (ScanAt t span) r)) ((nat_lt (closed_of p) t, NotClosed (closed_of p)) ∷ (nat_lt t (horizon_of p), BelowHorizon (horizon_of p)) ∷ []) (Rows (pairs_of (λ x. committed_value p x t) (filter (in_span span) (written_keys p))))
     (λ _. tt, λ low. (λ _. tt, λ _. (ltb-false (closed_of p) t low, are_rows span (λ x. committed_value p x t) (written_keys p) (keys_rise p) (λ x v is. settled_in p x t v is))))

@@ -1,4 +1,7 @@
 pub mod Steps
+pub mod KeyOrder
+pub mod Results
+pub mod Lists
 pub mod Copies
 pub mod Legal
 pub mod Keyed
@@ -12,6 +15,8 @@ pub mod Viewing
 pub mod Taking
 pub mod Closed
 pub mod Members
+pub mod Sets
+pub mod Refusals
 pub mod VersionNames
 pub mod Histories
 pub mod Ascending

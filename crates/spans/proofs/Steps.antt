@@ -1,6 +1,6 @@
 -- What holds of the definitions, whatever the history.
 use Rattle.std.proofs.Common.{◌≡◌, ℕ, zero, suc, ◌≤◌, ◌==◌, Bool, true, false, cond, List, [], ◌∷◌, Option, Some, None, refl, sym, ◌∙◌, ap, subst, inl, inr, arith}
-use Rattle.std.specs.Prelude.{bytes_eq, nat_lt}
+use Rattle.std.specs.Prelude.{bytes_eq, nat_lt, is_some}
 use Rattle.std.proofs.lemmas.Bool.{eqb-true, ltb-true}
 use Rattle.std.proofs.lemmas.Bool.Decides.{nat_tests}
 use Rattle.std.proofs.lemmas.Slice.Eq.{bytes_eq-Decides}
@@ -19,6 +19,10 @@ key_itself x = (bytes_eq-Decides x x).1 refl
 pub by_test : {P : Type 0} (b : Bool) → (b ≡ true → P) → (b ≡ false → P) → P
 by_test true on off = on refl
 by_test false on off = off refl
+
+pub none_of : {A : Type 0} (o : Option A) → is_some o ≡ false → o ≡ None
+none_of None h = refl
+none_of (Some a) h = cc
 
 -- newest gives it
 pub newest_is : (versions : ℕ → Option After) (t : ℕ) → IsNewest versions t (newest versions t).ts (newest versions t).after
@@ -87,6 +91,24 @@ pub newest_reaches : (f : ℕ → Option After) (t i : ℕ) (a : After) → i �
 newest_reaches f t i a low is = by_test (nat_lt (newest f t).ts i)
     (λ below. absurd (let none : f i ≡ None = (newest_is f t).gap i (ltb-true _ _ below) low in let no' : None ≡ Some a = sym none ∙ is in cc))
     (λ isnt. grind (arith, nat_tests))
+
+-- of fewer versions the newest is no newer
+pub newest_fewer : (f g : ℕ → Option After) (t : ℕ) → ((j : ℕ) → j ≤ t → f j ≡ None → g j ≡ None) → (newest g t).ts ≤ (newest f t).ts
+newest_fewer f g t fewer = elim (newest_is g t).has [
+  | inl zeroth ↦ omega (arith, zeroth.0)
+  | inr some ↦ by_version (f (newest g t).ts) refl some.1
+]
+  where
+    by_version : (o : Option After) → f (newest g t).ts ≡ o → g (newest g t).ts ≡ Some (newest g t).after → (newest g t).ts ≤ (newest f t).ts
+    by_version None e is = absurd (let no' : None ≡ Some (newest g t).after = sym (fewer _ (newest_is g t).at_most e) ∙ is in cc)
+    by_version (Some a) e is = newest_reaches f t (newest g t).ts a (newest_is g t).at_most e
+
+-- the newest of a later time is no older
+pub newest_rises : (f : ℕ → Option After) (m n : ℕ) → m ≤ n → (newest f m).ts ≤ (newest f n).ts
+newest_rises f m n low = elim (newest_is f m).has [
+  | inl zeroth ↦ omega (arith, zeroth.0)
+  | inr some ↦ (let top : (newest f m).ts ≤ m = (newest_is f m).at_most in newest_reaches f n (newest f m).ts (newest f m).after (omega arith) some.1)
+]
 
 -- there is only one newest
 pub newest_only : (versions : ℕ → Option After) (t k : ℕ) (a : After) → IsNewest versions t k a → newest versions t ≡ version_at k a

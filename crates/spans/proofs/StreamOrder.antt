@@ -2,11 +2,11 @@
 use Rattle.std.proofs.Common.{◌≡◌, ℕ, zero, suc, ◌<◌, ◌≤◌, ◌⊎◌, ◌==◌, Bool, true, false, not, cond, ◌&&◌, List, [], ◌∷◌, ◌++◌, map, Option, Some, None, refl, sym, ◌∙◌, ap, subst, inl, inr, arith}
 use Rattle.std.specs.Prelude.{◌↔◌, is_some, bytes_eq, nat_lt, filter}
 use Rattle.std.specs.List.{list_any}
-use Rattle.std.specs.declared.cmp.Ordering.{Ordering}
-use Rattle.std.specs.declared.cmp.Ordering.TheVariants.{Less, Equal, Greater}
+use Rattle.std.specs.declared.cmp.Ordering.TheVariants.{Less}
 use Rattle.std.specs.Ordering.{is_lt}
 use Rattle.std.proofs.lemmas.Bool.{and_parts, or_cases, and_from, or_left, or_right, ltb-true, lt-ltb, eqb-true, eq-eqb, false_from_ne_true}
 use Rattle.std.proofs.lemmas.Bool.Decides.{nat_tests}
+use Rattle.std.proofs.lemmas.List.Elements.{filter-append}
 use Rattle.timestamps.specs.Bytes.{key_cmp}
 use Rattle.timestamps.specs.declared.row.Row.{Row}
 use Rattle.spans.specs.declared.span.Span.{Span}
@@ -19,6 +19,7 @@ use Rattle.spans.specs.Feeds.{same_version}
 use Rattle.spans.proofs.Steps.{by_test, same_key, key_itself}
 use Rattle.spans.proofs.Keyed.{IsIn, RisingKeys, key_clash, filter_in, filter_rises}
 use Rattle.spans.proofs.WriteSets.{has_in, has_written, write_set_rises}
+use Rattle.spans.proofs.KeyOrder.{less_is}
 
 abbrev pub IsRowIn : Row → List Row → Type 0
 IsRowIn r [] = ⊥
@@ -27,11 +28,6 @@ IsRowIn r (s ∷ rows) = (s ≡ r) ⊎ IsRowIn r rows
 abbrev pub RisingRows : List Row → Type 0
 RisingRows [] = Unit {0}
 RisingRows (r ∷ rows) = ((s : Row) → IsRowIn s rows → row_lt r s ≡ true) × RisingRows rows
-
-less_is : (o : Ordering) → is_lt o ≡ true → o ≡ Less
-less_is Less e = refl
-less_is Equal e = cc
-less_is Greater e = cc
 
 -- no two rows are each before the other
 pub rows_clash : (r s : Row) → row_lt r s ≡ true → row_lt s r ≡ true → ⊥
@@ -190,15 +186,9 @@ none_told : (rows told : List Row) → ((s r : Row) → IsRowIn s told → IsRow
 none_told [] told before = refl
 none_told (r ∷ rows) told before = rw (not_told r told (λ s i. before s r i (inl refl))) (ap (λ l. r ∷ l) (none_told rows told (λ s q i j. before s q i (inr j))))
 
-filter_append : (q : Row → Bool) (xs ys : List Row) → filter q (xs ++ ys) ≡ filter q xs ++ filter q ys
-filter_append q [] ys = refl
-filter_append q (x ∷ xs) ys = by_test (q x)
-    (λ is. rw is (ap (λ l. x ∷ l) (filter_append q xs ys)))
-    (λ isnt. rw isnt (filter_append q xs ys))
-
 -- of rising rows, without those that were told and stand first, the rest is left
 pub left_untold : (told rest : List Row) → RisingRows (told ++ rest) → filter (λ r. not (is_told told r)) (told ++ rest) ≡ rest
 left_untold told rest rises =
-    filter_append (λ r. not (is_told told r)) told rest
+    filter-append (λ r. not (is_told told r)) told rest
     ∙ ap (λ l. l ++ filter (λ r. not (is_told told r)) rest) (all_told told told (λ r i. i))
     ∙ none_told rest told (λ s r i j. (rises_parts told rest rises).2 s r i j)

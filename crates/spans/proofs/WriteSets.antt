@@ -6,6 +6,7 @@ use Rattle.std.specs.declared.cmp.Ordering.{Ordering}
 use Rattle.std.specs.declared.cmp.Ordering.TheVariants.{Less, Equal, Greater}
 use Rattle.std.proofs.lemmas.Bool.{or_cases, or_left, or_right}
 use Rattle.std.proofs.lemmas.Map.Lookups.{exact_bytes}
+use Rattle.std.proofs.Math.Bool.{and-false}
 use Rattle.timestamps.specs.Bytes.{key_cmp}
 use Rattle.spans.specs.Effects.{Effect, Writes}
 use Rattle.spans.specs.Keys.{insert_where, insert_key}
@@ -45,11 +46,7 @@ has_written (Writes k y a ∷ p) t x = by_test (k == t)
 has_written (_ ∷ p) t x = has_written p t x
 
 pub has_filtered : (q : List ℕ → Bool) (x : List ℕ) (keys : List (List ℕ)) → has x (filter q keys) ≡ (q x && has x keys)
-has_filtered q x [] = and_false (q x)
-  where
-    and_false : (a : Bool) → false ≡ (a && false)
-    and_false true = refl
-    and_false false = refl
+has_filtered q x [] = sym (and-false (q x))
 has_filtered q x (y ∷ ys) = by_test (bytes_eq y x)
     (λ here. by_test (q y)
     (λ in'. rw (in', here) (let e : q x ≡ true = subst (λ k. q k ≡ true) (same_key y x here) in' in rw e refl))

@@ -11,6 +11,7 @@ use Rattle.std.proofs.lemmas.List.Elements.{All-from_recursion}
 use Rattle.std.proofs.lemmas.Map.Keys.{IsStrictlyIncreasing-from_sorted}
 use Rattle.spans.specs.Kept.{Transaction}
 use Rattle.spans.proofs.Members.{Has}
+use Rattle.spans.proofs.Sets.{all_within}
 use Rattle.kept.specs.Table.{is_open}
 use Rattle.spans.specs.declared.report.TransactionReport.{TransactionReport}
 use Rattle.kept.specs.Reports.{AreOpen, transaction_report}
@@ -45,15 +46,11 @@ each_right table (t ∷ ts) = by_transaction (table t) refl (each_right table ts
     by_transaction None e more = more
     by_transaction (Some n) e more = (ap (option_map (transaction_report t)) e, more)
 
-all_within : (ts : List ℕ) → filter (range_contains nat_cmp Unbounded Unbounded) ts ≡ ts
-all_within [] = refl
-all_within (t ∷ ts) = ap (λ l. t ∷ l) (all_within ts)
-
 -- the reports of the whole set are those of the undecided transactions
 pub open_reports : (table : Table) (undecided : BTreeSet ℕ) (ts : List ℕ) (ns : List TransactionReport) → IsOrdered nat_cmp undecided → AreUndecided table undecided
     → ts ≡ filter (range_contains nat_cmp Unbounded Unbounded) undecided.keys → ns ≡ reports (transaction_in table) ts → AreOpen (transaction_in table) ns
 open_reports table undecided ts ns ordered tied all told =
-    let whole : ts ≡ undecided.keys = all ∙ all_within undecided.keys in
+    let whole : ts ≡ undecided.keys = all ∙ all_within nat_cmp undecided.keys in
     let here : ns ≡ reports (transaction_in table) undecided.keys = told ∙ ap (reports (transaction_in table)) whole in
     let are = those table undecided ordered tied in
     let named : times (reports (transaction_in table) undecided.keys) ≡ undecided.keys = times_are (transaction_in table) undecided.keys (λ t i. (are.each t).0 i) in

@@ -2,7 +2,7 @@
 use Rattle.std.proofs.Common.{◌≡◌, ℕ, ◌<◌, ◌+◌, ◌-◌, ◌≤◌, ◌⊎◌, ◌==◌, Bool, true, false, cond, ◌&&◌, List, [], ◌∷◌, length, Option, Some, None, refl, sym, ◌∙◌, ap, inl, inr, arith}
 use Rattle.std.specs.Prelude.{bytes_eq, is_some, not}
 use Rattle.std.specs.List.{filter}
-use Rattle.std.proofs.lemmas.Bool.{and_parts, both_ways, cases_lt, eqb-true}
+use Rattle.std.proofs.lemmas.Bool.{and_parts, both_ways, cases_lt, eqb-true, false_from_ne_true}
 use Rattle.std.proofs.Math.Bool.{and-true}
 use Rattle.std.proofs.lemmas.List.Filters.{length-filter_both}
 use Rattle.spans.specs.Collection.{VersionName}
@@ -15,7 +15,7 @@ use Rattle.version_chain.specs.Chains.{chain_of, found_in}
 use Rattle.version_chain.specs.Stores.{Stored, after_of, is_committed, version_in, IsCountOf}
 use Rattle.version_chain.specs.Dead.{is_dead_in, is_dropped_in, newest_of, ArePartlyThinned, IsThinnedAt, IsCollectedIn}
 use Rattle.version_chain.specs.Indexes.{is_listed, IsFirstBetween, IsIndexOf, IsNoneBetween, IsSound, IsTaken}
-use Rattle.version_chain.proofs.Dead.{top_above, unless_true}
+use Rattle.version_chain.proofs.Dead.{top_above}
 use Rattle.version_chain.proofs.Indexes.{next_or_rest}
 use Rattle.version_chain.proofs.Thinning.{done_some, found_before, partly_more, partly_next, partly_none, partly_one, settled_here, settled_partly, settled_still}
 
@@ -114,7 +114,7 @@ thinned_next es fs gs index m a b n indexed first more here done = record {
 
 -- where no timestamp is left nothing is dead
 pub thinned_all : (es fs : Stored) (index : Index) (m a n : ℕ) → IsIndexOf fs index → IsNoneBetween index a n → ((y : List ℕ) (i : ℕ) → is_dead_in es m y i ≡ false) → AreThinnedTo es fs m a n → (y : List ℕ) (i : ℕ) → is_dead_in fs n y i ≡ false
-thinned_all es fs index m a n indexed none before done y i = unless_true _ (λ dead.
+thinned_all es fs index m a n indexed none before done y i = false_from_ne_true _ (λ dead.
     let top = top_above (found_in fs y) m n i (settled_partly es fs m n done.partly before y) dead in
     let some : is_some (found_in fs y (newest_of (chain_of fs y) n)) ≡ true = done_some (found_in fs y (newest_of (chain_of fs y) n)) top.1 in
     elim (cases_lt a (newest_of (chain_of fs y) n)) [

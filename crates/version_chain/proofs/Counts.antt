@@ -4,7 +4,7 @@ use Rattle.std.specs.Prelude.{bytes_eq, is_some, is_none, not, ◌↔◌}
 use Rattle.std.specs.List.{filter}
 use Rattle.std.proofs.lemmas.List.{length-map}
 use Rattle.std.proofs.lemmas.List.Filters.{length-filter_both}
-use Rattle.std.proofs.lemmas.Bool.{eqb-true}
+use Rattle.std.proofs.lemmas.Bool.{eqb-true, and_parts}
 use Rattle.spans.specs.Collection.{VersionName, version_name}
 use Rattle.spans.proofs.Steps.{by_test, same_key, key_itself}
 use Rattle.spans.proofs.Members.{Has, AreDistinct, same_length, has_filter, distinct_filter}
@@ -20,13 +20,9 @@ is_there s v = is_some (version_in s v.key v.ts)
 abbrev is_named : List ℕ → ℕ → VersionName → Bool
 is_named x t v = (t == v.ts) && bytes_eq x v.key
 
-and_true : (a b : Bool) → (a && b) ≡ true → (a ≡ true) × (b ≡ true)
-and_true true b e = (refl, e)
-and_true false b e = (e, let no : false ≡ true = e in cc)
-
 named : (x : List ℕ) (t : ℕ) (v : VersionName) → is_named x t v ≡ true → version_name x t ≡ v
 named x t v e =
-    let both = and_true (t == v.ts) (bytes_eq x v.key) e in
+    let both = and_parts (t == v.ts) (bytes_eq x v.key) e in
     let at : t ≡ v.ts = eqb-true t v.ts both.0 in
     let key : x ≡ v.key = same_key x v.key both.1 in
     ap (λ y. version_name y t) key ∙ ap (version_name v.key) at
@@ -162,7 +158,7 @@ has_names x q (w ∷ vs) v r =
         | inl e ↦ key_in v e on
         | inr k ↦ absurd (none_high v here k)
       ],
-      λ e. inl (name_is v (and_true (bytes_eq x v.key) (q w) e).0 (eqb-true w.ts v.ts here)),
+      λ e. inl (name_is v (and_parts (bytes_eq x v.key) (q w) e).0 (eqb-true w.ts v.ts here)),
     ))
     (λ there. subst (λ b. Has v (version_name x w.ts ∷ more) ↔ ((bytes_eq x v.key && passes q (cond b (Some w) (version_of vs v.ts))) ≡ true)) (sym there) (
       λ i. elim i [
@@ -174,7 +170,7 @@ has_names x q (w ∷ vs) v r =
     (λ off. subst (λ b. Has v (names_of x (cond b (w ∷ filter q vs) (filter q vs))) ↔ ((bytes_eq x v.key && passes q (version_of (w ∷ vs) v.ts)) ≡ true)) (sym off) (by_test (w.ts == v.ts)
     (λ here. subst (λ b. Has v more ↔ ((bytes_eq x v.key && passes q (cond b (Some w) (version_of vs v.ts))) ≡ true)) (sym here) (
       λ i. absurd (none_high v here i),
-      λ e. absurd (let yes = (and_true (bytes_eq x v.key) (q w) e).1 in let no : true ≡ false = sym yes ∙ off in (let n : true ≡ false = no in cc)),
+      λ e. absurd (let yes = (and_parts (bytes_eq x v.key) (q w) e).1 in let no : true ≡ false = sym yes ∙ off in (let n : true ≡ false = no in cc)),
     ))
     (λ there. subst (λ b. Has v more ↔ ((bytes_eq x v.key && passes q (cond b (Some w) (version_of vs v.ts))) ≡ true)) (sym there) rest)))
   where
@@ -208,7 +204,7 @@ counted_thinned es fs x q r n less rises is c =
           distinct = distinct_filter (λ v. not (is_gone es x q v)) c.versions c.all.distinct;
           each = λ v. let h = has_filter (λ v. not (is_gone es x q v)) v c.versions in (
             λ i. less v.key v.ts ∙ and_both (not (is_gone es x q v)) (is_there es v) (h.0 i).0 ((c.all.each v).0 (h.0 i).1),
-            λ there. (let b = and_true (not (is_gone es x q v)) (is_there es v) (sym (less v.key v.ts) ∙ there) in h.1 (b.0, (c.all.each v).1 b.1)),
+            λ there. (let b = and_parts (not (is_gone es x q v)) (is_there es v) (sym (less v.key v.ts) ∙ there) in h.1 (b.0, (c.all.each v).1 b.1)),
           );
         };
         count = omega arith;
@@ -219,14 +215,14 @@ counted_thinned es fs x q r n less rises is c =
     and_both a b e f = rw (e, f) refl
 
     at_key : (v : VersionName) → is_gone es x q v ≡ true → (bytes_eq x v.key && passes q (version_of (chain_of es x) v.ts)) ≡ true
-    at_key v e = let key : x ≡ v.key = same_key x v.key (and_true (bytes_eq x v.key) (passes q (found_in es v.key v.ts)) e).0 in subst (λ y. (bytes_eq x v.key && passes q (version_of (chain_of es y) v.ts)) ≡ true) (sym key) e
+    at_key v e = let key : x ≡ v.key = same_key x v.key (and_parts (bytes_eq x v.key) (passes q (found_in es v.key v.ts)) e).0 in subst (λ y. (bytes_eq x v.key && passes q (version_of (chain_of es y) v.ts)) ≡ true) (sym key) e
 
     from_key : (v : VersionName) → (bytes_eq x v.key && passes q (version_of (chain_of es x) v.ts)) ≡ true → is_gone es x q v ≡ true
-    from_key v e = let key : x ≡ v.key = same_key x v.key (and_true (bytes_eq x v.key) (passes q (version_of (chain_of es x) v.ts)) e).0 in subst (λ y. (bytes_eq x v.key && passes q (version_of (chain_of es y) v.ts)) ≡ true) key e
+    from_key v e = let key : x ≡ v.key = same_key x v.key (and_parts (bytes_eq x v.key) (passes q (version_of (chain_of es x) v.ts)) e).0 in subst (λ y. (bytes_eq x v.key && passes q (version_of (chain_of es y) v.ts)) ≡ true) key e
 
     some_passes : (o : Option Version) → passes q o ≡ true → is_some (after_of o) ≡ true
     some_passes None e = (let no : false ≡ true = e in cc)
     some_passes (Some v) e = refl
 
     there_gone : (v : VersionName) → is_gone es x q v ≡ true → is_there es v ≡ true
-    there_gone v e = some_passes (found_in es v.key v.ts) (and_true (bytes_eq x v.key) (passes q (found_in es v.key v.ts)) e).1
+    there_gone v e = some_passes (found_in es v.key v.ts) (and_parts (bytes_eq x v.key) (passes q (found_in es v.key v.ts)) e).1

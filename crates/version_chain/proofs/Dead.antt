@@ -2,12 +2,13 @@
 use Rattle.std.proofs.Common.{◌≡◌, ℕ, ◌<◌, ◌≤◌, ◌⊎◌, ◌==◌, Bool, true, false, cond, ◌&&◌, ◌||◌, List, [], ◌∷◌, Option, Some, None, refl, sym, ◌∙◌, ap, subst, inl, inr, arith}
 use Rattle.std.specs.Prelude.{is_none, not, nat_le, nat_lt}
 use Rattle.std.specs.List.{filter}
-use Rattle.std.proofs.lemmas.Bool.{and_parts, and_from, or_cases, or_left, or_right, eqb-true, leb-true, le-leb, ltb-true, lt-ltb, ne_eqb, both_ways}
+use Rattle.std.proofs.lemmas.Bool.{and_parts, and_from, or_cases, or_left, or_right, eqb-true, leb-true, le-leb, ltb-true, lt-ltb, ne_eqb, both_ways, false_from_ne_true}
 use Rattle.std.proofs.lemmas.Bool.Decides.{nat_tests}
+use Rattle.std.proofs.Math.Bool.{or-false}
 use Rattle.spans.specs.Effects.{After}
 use Rattle.spans.specs.Collection.{is_delete}
 use Rattle.spans.specs.Newest.{newest}
-use Rattle.spans.proofs.Steps.{by_test, newest_is, newest_reaches, newest_same}
+use Rattle.spans.proofs.Steps.{by_test, newest_is, newest_reaches, newest_same, newest_fewer, newest_rises}
 use Rattle.version_chain.specs.declared.chain.Version.{Version}
 use Rattle.version_chain.specs.Versions.{AreAbove, DoRise, version_of}
 use Rattle.version_chain.specs.Stores.{after_of, is_committed}
@@ -18,22 +19,6 @@ abbrev pub is_dead_of : (ℕ → Option Version) → ℕ → ℕ → Bool
 is_dead_of f n t = is_committed (f t) && (nat_le t n && (is_delete (after_of (f t)) || nat_lt t (newest (λ i. after_if_committed (f i)) n).ts))
 
 -- ---- the newest
-
-newest_fewer : (f g : ℕ → Option After) (t : ℕ) → ((j : ℕ) → j ≤ t → f j ≡ None → g j ≡ None) → (newest g t).ts ≤ (newest f t).ts
-newest_fewer f g t fewer = elim (newest_is g t).has [
-  | inl zeroth ↦ omega (arith, zeroth.0)
-  | inr some ↦ by_version (f (newest g t).ts) refl some.1
-]
-  where
-    by_version : (o : Option After) → f (newest g t).ts ≡ o → g (newest g t).ts ≡ Some (newest g t).after → (newest g t).ts ≤ (newest f t).ts
-    by_version None e is = absurd (let no' : None ≡ Some (newest g t).after = sym (fewer _ (newest_is g t).at_most e) ∙ is in cc)
-    by_version (Some a) e is = newest_reaches f t (newest g t).ts a (newest_is g t).at_most e
-
-newest_rises : (f : ℕ → Option After) (m n : ℕ) → m ≤ n → (newest f m).ts ≤ (newest f n).ts
-newest_rises f m n low = elim (newest_is f m).has [
-  | inl zeroth ↦ omega (arith, zeroth.0)
-  | inr some ↦ (let top : (newest f m).ts ≤ m = (newest_is f m).at_most in newest_reaches f n (newest f m).ts (newest f m).after (omega arith) some.1)
-]
 
 pub done_there : (o : Option Version) → is_committed o ≡ true → (a : After) × (after_if_committed o ≡ Some a)
 done_there None e = (let no : false ≡ true = e in cc)
@@ -61,10 +46,6 @@ dead_parts f n t is =
 pub dead_from : (f : ℕ → Option Version) (n t : ℕ) → IsDead f n t → is_dead_of f n t ≡ true
 dead_from f n t s = and_from _ _ s.done (and_from _ _ (le-leb t n s.low) (elim s.why [ inl d ↦ or_left _ _ d | inr l ↦ or_right _ _ (lt-ltb _ _ l) ]))
 
-pub unless_true : (b : Bool) → (b ≡ true → ⊥) → b ≡ false
-unless_true true h = absurd (h refl)
-unless_true false h = refl
-
 -- of fewer committed versions fewer are dead
 pub fewer_dead : (f g : ℕ → Option Version) (n t : ℕ) → ((i : ℕ) → i ≤ n → is_committed (g i) ≡ true → g i ≡ f i) → is_dead_of g n t ≡ true → is_dead_of f n t ≡ true
 fewer_dead f g n t fewer is =
@@ -84,11 +65,11 @@ fewer_dead f g n t fewer is =
     undone (Some v) e = rw e refl
 
 pub live_fewer : (f g : ℕ → Option Version) (n : ℕ) → ((i : ℕ) → i ≤ n → is_committed (g i) ≡ true → g i ≡ f i) → ((t : ℕ) → is_dead_of f n t ≡ false) → (t : ℕ) → is_dead_of g n t ≡ false
-live_fewer f g n fewer none t = unless_true _ (λ is. both_ways _ (none t) (fewer_dead f g n t fewer is))
+live_fewer f g n fewer none t = false_from_ne_true _ (λ is. both_ways _ (none t) (fewer_dead f g n t fewer is))
 
 -- what is dead stays so by a higher horizon
 pub live_lower : (f : ℕ → Option Version) (m n : ℕ) → m ≤ n → ((t : ℕ) → is_dead_of f n t ≡ false) → (t : ℕ) → is_dead_of f m t ≡ false
-live_lower f m n low none t = unless_true _ (λ is.
+live_lower f m n low none t = false_from_ne_true _ (λ is.
     let s = dead_parts f m t is in
     let up : (newest (λ i. after_if_committed (f i)) m).ts ≤ (newest (λ i. after_if_committed (f i)) n).ts = newest_rises (λ i. after_if_committed (f i)) m n low in
     let l : t ≤ m = s.low in
@@ -102,7 +83,7 @@ same_dead f g n t same =
 
 -- once what is dead has gone nothing is dead
 pub live_left : (f g : ℕ → Option Version) (n : ℕ) → ((i : ℕ) → g i ≡ cond (is_dead_of f n i) None (f i)) → (t : ℕ) → is_dead_of g n t ≡ false
-live_left f g n left t = unless_true _ (λ is. by_test (is_dead_of f n t)
+live_left f g n left t = false_from_ne_true _ (λ is. by_test (is_dead_of f n t)
     (λ on. let gone : g t ≡ None = left t ∙ (rw on refl) in let s = dead_parts g n t is in let no : is_committed None ≡ true = ap is_committed (sym gone) ∙ s.done in (let n : false ≡ true = no in cc))
     (λ off. both_ways _ off (fewer_dead f g n t (λ i low done. kept i done) is)))
   where
@@ -166,12 +147,8 @@ at_found n top [] i r = refl
 at_found n top (v ∷ vs) i r = by_test (v.ts == i)
     (λ here.
     let rest : is_dead_at n top vs i ≡ false = subst (λ t. is_dead_at n top vs t ≡ false) (eqb-true v.ts i here) (none_above n top v.ts vs r.0).0 in
-    rw (here, rest) (or_false (is_dead_version n top v)))
+    rw (here, rest) (or-false (is_dead_version n top v)))
     (λ there. rw there (at_found n top vs i r.1))
-  where
-    or_false : (b : Bool) → (b || false) ≡ b
-    or_false true = refl
-    or_false false = refl
 
 dead_found : (n i : ℕ) (top : ℕ) (o : Option Version) → ((v : Version) → o ≡ Some v → v.ts ≡ i) → (is_committed o && (nat_le i n && (is_delete (after_of o) || nat_lt i top))) ≡ holds n top o
 dead_found n i top None its = refl

@@ -11,12 +11,8 @@ use Rattle.std.proofs.lemmas.Map.Text.{is_eq-slice_cmp}
 use Rattle.timestamps.specs.Bytes.{key_cmp}
 use Rattle.spans.specs.KeyOrder.{key_lt}
 use Rattle.spans.proofs.Steps.{same_key}
+use Rattle.spans.proofs.KeyOrder.{less_is}
 use Rattle.version_chain.specs.Following.{is_after_place, is_before}
-
-less_is : (o : Ordering) → is_lt o ≡ true → o ≡ Less
-less_is Less e = refl
-less_is Equal e = cc
-less_is Greater e = cc
 
 parts : (t i : ℕ) (x y : List ℕ) → is_before t x i y ≡ true → (t < i) ⊎ ((t ≡ i) × (key_cmp x y ≡ Less))
 parts t i x y e = elim (or_cases _ _ e) [
@@ -69,9 +65,6 @@ later_is_not_before i y t x later = or_from (nat_lt i t) ((i == t) && key_lt y x
 
 pub beside_is_not_before : (i : ℕ) (y : List ℕ) (t : ℕ) (x : List ℕ) → i ≡ t → key_lt y x ≡ false → is_before i y t x ≡ false
 beside_is_not_before i y t x same high = or_from (nat_lt i t) ((i == t) && key_lt y x) (le-ltb i t (omega arith)) (and_right (i == t) (key_lt y x) high)
-
-pub key_is_not_below_itself : (x : List ℕ) → key_lt x x ≡ false
-key_is_not_below_itself x = ap is_lt (tied_itself nat_list_cmp_total x)
 
 pub higher_is_not_below : (x y : List ℕ) → key_cmp x y ≡ Less → key_lt y x ≡ false
 higher_is_not_below x y less = ap is_lt (nat_list_cmp_total.antisymm y x ∙ ap ordering_reverse less)

@@ -3,7 +3,7 @@ use Rattle.std.proofs.Common.{◌≡◌, ℕ, ◌-◌, ◌≤◌, Bool, true, fa
 use Rattle.std.specs.Prelude.{bytes_eq, is_some, not}
 use Rattle.std.specs.List.{filter}
 use Rattle.std.specs.BTreeMap.{is_at}
-use Rattle.std.proofs.lemmas.Bool.{both_ways}
+use Rattle.std.proofs.lemmas.Bool.{both_ways, false_from_ne_true}
 use Rattle.std.proofs.lemmas.Map.Text.{is_eq-slice_cmp}
 use Rattle.std.proofs.Math.Bool.{and-true}
 use Rattle.timestamps.specs.Bytes.{key_cmp}
@@ -17,7 +17,7 @@ use Rattle.version_chain.specs.Dead.{is_dead_version, is_dead_at, is_dead_in, ne
 use Rattle.version_chain.specs.Indexes.{is_listed, IsUnlisted}
 use Rattle.version_chain.proofs.Changes.{ArePut}
 use Rattle.version_chain.proofs.Counts.{counted_thinned}
-use Rattle.version_chain.proofs.Dead.{is_dead_of, holds, dead_here, left_filtered, at_found, same_dead, live_left, live_fewer, unless_true}
+use Rattle.version_chain.proofs.Dead.{is_dead_of, holds, dead_here, left_filtered, at_found, same_dead, live_left, live_fewer}
 
 -- ---- one key
 
@@ -106,7 +106,7 @@ partly_next es fs gs x n one thin = partly_more es fs gs n one (partly_one fs gs
 
 -- what was not dead stays so
 pub settled_still : (es fs : Stored) (n : ℕ) → ArePartlyThinned es fs n → (y : List ℕ) (i : ℕ) → is_dead_in es n y i ≡ false → is_dead_in fs n y i ≡ false
-settled_still es fs n thin y i none = unless_true _ (λ dead. both_ways _ none (thin.fewer y i dead))
+settled_still es fs n thin y i none = false_from_ne_true _ (λ dead. both_ways _ none (thin.fewer y i dead))
 
 -- what is there was there
 pub found_before : (es fs : Stored) (n : ℕ) → ArePartlyThinned es fs n → (y : List ℕ) (i : ℕ) → is_some (found_in fs y i) ≡ true → found_in fs y i ≡ found_in es y i

@@ -8,7 +8,7 @@ use Rattle.std.specs.Ordering.{nat_cmp}
 use Rattle.std.specs.declared.cmp.Ordering.TheVariants.{Less}
 use Rattle.std.specs.List.{AllByRecursion}
 use Rattle.std.specs.List.Sorted.{IsStrictlySortedBy}
-use Rattle.std.proofs.lemmas.Bool.{both_ways, cases_lt, lt-ltb, ltb-true}
+use Rattle.std.proofs.lemmas.Bool.{both_ways, cases_lt, lt-ltb, ltb-true, false_from_ne_true}
 use Rattle.std.proofs.lemmas.Bool.Decides.{nat_tests}
 use Rattle.std.proofs.lemmas.Cmp.{ranked}
 use Rattle.std.proofs.lemmas.List.{append-nil}
@@ -17,6 +17,7 @@ use Rattle.spans.specs.KeyOrder.{key_lt}
 use Rattle.spans.proofs.Keyed.{IsIn, RisingKeys, filter_in, filter_rises}
 use Rattle.spans.proofs.Steps.{by_test}
 use Rattle.spans.proofs.WriteSets.{has, has_in}
+use Rattle.spans.proofs.KeyOrder.{not_itself}
 use Rattle.version_chain.specs.declared.chain.Version.{Version}
 use Rattle.version_chain.specs.declared.index.Index.{Index}
 use Rattle.version_chain.specs.Chains.{found_in}
@@ -24,9 +25,8 @@ use Rattle.version_chain.specs.Stores.{Stored, after_of, is_committed, version_i
 use Rattle.version_chain.specs.Indexes.{is_listed, listed_in, IsFirstBetween, IsIndexOf, AreBetween}
 use Rattle.version_chain.specs.Following.{is_after_place, IsLeft, IsNoneAfter, IsFirstAfter, Walk}
 use Rattle.version_chain.specs.Walking.{IsAhead, IsBeside, IsCommittedAt, IsFirstAmong, IsNoneAmong, IsOnTheWay}
-use Rattle.version_chain.proofs.Dead.{unless_true}
 use Rattle.version_chain.proofs.Indexes.{Keyed, listed_first}
-use Rattle.version_chain.proofs.Order.{after_beside, after_trans, at_place, beside_is_not_before, from_less, higher_is_not_below, key_above, key_is_not_below_itself, later_is_not_before}
+use Rattle.version_chain.proofs.Order.{after_beside, after_trans, at_place, beside_is_not_before, from_less, higher_is_not_below, key_above, later_is_not_before}
 
 -- ---- the keys of a timestamp, one after another
 
@@ -51,7 +51,7 @@ rises_behind (z ∷ xs) ys r = rises_behind xs ys r.1
 
 -- of rising keys those above one are what follows it
 above_is_behind : (x : List ℕ) (xs ys : List (List ℕ)) → RisingKeys (xs ++ x ∷ ys) → filter (key_lt x) (xs ++ x ∷ ys) ≡ ys
-above_is_behind x [] ys r = rw (key_is_not_below_itself x) (all_kept x ys r.0)
+above_is_behind x [] ys r = rw (not_itself x) (all_kept x ys r.0)
 above_is_behind x (z ∷ xs) ys r = rw (higher_is_not_below z x (r.0 x (in_behind x xs (x ∷ ys) (inl refl)))) (above_is_behind x xs ys r.1)
 
 -- the keys that a walk came past have no committed version at t
@@ -83,7 +83,7 @@ meets s t keys x unseen v rising is are = record {
   first = λ y i done. elim (in_either y are.passed (x ∷ unseen) (subst (IsIn y) are.split i)) [
     | inl before ↦ absurd (both_ways _ (are.none y before) done)
     | inr rest ↦ elim rest [
-      | inl here ↦ subst (λ k. key_lt k x ≡ false) here (key_is_not_below_itself x)
+      | inl here ↦ subst (λ k. key_lt k x ≡ false) here (not_itself x)
       | inr there ↦ higher_is_not_below x y ((rises_behind are.passed (x ∷ unseen) (subst RisingKeys are.split rising)).0 y there)
     ]
   ];
@@ -119,7 +119,7 @@ is_first_between index a b t keys es rest listed are is =
     record {
       above = first.0;
       low = first.1;
-      first = λ y i above below. let low : t ≤ b = first.1 in unless_true _ (λ yes. elim (listed_first t keys rest y i (ap (λ fs. listed_in fs y i) (sym is) ∙ listed y i above (omega arith) ∙ yes)) [
+      first = λ y i above below. let low : t ≤ b = first.1 in false_from_ne_true _ (λ yes. elim (listed_first t keys rest y i (ap (λ fs. listed_in fs y i) (sym is) ∙ listed y i above (omega arith) ∙ yes)) [
         | inl here ↦ (let at = here.0 in omega arith)
         | inr there ↦ (let over = listed_above t b rest first.2 y i there in omega arith)
       ]);

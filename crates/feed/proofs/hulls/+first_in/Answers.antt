@@ -1,8 +1,9 @@
 use Rattle.std.proofs.Common.{None, ap, arith, sym, false, ℕ, length, ◌+◌, ◌<◌, ◌≡◌, ◌≤◌, ◌∙◌}
+use Rattle.std.proofs.lemmas.Option.{slice_get-get_or}
 use Rattle.std.specs.Prelude.{slice_get}
 use Rattle.feed.specs.Slots.{holds_at}
 use Rattle.feed.specs.Hulls.{IsFirstIn, IsNoneIn, middle, reaches_or}
-use Rattle.feed.proofs.Searching.{covering, found_middle, found_right, get_some, in_other_words, left_hulls, none_right, out_of_reach, right_hulls}
+use Rattle.feed.proofs.Searching.{covering, found_middle, found_right, in_other_words, left_hulls, none_right, out_of_reach, right_hulls}
 use Rattle.feed.proofs.hulls.+first_in.Goals as goal
 use Rattle.feed.proofs.hulls.+first_in.Goals.{else-from-mid-via-then-from-mid+else-is_holding, else-from-mid-via-else-from-mid}
 
@@ -12,7 +13,7 @@ returns-then-not-is_reached t c =
     let es = c.args.slots.now.entries in
     let within : m < length c.args.hulls.now = omega (arith, c.if-high-low.false, c.requires.within) in
     out_of_reach es (holds_at es) (slice_get c.args.hulls.now m) c.args.key.now c.args.from c.args.low c.args.high (covering es (holds_at es) c.args.hulls.now c.args.low c.args.high c.if-high-low.false c.requires.hulls)
-    (ap (λ o. reaches_or es o c.args.key.now) (get_some c.args.hulls.now m None within) ∙ sym c.is_reached.ensures ∙ c.if-not-is_reached.true)
+    (ap (λ o. reaches_or es o c.args.key.now) (slice_get-get_or c.args.hulls.now m None within) ∙ sym c.is_reached.ensures ∙ c.if-not-is_reached.true)
 
 pub first_in-requires : goal.first_in-requires
 first_in-requires t c = let es = c.args.slots.now.entries in (omega (arith, c.if-high-low.false), (omega (arith, c.requires.within, c.if-high-low.false), left_hulls es (holds_at es) c.args.hulls.now c.args.low c.args.high c.if-high-low.false c.requires.hulls))

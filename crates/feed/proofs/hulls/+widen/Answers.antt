@@ -1,9 +1,10 @@
 use Rattle.std.proofs.Common.{None, Some, arith, length, ◌<◌, ◌≡◌, subst, get_or}
+use Rattle.std.proofs.lemmas.Option.{slice_get-get_or}
 use Rattle.std.specs.Prelude.{slice_set}
 use Rattle.feed.specs.Slots.{holds_at}
 use Rattle.feed.specs.Hulls.{IsCovering, held_but, middle}
 use Rattle.feed.proofs.Building.{covers_more, hulls_apart, left_kept, right_kept, set_same_length, widened_hulls, widened_others}
-use Rattle.feed.proofs.Searching.{covering, get_some}
+use Rattle.feed.proofs.Searching.{covering}
 use Rattle.feed.proofs.hulls.+widen.Goals as goal
 use Rattle.feed.proofs.hulls.+widen.Goals.{then-place-low-via-then-place-low, then-place-low-via-else-place-low+then-high-place}
 
@@ -47,7 +48,7 @@ returns-clause-hulls t c = λ k.
     let m = middle c.args.low c.args.high in
     let within : m < length c.args.hulls.now = omega (arith, c.requires.within, c.if-place-low.false, c.if-high-place.false) in
     let before : IsCovering es (held_but c.args.place held) (Some (get_or c.args.hulls.now m None)) c.args.low c.args.high =
-    subst (λ o. IsCovering es (held_but c.args.place held) o c.args.low c.args.high) (get_some c.args.hulls.now m None within)
+    subst (λ o. IsCovering es (held_but c.args.place held) o c.args.low c.args.high) (slice_get-get_or c.args.hulls.now m None within)
     (covering es (held_but c.args.place held) c.args.hulls.now c.args.low c.args.high (omega (arith, c.if-place-low.false, c.if-high-place.false)) c.requires.hulls) in
     widened_hulls k es held c.args.hulls.now c.widen.new.hulls c.widen-2.new.hulls c.join.result c.args.low c.args.high within
     (covers_more es held c.args.place c.args.low c.args.high (get_or c.args.hulls.now m None) c.own_hull.result c.join.result before c.own_hull.ensures c.join.ensures.one c.join.ensures.other)

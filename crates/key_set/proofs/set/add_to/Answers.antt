@@ -1,8 +1,10 @@
 use Rattle.std.proofs.Common.{◌∙◌, ap, sym}
 use Rattle.std.specs.Prelude.{not}
 use Rattle.spans.specs.Keys.{insert_key}
-use Rattle.key_set.proofs.Sets.{found_is, in_err, put_again, put_is}
+use Rattle.key_set.proofs.Sets.{found_is, put_again}
 use Rattle.key_set.proofs.set.add_to.Goals as goal
+use Rattle.spans.proofs.Sets.{put_is}
+use Rattle.spans.proofs.Results.{any_err}
 
 pub returns-then-contains-clause-new : goal.returns-then-contains-clause-new
 returns-then-contains-clause-new c = ap not (sym c.if-contains.true ∙ c.contains.ensures ∙ found_is c.args.key.now c.args.keys.now.keys)
@@ -11,10 +13,10 @@ pub returns-then-contains-clause-ok : goal.returns-then-contains-clause-ok
 returns-then-contains-clause-ok c = sym (put_again c.args.key.now c.args.keys.now.keys c.requires.rising (sym (found_is c.args.key.now c.args.keys.now.keys) ∙ sym c.contains.ensures ∙ c.if-contains.true))
 
 pub returns-in_err-key-clause-absent : goal.returns-in_err-key-clause-absent
-returns-in_err-key-clause-absent c = in_err _ (sym (found_is c.args.key.now c.args.keys.now.keys) ∙ sym c.contains.ensures ∙ c.if-contains.false)
+returns-in_err-key-clause-absent c = any_err _ (sym (found_is c.args.key.now c.args.keys.now.keys) ∙ sym c.contains.ensures ∙ c.if-contains.false)
 
 pub returns-in_err-insert-clause-absent : goal.returns-in_err-insert-clause-absent
-returns-in_err-insert-clause-absent c = in_err _ (sym (found_is c.args.key.now c.args.keys.now.keys) ∙ sym c.contains.ensures ∙ c.if-contains.false)
+returns-in_err-insert-clause-absent c = any_err _ (sym (found_is c.args.key.now c.args.keys.now.keys) ∙ sym c.contains.ensures ∙ c.if-contains.false)
 
 pub returns-clause-new : goal.returns-clause-new
 returns-clause-new c = ap not (sym c.if-contains.false ∙ c.contains.ensures ∙ found_is c.args.key.now c.args.keys.now.keys)

@@ -1,13 +1,15 @@
 use Rattle.std.specs.BTreeSet.{contains}
+use Rattle.std.specs.BTreeMap.{is_at}
+use Rattle.spans.proofs.Sets.{none_in}
 use Rattle.feed.specs.Standing.{Standing}
 use Rattle.feed.specs.Ties.{pair_cmp}
-use Rattle.feed.proofs.Least.{least_is, none_in, none_live}
+use Rattle.feed.proofs.Least.{least_is, none_live}
 use Rattle.feed.proofs.feeds.Feeds.least_floor.Goals as goal
 
 pub returns-in-None : goal.returns-in-None
 returns-in-None c =
     let s : Standing = record { opened = c.self.inside.opened; live = c.self.inside.live.entries } in
-    rw (← c.self.view_is) (none_live (contains pair_cmp c.self.inside.floors) s c.self.invariant.0.each (none_in c.self.inside.floors (λ some. let no' = c.in-None.ensures.variant.1 some in cc)))
+    rw (← c.self.view_is) (none_live (contains pair_cmp c.self.inside.floors) s c.self.invariant.0.each (λ q. none_in (is_at (pair_cmp q)) c.self.inside.floors.keys (λ some. let no' = c.in-None.ensures.variant.1 some in cc)))
 
 pub returns-in-Some : goal.returns-in-Some
 returns-in-Some c =

@@ -3,6 +3,7 @@ use Rattle.std.specs.Prelude.{nat_eq}
 use Rattle.std.specs.BTreeSet.{contains}
 use Rattle.std.specs.BTreeMap.{is_at}
 use Rattle.std.specs.List.{list_any}
+use Rattle.spans.proofs.Listing.{start_low}
 use Rattle.indexmap.specs.IndexMap.{get}
 use Rattle.spans.specs.Feeds.{start_at}
 use Rattle.kept.specs.Places.{place_floor}
@@ -11,7 +12,7 @@ use Rattle.feed.specs.Live.{Live}
 use Rattle.feed.specs.Slots.{Slots, source_of}
 use Rattle.feed.specs.Ties.{AreTied, pair_cmp}
 use Rattle.feed.specs.declared.slots.Slot.{Slot}
-use Rattle.feed.proofs.Tying.{alike_again, alike_put, none_beyond, numbered_set, start_low}
+use Rattle.feed.proofs.Tying.{alike_again, alike_put, none_beyond, numbered_set}
 use Rattle.feed.proofs.Walking.{all_kept, all_more}
 use Rattle.feed.proofs.feeds.Feeds.open.Goals as goal
 

@@ -1,10 +1,11 @@
 use Rattle.std.proofs.Common.{ap, subst, ◌≡◌}
+use Rattle.std.proofs.lemmas.Result.{IfOk-weaker}
 use Rattle.std.specs.Option.{option_copied}
 use Rattle.spans.specs.declared.span.Span.{Span}
 use Rattle.catch_up.specs.Firsts.{AreNextFirsts}
 use Rattle.feed.specs.Firsts.{AreNextFirstsAt}
 use Rattle.feed.specs.Live.{Live}
-use Rattle.feed.proofs.Catching.{firsts_next, firsts_none, if_ok_more}
+use Rattle.feed.proofs.Catching.{firsts_next, firsts_none}
 use Rattle.feed.proofs.live.LiveFeed.snapshot_rows.Goals as goal
 
 pub returns-in_default : goal.returns-in_default
@@ -15,7 +16,7 @@ returns c =
     let place = c.args.self.now.place in
     let key = option_copied c.told_at.result in
     let span : c.self.inside.span ≡ place.span = ap (λ (l : Live). l.place.span) c.self.view_is in
-    if_ok_more c.next_snapshot.result
+    IfOk-weaker c.next_snapshot.result
     (λ rows. AreNextFirsts c.args.store.now c.self.inside.span key c.in-Some.at c.args.n rows.items)
     (λ rows. AreNextFirstsAt c.args.store.now place c.args.n rows.items)
     (λ rows next. firsts_next c.args.store.now place c.in-Some.at c.args.n key rows.items c.in-Some.ensures c.told_at.ensures

@@ -1,7 +1,9 @@
 use Rattle.std.proofs.Common.{◌∙◌, ap, sym}
+use Rattle.std.proofs.lemmas.Result.{on_err_weaker}
 use Rattle.std.specs.Prelude.{not}
 use Rattle.spans.proofs.WriteSets.{has}
-use Rattle.key_set.proofs.Sets.{found_above, found_at, in_err, in_err_too, in_ok, none_below, rises_above, rises_below, rising_is, whole_is}
+use Rattle.spans.proofs.Results.{any_err}
+use Rattle.key_set.proofs.Sets.{found_above, found_at, in_ok, none_below, rises_above, rises_below, rising_is, whole_is}
 use Rattle.key_set.proofs.set.KeySet.add.Goals as goal
 
 -- ---- a key below the least
@@ -21,7 +23,7 @@ pub returns-in-Less-clause-absent : goal.returns-in-Less-clause-absent
 returns-in-Less-clause-absent c =
     let whole = whole_is c.self.inside.least c.in-Some.least c.self.inside.others.keys c.args.self.now c.in-Some.is c.self.view_is in
     let rising = rising_is c.self.inside.least c.in-Some.least c.self.inside.others.keys c.in-Some.is c.self.invariant in
-    in_err c.add_below.result (ap (has c.args.key.now) (sym whole) ∙ none_below c.args.key.now c.in-Some.least c.self.inside.others.keys (sym c.cmp.ensures ∙ c.in-Less.is) rising)
+    any_err c.add_below.result (ap (has c.args.key.now) (sym whole) ∙ none_below c.args.key.now c.in-Some.least c.self.inside.others.keys (sym c.cmp.ensures ∙ c.in-Less.is) rising)
 
 -- ---- the least key
 
@@ -45,4 +47,4 @@ returns-in-Greater-clause-new c =
 pub returns-in-Greater-clause-absent : goal.returns-in-Greater-clause-absent
 returns-in-Greater-clause-absent c =
     let whole = whole_is c.self.inside.least c.in-Some.least c.self.inside.others.keys c.args.self.now c.in-Some.is c.self.view_is in
-    in_err_too c.add_to.result (λ none. ap (has c.args.key.now) (sym whole) ∙ found_above c.args.key.now c.in-Some.least c.self.inside.others.keys (sym c.cmp.ensures ∙ c.in-Greater.is) ∙ none) c.add_to.ensures.absent
+    on_err_weaker c.add_to.result (λ none. ap (has c.args.key.now) (sym whole) ∙ found_above c.args.key.now c.in-Some.least c.self.inside.others.keys (sym c.cmp.ensures ∙ c.in-Greater.is) ∙ none) c.add_to.ensures.absent

@@ -1,16 +1,13 @@
-use Rattle.std.proofs.Common.{[], false, ◌≡◌, refl, sym, ◌∙◌, Option, Some, None, is_some}
+use Rattle.std.proofs.Common.{[], ◌≡◌, sym, ◌∙◌, None}
 use Rattle.std.specs.Cmp.Lexicographic.{nat_list_cmp_total}
 use Rattle.std.specs.Map.{lookup}
 use Rattle.std.specs.BTreeMap.{is_at}
 use Rattle.std.proofs.lemmas.Map.{none_passes_from_lookup}
 use Rattle.timestamps.specs.Bytes.{key_cmp}
+use Rattle.spans.proofs.Steps.{none_of}
 use Rattle.read_marks.specs.Segments.{readers_at}
 use Rattle.read_marks.proofs.Steps.{step-insert}
 use Rattle.read_marks.proofs.segments.Segments.split_at.Goals as goal
-
-none_of : {X : Type 0} (o : Option X) → is_some o ≡ false → o ≡ None
-none_of None h = refl
-none_of (Some x) h = cc
 
 pub returns-clause-readers : goal.returns-clause-readers
 returns-clause-readers c = λ x.

@@ -1,5 +1,6 @@
-use Rattle.std.proofs.Common.{ap, arith, insert, length, refl, Ok, Err, OnErr, Result, ◌∙◌}
+use Rattle.std.proofs.Common.{ap, arith, insert, length, refl, ◌∙◌}
 use Rattle.std.proofs.lemmas.List.Edits.{length-insert}
+use Rattle.spans.proofs.Results.{any_err}
 use Rattle.version_chain.specs.declared.block.Block.{Block}
 use Rattle.version_chain.specs.Blocks.{all_in}
 use Rattle.version_chain.proofs.InBlocks.{has_place, insert_part, same_part, same_sound}
@@ -12,16 +13,12 @@ invariant_of-self c =
     let at = has_place bs c.deref.result.now c.args.place c.block_of-k.result block c.self.invariant.numbered c.deref.ensures.value c.block_of-k.ensures c.index_mut-block.ensures.value in
     same_sound bs c.args.place c.block_of-k.result block _ c.self.invariant at refl c.in_err-insert.ensures.items
 
-always : {T E P : Type 0} (r : Result T E) → P → OnErr r P
-always (Ok x) p = tt
-always (Err e) p = p
-
 pub returns-in_err-insert-clause-err : goal.returns-in_err-insert-clause-err
 returns-in_err-insert-clause-err c =
     let bs = c.self.inside.blocks.items in
     let block : Block = c.index_mut-block.result.now in
     let at = has_place bs c.deref.result.now c.args.place c.block_of-k.result block c.self.invariant.numbered c.deref.ensures.value c.block_of-k.ensures c.index_mut-block.ensures.value in
-    always c.from_residual.result (same_part bs c.args.place c.block_of-k.result block _ at c.in_err-insert.ensures.items ∙ c.self.view_is)
+    any_err c.from_residual.result (same_part bs c.args.place c.block_of-k.result block _ at c.in_err-insert.ensures.items ∙ c.self.view_is)
 
 pub halve_full-requires-clause-few : goal.halve_full-requires-clause-few
 halve_full-requires-clause-few c =

@@ -1,0 +1,93 @@
+-- The order of keys, and where a range begins that has the keys from a bound on.
+use Rattle.timestamps.specs.declared.key.TheConstants.{MAX_KEY_BYTES}
+use Rattle.std.proofs.Common.{◌≡◌, ℕ, zero, suc, ◌<◌, ◌≤◌, true, false, List, [], ◌∷◌, length, take, Option, Some, None, refl, sym, ◌∙◌, ap, subst, arith}
+use Rattle.std.specs.Prelude.{not, nat_le}
+use Rattle.std.specs.BTreeMap.Range.{is_from_start}
+use Rattle.std.specs.Ordering.{is_lt, is_le, nat_cmp, ordering_reverse, ordering_then}
+use Rattle.std.specs.declared.cmp.Ordering.{Ordering}
+use Rattle.std.specs.declared.cmp.Ordering.TheVariants.{Equal, Greater, Less}
+use Rattle.std.proofs.lemmas.Bool.{leb-false, not-true}
+use Rattle.std.proofs.lemmas.Cmp.{nat_cmp_total, nat_list_cmp_total, tied_itself}
+use Rattle.timestamps.specs.Bytes.{key_cmp}
+use Rattle.spans.specs.KeyOrder.{key_lt, from_low, below_high}
+use Rattle.spans.specs.Starting.{start_of}
+use Rattle.spans.proofs.Steps.{by_test}
+
+pub less_is : (o : Ordering) → is_lt o ≡ true → o ≡ Less
+less_is Less e = refl
+less_is Equal e = cc
+less_is Greater e = cc
+
+pub turned : (x y : List ℕ) (o : Ordering) → key_cmp y x ≡ o → key_cmp x y ≡ ordering_reverse o
+turned x y o e = nat_list_cmp_total.antisymm x y ∙ ap ordering_reverse e
+
+pub not_itself : (x : List ℕ) → key_lt x x ≡ false
+not_itself x = ap is_lt (tied_itself nat_list_cmp_total x)
+
+-- ---- the bounds of a span
+
+pub above_low : (lo : Option (List ℕ)) (k x : List ℕ) → from_low lo k ≡ true → key_cmp k x ≡ Less → from_low lo x ≡ true
+above_low None k x from less = refl
+above_low (Some low) k x from less = by_test (key_lt x low)
+    (λ is. let k_low : key_cmp k low ≡ Less = nat_list_cmp_total.trans k x low less (less_is (key_cmp x low) is) in let no' : not (is_lt (key_cmp k low)) ≡ true = from in let e : not (is_lt Less) ≡ true = subst (λ o. not (is_lt o) ≡ true) k_low no' in cc)
+    (λ isnt. ap not isnt)
+
+pub under_high : (hi : Option (List ℕ)) (k x : List ℕ) → below_high hi k ≡ true → key_cmp x k ≡ Less → below_high hi x ≡ true
+under_high None k x below less = refl
+under_high (Some high) k x below less = ap is_lt (nat_list_cmp_total.trans x k high less (less_is (key_cmp k high) below))
+
+pub stays_above : (high : Option (List ℕ)) (x y : List ℕ) → below_high high x ≡ false → key_cmp x y ≡ Less → below_high high y ≡ false
+stays_above None x y past less = (let no : true ≡ false = past in cc)
+stays_above (Some high) x y past less = by_order (key_cmp y high) refl
+  where
+    by_order : (o : Ordering) → key_cmp y high ≡ o → key_lt y high ≡ false
+    by_order Less e = (let no : true ≡ false = sym (ap is_lt (nat_list_cmp_total.trans x y high less e)) ∙ past in cc)
+    by_order Equal e = ap is_lt e
+    by_order Greater e = ap is_lt e
+
+-- ---- where the keys at or above a bound begin
+
+-- a key at or above a bound is above each beginning of it that is shorter
+above_shorter : (n : ℕ) (b x : List ℕ) → n < length b → key_lt x b ≡ false → key_lt (take n b) x ≡ true
+above_shorter n [] x less from = absurd (omega arith)
+above_shorter n (c ∷ b) [] less from = (let no : true ≡ false = from in cc)
+above_shorter zero (c ∷ b) (y ∷ x) less from = refl
+above_shorter (suc n) (c ∷ b) (y ∷ x) less from = by_order (nat_cmp y c) refl from (above_shorter n b x (omega arith))
+  where
+    by_order : (o : Ordering) → nat_cmp y c ≡ o → is_lt (ordering_then o (key_cmp x b)) ≡ false → (key_lt x b ≡ false → key_lt (take n b) x ≡ true) → is_lt (ordering_then (nat_cmp c y) (key_cmp (take n b) x)) ≡ true
+    by_order Less e from more = (let no : true ≡ false = from in cc)
+    by_order Equal e from more = rw (nat_cmp_total.antisymm c y ∙ ap ordering_reverse e) (more from)
+    by_order Greater e from more = rw (nat_cmp_total.antisymm c y ∙ ap ordering_reverse e) refl
+
+-- and one that is no longer than that beginning, and above it, is above the bound
+above_whole : (n : ℕ) (b x : List ℕ) → n < length b → length x ≤ n → key_lt (take n b) x ≡ true → key_lt x b ≡ false
+above_whole n [] x less short above = absurd (omega arith)
+above_whole zero (c ∷ b) [] less short above = (let no : false ≡ true = above in cc)
+above_whole zero (c ∷ b) (y ∷ x) less short above = absurd (omega arith)
+above_whole (suc n) (c ∷ b) [] less short above = (let no : false ≡ true = above in cc)
+above_whole (suc n) (c ∷ b) (y ∷ x) less short above = by_order (nat_cmp c y) refl above (above_whole n b x (omega arith) (omega arith))
+  where
+    by_order : (o : Ordering) → nat_cmp c y ≡ o → is_lt (ordering_then o (key_cmp (take n b) x)) ≡ true → (key_lt (take n b) x ≡ true → key_lt x b ≡ false) → is_lt (ordering_then (nat_cmp y c) (key_cmp x b)) ≡ false
+    by_order Less e above more = rw (nat_cmp_total.antisymm y c ∙ ap ordering_reverse e) refl
+    by_order Equal e above more = rw (nat_cmp_total.antisymm y c ∙ ap ordering_reverse e) (more above)
+    by_order Greater e above more = (let no : false ≡ true = above in cc)
+
+reversed : (o : Ordering) → is_le (ordering_reverse o) ≡ not (is_lt o)
+reversed Less = refl
+reversed Equal = refl
+reversed Greater = refl
+
+same_start : (low x : List ℕ) → is_le (key_cmp low x) ≡ not (key_lt x low)
+same_start low x = ap is_le (nat_list_cmp_total.antisymm low x) ∙ reversed (key_cmp x low)
+
+pub starts_before : (low : Option (List ℕ)) (x : List ℕ) → from_low low x ≡ true → is_from_start key_cmp (start_of low) x ≡ true
+starts_before None x from = refl
+starts_before (Some low) x from = by_test (nat_le (length low) MAX_KEY_BYTES)
+    (λ fits. rw fits (same_start low x ∙ from))
+    (λ more. rw more (above_shorter MAX_KEY_BYTES low x (leb-false _ _ more) (not-true _ from)))
+
+pub starts_at : (low : Option (List ℕ)) (x : List ℕ) → length x ≤ MAX_KEY_BYTES → is_from_start key_cmp (start_of low) x ≡ true → from_low low x ≡ true
+starts_at None x short from = refl
+starts_at (Some low) x short from = by_test (nat_le (length low) MAX_KEY_BYTES)
+    (λ fits. sym (same_start low x) ∙ rw fits at from)
+    (λ more. ap not (above_whole MAX_KEY_BYTES low x (leb-false _ _ more) short (rw more at from)))

@@ -1,0 +1,81 @@
+-- Sets of std as lists: of timestamps, and of keys.
+use Rattle.std.proofs.Common.{List, ap, arith, inl, inr, refl, subst, sym, true, ℕ, ◌≡◌, ◌∷◌, [], Bool, ◌∙◌, ◌||◌, cond, false, ◌<◌, ◌==◌, length}
+use Rattle.std.specs.Prelude.{filter, nat_le, ◌↔◌, bytes_eq}
+use Rattle.std.specs.List.{AllByRecursion, list_any}
+use Rattle.std.specs.List.Sorted.{IsStrictlySortedBy}
+use Rattle.std.specs.Ordering.{is_eq, nat_cmp, match_ordering}
+use Rattle.std.specs.BTreeMap.{is_at}
+use Rattle.std.specs.BTreeSet as sets
+use Rattle.std.specs.BTreeMap.Range.{range_contains}
+use Rattle.std.specs.declared.cmp.Ordering.TheVariants.{Less, Equal, Greater}
+use Rattle.std.specs.declared.ops.Bound.TheVariants.{Included, Unbounded}
+use Rattle.std.specs.declared.cmp.Ordering.{Ordering}
+use Rattle.std.proofs.lemmas.Bool.{or_cases, or_left, or_right}
+use Rattle.std.proofs.lemmas.Bool.Decides.{nat_tests}
+use Rattle.std.proofs.lemmas.Cmp.{nat_cmp_total, tied_itself}
+use Rattle.std.proofs.lemmas.Map.Text.{is_eq-slice_cmp}
+use Rattle.spans.specs.Members.{AreDistinct, Has}
+use Rattle.spans.specs.Keys.{insert_key, insert_where}
+use Rattle.timestamps.specs.Bytes.{key_cmp}
+use Rattle.spans.proofs.Steps.{by_test}
+
+-- the range of all is the whole set
+pub all_within : {K : Type 0} (R : K → K → Ordering) (ks : List K) → filter (range_contains R Unbounded Unbounded) ks ≡ ks
+all_within R [] = refl
+all_within R (k ∷ ks) = ap (λ l. k ∷ l) (all_within R ks)
+
+pub none_in : {K : Type 0} (p : K → Bool) (ks : List K) → (0 < length ks → ⊥) → list_any p ks ≡ false
+none_in p [] empty = refl
+none_in p (k ∷ ks) empty = absurd (empty (omega arith))
+
+-- ---- timestamps
+
+pub number_at : (t i : ℕ) → is_at (nat_cmp t) i ≡ (t == i)
+number_at t i = grind (arith, nat_tests)
+
+pub is_found : (t k : ℕ) → is_at (nat_cmp t) k ≡ true → k ≡ t
+is_found t k e = grind (arith, nat_tests)
+
+pub has_any : (t : ℕ) (ts : List ℕ) → Has t ts ↔ (list_any (is_at (nat_cmp t)) ts ≡ true)
+has_any t [] = (λ i. absurd i, λ e. cc)
+has_any t (k ∷ ks) = let more = has_any t ks in (
+  λ i. elim i [
+    | inl here ↦ or_left _ _ (subst (λ n. is_at (nat_cmp t) n ≡ true) (sym here) (ap is_eq (tied_itself nat_cmp_total t)))
+    | inr there ↦ or_right _ _ (more.0 there)
+  ],
+  λ e. elim (or_cases _ _ e) [ inl here ↦ inl (is_found t k here) | inr there ↦ inr (more.1 there) ],
+)
+
+none_later : (t : ℕ) (ks : List ℕ) → AllByRecursion (λ k. nat_cmp t k ≡ Less) ks → Has t ks → ⊥
+none_later t [] all i = i
+none_later t (k ∷ ks) all i = elim i [
+  | inl here ↦ (let e : nat_cmp t t ≡ Less = subst (λ n. nat_cmp t n ≡ Less) here all.0 in let same = tied_itself nat_cmp_total t in cc)
+  | inr there ↦ none_later t ks all.1 there
+]
+
+pub distinct_times : (ts : List ℕ) → IsStrictlySortedBy nat_cmp ts → AreDistinct ts
+unfolding IsStrictlySortedBy
+distinct_times [] rising = tt
+distinct_times (t ∷ ts) rising = (none_later t ts rising.0, distinct_times ts rising.1)
+
+pub in_range : (to t : ℕ) → range_contains nat_cmp Unbounded (Included to) t ≡ nat_le t to
+in_range to t = grind (arith, nat_tests)
+
+-- ---- keys
+
+-- the set puts a key where the definitions do
+pub put_is : (x : List ℕ) (keys : List (List ℕ)) → sets.insert_key key_cmp keys x ≡ insert_key x keys
+put_is x [] = refl
+put_is x (y ∷ keys) = by_order (key_cmp x y) (put_is x keys)
+  where
+    by_order : (o : Ordering) → sets.insert_key key_cmp keys x ≡ insert_key x keys → match_ordering o (x ∷ y ∷ keys) (y ∷ keys) (y ∷ sets.insert_key key_cmp keys x) ≡ insert_where o x y keys (insert_key x keys)
+    by_order Less more = refl
+    by_order Equal more = refl
+    by_order Greater more = ap (λ l. y ∷ l) more
+
+-- a set that one key came to, or went from
+pub one_more : (x y : List ℕ) (b c : Bool) → c ≡ cond (is_at (key_cmp x) y) true b → c ≡ (bytes_eq x y || b)
+one_more x y b c e = e ∙ ap (λ h. cond h true b) (is_eq-slice_cmp x y) ∙ by_test (bytes_eq x y) (λ on. rw on refl) (λ off. rw off refl)
+
+pub one_less : (x y : List ℕ) (b c : Bool) → c ≡ cond (is_at (key_cmp x) y) false b → c ≡ cond (bytes_eq x y) false b
+one_less x y b c e = e ∙ ap (λ h. cond h false b) (is_eq-slice_cmp x y)
