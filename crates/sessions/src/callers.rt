@@ -1,5 +1,5 @@
 //! The callers of one database.
-ghost use Rattle.std.specs.Prelude.{◌≡◌, ◌≤◌, ◌<◌, ◌+◌, ◌++◌, [], ◌∷◌, List, length, vec_len, IfOk, IfErr, OnErr};
+ghost use Rattle.std.specs.Prelude.{◌≡◌, ◌≤◌, ◌<◌, ◌+◌, ◌++◌, [], ◌∷◌, List, length, vec_len, IfOk, IfErr, OnErr, OnOk};
 ghost use Rattle.shared_db.specs.Opening.{IsReason, SeatsInRange, RingInRange};
 ghost use Rattle.shared_db.specs.Seats.{first_of, seat_count};
 ghost use Rattle.spans.specs.declared.calls.events.Event.{Event};
@@ -8,8 +8,8 @@ ghost use Rattle.sessions.specs.Made.{HasMade, HasMadeMore, HasMadeNone, HasSpen
 ghost use Rattle.ticket_lock.specs.Lists.{most};
 
 use engine::Engine;
-use shared_db::{Config, Db, OpenError, Seat, Spent};
-use spans::calls::{Cmd, Event};
+use shared_db::{Config, Db, NoPosition, OpenError, Seat};
+use spans::calls::Event;
 use std::alloc::Global;
 use std::sync::Wait;
 
@@ -50,14 +50,19 @@ impl Callers {
         self.seats.len() as u8
     }
 
-    /// A call of one of them.
+    /// A call of one of them, of the event's command. The event tells it then, or stays as it was.
     #[inline(always)]
-    pub(crate) fn call<T: Wait>(&mut self, rt: &T, caller: u8, cmd: Cmd) -> Result<Event, Spent>
+    pub(crate) fn call<T: Wait>(
+        &mut self,
+        rt: &T,
+        caller: u8,
+        event: &mut Event,
+    ) -> Result<(), NoPosition>
         requires there { caller < vec_len self.old.seats }
         ensures count { vec_len self.new.seats ≡ vec_len self.old.seats }
         ensures db { self.new.db ≡ self.old.db }
-        ensures event { IfOk result (λ event. (event.seat ≡ caller) × (event.cmd ≡ cmd)) }
-        ensures made { IfOk result (HasMadeMore self.old.latest self.old.seats.items self.new.latest self.new.seats.items) }
+        ensures event { OnOk result ((event.new.seat ≡ caller) × (event.new.cmd ≡ event.old.cmd)) }
+        ensures made { OnOk result (HasMadeMore self.old.latest self.old.seats.items self.new.latest self.new.seats.items event.new) }
         ensures still { OnErr result (HasMadeNone self.old.latest self.old.seats.items self.new.latest self.new.seats.items) }
         ensures spent { OnErr result (HasSpent self.new.seats.items) }
     {
@@ -68,7 +73,8 @@ impl Callers {
             usize::from(caller),
         );
         self.latest = caller;
-        self.db.call(rt, &mut self.seats[usize::from(caller)], cmd)
+        self.db
+            .call_in_place(rt, &mut self.seats[usize::from(caller)], event)
     }
 
     /// The engine, now that all calls are made.

@@ -1,6 +1,5 @@
 //! Serving a script: its calls are made in their order, and what happened is written.
 ghost use Rattle.std.specs.Prelude.{◌≡◌, ◌<◌, ◌≤◌, [], ℕ, vec_len, length, IfOk, IfErr, OnOk};
-ghost use Rattle.spans.specs.declared.calls.events.Event.{Event};
 ghost use Rattle.word_lines.specs.Commands.{command_line};
 ghost use Rattle.word_lines.specs.Limits.{IsCommand};
 ghost use Rattle.sessions.specs.Runs.{IsServed};
@@ -13,7 +12,7 @@ use crate::output::Output;
 use crate::sink::Sink;
 use crate::source::Source;
 use shared_db::Config;
-use spans::calls::Cmd;
+use spans::calls::{Cmd, Event, Reply};
 use std::alloc::Global;
 use std::sync::Wait;
 use text_format::Format;
@@ -102,22 +101,30 @@ impl Run {
         ensures terms { self.new.terms ≡ self.old.terms }
         ensures stopped { IsStopped (S.reads input.old) (S.reads input.new) (K.writes output.old) (K.writes output.new) self.new (end_of result) }
     {
+        // The event of a line lies where that of the line before did, since moving one costs more than a lookup.
+        let mut event = Event {
+            position: 0,
+            seat: 0,
+            cmd: Cmd::Stats,
+            reply: Reply::Started,
+        };
         for before in 0..u64::MAX {
             let Some(count) = self.lines.next_line(input, &mut self.output, output)? else {
                 return Ok(());
             };
-            self.line(rt, output, before + 1, count)?;
+            self.line(rt, output, before + 1, count, &mut event)?;
         }
         stay(rt)
     }
 
-    /// Makes the call of one line, and keeps its event to be written.
+    /// Makes the call of one line in the place of an event, and keeps that to be written.
     fn line<K: Sink, T: Wait>(
         &mut self,
         rt: &T,
         output: &mut K,
         number: u64,
         count: usize,
+        event: &mut Event,
     ) -> Result<(), ServeEnd>
         requires within { count ≤ length (waiting self.old.lines) }
         requires line { IsLine self.old.lines count }
@@ -125,20 +132,20 @@ impl Run {
         ensures ok { OnOk result (CallsLine self.old self.new number (K.writes output.old) (K.writes output.new)) }
         ensures err { IfErr result (StopsAtLine self.old self.new number (K.writes output.old) (K.writes output.new)) }
     {
-        let (seat, cmd) = self.take(number, count)?;
-        self.call(rt, number, seat, cmd)?;
+        let seat = self.take(number, count, &mut event.cmd)?;
+        self.call(rt, number, seat, event)?;
         self.output.write_full(output)?;
         Ok(())
     }
 
-    /// Takes the call of a line.
+    /// Takes the call of a line: the seat, and the command in the place of another.
     #[inline(always)]
-    fn take(&mut self, number: u64, count: usize) -> Result<(u8, Cmd), ServeEnd>
+    fn take(&mut self, number: u64, count: usize, cmd: &mut Cmd) -> Result<u8, ServeEnd>
         requires within { count ≤ length (waiting self.old.lines) }
         requires line { IsLine self.old.lines count }
         ensures terms { self.new.terms ≡ self.old.terms }
-        ensures there { IfOk result (λ call. call.0 < vec_len self.new.callers.seats) }
-        ensures ok { IfOk result (λ call. IsCommand self.old.terms.format call.1 × TakesLine self.old self.new (command_line call.0 call.1)) }
+        ensures there { IfOk result (λ seat. seat < vec_len self.new.callers.seats) }
+        ensures ok { IfOk result (λ seat. IsCommand self.old.terms.format cmd.new × TakesLine self.old self.new (command_line seat cmd.new)) }
         ensures err { IfErr result (StopsBefore self.old self.new [] number) }
     {
         match read_command(
@@ -147,9 +154,10 @@ impl Run {
             self.callers.count(),
             self.terms.format,
         ) {
-            Ok(call) => {
+            Ok((seat, read)) => {
+                *cmd = read;
                 self.lines.advance(count);
-                Ok(call)
+                Ok(seat)
             }
             Err(ReadError::NoMemory) => Err(ServeEnd::Memory),
             Err(ReadError::Fault(fault)) => Err(ServeEnd::Fault {
@@ -159,18 +167,24 @@ impl Run {
         }
     }
 
-    /// Makes a call, and keeps its event to be written.
+    /// Makes the call of an event's command, and keeps the event to be written.
     #[inline(always)]
-    fn call<T: Wait>(&mut self, rt: &T, number: u64, seat: u8, cmd: Cmd) -> Result<(), ServeEnd>
+    fn call<T: Wait>(
+        &mut self,
+        rt: &T,
+        number: u64,
+        seat: u8,
+        event: &mut Event,
+    ) -> Result<(), ServeEnd>
         requires there { seat < vec_len self.old.callers.seats }
-        requires lawful { IsCommand self.old.terms.format cmd }
+        requires lawful { IsCommand self.old.terms.format event.old.cmd }
         ensures terms { self.new.terms ≡ self.old.terms }
-        ensures ok { OnOk result (MakesCall self.old self.new (command_line seat cmd)) }
-        ensures err { IfErr result (StopsBefore self.old self.new (command_line seat cmd) number) }
+        ensures ok { OnOk result (MakesCall self.old self.new (command_line seat event.old.cmd)) }
+        ensures err { IfErr result (StopsBefore self.old self.new (command_line seat event.old.cmd) number) }
     {
-        match self.callers.call(rt, seat, cmd) {
-            Ok(event) => {
-                self.output.keep_event(&event)?;
+        match self.callers.call(rt, seat, event) {
+            Ok(()) => {
+                self.output.keep_event(event)?;
                 Ok(())
             }
             Err(_) => Err(ServeEnd::Spent { line: number }),

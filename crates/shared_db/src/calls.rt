@@ -1,5 +1,5 @@
 //! Calls: a command of a seat becomes an event of the one history.
-ghost use Rattle.std.specs.Prelude.{◌≡◌, IfOk, IfErr};
+ghost use Rattle.std.specs.Prelude.{◌≡◌, IfOk, IfErr, OnErr, OnOk};
 ghost use Rattle.ticket_lock.specs.Seats.{IsSame, IsOf as IsOwn};
 ghost use Rattle.ticket_lock.specs.Turns.{IsSpent};
 ghost use Rattle.shared_db.specs.Seats.{IsOf, first_of};
@@ -7,7 +7,7 @@ ghost use Rattle.shared_db.specs.Calls.{IsAnswered, IsDenied, IsReady, IsMade};
 
 use crate::db::{Db, Seat};
 use crate::served::Served;
-use spans::calls::{Cmd, Event};
+use spans::calls::{Cmd, Event, Reply};
 use std::sync::Wait;
 use ticket_lock::{Denied, Held};
 
@@ -16,6 +16,10 @@ use ticket_lock::{Denied, Held};
 pub struct Spent {
     pub cmd: Cmd,
 }
+
+/// No position is left: the next one would be 18446744073709551615.
+#[derive(Clone, Copy, Debug)]
+pub struct NoPosition;
 
 /// Why `Db::try_call` made no call. The command comes back.
 #[derive(Debug, Drop)]
@@ -32,7 +36,6 @@ impl Db {
     ///
     /// `Spent` comes exactly where the next position would be 18446744073709551615, and at each
     /// later call of this seat too. Whether the wait ends is not promised.
-    #[inline(always)]
     pub fn call<R: Wait>(&self, rt: &R, seat: &mut Seat, cmd: Cmd) -> Result<Event, Spent>
         requires own { IsOf self.now seat.old }
         ensures own { IsOf self.now seat.new }
@@ -41,8 +44,36 @@ impl Db {
         ensures spent { IfErr result (λ spent. (spent.cmd ≡ cmd) × IsSpent seat.old seat.new) }
     {
         match self.lock.turn(rt, seat) {
-            Ok(held) => Ok(self.make(seat, held, cmd)),
+            Ok(held) => {
+                let mut event = unmade(cmd);
+                self.make(seat, held, &mut event);
+                Ok(event)
+            }
             Err(_) => Err(Spent { cmd }),
+        }
+    }
+
+    /// The same of the event's command, where the event lies, which tells the call then. So a caller of many calls
+    /// moves no event. Where no position is left, the event stays as it was.
+    #[inline(always)]
+    pub fn call_in_place<R: Wait>(
+        &self,
+        rt: &R,
+        seat: &mut Seat,
+        event: &mut Event,
+    ) -> Result<(), NoPosition>
+        requires own { IsOf self.now seat.old }
+        ensures own { IsOf self.now seat.new }
+        ensures same { IsSame seat.old seat.new }
+        ensures event { OnOk result (IsAnswered (first_of self.now) seat.old event.old.cmd event.new seat.new) }
+        ensures spent { OnErr result ((event.new ≡ event.old) × IsSpent seat.old seat.new) }
+    {
+        match self.lock.turn(rt, seat) {
+            Ok(held) => {
+                self.make(seat, held, event);
+                Ok(())
+            }
+            Err(_) => Err(NoPosition),
         }
     }
 
@@ -57,32 +88,42 @@ impl Db {
         ensures denied { IfErr result (λ denied. IsDenied (first_of self.now) seat.old cmd denied seat.new) }
     {
         match self.lock.try_turn(seat) {
-            Ok(held) => Ok(self.make(seat, held, cmd)),
+            Ok(held) => {
+                let mut event = unmade(cmd);
+                self.make(seat, held, &mut event);
+                Ok(event)
+            }
             Err(Denied::Busy { served, next }) => Err(CallDenied::Busy { served, next, cmd }),
             Err(Denied::Spent) => Err(CallDenied::Spent { cmd }),
         }
     }
 
-    // What a call does in its turn.
+    // What a call does in its turn, where its event lies.
     #[inline(always)]
-    fn make(&self, seat: &mut Seat, mut held: Held<Served>, cmd: Cmd) -> Event
+    fn make(&self, seat: &mut Seat, mut held: Held<Served>, event: &mut Event)
         requires own { IsOwn self.now.lock seat.old }
         requires turn { IsReady (first_of self.now) held.value held.ticket seat.old }
         ensures own { IsOf self.now seat.new }
         ensures same { IsSame seat.old seat.new }
-        ensures made { IsMade (first_of self.now) seat.old held.ticket cmd result seat.new }
+        ensures made { IsMade (first_of self.now) seat.old held.ticket event.old.cmd event.new seat.new }
     {
         let by = seat.number();
-        let position = held.ticket();
-        let reply = held.value.engine.step(by, &cmd);
-        let event = Event {
-            position,
-            seat: by,
-            cmd,
-            reply,
-        };
+        event.position = held.ticket();
+        event.seat = by;
+        event.reply = held.value.engine.step(by, &event.cmd);
         self.lock.raise_floor(seat, &held);
-        self.lock.end(seat, held, &event);
-        event
+        self.lock.end(seat, held, event);
+    }
+}
+
+// A command as an event, whose call tells the rest.
+fn unmade(cmd: Cmd) -> Event
+    ensures { result.cmd ≡ cmd }
+{
+    Event {
+        position: 0,
+        seat: 0,
+        cmd,
+        reply: Reply::Started,
     }
 }

@@ -24,7 +24,7 @@
 //!
 //! Costs, in steps on words of the lock and of the oracle, beside the engine's step:
 //!
-//! - `call`, where no other seat calls: seven. Two are on the ticket word, three on the serving word and one on the
+//! - `call`, `call_in_place`, where no other seat calls: seven. Two are on the ticket word, three on the serving word and one on the
 //!   floor word, and one looks at a bed
 //! - `try_call`: seven, or two or three where it is `Busy`
 //! - `floor`: one
@@ -33,7 +33,7 @@
 //! - `meet_passes`: five
 //! - `open`, `finish`: some for each seat
 //!
-//! Only `open` and the engine's steps take memory, and only `call` waits.
+//! Only `open` and the engine's steps take memory, and only `call` and `call_in_place` wait.
 //!
 //! Tests: `session_tests`.
 #![tactic(auto)]
@@ -45,7 +45,7 @@ pub mod law;
 mod served;
 mod sharing;
 
-pub use calls::{CallDenied, Spent};
+pub use calls::{CallDenied, NoPosition, Spent};
 pub use config::{Config, OpenError};
 pub use db::{Db, Seat, SeatsMissing};
 pub use served::Served;
