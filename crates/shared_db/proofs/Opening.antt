@@ -1,7 +1,5 @@
 -- The seats of a new lock are those of a new database.
 use Rattle.std.proofs.Common.{ap, ℕ, List}
-use mathlib.Core.Option.{some}
-use lib.ListN.{get_elem?}
 use Rattle.spans.specs.declared.calls.events.Event.{Event}
 use Rattle.ticket_lock.specs.declared.chronicle.Chronicle.{Ghosts}
 use Rattle.ticket_lock.specs.declared.lock.Seat.{Seat}
