@@ -43,13 +43,13 @@ impl Db {
         ensures event { IfOk result (λ event. IsAnswered (first_of self.now) seat.old cmd event seat.new) }
         ensures spent { IfErr result (λ spent. (spent.cmd ≡ cmd) × IsSpent seat.old seat.new) }
     {
-        match self.lock.turn(rt, seat) {
-            Ok(held) => {
-                let mut event = unmade(cmd);
-                self.make(seat, held, &mut event);
-                Ok(event)
+        let mut event = unmade(cmd);
+        match self.call_in_place(rt, seat, &mut event) {
+            Ok(()) => Ok(event),
+            Err(_) => {
+                let Event { cmd, .. } = event;
+                Err(Spent { cmd })
             }
-            Err(_) => Err(Spent { cmd }),
         }
     }
 
