@@ -8,7 +8,7 @@ ghost use Rattle.sessions.specs.Made.{HasMade, HasMadeMore, HasMadeNone, HasSpen
 ghost use Rattle.ticket_lock.specs.Lists.{most};
 
 use engine::Engine;
-use shared_db::{Config, Db, NoPosition, OpenError, Seat};
+use shared_db::{Config, Db, OpenError, OutOfPositions, Seat};
 use spans::calls::Event;
 use std::alloc::Global;
 use std::sync::Wait;
@@ -57,7 +57,7 @@ impl Callers {
         rt: &T,
         caller: u8,
         event: &mut Event,
-    ) -> Result<(), NoPosition>
+    ) -> Result<(), OutOfPositions>
         requires there { caller < vec_len self.old.seats }
         ensures count { vec_len self.new.seats ≡ vec_len self.old.seats }
         ensures db { self.new.db ≡ self.old.db }

@@ -19,7 +19,7 @@ pub struct Spent {
 
 /// No position is left: the next one would be 18446744073709551615.
 #[derive(Clone, Copy, Debug)]
-pub struct NoPosition;
+pub struct OutOfPositions;
 
 /// Why `Db::try_call` made no call. The command comes back.
 #[derive(Debug, Drop)]
@@ -61,7 +61,7 @@ impl Db {
         rt: &R,
         seat: &mut Seat,
         event: &mut Event,
-    ) -> Result<(), NoPosition>
+    ) -> Result<(), OutOfPositions>
         requires own { IsOf self.now seat.old }
         ensures own { IsOf self.now seat.new }
         ensures same { IsSame seat.old seat.new }
@@ -73,7 +73,7 @@ impl Db {
                 self.make(seat, held, event);
                 Ok(())
             }
-            Err(_) => Err(NoPosition),
+            Err(_) => Err(OutOfPositions),
         }
     }
 

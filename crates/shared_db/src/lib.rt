@@ -45,7 +45,7 @@ pub mod law;
 mod served;
 mod sharing;
 
-pub use calls::{CallDenied, NoPosition, Spent};
+pub use calls::{CallDenied, OutOfPositions, Spent};
 pub use config::{Config, OpenError};
 pub use db::{Db, Seat, SeatsMissing};
 pub use served::Served;
