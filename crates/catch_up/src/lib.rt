@@ -23,7 +23,7 @@
 //!
 //! Costs, in searches of the store, each O(log n) for n keys and timestamps:
 //!
-//! - `next_rows`: three, and one of a chain for each row told, plus the smaller of: one of a chain for each version of
+//! - `next_rows`: four, and one of a chain for each row told, plus the smaller of: one of a chain for each version of
 //!   other spans in between; two for each key of the span
 //! - `next_snapshot`: one for the first key, and one of a chain for each key from there to the last that is told
 //! - a version that isn't committed: one more, where it is passed

@@ -8,10 +8,11 @@ ghost use Rattle.sessions.specs.Made.{HasMade, HasMadeMore, HasMadeNone, HasSpen
 ghost use Rattle.ticket_lock.specs.Lists.{most};
 
 use engine::Engine;
-use shared_db::{Config, Db, OpenError, OutOfPositions, Seat};
+use shared_db::{Config, Db, OpenError, Seat};
 use spans::calls::Event;
 use std::alloc::Global;
 use std::sync::Wait;
+use ticket_lock::Spent;
 
 /// A database and all its seats, each at the place of its number.
 #[derive(Drop)]
@@ -50,14 +51,14 @@ impl Callers {
         self.seats.len() as u8
     }
 
-    /// A call of one of them, of the event's command. The event tells it then, or stays as it was.
+    /// Makes the call of the event's command for one of them, and writes it into the event.
     #[inline(always)]
     pub(crate) fn call<T: Wait>(
         &mut self,
         rt: &T,
         caller: u8,
         event: &mut Event,
-    ) -> Result<(), OutOfPositions>
+    ) -> Result<(), Spent>
         requires there { caller < vec_len self.old.seats }
         ensures count { vec_len self.new.seats ≡ vec_len self.old.seats }
         ensures db { self.new.db ≡ self.old.db }
@@ -65,6 +66,7 @@ impl Callers {
         ensures made { OnOk result (HasMadeMore self.old.latest self.old.seats.items self.new.latest self.new.seats.items event.new) }
         ensures still { OnErr result (HasMadeNone self.old.latest self.old.seats.items self.new.latest self.new.seats.items) }
         ensures spent { OnErr result (HasSpent self.new.seats.items) }
+        ensures kept { OnErr result (event.new ≡ event.old) }
     {
         catch_up(
             &self.db,

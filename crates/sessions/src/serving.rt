@@ -101,7 +101,7 @@ impl Run {
         ensures terms { self.new.terms ≡ self.old.terms }
         ensures stopped { IsStopped (S.reads input.old) (S.reads input.new) (K.writes output.old) (K.writes output.new) self.new (end_of result) }
     {
-        // The event of a line lies where that of the line before did, since moving one costs more than a lookup.
+        // One event serves all lines, since to move one costs a hundred instructions.
         let mut event = Event {
             position: 0,
             seat: 0,
@@ -117,7 +117,7 @@ impl Run {
         stay(rt)
     }
 
-    /// Makes the call of one line in the place of an event, and keeps that to be written.
+    /// Reads the command of one line into an event, makes its call, and keeps the event to be written.
     fn line<K: Sink, T: Wait>(
         &mut self,
         rt: &T,
@@ -134,11 +134,13 @@ impl Run {
     {
         let seat = self.take(number, count, &mut event.cmd)?;
         self.call(rt, number, seat, event)?;
+        // a large reply doesn't wait with the next read
+        event.reply = Reply::Started;
         self.output.write_full(output)?;
         Ok(())
     }
 
-    /// Takes the call of a line: the seat, and the command in the place of another.
+    /// Takes the call of a line: it tells the seat, and writes the command over another.
     #[inline(always)]
     fn take(&mut self, number: u64, count: usize, cmd: &mut Cmd) -> Result<u8, ServeEnd>
         requires within { count ≤ length (waiting self.old.lines) }

@@ -17,10 +17,6 @@ pub struct Spent {
     pub cmd: Cmd,
 }
 
-/// No position is left: the next one would be 18446744073709551615.
-#[derive(Clone, Copy, Debug)]
-pub struct OutOfPositions;
-
 /// Why `Db::try_call` made no call. The command comes back.
 #[derive(Debug, Drop)]
 pub enum CallDenied {
@@ -53,15 +49,15 @@ impl Db {
         }
     }
 
-    /// The same of the event's command, where the event lies, which tells the call then. So a caller of many calls
-    /// moves no event. Where no position is left, the event stays as it was.
+    /// Makes the call of the event's command, and writes its position, seat and reply into the event. So a caller that
+    /// makes many calls moves no event. Where no position is left, the event stays as it was.
     #[inline(always)]
     pub fn call_in_place<R: Wait>(
         &self,
         rt: &R,
         seat: &mut Seat,
         event: &mut Event,
-    ) -> Result<(), OutOfPositions>
+    ) -> Result<(), ticket_lock::Spent>
         requires own { IsOf self.now seat.old }
         ensures own { IsOf self.now seat.new }
         ensures same { IsSame seat.old seat.new }
@@ -73,7 +69,7 @@ impl Db {
                 self.make(seat, held, event);
                 Ok(())
             }
-            Err(_) => Err(OutOfPositions),
+            Err(spent) => Err(spent),
         }
     }
 
@@ -98,7 +94,7 @@ impl Db {
         }
     }
 
-    // What a call does in its turn, where its event lies.
+    // Makes the step of a turn, and writes it into the event.
     #[inline(always)]
     fn make(&self, seat: &mut Seat, mut held: Held<Served>, event: &mut Event)
         requires own { IsOwn self.now.lock seat.old }
@@ -116,7 +112,7 @@ impl Db {
     }
 }
 
-// A command as an event, whose call tells the rest.
+// An event whose call is still to be made.
 fn unmade(cmd: Cmd) -> Event
     ensures { result.cmd ≡ cmd }
 {

@@ -24,8 +24,8 @@
 //!
 //! Costs, in steps on words of the lock and of the oracle, beside the engine's step:
 //!
-//! - `call`, `call_in_place`, where no other seat calls: seven. Two are on the ticket word, three on the serving word and one on the
-//!   floor word, and one looks at a bed
+//! - `call`, `call_in_place`, where no other seat calls: seven. Two are on the ticket word, three on the serving word and
+//!   one on the floor word, and one looks at a bed
 //! - `try_call`: seven, or two or three where it is `Busy`
 //! - `floor`: one
 //! - `meet`: six
@@ -45,7 +45,7 @@ pub mod law;
 mod served;
 mod sharing;
 
-pub use calls::{CallDenied, OutOfPositions, Spent};
+pub use calls::{CallDenied, Spent};
 pub use config::{Config, OpenError};
 pub use db::{Db, Seat, SeatsMissing};
 pub use served::Served;

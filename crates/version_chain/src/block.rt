@@ -29,7 +29,8 @@ pub(crate) fn block_of(blocks: &[Block], place: usize) -> usize
     blocks.partition_point(|block| block.start <= place) - 1
 }
 
-/// Writes into each block from one on how many versions stand before it. Those before it say so, and have `start`.
+/// Numbers the blocks from `first` on: each says how many versions stand before it. The blocks before are numbered, and
+/// hold `start` versions.
 pub(crate) fn number_from(blocks: &mut Vec<Block>, first: usize, start: usize)
     requires first { first ≤ length blocks.old.items }
     requires before { AreNumbered (take first blocks.old.items) }
@@ -65,7 +66,7 @@ fn halve(blocks: &mut Vec<Block>, k: usize) -> Result<(), AllocError>
 }
 
 /// Halves a block that has become too full, if there is memory for that, and numbers those from it on. Those before it
-/// are numbered, and have `start`.
+/// are numbered, and hold `start` versions.
 pub(crate) fn halve_full(blocks: &mut Vec<Block>, k: usize, start: usize)
     requires block { k < length blocks.old.items }
     requires before { AreNumbered (take k blocks.old.items) }
@@ -80,7 +81,7 @@ pub(crate) fn halve_full(blocks: &mut Vec<Block>, k: usize, start: usize)
     number_from(blocks, k, start);
 }
 
-/// Takes a block out that has become empty, unless it is the only one. Those behind it are then to be numbered.
+/// Takes a block out that has become empty, unless it is the only one. Those from its place on are then to be numbered.
 pub(crate) fn drop_empty(blocks: &mut Vec<Block>, k: usize)
     requires { k < length blocks.old.items }
     ensures versions { all_in blocks.new.items ≡ all_in blocks.old.items }

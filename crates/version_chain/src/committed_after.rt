@@ -9,8 +9,8 @@ use std::marker::Model;
 use timestamps::key::Key;
 use timestamps::ts_key::TsKey;
 
-/// The committed versions after a place and at or below a timestamp, by timestamp and then by key. The place goes along
-/// with each that is told.
+/// The committed versions after a place and at or below a timestamp, by timestamp and then by key. The place is that of
+/// the version that was told last.
 ///
 /// ```text
 /// index 10 a b c, 20 d, 30 a; only b at 10 and a at 30 are committed
@@ -23,10 +23,11 @@ use timestamps::ts_key::TsKey;
 #[derive(Drop)]
 pub struct CommittedAfter<'a> {
     pub(crate) chains: &'a Chains,
-    /// The place is that of `key` at `ts`; without a key it is behind all keys of `ts`. Contracts alone read it.
+    /// The place is that of `key` at `ts`; without a key it is behind all keys of `ts`. No step reads it, and contracts say
+    /// by it what is left.
     pub(crate) ts: u64,
     pub(crate) key: Option<&'a Key>,
-    /// It bounds `later`, and contracts alone read it too.
+    /// It bounds `later`, and no step reads it either.
     pub(crate) through: u64,
     /// The timestamp of the keys that are ahead.
     pub(crate) at: u64,

@@ -3,7 +3,8 @@
 //!
 //! A [`Store`] is an ordered map from keys to chains, and beside it an index from timestamps to keys. A
 //! [`Chain`](chain::Chain) is a list of versions, and a long one is a list of blocks. A transaction's version is
-//! undecided until it commits.
+//! undecided until it commits. `committed_after` begins a [`CommittedAfter`], which goes from one committed version to the
+//! next.
 //!
 //! 1. A key is in the map exactly where it has a version, and the timestamps of its chain rise.
 //! 2. The index lists a key at a timestamp exactly where the key has a version there.

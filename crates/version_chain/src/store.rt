@@ -95,7 +95,8 @@ impl Store {
     }
 
     /// The committed versions after a place and at or below `through`, by timestamp and then by key. The place is that of
-    /// `key` at `ts`; without a key it is behind all keys of `ts`. It searches the index twice, and takes no memory.
+    /// `key` at `ts`; without a key it is behind all keys of `ts`. It searches the index twice and the keys of `ts` once, and takes no
+    /// memory.
     pub fn committed_after<'a>(
         &'a self,
         ts: u64,

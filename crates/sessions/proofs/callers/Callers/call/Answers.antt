@@ -46,3 +46,7 @@ pub returns-clause-spent : goal.returns-clause-spent
 returns-clause-spent g c = let seats = c.catch_up.new.seats.items in let seat = c.index_mut.result.now in let k = c.from-3.result in
     let at : get_elem? seats k ≡ some seat = read_at seats k seat (search rules) c.index_mut.ensures.value in
     IfErr-weaker c.call_in_place.result (λ _. (c.call_in_place.new.event ≡ c.args.event.now) × IsSpent seat c.call_in_place.new.seat) _ (λ _ refused. spent_known k seats seat c.call_in_place.new.seat at refused.1) c.call_in_place.ensures.spent
+
+pub returns-clause-kept : goal.returns-clause-kept
+returns-clause-kept g c =
+    IfErr-weaker c.call_in_place.result (λ _. (c.call_in_place.new.event ≡ c.args.event.now) × IsSpent c.index_mut.result.now c.call_in_place.new.seat) _ (λ _ refused. refused.0) c.call_in_place.ensures.spent
