@@ -116,7 +116,7 @@ def clause_length(house):
 
 @rule
 def names_once(house):
-    """The name of a public type stands in one crate, but for those of tools/names-twice, which shrinks."""
+    """The name of a public type stands in one crate, but for those of tools/names-twice."""
     standing = defaultdict(dict)
     for path in house.ending(".rt", under="crates/"):
         for found in re.finditer(r"^ *pub (?:struct|enum|trait|type) (\w+)", house.text(path), re.M):
