@@ -25,7 +25,8 @@
 //!
 //! - `next_rows`: four, and one of a chain for each row told, plus the smaller of: one of a chain for each version of
 //!   other spans in between; two for each key of the span
-//! - `next_snapshot`: one for the first key, and one of a chain for each key from there to the last that is told
+//! - `next_snapshot`: one for the first key, and one of a chain for each key from there to the last that is told, or to
+//!   the span's end where fewer are found than are wanted
 //! - a version that isn't committed: one more, where it is passed
 //!
 //! Both calls take memory for the rows told. Where `next_rows` turns to the chains, it also takes memory for places in

@@ -20,7 +20,8 @@
 //!
 //! Costs, where n versions are held:
 //!
-//! - `collect`: O(log n) for each version written since the last horizon, up to its own
+//! - `collect`: O(log n) for each version written since the last horizon, up to its own; and for each key of these a
+//!   look through one block, and at the starts of all
 //!
 //! It takes no memory.
 //!

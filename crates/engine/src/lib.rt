@@ -24,17 +24,19 @@
 //! collect 30 by seat 1                 10*                           30       30        at 30   ring
 //! ```
 //!
-//! Costs, where n is all that is held, v and m the versions and the marks of a key, and f the feeds that live:
+//! Costs, where n is all that is held, v, b and m the versions, the blocks and the marks of a key, and f the feeds that
+//! live:
 //!
 //! - `begin`, `protect`, `release`, `open`, `cancel`: O(log n)
-//! - `get`, `put`, `del`, `readat`: O(log n + log v + log m), and a move of the readers above the new one, or of
-//!   the versions above it in its list or block
+//! - `get`, `put`, `del`, `readat`: O(log n + log v log b + log m), and a move of the readers above the new one,
+//!   or of the versions above it in its list or block
 //! - `scan`, `scanat`: O(log n), and as a get for each key and each marked span that it meets
-//! - `commit`, `abort`: O(log n + log v) for each key written
+//! - `commit`, `abort`: O(log n + log v log b) for each key written
 //! - `close`, `closehard`: O(log n) for each transaction that is forgotten, and O(log n + log f) for each row that became
 //!   closed, and the feeds whose spans hold its key
-//! - `collect`: O(log n) for each version written since the last horizon, up to its own
-//! - `poll`: O(log n), and its messages; from the store a search for each row
+//! - `collect`: O(log n) for each version written since the last horizon, up to its own; and for each key of these a
+//!   look through one block, and at the starts of all
+//! - `poll`: O(log n), and its messages; from the store the searches of `catch_up`
 //! - `stats`, `steps`, `closed`, `behind`: O(log n)
 //! - `report`: O(log n) for each undecided transaction, each protection and each feed
 //!
