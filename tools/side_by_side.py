@@ -4,16 +4,18 @@
 `rt lib` makes the libraries below a crate one after another, and keeps every other `rt` out of their folders
 meanwhile. So each crate is proved in a room of its own: a folder with its files, the files of the crates below, and
 their finished libraries, which are laid in by links. What a room made moves into the checkout at once, and any later
-`rt` finds it there, also one in another checkout on the machine.
+`rt` finds it there, also one in another checkout on the machine. A library has its statements alone, because to load
+the proofs of all crates below would take as long as the proofs of the crate itself; `library.py` beside this makes it.
 
 Crates that don't wait for one another are proved at the same time, those with the longest chain behind them first. The
 crate with the longest chain of all is urgent: it gets four jobs, and the others run below its priority. Another crate
 gets a second job, or up to four, where no crate waits for a processor. Memory is shared out too.
 
-A run that is broken off loses nothing: rooms stand in the folder of git, and the next run goes on in them. Without git
-they stand in a temporary folder and go when the run ends. A program is run once on no input, with the words that are
-given. Lines on standard error say how many crates and about how many minutes are left, and which processor seconds each
-proof took. The order goes by those of an earlier run, which stand in `proof-seconds` beside this script.
+A run that is broken off loses no crate that was proved. Rooms stand in the folder of git, where the next run goes on
+with the program. Without git they stand in a temporary folder and go when the run ends. The program is run once on no
+input, with the words that are given. Lines on standard error say how many crates and about how many minutes are left,
+and which processor seconds each proof took. The order goes by those of an earlier run, which stand in `proof-seconds`
+beside this script.
 """
 
 import contextlib
@@ -41,15 +43,21 @@ done
 exec nice -n 10 "$@"
 """
 GENTLY = ("sh", "-c", LOWER, "sh")
+# What makes a crate, by its kind.
+MAKERS = {
+    "program": ("rt", "run"),
+    "static": ("rt", "lib"),
+    "library": (sys.executable, os.path.join(TOP, "tools", "library.py")),
+}
 
 
 @dataclass(frozen=True)
 class Crate:
-    """A crate of the repository: those right below it, and what its proof is likely to take."""
+    """A crate of the repository: those right below it, how it is made, and what its proof is likely to take."""
 
     name: str
     deps: tuple
-    is_program: bool
+    kind: str
     seconds: float
     memory: float
 
@@ -107,20 +115,23 @@ def below(deps, name):
 def crates_for(top, name):
     """The crate and all that it stands on, lowest first."""
     with open(os.path.join(top, "crates.txt"), encoding="utf-8") as it:
-        deps = listed(it.read())
+        text = it.read()
+    deps = listed(text)
     if name not in deps:
         sys.exit("crates.txt lists no crate %s" % name)
+    statics = re.findall(r"(?m)^(\w+)\b[^:\n]* staticlib\b", text)
     code = {it: lines_of(os.path.join(top, "crates", it), ".rt") for it in deps}
     measured = seconds_of(top)
     crates = []
     for it in [*below(deps, name), name]:
         folder = os.path.join(top, "crates", it)
+        is_program = os.path.isfile(os.path.join(folder, "src", "main.rt"))
         under = sum(code[dep] for dep in below(deps, it))
         crates.append(
             Crate(
                 name=it,
                 deps=tuple(dep for dep in deps[it] if dep in deps),
-                is_program=os.path.isfile(os.path.join(folder, "src", "main.rt")),
+                kind="program" if is_program else "static" if it in statics else "library",
                 # One that wasn't measured is reckoned by its functions, which fits by and large.
                 seconds=measured.get(it) or 8 + 1.3 * count_of(rb"\bfn\s+\w", folder, ".rt") + 0.008 * under,
                 memory=1.5e9 + 1e6 * code[it] + 2e5 * lines_of(folder, ".antt") + 8e4 * under,
@@ -234,11 +245,6 @@ def link_or_copy(one, other):
         shutil.copy2(one, other)
 
 
-def kept_copy(one, other):
-    """A copy of a file of kept work: a link to what was proved, because a check replaces that and never changes it."""
-    return link_or_copy(one, other) if one.endswith(".oantt") else shutil.copy2(one, other)
-
-
 def furnish(top, room, name, lower):
     """Makes a crate's room from the checkout. What an earlier run left of the crate's own work stays, or moves in."""
     crates = os.path.join(room, "crates")
@@ -284,17 +290,6 @@ def clear(top, room, name):
     shutil.rmtree(room)
 
 
-def lay_out(top, room, name):
-    """Lays what the room's proof kept into the checkout, and takes away the library that stood there."""
-    made, to = [os.path.join(it, "crates", name, "out") for it in (room, top)]
-    with locked(os.path.dirname(to)):
-        for it in ("incremental", "rlib"):
-            shutil.rmtree(os.path.join(to, it), ignore_errors=True)
-        kept = os.path.join(made, "incremental")
-        if os.path.isdir(kept):
-            shutil.copytree(kept, os.path.join(to, "incremental"), copy_function=kept_copy)
-
-
 class Build:
     """One run: the crates that wait, those that are made, and those that are being proved."""
 
@@ -320,15 +315,14 @@ class Build:
         furnish(self.top, room, crate.name, below(self.deps, crate.name))
         if self.is_ending:
             return crate, 130, 0, 0, ""
-        verb = ["rt", "run" if crate.is_program else "lib", "--jobs", str(start.jobs)]
-        verb += ["--", *self.words] if crate.is_program else []
+        verb = [*MAKERS[crate.kind], "--jobs", str(start.jobs)]
+        verb += ["--", *self.words] if crate.kind == "program" else []
         began, folder = time.monotonic(), os.path.join(room, "crates", crate.name)
         status, work, told = self.ran(verb if start.is_urgent else [*GENTLY, *verb], folder)
         seconds = time.monotonic() - began
         if not self.is_ending:
-            is_library = os.path.isdir(os.path.join(folder, "out", "rlib")) and not crate.is_program
-            if is_library and not status and is_new(told) and self.is_taken:
-                self.hand_over(crate, room)
+            if crate.kind == "library" and not status and is_new(told) and self.is_taken:
+                self.hand_over(crate)
             clear(self.top, room, crate.name)
         return crate, status, seconds, work, told
 
@@ -349,11 +343,13 @@ class Build:
             log.seek(0)
             return ran.returncode, used.ru_utime + used.ru_stime, log.read()
 
-    def hand_over(self, crate, room):
-        """Has the kit take the library from the room. Other checkouts begin with what was kept where the kit made or
-        took a library, and the room goes. A kit that takes none makes it over what was kept, and isn't asked again."""
-        lay_out(self.top, room, crate.name)
-        if is_new(self.ran(["rt", "lib", "--jobs", "1"], os.path.join(self.top, "crates", crate.name))[2]):
+    def hand_over(self, crate):
+        """Has the kit take the library from the room, because other checkouts then find it where it stays. A kit that
+        takes none makes it anew, and isn't asked again."""
+        folder = os.path.join(self.top, "crates", crate.name)
+        with locked(folder):
+            shutil.rmtree(os.path.join(folder, "out", "rlib"), ignore_errors=True)
+        if is_new(self.ran([*MAKERS[crate.kind], "--jobs", "1"], folder)[2]):
             self.is_taken = False
 
     def end(self, *_):

@@ -45,7 +45,7 @@ DEPS = {"low": [], "left": ["low"], "right": ["low"], "lone": [], "top": ["left"
 
 
 def crate(name, *deps, seconds=10, memory=1):
-    return Crate(name, deps, False, seconds, memory)
+    return Crate(name, deps, "library", seconds, memory)
 
 
 class Choice(unittest.TestCase):
@@ -99,8 +99,9 @@ class Builds(unittest.TestCase):
         os.makedirs(os.path.join(self.room.name, "bin"))
         self.write("../bin/rt", PLAYER)
         os.chmod(os.path.join(self.room.name, "bin", "rt"), 0o755)
-        with open(os.path.join(HERE, "side_by_side.py"), encoding="utf-8") as it:
-            self.write("tools/side_by_side.py", it.read())
+        for script in ("side_by_side.py", "library.py"):
+            with open(os.path.join(HERE, script), encoding="utf-8") as it:
+                self.write("tools/" + script, it.read())
         self.write("crates.txt", "".join("%s: %s\n" % (name, " ".join(deps)) for name, deps in DEPS.items()))
         for name in DEPS:
             self.write("crates/%s/src/%s.rt" % (name, "main" if name == "top" else "lib"), "as %s\n" % name)
@@ -148,6 +149,11 @@ class Builds(unittest.TestCase):
         self.assertRegex(told, r"low is proved in \d+ processor seconds, 3 left")
         self.assertIn("none left", told)
         self.assertEqual(os.listdir(self.rooms()), [])
+
+    def test_a_static_library_is_no_library_for_crates_above(self):
+        self.write("crates.txt", "low:\nlone may_wait=2 staticlib: low\ntop staticlib_not: low\n")
+        kinds = {name: side_by_side.crates_for(self.top, name)[-1].kind for name in ("low", "lone", "top")}
+        self.assertEqual(kinds, {"low": "library", "lone": "static", "top": "program"})
 
     def test_seconds_that_were_measured_stand_for_those_that_are_reckoned(self):
         self.write("tools/proof-seconds", "# a crate and its seconds\nleft 500\n")

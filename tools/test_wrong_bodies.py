@@ -16,15 +16,18 @@ import body_edits  # noqa: E402
 import wrong_bodies  # noqa: E402
 
 # Its check refuses each function whose body says `wrong`, and shows no proof where it says `silent`. It can't read a
-# source that says `unread`. Of edits that are tried alone, it lets those through that say `fine`. It notes what it
-# tried.
+# source that says `unread`. Of edits that are tried alone, it lets those through that say `fine`. A library that says
+# `taken` comes without kept work. It notes what it tried, and where a check begins without any.
 PLAYER = r"""#!/usr/bin/env python3
 import glob, os, re, sys
 verb, *names = sys.argv[1:]
 crate, status, notes = os.path.basename(os.getcwd()), 0, open(os.environ["NOTES"], "a")
 if verb in ("lib", "check"):
-    os.makedirs("out/incremental", exist_ok=True)
-    turned = []
+    turned, is_taken = [], "taken" in open("src/lib.rt").read()
+    if verb == "check" and not os.path.isdir("out/incremental") and is_taken:
+        notes.write(crate + " anew\n")
+    if verb == "check" or not is_taken:
+        os.makedirs("out/incremental", exist_ok=True)
     for path in sorted(glob.glob("src/*.rt")):
         text = open(path).read()
         if "unread" in text:
@@ -154,6 +157,14 @@ class Runs(unittest.TestCase):
             self.write("crates/low/wrong-bodies/%s.edit" % name, text)
         self.commit()
         return self.ran("low")
+
+    def test_a_library_that_was_taken_without_its_work_is_checked_once(self):
+        for crate in ("low", "middle"):
+            path = os.path.join(self.top, "crates", crate, "src/lib.rt")
+            with open(path, "a", encoding="utf-8") as it:
+                it.write("// taken\n")
+        self.commit()
+        self.assertEqual(self.ran()[2], sorted([*ALL, "low anew"]))
 
     def test_all_are_tried_and_none_of_the_gate_s(self):
         last = "wrong bodies: 4 tried in 3 crates, 0 crates left; each was refused"

@@ -32,12 +32,18 @@ from contextlib import suppress
 sys.dont_write_bytecode = True
 import side_by_side  # noqa: E402
 from body_edits import apply, in_batches, read_edit, refusals, text_of  # noqa: E402
-from side_by_side import kept_copy  # noqa: E402
+from side_by_side import link_or_copy  # noqa: E402
 
 # A wrong body that the kit refused. A refusal only for a lost name, or only by a limit, shows nothing, and says so.
 REFUSED = re.compile(r"(?m)^rt: must-fail (\S+)\.edit: refused, as it must be(?! \(only )")
+KEPT = os.path.join("out", "incremental")
 # A check over kept work takes so much of the memory of a whole proof.
 OVER_KEPT = 0.7
+
+
+def kept_copy(one, other):
+    """A copy of a file of kept work: a link to what was proved, because a check replaces that and never changes it."""
+    return link_or_copy(one, other) if one.endswith(".oantt") else shutil.copy2(one, other)
 
 
 class Trial:
@@ -84,10 +90,14 @@ class Trial:
         return os.path.join(room, "crates", name)
 
     def prove(self, name):
-        """Proves a crate, and keeps its work for its batches and its library for the crates above."""
+        """Proves a crate, and keeps its work for its batches and its library for the crates above. A library that the
+        kit took from another checkout may have no such work."""
         room = os.path.join(self.rooms, name)
+        folder = self.furnished(name, room)
         is_below = any(name in deps for deps in self.deps.values())
-        status, told = self.run_rt(["lib" if is_below else "check", "--jobs", "1"], self.furnished(name, room))
+        status, told = self.run_rt(["lib" if is_below else "check", "--jobs", "1"], folder)
+        if not status and name in self.edits and not os.path.isdir(os.path.join(folder, KEPT)):
+            status, told = self.run_rt(["check", "--jobs", "1"], folder)
         if not status:
             side_by_side.clear(self.top, room, name)
         return status, told
@@ -95,7 +105,7 @@ class Trial:
     def check(self, name, batch):
         """Checks a crate with a batch of edits. The answer is those that it refused, and its seconds."""
         began, room = time.monotonic(), tempfile.mkdtemp(dir=self.rooms)
-        kept = os.path.join("crates", name, "out", "incremental")
+        kept = os.path.join("crates", name, KEPT)
         try:
             shutil.copytree(os.path.join(self.top, kept), os.path.join(room, kept), copy_function=kept_copy)
             folder = self.furnished(name, room)

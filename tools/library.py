@@ -1,0 +1,54 @@
+#!/usr/bin/env python3
+"""`tools/library.py [--jobs N]`, in a crate's folder, makes its library as `rt lib` does, but of its statements alone.
+
+A crate that stands on twenty others takes twice as long where it loads all their proofs. The gate doesn't load them,
+because a library's proofs are checked once, when it is made. `rt lib` has no word for that, so the kit's own code is
+told it here. Such a library leaves no work for later checks of the crate itself, and is made without any. Where the
+kit's code is other than this script expects, `rt lib` makes the library in its own way.
+"""
+
+import importlib.machinery
+import importlib.util
+import os
+import shutil
+import sys
+
+sys.dont_write_bytecode = True
+
+
+def code_of_the_kit():
+    """The kit's `rt` as a module."""
+    path = os.path.realpath(shutil.which("rt") or "rt")
+    loader = importlib.machinery.SourceFileLoader("rt_of_the_kit", path)
+    made = importlib.util.module_from_spec(importlib.util.spec_from_loader("rt_of_the_kit", loader))
+    sys.modules["rt_of_the_kit"] = made
+    loader.exec_module(made)
+    return made
+
+
+def ask_for_statements(rt):
+    """Has `rt lib` hand out statements, for which its compiler takes no kept work."""
+    of_kit = rt.rtlib.Crate.words
+
+    def words(self, flags, *given, as_source=False, **named):
+        found = of_kit(self, flags, *given, as_source=as_source, **named)
+        return found if as_source else [*found, "--statements"]
+
+    if not (rt.main and rt.adopt and rt.rtlib.libraries_keep and "--statements" in rt.rtlib.help_of("build")):
+        raise AttributeError("a kit whose libraries can't do without proofs")
+    rt.rtlib.Crate.words = words
+    rt.rtlib.libraries_keep = lambda: False
+    rt.adopt = lambda *_, **__: None
+
+
+def main(words):
+    try:
+        rt = code_of_the_kit()
+        ask_for_statements(rt)
+    except (OSError, SyntaxError, ValueError, AttributeError):
+        os.execvp("rt", ["rt", "lib", *words])
+    return rt.main(["lib", *words])
+
+
+if __name__ == "__main__":
+    sys.exit(main(sys.argv[1:]))

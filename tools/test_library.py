@@ -1,0 +1,70 @@
+#!/usr/bin/env python3
+"""Tests of library.py by a kit that only plays one."""
+
+import os
+import subprocess
+import sys
+import tempfile
+import unittest
+
+HERE = os.path.dirname(os.path.abspath(__file__))
+
+# It tells with what its compiler would make a library, and whether it would look for kept work.
+KIT = """#!/usr/bin/env python3
+import sys
+import types
+
+
+class Crate:
+    def words(self, flags, tests=False, keeps=True, as_source=False):
+        return ["a", *flags]
+
+
+rtlib = types.SimpleNamespace(Crate=Crate, libraries_keep=lambda: True, help_of=lambda verb: "Takes --statements")
+
+
+def adopt(crate, is_alone=True):
+    print("adopts")
+
+
+def main(words):
+    adopt(None, is_alone=False)
+    print(*words, "|", *Crate().words(["b"]), "|", *Crate().words(["b"], as_source=True), "|", rtlib.libraries_keep())
+    return 3
+
+
+if __name__ == "__main__":
+    print("itself", *sys.argv[1:])
+"""
+
+
+class Libraries(unittest.TestCase):
+    def made_by(self, kit):
+        """The status, and what was told, where this is the kit's `rt`."""
+        with tempfile.TemporaryDirectory() as room:
+            path = os.path.join(room, "rt")
+            with open(path, "w", encoding="utf-8") as it:
+                it.write(kit)
+            os.chmod(path, 0o755)
+            ran = subprocess.run(
+                [sys.executable, os.path.join(HERE, "library.py"), "--jobs", "2"],
+                env={**os.environ, "PATH": room + os.pathsep + os.environ["PATH"]},
+                capture_output=True,
+                text=True,
+                timeout=60,
+            )
+        return ran.returncode, ran.stdout.splitlines()
+
+    def test_a_library_has_its_statements_and_takes_no_kept_work(self):
+        told = "lib --jobs 2 | a b --statements | a b | False"
+        self.assertEqual(self.made_by(KIT), (3, [told]))
+
+    def test_another_kit_makes_the_library_in_its_own_way(self):
+        itself = (0, ["itself lib --jobs 2"])
+        for old, new in {"--statements": "", "def adopt": "def other", "libraries_keep=": "other="}.items():
+            self.assertEqual(self.made_by(KIT.replace(old, new)), itself)
+        self.assertEqual(self.made_by("#!/bin/sh\necho itself \"$@\"\n"), itself)
+
+
+if __name__ == "__main__":
+    unittest.main()
