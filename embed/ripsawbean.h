@@ -134,7 +134,7 @@ uint8_t ripsawbean_call(ripsawbean *db, const uint8_t *line, size_t line_length,
 uint8_t ripsawbean_text(ripsawbean *db, uint8_t *out, size_t room, size_t *length);
 
 // Shows what an operator may ask of the database now, as lines of JSON: how far it is closed and collected, and what
-// holds both back; the undecided transactions; the protections; the feeds, and how far each has come. docs/EMBEDDING.md
+// holds both back; the undecided transactions; the protections; the feeds, and how far each has come. docs/GUIDE.md
 // shows one. It makes no call, and the text of the last event stays. It costs what it shows, whatever the database
 // holds.
 //
