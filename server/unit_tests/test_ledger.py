@@ -23,6 +23,7 @@ def line(draw, ledger):
         "put %d %s x" % (ts, key), "put . %s y" % key, "del %d %s" % (ts, key), "get %d %s" % (ts, key),
         "get . %s" % key, "scan %d - -" % ts, "commit %d" % ts, "commit .", "abort %d" % ts,
         "close %d" % at, "closehard %d" % at, "open - - %d" % at, "openinitial a d %d" % at, "openevery - - %d 3" % at,
+        "openinitialevery a d %d 3" % at,
         "poll %d %d" % (number, draw.randrange(4)), "cancel %d" % number,
         "protect %d" % at, "release %d" % number, "collect %d" % at,
     )) + "\n"

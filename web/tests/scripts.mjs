@@ -24,6 +24,7 @@ export function randomScript(seed, count) {
     () => `close ${below(45)}`, () => `closehard ${below(12)}`, () => `readat ${below(40)} ${key()}`,
     () => `scanat ${below(40)} ${span()}`, () => `open ${span()} ${below(40)}`,
     () => `openinitial ${span()} ${below(40)}`, () => `openevery ${span()} ${below(40)} ${below(9)}`,
+    () => `openinitialevery ${span()} ${below(40)} ${below(9)}`,
     () => `poll ${1 + below(5)} ${below(6)}`,
     () => `poll ${1 + below(5)} ${below(60)}`, () => `cancel ${1 + below(9)}`, () => `protect ${below(40)}`,
     () => `release ${1 + below(6)}`, () => `collect ${below(45)}`, () => "stats",
