@@ -4,8 +4,8 @@
 `rt lib` makes the libraries below a crate one after another, and keeps every other `rt` out of their folders
 meanwhile. So each crate is proved in a room of its own: a folder with its files, the files of the crates below, and
 their finished libraries, which are laid in by links. What a room made moves into the checkout at once, and any later
-`rt` finds it there, also one in another checkout on the machine. A library has its statements alone, because to load
-the proofs of all crates below would take as long as the proofs of the crate itself; `library.py` beside this makes it.
+`rt` finds it there, also one in another checkout on the machine. A library has its statements alone, because the
+crates above need no more; `library.py` beside this makes it.
 
 Crates that don't wait for one another are proved at the same time, those with the longest chain behind them first. The
 crate with the longest chain of all is urgent: it gets four jobs, and the others run below its priority. Another crate
