@@ -101,7 +101,7 @@ impl Run {
         ensures terms { self.new.terms ≡ self.old.terms }
         ensures stopped { IsStopped (S.reads input.old) (S.reads input.new) (K.writes output.old) (K.writes output.new) self.new (end_of result) }
     {
-        // One event serves all lines, since to move one costs a hundred instructions.
+        // One event serves all lines, since to move one costs nearly two hundred instructions.
         let mut event = Event {
             position: 0,
             seat: 0,
