@@ -9,6 +9,7 @@ import os
 import sys
 import tempfile
 import unittest
+from unittest import mock
 
 TOP = os.path.dirname(os.path.dirname(os.path.abspath(__file__)))
 sys.dont_write_bytecode = True
@@ -54,6 +55,24 @@ class Checks(unittest.TestCase):
             script = "(trap 'sleep 1; touch %s; exit' TERM; sleep 60 & wait) & wait" % late
             self.assertEqual(self.result(script, limit=1)[0], "cut off")
             os.stat(late)
+
+    def test_the_status_tells_each_check_that_did_not_pass(self):
+        """A check that is cut off fails the run as one that fails does, and so does one that a signal ends."""
+        ends = {"echo 3 tests": (0, "passed"), "echo 3 tests; sleep 60": (1, "cut off")}
+        ends.update({"echo 3 tests; exit 2": (1, "failed"), "echo 3 tests; kill -9 $$": (1, "failed")})
+        for script, (status, result) in ends.items():
+            one = checks.Check("one", "a check", ["sh", "-c", script], (r"(\d+) tests", "tests"), 1)
+            with tempfile.TemporaryDirectory() as room, contextlib.ExitStack() as held:
+                told = held.enter_context(contextlib.redirect_stdout(io.StringIO()))
+                held.enter_context(mock.patch.object(checks, "PAGE", os.path.join(room, "page.md")))
+                held.enter_context(mock.patch.object(checks, "checks_of", lambda given: [one]))
+                held.enter_context(mock.patch.object(checks, "here", lambda: ("`abc`", "1 May 2026", "a machine")))
+                held.enter_context(mock.patch.object(sys, "argv", ["checks"]))
+                self.assertEqual(checks.main(), status, script)
+                with open(checks.PAGE, encoding="utf-8") as it:
+                    self.assertIn("| `one` | %s | 3 tests |" % result, it.read())
+            last = "checks: %d passed, %d failed" % (1 - status, status)
+            self.assertEqual(told.getvalue().splitlines()[-1], last)
 
     def test_a_check_that_wants_a_folder_gets_one(self):
         script = ["sh", "-c", 'echo 3 tests >"$0/told"; cat "$0/told"']

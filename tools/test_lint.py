@@ -2,11 +2,14 @@
 """Plants a breach of each rule of lint.py in a small house that keeps them all, and sees that the rule, and no other,
 tells it."""
 
+import contextlib
+import io
 import os
 import subprocess
 import sys
 import tempfile
 import unittest
+from unittest import mock
 
 sys.dont_write_bytecode = True
 sys.path.insert(0, os.path.dirname(os.path.abspath(__file__)))
@@ -27,7 +30,7 @@ SOUND = {
     "crates/command_line/src/version.rt": '//! Which.\n\nconst VERSION: &str = "0.1.0\nproved with %s";\n' % KIT,
     "embed/rust/Cargo.toml": '[package]\nversion = "0.1.0"\n',
     "tools/run": "#!/bin/sh\n# Runs it.\n",
-    "crates/kept/src/lib.rt": "//! Kept.\n\npub fn one() {}\npub fn two() {}\n",
+    "crates/kept/src/lib.rt": "//! Kept.\n\npub fn one() {}\npub fn two() {}\nfn three() {}\n",
     "web/README.md": "# Web\n\nA tour of two\nsteps.\n\n- **`module/make`**, 2 lines\n",
     "web/playground/tour.mjs": '// The tour: two steps.\n    title: "One",\n    title: "Two",\n',
     "web/module/make": "#!/bin/sh\n# Makes it.\n",
@@ -37,14 +40,21 @@ SOUND.update(
 )
 
 
-def breaches(files, rules=None):
-    """The rules that are broken in a house of these files."""
+@contextlib.contextmanager
+def house_of(files):
+    """The folder of a house of these files."""
     with tempfile.TemporaryDirectory() as top:
         for path, text in files.items():
             os.makedirs(os.path.dirname(os.path.join(top, path)), exist_ok=True)
             with open(os.path.join(top, path), "w", encoding="utf-8") as it:
                 it.write(text)
         subprocess.run(["git", "-C", top, "init", "-q"], check=True)
+        yield top
+
+
+def breaches(files, rules=None):
+    """The rules that are broken in a house of these files."""
+    with house_of(files) as top:
         house = lint.House(top, version=KIT)
         return [name for name in rules or lint.RULES for _ in lint.RULES[name](house)]
 
@@ -95,6 +105,7 @@ PLANTED = {
             "# Proof\n\nFor auditors.\n\n## Low (crate `low`)\n\n| `Low::one` | one |\n| `two` | two |\n",
         ),
         ("docs/PROOF.md", "", "# Proof\n\nFor auditors.\n\n## Low (crate `low`)\n\n| `one`, `_ne`, `_two` | one |\n"),
+        ("docs/PROOF.md", "", "# Proof\n\nFor auditors.\n\n## Kept (crate `kept`)\n\n| `one`, `three` | one |\n"),
     ],
     "kit_version": [("README.md", "kit-1a", "kit-1b"), ("README.md", KIT, "")],
     "program_version": [
@@ -147,6 +158,14 @@ class Rules(unittest.TestCase):
         self.assertEqual(
             breaches(planted("crates/low/must-fail/e3.edit", SOUND["crates/low/must-fail/e3.edit"], both)), []
         )
+
+    def test_the_status_tells_a_breach(self):
+        """A script that runs the lint goes by its status, and a person by its last line."""
+        for files, status in [(SOUND, 0), (planted("README.md", "docs/GUIDE.md", "docs/GUIDES.md"), 1)]:
+            with house_of(files) as top, mock.patch.object(lint, "TOP", top):
+                with contextlib.redirect_stdout(io.StringIO()) as told:
+                    self.assertEqual(lint.main(["links", "heads"]), status)
+            self.assertEqual(told.getvalue().splitlines()[-1], "lint: 2 rules, %d breaches" % status)
 
     def test_numbers_are_read_in_words(self):
         told = {"12": 12, "twenty": 20, "twenty-one": 21, "Nineteen": 19, "several": None, "and": None}

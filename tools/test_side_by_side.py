@@ -187,6 +187,43 @@ class Builds(unittest.TestCase):
         self.write("crates/left/src/lib.rt", "as left\n")
         self.assertEqual(self.build()[0], 0)
 
+    def test_a_top_that_is_not_proved_fails_the_build(self):
+        """The crate that was asked for counts as made only once its own proof has ended well."""
+        self.write("crates/top/src/main.rt", "wrong\n")
+        status, told, proved = self.build()
+        self.assertEqual((status, sorted(proved)), (1, ["left", "low", "right"]))
+        self.assertIn("top failed", told)
+
+    def test_a_proof_that_was_killed_ends_the_build(self):
+        """A proof that ends by a signal, as where memory lacks, is no proof."""
+        killed = "[ $name != left ] || kill -9 $$\nmkdir -p out/incremental out/rlib"
+        self.write("../bin/rt", PLAYER.replace("mkdir -p out/incremental out/rlib", killed))
+        status, told, proved = self.build()
+        self.assertEqual((status, "top" in proved), (1, False))
+        self.assertIn("left failed", told)
+
+    def test_a_room_has_the_files_of_the_checkout_alone(self):
+        """A room stays where a run is broken off. A file that goes from the checkout meanwhile goes from the room too,
+        because else the text that is proved is not the one that stands there."""
+        room = os.path.join(self.room.name, "a room")
+        for name in ("left", "low"):
+            self.write("crates/%s/proofs/Gone.antt" % name, "gone\n")
+        side_by_side.furnish(self.top, room, "left", ["low"])
+        for name in ("left", "low"):
+            os.remove(os.path.join(self.top, "crates", name, "proofs/Gone.antt"))
+        side_by_side.furnish(self.top, room, "left", ["low"])
+        for name in ("left", "low"):
+            found = [it for _, _, names in os.walk(os.path.join(room, "crates", name)) for it in names]
+            self.assertEqual(found, ["lib.rt"])
+
+    def test_a_proof_goes_on_with_the_work_of_the_last_one(self):
+        """What the checkout keeps of a crate's proof is what the next proof of the crate begins with."""
+        self.build()
+        self.write("crates/top/src/main.rt", "as top, anew\n")
+        self.assertEqual(self.build()[2], ["top"])
+        with open(os.path.join(self.top, "crates/top/out/incremental/work"), encoding="utf-8") as it:
+            self.assertEqual(it.read(), "begun\nbegun\n")
+
     def test_of_two_at_once_one_waits_and_finds_all_made(self):
         self.write("crates/left/src/lib.rt", "brief\n")
         open(self.notes, "w").close()

@@ -192,6 +192,13 @@ class Runs(unittest.TestCase):
         told = self.with_edits(far=edit("far is well", "far is wrong", "src/far.rt"))[1]
         self.assertTrue(told[0].startswith("low: 3 refused in one check ("), told)
 
+    def test_a_refusal_of_another_function_of_that_name_counts_for_nothing(self):
+        """Two files have a function of one name. The body of one is wrong, and what is said of it is no refusal of the
+        other's."""
+        status, told, tried = self.with_edits(far=edit("far is well", "far is fine", "src/far.rt"))
+        self.assertEqual((status, told[-2]), (1, "not refused: low/far"))
+        self.assertEqual(tried, ["low far/one one two", "singly low/far"])
+
     def test_an_edit_of_a_contract_or_of_two_functions_is_tried_singly(self):
         both = edit("one is well", "one is wrong") + "old: two is well\nnew: two is wrong\n"
         _, _, tried = self.with_edits(clause=edit("{ second }", "{ third }"), both=both)
@@ -230,6 +237,21 @@ class Runs(unittest.TestCase):
         self.assertEqual(self.ran("top", "other", forgets=False)[2], ["top three"])
         last = "wrong bodies: 2 tried in 2 crates, 0 crates left; each was refused"
         self.assertEqual(self.ran("top", "other", forgets=False)[1:], ([told[0].replace("1", "2"), last], []))
+
+    def test_another_kit_tries_all_again(self):
+        """What one kit refused says nothing of another kit."""
+        self.ran("low")
+        self.assertEqual(self.ran("low", forgets=False)[2], [])
+        version = 'if verb == "version":\n    print("another kit")\n    sys.exit()\nif verb in ("lib", "check"):'
+        self.write("../bin/rt", PLAYER.replace('if verb in ("lib", "check"):', version))
+        self.assertEqual(self.ran("low", forgets=False)[2], ["low one two"])
+
+    def test_a_crate_has_changed_where_any_file_of_its_proof_has(self):
+        """Definitions, proofs and wrong bodies count as sources do."""
+        for part in ("specs", "proofs", "wrong-bodies"):
+            self.write("crates/middle/%s/Words.antt" % part, "words\n")
+            self.commit()
+            self.assertEqual(self.tried("--since", "HEAD~1")[2], ["top three"], part)
 
     def test_crates_that_changed_and_those_above(self):
         self.write("crates/middle/src/lib.rt", "middle, anew\n")
