@@ -6,6 +6,7 @@ import importlib.machinery
 import importlib.util
 import io
 import os
+import subprocess
 import sys
 import tempfile
 import unittest
@@ -81,6 +82,27 @@ class Checks(unittest.TestCase):
         with tempfile.TemporaryDirectory() as rooms:
             checks.run(check, dict(os.environ), 20, rooms)
             self.assertIn("told", os.listdir(os.path.join(rooms, *os.listdir(rooms))))
+
+    def test_a_proof_from_nothing_takes_nothing_of_another_run(self):
+        """A crate that was proved before fails this check, because its seconds are then not those from nothing."""
+        of_run = "mvfeed: 1 crates, on 2 processors\n"
+        for told, result in {of_run: "passed", of_run + "mvfeed: low was proved before, none left\n": "failed"}.items():
+            with tempfile.TemporaryDirectory() as house:
+                files = {"lines": told, "mvfeed": "#!/bin/sh\ncat\ncat lines >&2\n"}
+                for path in ("examples/first.script", "examples/first.transcript"):
+                    files[path] = "a line\n"
+                os.mkdir(os.path.join(house, "examples"))
+                for path, text in files.items():
+                    with open(os.path.join(house, path), "w", encoding="utf-8") as it:
+                        it.write(text)
+                os.chmod(os.path.join(house, "mvfeed"), 0o755)
+                for words in (["init", "-q"], ["add", "-A"], ["commit", "-q", "-m", "a house"]):
+                    git = ["git", "-C", house, "-c", "user.name=a", "-c", "user.email=a@b", *words]
+                    subprocess.run(git, check=True)
+                script = ["sh", "-ec", checks.FROM_NOTHING, "sh", house]
+                check = checks.Check("one", "a check", script, (r"(\d+) crates, on", "crates"), wants_room=True)
+                with contextlib.redirect_stdout(io.StringIO()):
+                    self.assertEqual(checks.run(check, dict(os.environ), 20)[:2], (result, "1 crates"))
 
     def test_a_build_has_a_limit_of_time(self):
         for script, why in {"sleep 60": "the program wasn't built in 1 seconds", "exit 3": "couldn't be built"}.items():
