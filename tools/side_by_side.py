@@ -407,10 +407,27 @@ def is_new(told):
     return "logic=proved" in told
 
 
-def is_made_since(top, name, moment):
-    """Whether another build has made the crate since this moment."""
+def made_of(top, name):
+    """What was made of a crate: a program, a static library or a library."""
     made = [os.path.join(top, "crates", name, "out", it) for it in (name, "lib%s.a" % name, "rlib")]
-    return any(os.path.exists(it) and os.stat(it).st_ctime >= moment for it in made)
+    return [it for it in made if os.path.exists(it)]
+
+
+def is_made_since(top, name, moment, crates):
+    """Whether another build has made the crate since this moment, and no source is newer than the beginning of that
+    build, which is the age of what was made."""
+    made = [it for it in made_of(top, name) if os.stat(it).st_ctime >= moment]
+    return any(os.stat(it).st_mtime > newest_source(top, crates) for it in made)
+
+
+def newest_source(top, crates):
+    """When a source of these crates, or a folder of sources, was changed last."""
+    found = [os.path.join(top, "crates.txt")]
+    for crate in crates:
+        for part in PARTS:
+            for at, _, names in os.walk(os.path.join(top, "crates", crate.name, part)):
+                found += [at, *[os.path.join(at, it) for it in names]]
+    return max(os.stat(it).st_mtime for it in found)
 
 
 def main(words):
@@ -420,11 +437,17 @@ def main(words):
     with rooms_of(TOP) as rooms:
         build = Build(TOP, rooms, words[0], words[1:])
         with locked(rooms, build.say):
-            if is_made_since(TOP, words[0], began):
+            if is_made_since(TOP, words[0], began, build.crates):
                 return 0
             signal.signal(signal.SIGTERM, build.end)
             signal.signal(signal.SIGINT, build.end)
-            return 0 if build.run() else 1
+            begun = time.time()
+            if not build.run():
+                return 1
+            # What is edited meanwhile counts as newer.
+            for it in made_of(TOP, words[0]):
+                os.utime(it, (begun, begun))
+            return 0
 
 
 if __name__ == "__main__":

@@ -234,6 +234,33 @@ class Builds(unittest.TestCase):
         self.assertEqual(len([it for it in self.noted() if " begins" in it]), 4)
         self.assertEqual(sum("waiting for it" in it for it in told), 1)
 
+    def test_of_two_at_once_none_takes_an_older_program_for_a_new_one(self):
+        """The program of an earlier build stays where a proof fails, and is not what the one that waited has asked
+        for."""
+        self.build()
+        self.write("crates/top/src/main.rt", "wrong\n")
+        self.write("../bin/rt", PLAYER.replace("grep -q wrong src/*.rt &&", "grep -q wrong src/*.rt && sleep 2 &&"))
+        both = [self.started(), self.started()]
+        told = "".join(it.communicate(timeout=50)[1] for it in both)
+        self.assertEqual([it.returncode for it in both], [1, 1])
+        self.assertEqual(told.count("waiting for it"), 1)
+
+    def test_of_two_at_once_the_later_one_proves_what_was_edited_meanwhile(self):
+        """A build is of the sources as they stand when it begins or later."""
+        self.write("crates/left/src/lib.rt", "brief\n")
+        open(self.notes, "w").close()
+        both = [self.started()]
+        while not any(it.startswith("left begins") for it in self.noted()):
+            time.sleep(0.05)
+        self.write("crates/left/src/lib.rt", "as left, anew\n")
+        os.utime(os.path.join(self.top, "crates/left/src/lib.rt"))
+        both.append(self.started())
+        for it in both:
+            it.communicate(timeout=50)
+        self.assertEqual([it.returncode for it in both], [0, 0])
+        with open(os.path.join(self.top, "crates/left/out/rlib/made"), encoding="utf-8") as it:
+            self.assertEqual(it.read(), "as left, anew\n")
+
     def test_a_run_that_is_broken_off_loses_nothing(self):
         self.write("crates/left/src/lib.rt", "slow\n")
         open(self.notes, "w").close()
