@@ -1,11 +1,16 @@
 #!/usr/bin/env python3
-"""Tests of the script `refused-by-tests`: what of a test's end shows a refusal, and how an edit is planted."""
+"""Tests of the script `refused-by-tests`: what of a test's end shows a refusal, how an edit is planted, and whole runs
+by an `rt` that only plays one."""
 
 import importlib.machinery
 import importlib.util
 import os
+import shutil
+import signal
+import subprocess
 import sys
 import tempfile
+import time
 import unittest
 
 TOP = os.path.dirname(os.path.dirname(os.path.abspath(__file__)))
@@ -15,6 +20,21 @@ script = importlib.util.module_from_spec(importlib.util.spec_from_loader("refuse
 loader.exec_module(script)
 
 FAILS = "test tests::leases::leases_end ... FAILED\n"
+# Its test fails where the source says `wrong`, isn't run where it says `unread`, and takes long where it says `slow`.
+# It notes each source that it saw.
+PLAYER = """#!/usr/bin/env python3
+import os, sys, time
+text, notes = open("../low/src/lib.rt").read(), os.environ["NOTES"]
+with open(notes, "a") as it:
+    it.write(" ".join(text.split()) + chr(10))
+if "slow" in text:
+    time.sleep(3)
+    open(notes + ".late", "w").close()
+if "unread" in text:
+    sys.exit("src/lib.rt:1:1: error: no word")
+print("test tests::%s ... %s" % (sys.argv[-1], "FAILED" if "wrong" in text else "ok"))
+sys.exit("wrong" in text)
+"""
 
 
 class Refusals(unittest.TestCase):
@@ -27,6 +47,82 @@ class Refusals(unittest.TestCase):
         self.assertFalse(script.is_refused(1, FAILS.replace("FAILED", "ok"), "leases_end"))
         self.assertFalse(script.is_refused(1, "src/lib.rt:4:5: error: no such name\nlogic=refused\n", "leases_end"))
         self.assertFalse(script.is_refused(2, "", "leases_end"))
+
+
+class Runs(unittest.TestCase):
+    def setUp(self):
+        self.room = tempfile.TemporaryDirectory()
+        self.top, self.bin = os.path.join(self.room.name, "house"), os.path.join(self.room.name, "bin")
+        self.notes = os.path.join(self.room.name, "notes")
+        for folder in ("crates/low/src", "crates/low/refused-by-tests", "crates/low_tests"):
+            os.makedirs(os.path.join(self.top, folder))
+        for folder in (self.bin, os.path.join(self.room.name, "rooms")):
+            os.mkdir(folder)
+        self.write("crates/low/src/lib.rt", "one two\n")
+        self.write("crates/low_tests/lib.rt", "tests\n")
+        self.write("../bin/rt", PLAYER)
+        os.chmod(os.path.join(self.bin, "rt"), 0o755)
+        shutil.copy2(os.path.join(TOP, "refused-by-tests"), self.top)
+
+    def tearDown(self):
+        self.room.cleanup()
+
+    def write(self, path, text):
+        script.write(os.path.join(self.top, path), text)
+
+    def started(self, **edits):
+        """A run of these edits, each the old and the new word."""
+        for name, words in edits.items():
+            text = "test: low_tests ends\nfile: src/lib.rt\nold: %s\nnew: %s\n" % tuple(words.split())
+            self.write("crates/low/refused-by-tests/%s.edit" % name, text)
+        for words in (["init", "-q"], ["add", "-A"], ["commit", "-q", "-m", "a house"]):
+            git = ["git", "-C", self.top, "-c", "user.name=a", "-c", "user.email=a@b", *words]
+            subprocess.run(git, check=True)
+        env = {**os.environ, "PATH": self.bin + os.pathsep + os.environ["PATH"], "NOTES": self.notes}
+        env.update(TMPDIR=os.path.join(self.room.name, "rooms"), LIBRARY="")
+        words = [sys.executable, os.path.join(self.top, "refused-by-tests")]
+        how = {"stdout": subprocess.PIPE, "stderr": subprocess.STDOUT, "text": True}
+        return subprocess.Popen(words, env=env, start_new_session=True, **how)
+
+    def ran(self, **edits):
+        """The status, the last line, and the sources that were tried."""
+        it = self.started(**edits)
+        told = it.communicate(timeout=50)[0].splitlines()
+        return it.returncode, told[-1], self.noted()
+
+    def noted(self):
+        if not os.path.exists(self.notes):
+            return []
+        with open(self.notes, encoding="utf-8") as it:
+            return it.read().splitlines()
+
+    def test_each_is_tried_alone_after_the_test_as_it_stands(self):
+        """What one edit turned is put back before the next."""
+        last = "refused-by-tests: 2 tried, 0 let through; without LIBRARY no leak was tried"
+        sources = ["one two", "wrong two", "one wrong"]
+        self.assertEqual(self.ran(a="one wrong", b="two wrong"), (0, last, sources))
+
+    def test_one_that_is_let_through_is_counted(self):
+        """A body that its test passes is let through, and so is one that isn't compiled."""
+        last = "refused-by-tests: 3 tried, 2 let through; without LIBRARY no leak was tried"
+        self.assertEqual(self.ran(a="one fine", b="two unread", c="two wrong")[:2], (1, last))
+
+    def test_a_test_that_fails_as_it_stands_ends_the_run(self):
+        self.write("crates/low/src/lib.rt", "one wrong\n")
+        last = "the test ends of low_tests doesn't pass as it stands"
+        self.assertEqual(self.ran(a="one two"), (1, last, ["one wrong"]))
+
+    def test_a_run_that_is_cut_off_ends_its_test_and_leaves_no_copy(self):
+        """Whoever cuts the run off ends its process alone, because the test runs in a session of its own."""
+        it = self.started(a="one slow")
+        while len(self.noted()) < 2:
+            time.sleep(0.05)
+        it.send_signal(signal.SIGTERM)
+        it.communicate(timeout=50)
+        self.assertNotEqual(it.returncode, 0)
+        self.assertEqual(os.listdir(os.path.join(self.room.name, "rooms")), [])
+        time.sleep(4)
+        self.assertFalse(os.path.exists(self.notes + ".late"))
 
 
 class Edits(unittest.TestCase):
