@@ -19,7 +19,7 @@ LONGEST_CLAUSE = 160
 MOST_LINES = 600
 LONGEST_LINE = 120
 MOST_WORDS = 22000
-# Pages that other rules of words and figures leave alone: it is written by a script.
+# The page that the rules of words and figures leave alone, because a script writes it.
 WRITTEN = "docs/LAST-RUN.md"
 UNITS = """zero one two three four five six seven eight nine ten eleven twelve thirteen fourteen fifteen sixteen
 seventeen eighteen nineteen""".split()
@@ -244,7 +244,7 @@ def links(house):
                     yield path, number, "the link %s leads nowhere" % target
                 elif anchor and to.endswith(".md") and to in house.paths and anchor not in anchors(house.text(to)):
                     yield path, number, "%s has no heading #%s" % (to, anchor)
-            for named in re.findall(r"`((?:crates|docs|embed|examples|bench|server|web|tools)/[\w./-]+)`", line):
+            for named in re.findall(r"`((?:crates|docs|embed|examples|bench|server|web|arm64|tools)/[\w./-]+)`", line):
                 to = named.rstrip("/")
                 if "/out" in to or re.search(r"\b[A-Z]+(?:/|$)", to.replace(".md", "")):
                     continue
@@ -373,6 +373,11 @@ def words(house):
 
 
 def main(names):
+    if names in (["--help"], ["-h"]):
+        print("tools/lint.py [RULE..] keeps the house's own rules, which are:\n")
+        for name, it in RULES.items():
+            print("%s: %s" % (name, " ".join(it.__doc__.split())))
+        return 0
     unknown = [it for it in names if it not in RULES]
     if unknown:
         sys.exit("there is no rule %s; there are %s" % (unknown[0], ", ".join(RULES)))

@@ -8,8 +8,8 @@ their finished libraries, which are laid in by links. What a room made moves int
 crates above need no more; `library.py` beside this makes it.
 
 Crates that don't wait for one another are proved at the same time, those with the longest chain behind them first. The
-crate with the longest chain of all is urgent: it gets four jobs, and the others run below its priority. Another crate
-gets a second job, or up to four, where no crate waits for a processor. Memory is shared out too.
+crate with the longest chain of all is urgent: it gets up to four jobs, and the others run below its priority. Another
+crate gets a second job, or up to four, where no crate waits for a processor. Memory is shared out too.
 
 A run that is broken off loses no crate that was proved. Rooms stand in the folder of git, where the next run goes on
 with the program. Without git they stand in a temporary folder and go when the run ends. The program is run once on no
@@ -431,8 +431,9 @@ def newest_source(top, crates):
 
 
 def main(words):
-    if not words:
-        sys.exit("tools/side_by_side.py CRATE [WORD..]")
+    if not words or words[0].startswith("-"):
+        print(__doc__)
+        return 0 if words in (["--help"], ["-h"]) else 2
     began = time.time()
     with rooms_of(TOP) as rooms:
         build = Build(TOP, rooms, words[0], words[1:])

@@ -80,6 +80,7 @@ class Checks(unittest.TestCase):
         check = checks.Check("one", "a check", script, (r"(\d+) tests", "tests"), wants_room=True)
         self.assertEqual(checks.run(check, dict(os.environ), 20)[:2], ("passed", "3 tests"))
         with tempfile.TemporaryDirectory() as rooms:
+            rooms = os.path.join(rooms, "new")
             checks.run(check, dict(os.environ), 20, rooms)
             self.assertIn("told", os.listdir(os.path.join(rooms, *os.listdir(rooms))))
 

@@ -41,11 +41,11 @@ class Refusals(unittest.TestCase):
     def test_only_the_end_of_the_named_test_shows_a_refusal(self):
         """A body that doesn't compile fails every test, and shows nothing, nor does another test that fails."""
         self.assertTrue(script.is_refused(1, FAILS, "leases_end"))
-        self.assertTrue(script.is_refused(None, "", "leases_end"))
+        self.assertFalse(script.is_refused(None, "", "leases_end"))
         self.assertFalse(script.is_refused(0, FAILS, "leases_end"))
         self.assertFalse(script.is_refused(1, FAILS, "leases_begin"))
         self.assertFalse(script.is_refused(1, FAILS.replace("FAILED", "ok"), "leases_end"))
-        self.assertFalse(script.is_refused(1, "src/lib.rt:4:5: error: no such name\nlogic=refused\n", "leases_end"))
+        self.assertFalse(script.is_refused(1, "error: fn leases_end: expects timestamps\nlogic=failed\n", "leases_end"))
         self.assertFalse(script.is_refused(2, "", "leases_end"))
 
 

@@ -8,6 +8,7 @@ import subprocess
 import sys
 import tempfile
 import unittest
+from types import SimpleNamespace
 
 HERE = os.path.dirname(os.path.abspath(__file__))
 sys.dont_write_bytecode = True
@@ -97,6 +98,16 @@ class Refusals(unittest.TestCase):
         said = {"b": ": they differ", "c": "", **nothing}
         told = "".join("rt: must-fail a/%s.edit: refused, as it must be%s\n" % it for it in said.items())
         self.assertEqual(wrong_bodies.REFUSED.findall(told), ["a/b", "a/c"])
+
+
+class Verdicts(unittest.TestCase):
+    def test_an_edit_that_is_lost_on_the_way_is_told(self):
+        """What no check refused is not refused, also where no check has tried it."""
+        one, two, three = (SimpleNamespace(crate=crate, name=name) for crate, name in ("ax", "ay", "bz"))
+        trial = object.__new__(wrong_bodies.Trial)
+        trial.edits, trial.begun, trial.failed = {"a": [one, two], "b": [three]}, ["a"], []
+        trial.refused = {"a/x"}
+        self.assertEqual(trial.not_refused(), ["a/y"])
 
 
 class Runs(unittest.TestCase):
@@ -238,6 +249,12 @@ class Runs(unittest.TestCase):
         last = "wrong bodies: 2 tried in 2 crates, 0 crates left; each was refused"
         self.assertEqual(self.ran("top", "other", forgets=False)[1:], ([told[0].replace("1", "2"), last], []))
 
+    def test_crates_of_a_commit_go_with_no_crate(self):
+        """A crate that was named would not be tried, so nothing is, and the run fails."""
+        status, told, tried = self.ran("--since", "HEAD", "low")
+        self.assertEqual((status, tried), (2, []))
+        self.assertIn("--since takes its crates from the commit", told[-1])
+
     def test_another_kit_tries_all_again(self):
         """What one kit refused says nothing of another kit."""
         self.ran("low")
@@ -309,8 +326,11 @@ class Reading(unittest.TestCase):
     def test_what_shows_nothing(self):
         own = "fn low::far::places::Places::step: not proved"
         error = "proofs/far/places/Places/step/Answers.antt:4:5: error: `returns`: "
-        others = ["it ran out of steps", "`goal.returns`: module `Rattle.low.proofs.step.Goals` lacks it"]
-        for said in ("`c` has no field `push`", "`push` is not in scope", "`one` was not admitted", *others):
+        lost = ["`c` has no field `push`", "`c` has no `push`", "`push` is not in scope", "`one` was not admitted"]
+        lost += ["`a` is no name", "an operand is missing", "expected the end of the term"]
+        lost += ["`goal.returns`: module `Rattle.low.proofs.step.Goals` lacks it"]
+        limits = ["it ran out of steps", "the memory limit is met", "the step limit is met", "it cannot continue"]
+        for said in (*lost, *limits):
             self.assertFalse(self.refused(own, error + said), said)
         differs = error + "they differ"
         self.assertTrue(self.refused(own, differs))

@@ -58,8 +58,8 @@ class Trial:
         self.deps = {it.name: it.deps for it in self.crates.values()}
         self.waiting, self.made = side_by_side.below({**self.deps, "": [*self.deps]}, ""), set()
         self.behind = side_by_side.behind([self.crates[it] for it in self.waiting])
-        self.batches, self.singles, self.begun = [], [], []
-        self.not_refused, self.count = [], 0
+        self.batches, self.singles, self.begun, self.refused = [], [], [], set()
+        self.failed, self.count = [], 0
         self.memory = side_by_side.free_memory()
         self.children, self.is_ending = [], False
 
@@ -164,7 +164,7 @@ class Trial:
         if status:
             print(told, end="")
             print("%s is not proved, so no wrong body of it or of a crate above it is tried" % name, flush=True)
-            self.not_refused.append("%s itself" % name)
+            self.failed.append("%s itself" % name)
             return
         self.made.add(name)
         if name in self.edits and not self.is_over():
@@ -176,7 +176,7 @@ class Trial:
     def take(self, name, batch, refused, seconds):
         """A batch was checked: what it did not refuse is tried again."""
         rest = [it for it in batch if it not in refused]
-        self.notes.keep(refused)
+        self.keep(refused)
         how = "singly" if len(rest) < 3 else "again"
         left = ", %d left to try %s" % (len(rest), how) if rest else ""
         print("%s: %d refused in one check%s (%d s)" % (name, len(refused), left, seconds))
@@ -205,10 +205,18 @@ class Trial:
         status, told = self.run_rt(["must-fail", *names], self.top)
         print(told, end="", flush=True)
         refused = REFUSED.findall(told)
-        self.notes.keep([it for it in edits if "%s/%s" % (it.crate, it.name) in refused])
-        missed = [it for it in ("%s/%s" % (it.crate, it.name) for it in edits) if it not in refused]
-        if status or missed:
-            self.not_refused += missed or ["rt must-fail itself"]
+        self.keep([it for it in edits if named(it) in refused])
+        if status and all(named(it) in refused for it in edits):
+            self.failed.append("rt must-fail itself")
+
+    def keep(self, refused):
+        self.refused.update(map(named, refused))
+        self.notes.keep(refused)
+
+    def not_refused(self):
+        """What failed, and each edit of the crates that were begun which nothing refused, however it was lost."""
+        begun = [named(it) for name in self.begun for it in self.edits[name]]
+        return [*self.failed, *[it for it in begun if it not in self.refused]]
 
     def run_singly(self):
         """Tries each edit alone. With no limit of time all are tried in one run, which fills the processors better."""
@@ -220,6 +228,10 @@ class Trial:
                 self.begun.append(name)
                 self.count += len(self.edits[name])
                 self.try_singly(self.edits[name])
+
+
+def named(edit):
+    return "%s/%s" % (edit.crate, edit.name)
 
 
 class Notes:
@@ -300,13 +312,16 @@ def named_edits(top, words):
 
 
 def given_words(words):
-    parser = argparse.ArgumentParser(prog="wrong-bodies")
+    parser = argparse.ArgumentParser(prog="wrong-bodies", add_help=False)
     parser.add_argument("--minutes", type=float)
     parser.add_argument("--since")
     parser.add_argument("--jobs", type=int)
     parser.add_argument("--singly", action="store_true")
     parser.add_argument("crates", nargs="*")
-    return parser.parse_args(words)
+    given = parser.parse_args(words)
+    if given.since and given.crates:
+        parser.error("--since takes its crates from the commit, so it goes with no crate")
+    return given
 
 
 def copied(checkout, room):
@@ -346,13 +361,14 @@ def main(words):
         signal.signal(signal.SIGTERM, trial.end)
         signal.signal(signal.SIGINT, trial.end)
         trial.run_singly() if given.singly else trial.run()
-    for it in trial.not_refused:
+    missed = trial.not_refused()
+    for it in missed:
         print("not refused: %s" % it)
     left = len(trial.edits) - len(trial.begun)
-    verdict = "not all were refused" if trial.not_refused else "each was refused"
+    verdict = "not all were refused" if missed else "each was refused"
     counts = before + trial.count, len(asked) - left, left, verdict
     print("wrong bodies: %d tried in %d crates, %d crates left; %s" % counts)
-    return 1 if trial.not_refused else 0
+    return 1 if missed else 0
 
 
 def git_folder(checkout):
