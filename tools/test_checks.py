@@ -144,6 +144,31 @@ class Checks(unittest.TestCase):
                 told = [line for line in it.read().splitlines() if line.startswith("| `")]
             self.assertEqual([it.split(" | ")[:2] for it in told], [["| `a`", "passed"], ["| `b`", "failed"]])
 
+    def test_a_row_of_older_code_says_so(self):
+        with tempfile.TemporaryDirectory() as room, mock.patch.object(checks, "TOP", room):
+            source = os.path.join(room, "crates/one/src/lib.rt")
+            os.makedirs(os.path.dirname(source))
+            checks.git("init", "-q")
+            commits = []
+            for text in ("fn one() {}", "// Why.\nfn one() {}", "// Why.\nfn two() {}"):
+                with open(source, "w", encoding="utf-8") as it:
+                    it.write(text + "\n")
+                checks.git("add", ".")
+                checks.git("-c", "user.name=one", "-c", "user.email=one@one.example", "commit", "-qm", "one")
+                commits.append(checks.git("rev-parse", "--short", "HEAD").strip())
+                # A change of the comment alone leaves the first commit as it was.
+                self.assertEqual(checks.is_older(commits[0]), len(commits) == 3)
+            self.assertEqual(checks.of_commit("`%s`" % commits[2]), "`%s`" % commits[2])
+            for told in ("`%s` and changes", "`%s`"):
+                told = told % commits[1]
+                self.assertEqual(checks.of_commit(told), told + ", older code")
+                self.assertEqual(checks.of_commit(told + ", older code"), told + ", older code")
+            self.assertTrue(checks.is_older("0123456"))
+
+    def test_a_module_that_is_given_is_not_compared_with_itself(self):
+        with mock.patch.dict(os.environ, MODULE="one.wasm"):
+            self.assertNotIn("MODULE", checks.built(set(), 20))
+
     def test_each_name_stands_once(self):
         given = checks.argparse.Namespace(minutes=1, is_bounded=False, since=None)
         names = [it.name for it in checks.checks_of(given)]
