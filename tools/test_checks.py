@@ -6,6 +6,7 @@ import importlib.machinery
 import importlib.util
 import io
 import os
+import re
 import subprocess
 import sys
 import tempfile
@@ -17,6 +18,29 @@ sys.dont_write_bytecode = True
 loader = importlib.machinery.SourceFileLoader("checks", os.path.join(TOP, "checks"))
 checks = importlib.util.module_from_spec(importlib.util.spec_from_loader("checks", loader))
 loader.exec_module(checks)
+
+
+def put(house, path, text):
+    """Puts a text into a file of a house, or takes the file away where there is none. The shell's own can be run."""
+    path = os.path.join(house, path)
+    if text is None:
+        with contextlib.suppress(FileNotFoundError):
+            os.remove(path)
+        return
+    os.makedirs(os.path.dirname(path), exist_ok=True)
+    with open(path, "w", encoding="utf-8") as it:
+        it.write(text)
+    if text.startswith("#!"):
+        os.chmod(path, 0o755)
+
+
+def committed(house):
+    """The commit of all that a house has."""
+    for words in (["init", "-q"], ["add", "-A"], ["commit", "-q", "--allow-empty", "-m", "a house"]):
+        git = ["git", "-C", house, "-c", "user.name=a", "-c", "user.email=a@b", *words]
+        subprocess.run(git, check=True)
+    told = subprocess.run(["git", "-C", house, "rev-parse", "--short", "HEAD"], stdout=subprocess.PIPE, text=True)
+    return told.stdout.strip()
 
 
 class Checks(unittest.TestCase):
@@ -84,26 +108,54 @@ class Checks(unittest.TestCase):
             checks.run(check, dict(os.environ), 20, rooms)
             self.assertIn("told", os.listdir(os.path.join(rooms, *os.listdir(rooms))))
 
+    @contextlib.contextmanager
+    def house(self):
+        """A repository of some crates, in place of this one."""
+        with tempfile.TemporaryDirectory() as house:
+            put(house, "crates.txt", "low:\nmvfeed: low\nother:\nripsawbean:\n")
+            with mock.patch.object(checks, "TOP", house):
+                with mock.patch.object(checks, "PAGE", os.path.join(house, "page.md")):
+                    yield house
+
+    def in_a_house(self, script, files, counts):
+        """The result of a script that gets a repository of these files, of which the shell's own can be run."""
+        with tempfile.TemporaryDirectory() as house:
+            for path in ("examples/first.script", "examples/first.transcript"):
+                put(house, path, "a line\n")
+            for path, text in files.items():
+                put(house, path, text)
+            committed(house)
+            check = checks.Check("one", "a check", ["sh", "-ec", script, "sh", house], counts, wants_room=True)
+            with contextlib.redirect_stdout(io.StringIO()) as told:
+                return (*checks.run(check, dict(os.environ), 20)[:2], told.getvalue())
+
     def test_a_proof_from_nothing_takes_nothing_of_another_run(self):
         """A crate that was proved before fails this check, because its seconds are then not those from nothing."""
-        of_run = "mvfeed: 1 crates, on 2 processors\n"
+        of_run, counts = "mvfeed: 1 crates, on 2 processors\n", (r"(\d+) crates, on", "crates")
         for told, result in {of_run: "passed", of_run + "mvfeed: low was proved before, none left\n": "failed"}.items():
-            with tempfile.TemporaryDirectory() as house:
-                files = {"lines": told, "mvfeed": "#!/bin/sh\ncat\ncat lines >&2\n"}
-                for path in ("examples/first.script", "examples/first.transcript"):
-                    files[path] = "a line\n"
-                os.mkdir(os.path.join(house, "examples"))
-                for path, text in files.items():
-                    with open(os.path.join(house, path), "w", encoding="utf-8") as it:
-                        it.write(text)
-                os.chmod(os.path.join(house, "mvfeed"), 0o755)
-                for words in (["init", "-q"], ["add", "-A"], ["commit", "-q", "-m", "a house"]):
-                    git = ["git", "-C", house, "-c", "user.name=a", "-c", "user.email=a@b", *words]
-                    subprocess.run(git, check=True)
-                script = ["sh", "-ec", checks.FROM_NOTHING, "sh", house]
-                check = checks.Check("one", "a check", script, (r"(\d+) crates, on", "crates"), wants_room=True)
-                with contextlib.redirect_stdout(io.StringIO()):
-                    self.assertEqual(checks.run(check, dict(os.environ), 20)[:2], (result, "1 crates"))
+            files = {"lines": told, "mvfeed": "#!/bin/sh\ncat\ncat lines >&2\n"}
+            self.assertEqual(self.in_a_house(checks.FROM_NOTHING, files, counts)[:2], (result, "1 crates"))
+
+    def test_a_first_answer_is_in_time_and_right_and_the_checker_says_so(self):
+        counts = (r"first answer took (\d+) seconds", "seconds")
+        parts = {"first": "sleep 1; cat", "check": "cat >given; cmp given examples/first.transcript && echo yes"}
+        for part, other, why in [
+            ("", "", ""),
+            ("first", "sleep 1; cat; exit 3", "no first answer"),
+            ("first", "sleep 4; cat", "no first answer"),
+            ("first", "sleep 1; cat; echo more", "EOF"),
+            ("check", "cat >given; echo no", ""),
+            ("check", "cat >given; echo yes; exit 3", ""),
+        ]:
+            of_run = {**parts, part: other}
+            script = '#!/bin/sh\ncase "$*" in\ncheck) %(check)s ;;\n"") %(first)s ;;\n*) exit 4 ;;\nesac\n' % of_run
+            # Nobody waits ninety seconds for a test.
+            first = checks.FIRST.replace("timeout --foreground 90 ", "timeout --foreground 2 ")
+            result, counted, told = self.in_a_house(first, {"try": script}, counts)
+            self.assertEqual(result, "failed" if part else "passed", of_run)
+            self.assertIn(why, told)
+            self.assertTrue(part or re.match(r"[12] seconds$", counted))
+        self.assertIn("timeout --foreground 90 ./try <examples/first.script", checks.FIRST)
 
     def test_a_build_has_a_limit_of_time(self):
         for script, why in {"sleep 60": "the program wasn't built in 1 seconds", "exit 3": "couldn't be built"}.items():
@@ -135,39 +187,71 @@ class Checks(unittest.TestCase):
             self.assertEqual(self.result("echo '%d passed, 0 failed%s'" % (count, rest), (checks.GATE, ""))[0], result)
 
     def test_rows_of_other_checks_stay(self):
-        with tempfile.TemporaryDirectory() as room:
-            checks.PAGE = os.path.join(room, "page.md")
-            row = ["passed", "3 tests", "5", "`abc`", "1 May 2026", "4 processors, 8 GB"]
-            checks.write_page({"b": row, "a": row}, ["a", "b", "c"])
-            checks.write_page({"b": ["failed", *row[1:]]}, ["a", "b", "c"])
+        of = {it: checks.Check(it, "a check", []) for it in "abc"}
+        with self.house() as house:
+            put(house, "crates/low/src/lib.rt", "fn low() {}\n")
+            place = ["1 May 2026", "4 processors, 8 GB"]
+            row = ["passed", "3 tests", "5", "`%s`" % committed(house), *place]
+            checks.write_page({"b": row, "a": row}, of.values())
+            put(house, "crates/low/src/lib.rt", "fn other() {}\n")
+            failed = ["failed", "", "1", "`%s` and changes" % committed(house), *place]
+            checks.write_page({"b": failed}, of.values())
             with open(checks.PAGE, encoding="utf-8") as it:
                 told = [line for line in it.read().splitlines() if line.startswith("| `")]
-            self.assertEqual([it.split(" | ")[:2] for it in told], [["| `a`", "passed"], ["| `b`", "failed"]])
+            row[3] += ", changed since"
+            wanted = [["`a`", *row], ["`b`", *failed]]
+            self.assertEqual(told, ["| %s |" % " | ".join(it) for it in wanted])
 
-    def test_a_row_of_older_code_says_so(self):
-        with tempfile.TemporaryDirectory() as room, mock.patch.object(checks, "TOP", room):
-            source = os.path.join(room, "crates/one/src/lib.rt")
-            os.makedirs(os.path.dirname(source))
-            checks.git("init", "-q")
-            commits = []
-            for text in ("fn one() {}", "// Why.\nfn one() {}", "// Why.\nfn two() {}"):
-                with open(source, "w", encoding="utf-8") as it:
-                    it.write(text + "\n")
-                checks.git("add", ".")
-                checks.git("-c", "user.name=one", "-c", "user.email=one@one.example", "commit", "-qm", "one")
-                commits.append(checks.git("rev-parse", "--short", "HEAD").strip())
-                # A change of the comment alone leaves the first commit as it was.
-                self.assertEqual(checks.is_older(commits[0]), len(commits) == 3)
-            self.assertEqual(checks.of_commit("`%s`" % commits[2]), "`%s`" % commits[2])
-            for told in ("`%s` and changes", "`%s`"):
-                told = told % commits[1]
-                self.assertEqual(checks.of_commit(told), told + ", older code")
-                self.assertEqual(checks.of_commit(told + ", older code"), told + ", older code")
-            self.assertTrue(checks.is_older("0123456"))
+    def test_a_row_says_where_what_it_is_of_changed_since(self):
+        check = checks.Check("one", "a check", [], crates=("mvfeed",), places=("server",))
+        files = {
+            "crates/low/src/deep/one.rt": "fn one() {}\n    fn two() {}\n",
+            "crates/low/src/gone.rt": "fn gone() {}\n",
+            "crates/low/specs/One.antt": "one\n",
+            "crates/other/src/lib.rt": "fn other() {}\n",
+            "server/run": "#!/bin/sh\nrun\n",
+        }
+        changes = {
+            "crates/low/src/deep/one.rt": [
+                ("fn one() {}\n    // Why.\n    fn two() {}\n", False),
+                ("#[test]\nfn one() {}\n    fn two() {}\n", True),
+                ("fn one() {}\n    fn three() {}\n", True),
+            ],
+            "crates/low/src/gone.rt": [(None, True)],
+            "crates/low/src/new.rt": [("fn new() {}\n", True)],
+            "crates/low/specs/One.antt": [("two\n", False)],
+            "crates/other/src/lib.rt": [("fn others() {}\n", False)],
+            "server/run": [("#!/bin/sh\n# Why.\nrun\n", False), ("#!/bin/sh\nrun -v\n", True)],
+            "server/README.md": [("A server.\n", False)],
+        }
+        with self.house() as house:
+            for path, text in files.items():
+                put(house, path, text)
+            before = committed(house)
+            cells = ["`%s`" % before, "`%s` and changes" % before]
+            for path, of_path in changes.items():
+                for text, is_changed in of_path:
+                    put(house, path, text)
+                    checks.git("add", "-A")
+                    # What isn't committed yet counts too.
+                    for _ in range(2):
+                        for cell in cells:
+                            wanted = cell + ", changed since" * is_changed
+                            self.assertEqual(checks.marked(cell, check), wanted, (path, text))
+                            self.assertEqual(checks.marked(cell + ", changed since", check), wanted, (path, text))
+                        committed(house)
+                    put(house, path, files.get(path))
+                    committed(house)
+            self.assertEqual(checks.marked("`0123456`", check), "`0123456`, changed since")
+            self.assertEqual(checks.marked("", check), ", changed since")
 
-    def test_a_module_that_is_given_is_not_compared_with_itself(self):
-        with mock.patch.dict(os.environ, MODULE="one.wasm"):
-            self.assertNotIn("MODULE", checks.built(set(), 20))
+    def test_what_is_checked_is_made_of_the_sources(self):
+        others = {"MODULE": "one.wasm", "RIPSAWBEAN_LIBRARY": "one.so", "SERVER": "one"}
+        given = {"PROGRAM": "program", "LIBRARY": "one.a", "PROVED": "one"}
+        with mock.patch.dict(os.environ, others | given):
+            environment = checks.built({"program", "library"}, 20)
+        self.assertEqual([it for it in others if it in environment], [])
+        self.assertEqual({it: environment[it] for it in given}, given)
 
     def test_each_name_stands_once(self):
         given = checks.argparse.Namespace(minutes=1, is_bounded=False, since=None)

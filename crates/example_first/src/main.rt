@@ -1,5 +1,6 @@
 //! A program of thirty lines that serves a script: it reads commands from standard input, makes the calls on a
-//! database, and writes the transcript, by `sessions` alone. Nothing depends on this crate.
+//! database, and writes the transcript, by `sessions` alone. Its status is 0, or 2 where a line is faulty, or 1. No
+//! crate depends on this one; the script `try` runs it, because it is compiled in half the time of `mvfeed`.
 //!
 //! The gate runs it on the text of `examples/first.script`, and it has to write the text of
 //! `examples/first.transcript`. (`examples/check` compares the files.) Two transactions share a key there, and a third
@@ -16,6 +17,8 @@
 //! 0 begin 15            7 0 begin 15 => started
 //! 0 put 15 apple 4      8 0 put 15 apple 4 => toolate         20 read below 15
 //! ```
+//!
+//! Tests: the gate's run, and the check `try`, outside the gate.
 #![tactic(auto)]
 
 use sessions::{Config, Reading, ServeEnd, Writing, serve};
@@ -40,6 +43,8 @@ fn main(rt: HostRuntime) -> ExitCode {
         &mut output,
     ) {
         ServeEnd::Done => ExitCode::SUCCESS,
+        // The output's last line says which, and why.
+        ServeEnd::Fault { .. } => ExitCode::from(2),
         _ => ExitCode::FAILURE,
     }
 }

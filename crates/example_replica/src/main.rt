@@ -16,6 +16,8 @@
 //!                       {"after":"Mg==","key":"Yg==","updated":"20"}   b 2
 //!                       {"resolved":"25"}                              b 2, at 25
 //! ```
+//!
+//! Tests: the gate's run.
 #![tactic(auto)]
 
 use sessions::{Config, Reading, ServeEnd, Writing, serve};
