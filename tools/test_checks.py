@@ -247,7 +247,7 @@ class Checks(unittest.TestCase):
 
     def test_what_is_checked_is_made_of_the_sources(self):
         others = {"MODULE": "one.wasm", "RIPSAWBEAN_LIBRARY": "one.so", "SERVER": "one"}
-        given = {"PROGRAM": "program", "LIBRARY": "one.a", "PROVED": "one"}
+        given = {"PROGRAM": "program", "LIBRARY": "one.a", "PROVED": "one", "TESTS": "one"}
         with mock.patch.dict(os.environ, others | given):
             environment = checks.built({"program", "library"}, 20)
         self.assertEqual([it for it in others if it in environment], [])
