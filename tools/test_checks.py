@@ -18,6 +18,18 @@ sys.dont_write_bytecode = True
 loader = importlib.machinery.SourceFileLoader("checks", os.path.join(TOP, "checks"))
 checks = importlib.util.module_from_spec(importlib.util.spec_from_loader("checks", loader))
 loader.exec_module(checks)
+# A `try` that plays what it is told to.
+PLAYING = """#!/bin/sh
+case "$*" in
+check) %(check)s ;;
+"")
+    given=$(cat)
+    [ "$given" != "0 bad" ] || { %(fault)s; }
+    %(first)s
+    ;;
+*) exit 4 ;;
+esac
+"""
 
 
 def put(house, path, text):
@@ -138,17 +150,24 @@ class Checks(unittest.TestCase):
 
     def test_a_first_answer_is_in_time_and_right_and_the_checker_says_so(self):
         counts = (r"first answer took (\d+) seconds", "seconds")
-        parts = {"first": "sleep 1; cat", "check": "cat >given; cmp given examples/first.transcript && echo yes"}
+        parts = {
+            "first": 'sleep 1; echo "$given"',
+            "fault": "echo fault 1 2 unknowncommand; exit 2",
+            "check": "cat >given; cmp given examples/first.transcript && echo yes",
+        }
         for part, other, why in [
             ("", "", ""),
-            ("first", "sleep 1; cat; exit 3", "no first answer"),
-            ("first", "sleep 4; cat", "no first answer"),
-            ("first", "sleep 1; cat; echo more", "EOF"),
+            ("first", 'sleep 1; echo "$given"; exit 3', "no first answer"),
+            ("first", 'sleep 4; echo "$given"', "no first answer"),
+            ("first", 'sleep 1; echo "$given"; echo more', "EOF"),
+            ("fault", "echo fault 1 2 unknowncommand; exit 1", ""),
+            ("fault", "echo fault 1 2 unknowncommand; exit 0", ""),
+            ("fault", "exit 2", ""),
             ("check", "cat >given; echo no", ""),
             ("check", "cat >given; echo yes; exit 3", ""),
         ]:
             of_run = {**parts, part: other}
-            script = '#!/bin/sh\ncase "$*" in\ncheck) %(check)s ;;\n"") %(first)s ;;\n*) exit 4 ;;\nesac\n' % of_run
+            script = PLAYING % of_run
             # Nobody waits ninety seconds for a test.
             first = checks.FIRST.replace("timeout --foreground 90 ", "timeout --foreground 2 ")
             result, counted, told = self.in_a_house(first, {"try": script}, counts)
@@ -252,6 +271,16 @@ class Checks(unittest.TestCase):
             environment = checks.built({"program", "library"}, 20)
         self.assertEqual([it for it in others if it in environment], [])
         self.assertEqual({it: environment[it] for it in given}, given)
+
+    def test_what_a_check_is_of_is_there(self):
+        given = checks.argparse.Namespace(minutes=1, is_bounded=False, since=None)
+        for check in checks.checks_of(given):
+            self.assertTrue(check.places or check.crates, check.name)
+            for place in check.places:
+                self.assertTrue(os.path.exists(os.path.join(TOP, place)), (check.name, place))
+            for part in check.parts if check.crates else ():
+                self.assertTrue(checks.having(part), (check.name, part))
+            self.assertEqual("crates.txt" in checks.sources(check), bool(check.crates))
 
     def test_each_name_stands_once(self):
         given = checks.argparse.Namespace(minutes=1, is_bounded=False, since=None)
