@@ -160,7 +160,7 @@ void ripsawbean_close(ripsawbean *db);
 typedef struct {
     uint8_t kind;    // RIPSAWBEAN_ANSWER_..
     uint64_t number; // what it counts, or the timestamp that it names; 0 where there is none
-    uint64_t other;  // a closing's aborted transactions, else 0
+    uint64_t other;  // a closing's aborted transactions; 0 at each other typed call
 } ripsawbean_answer;
 
 // The kinds of answers, named as texts name them.
@@ -174,6 +174,15 @@ enum {
     RIPSAWBEAN_ANSWER_ABORTED = 6,
     RIPSAWBEAN_ANSWER_CLOSED = 7,   // number: the closed timestamp
     RIPSAWBEAN_ANSWER_MESSAGES = 8, // number: how many
+
+    // By a line alone, as ripsawbean_last tells them: no typed call has them.
+    RIPSAWBEAN_ANSWER_ROWS = 9,       // number: how many
+    RIPSAWBEAN_ANSWER_PROTECTED = 10, // number: the protection's
+    RIPSAWBEAN_ANSWER_RELEASED = 11,
+    RIPSAWBEAN_ANSWER_COLLECTED = 12, // number: the horizon; other: how many versions were dropped
+    RIPSAWBEAN_ANSWER_OPENED = 13,    // number: the feed's
+    RIPSAWBEAN_ANSWER_CANCELLED = 14,
+    RIPSAWBEAN_ANSWER_STATS = 15, // number: versions that aren't dead; other: undecided transactions
 
     RIPSAWBEAN_ANSWER_REFUSED = 32,     // from here on refusals. Each is an event, and all but TOOLATE change nothing else
     RIPSAWBEAN_ANSWER_BELOWCLOSED = 32, // number: the closed timestamp
@@ -243,6 +252,45 @@ uint8_t ripsawbean_poll(ripsawbean *db, uint8_t seat, uint64_t feed, uint64_t mo
 //     RIPSAWBEAN_UNWRITTEN  there is no memory for messages; *length is 0 and out is as it was. They may be asked for again
 //     RIPSAWBEAN_CLOSED     *length is 0 and out is as it was
 uint8_t ripsawbean_bytes(ripsawbean *db, uint8_t *out, size_t room, size_t *length);
+
+// The last event in numbers, so that whoever made its call by a line needn't read its text.
+typedef struct {
+    uint64_t position; // its number among the events of the database
+    uint64_t at;       // the number that its command names: a timestamp, a protection's or a feed's; of an open its cursor; else 0
+    uint64_t number;   // as in an answer
+    uint64_t other;
+    uint8_t seat;
+    uint8_t command; // RIPSAWBEAN_COMMAND_..; 0 where no call was made yet
+    uint8_t kind;    // RIPSAWBEAN_ANSWER_..
+} ripsawbean_record;
+
+enum {
+    RIPSAWBEAN_COMMAND_BEGIN = 1,
+    RIPSAWBEAN_COMMAND_GET = 2,
+    RIPSAWBEAN_COMMAND_SCAN = 3,
+    RIPSAWBEAN_COMMAND_PUT = 4,
+    RIPSAWBEAN_COMMAND_DEL = 5,
+    RIPSAWBEAN_COMMAND_COMMIT = 6,
+    RIPSAWBEAN_COMMAND_ABORT = 7,
+    RIPSAWBEAN_COMMAND_CLOSE = 8,
+    RIPSAWBEAN_COMMAND_CLOSEHARD = 9,
+    RIPSAWBEAN_COMMAND_READAT = 10,
+    RIPSAWBEAN_COMMAND_SCANAT = 11,
+    RIPSAWBEAN_COMMAND_PROTECT = 12,
+    RIPSAWBEAN_COMMAND_RELEASE = 13,
+    RIPSAWBEAN_COMMAND_COLLECT = 14,
+    RIPSAWBEAN_COMMAND_OPEN = 15,
+    RIPSAWBEAN_COMMAND_OPENINITIAL = 16,
+    RIPSAWBEAN_COMMAND_OPENEVERY = 17,
+    RIPSAWBEAN_COMMAND_OPENINITIALEVERY = 18,
+    RIPSAWBEAN_COMMAND_POLL = 19,
+    RIPSAWBEAN_COMMAND_CANCEL = 20,
+    RIPSAWBEAN_COMMAND_STATS = 21
+};
+
+// Tells the last event in numbers, any number of times. It makes no call, and takes no memory. RIPSAWBEAN_OK, or *record
+// is all 0: RIPSAWBEAN_CLOSED. *record is all 0 too where no call was made yet.
+uint8_t ripsawbean_last(ripsawbean *db, ripsawbean_record *record);
 
 // A message, read where it stands.
 typedef struct {
@@ -386,7 +434,10 @@ static inline const char *ripsawbean_status_name(uint8_t status) {
 
 // The name of an answer's kind, as texts have it; "unknown" for a number that is none, and for that of no answer.
 static inline const char *ripsawbean_answer_name(uint8_t kind) {
-    static const char *const done[] = {"unknown", "started", "none", "value", "written", "committed", "aborted", "closed", "messages"};
+    static const char *const done[] = {
+        "unknown", "started", "none",     "value",     "written", "committed", "aborted", "closed",
+        "messages", "rows",   "protected", "released", "collected", "opened",  "cancelled", "stats",
+    };
     static const char *const refused[] = {
         "belowclosed", "tsused",    "tsrange",      "blocked",      "notxn",  "notowner",      "ended",    "toolate",
         "notclosed",   "belowhorizon", "noprotection", "nofeed", "feedcancelled", "nomemory", "gaprange",

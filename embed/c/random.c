@@ -109,6 +109,16 @@ static void see_twins_fault(database *db, uint8_t status) {
 }
 
 // Takes the text of the call of the line: it is the next event, of this very line.
+// The last event in numbers is that of its text.
+static void see_record(database *db) {
+    static uint8_t bytes[MOST_TEXT];
+    ripsawbean_record known = record_numbers(db->last, answer_bytes(db->last, bytes)), record;
+    memset(&record, 0xa5, sizeof record);
+    CHECK(ripsawbean_last(&db->handle, &record) == RIPSAWBEAN_OK && record.position >= known.position);
+    // Of many lines that were called at once, the last one's event alone is told.
+    if (record.position == known.position) CHECK(is_record(&record, &known));
+}
+
 static void take_text(database *db, const uint8_t *text, size_t length) {
     char position[32];
     size_t digits = (size_t)snprintf(position, sizeof position, "%" PRIu64 " ", db->made);
@@ -125,6 +135,7 @@ static void take_text(database *db, const uint8_t *text, size_t length) {
     db->last[length] = '\0';
     db->length = length;
     see_twin(db, db->last, length);
+    see_record(db);
     db->made++;
     counts.events++;
     learn(db, db->last + digits + line_length - 1 + 4);

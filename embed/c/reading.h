@@ -108,7 +108,8 @@ static inline ripsawbean_answer answer_numbers(const char *text, size_t bytes) {
         const char *name;
     } kinds[] = {
         {1, "started"},      {2, "none"},           {3, "value"},     {4, "written"},       {5, "committed"}, {6, "aborted"},
-        {7, "closed"},       {8, "messages"},       {32, "belowclosed"}, {33, "tsused"},    {34, "tsrange"},  {35, "blocked"},
+        {7, "closed"},       {8, "messages"},       {9, "rows"},      {10, "protected"},    {11, "released"}, {12, "collected"},
+        {13, "opened"},      {14, "cancelled"},     {15, "stats"},    {32, "belowclosed"}, {33, "tsused"},    {34, "tsrange"},  {35, "blocked"},
         {36, "notxn"},       {37, "notowner"},      {38, "ended"},    {39, "toolate"},      {40, "notclosed"}, {41, "belowhorizon"},
         {42, "noprotection"}, {43, "nofeed"},       {44, "feedcancelled"}, {45, "nomemory"}, {46, "gaprange"},
     };
@@ -128,6 +129,32 @@ static inline ripsawbean_answer answer_numbers(const char *text, size_t bytes) {
         if (*end == ' ') answer.other = strtoull(end, NULL, 10);
     }
     return answer;
+}
+
+// The record of an event's text.
+static inline ripsawbean_record record_numbers(const char *text, size_t bytes) {
+    static const char *const commands[] = {
+        "begin", "get",     "scan",    "put",  "del",         "commit",    "abort",            "close", "closehard", "readat", "scanat",
+        "protect", "release", "collect", "open", "openinitial", "openevery", "openinitialevery", "poll",  "cancel",    "stats",
+    };
+    ripsawbean_answer answer = answer_numbers(text, bytes);
+    ripsawbean_record record = {.number = answer.number, .other = answer.other, .kind = answer.kind};
+    char *at;
+    record.position = strtoull(text, &at, 10);
+    record.seat = (uint8_t)strtoull(at, &at, 10);
+    const char *word = at + 1;
+    for (uint8_t i = 0; i < sizeof commands / sizeof *commands; i++)
+        if (has_name(word, commands[i])) record.command = i + 1;
+    CHECK(record.command != 0);
+    bool is_open = strncmp(word, "open", 4) == 0;
+    for (int i = 0; i < (is_open ? 3 : 1); i++) word = strchr(word, ' ') + 1; // behind the name, and an open's bounds
+    if (record.command != 21) record.at = strtoull(word, NULL, 10);
+    return record;
+}
+
+static inline bool is_record(const ripsawbean_record *one, const ripsawbean_record *other) {
+    return one->position == other->position && one->at == other->at && one->number == other->number && one->other == other->other &&
+           one->seat == other->seat && one->command == other->command && one->kind == other->kind;
 }
 
 static inline bool is_answer(const ripsawbean_answer *one, uint8_t kind, uint64_t number, uint64_t other) {

@@ -128,6 +128,9 @@ static void see_last(database *db) {
     uint8_t *out = out_of(sizeof db->text);
     CHECK(ripsawbean_text(&db->handle, out, sizeof db->text, &length) == RIPSAWBEAN_OK);
     see_shown(out, sizeof db->text, length, db->text, strlen(db->text));
+    if (db->made == 0) return;
+    ripsawbean_record known = record_numbers(db->text, db->length), record = {0};
+    CHECK(ripsawbean_last(&db->handle, &record) == RIPSAWBEAN_OK && is_record(&record, &known));
 }
 
 static void take(database *db, const step *s, const char *text) {
@@ -259,6 +262,70 @@ static void plays_with_room(int plan) {
     see_closed(&db);
 }
 
+// ---- the last event in numbers
+
+// Every command and every answer that no typed call has, by lines.
+static const struct {
+    const char *line;
+    ripsawbean_record record; // position, at, number, other, seat, command, kind
+} records[] = {
+    {"0 begin 10\n", {0, 10, 0, 0, 0, 1, 1}},
+    {"0 put 10 a 1\n", {1, 10, 0, 0, 0, 4, 4}},
+    {"0 put 10 b 2\n", {2, 10, 0, 0, 0, 4, 4}},
+    {"0 get 10 a\n", {3, 10, 1, 0, 0, 2, 3}},
+    {"0 get 10 c\n", {4, 10, 0, 0, 0, 2, 2}},
+    {"0 scan 10 - -\n", {5, 10, 2, 0, 0, 3, 9}},
+    {"0 del 10 b\n", {6, 10, 0, 0, 0, 5, 4}},
+    {"1 begin 15\n", {7, 15, 0, 0, 1, 1, 1}},
+    {"1 get 15 a\n", {8, 15, 10, 0, 1, 2, 35}},
+    {"1 stats\n", {9, 0, 2, 2, 1, 21, 15}},
+    {"0 commit 10\n", {10, 10, 2, 0, 0, 6, 5}},
+    {"63 close 99\n", {11, 99, 14, 0, 63, 8, 7}},
+    {"2 closehard 20\n", {12, 20, 20, 1, 2, 9, 7}},
+    {"3 readat 20 a\n", {13, 20, 1, 0, 3, 10, 3}},
+    {"3 scanat 20 - -\n", {14, 20, 1, 0, 3, 11, 9}},
+    {"4 protect 20\n", {15, 20, 1, 0, 4, 12, 10}},
+    {"5 open - - 9\n", {16, 9, 1, 0, 5, 15, 13}},
+    {"5 openinitial a b 20\n", {17, 20, 2, 0, 5, 16, 13}},
+    {"5 openevery - z 7 3\n", {18, 7, 3, 0, 5, 17, 13}},
+    {"5 openinitialevery - - 20 4\n", {19, 20, 4, 0, 5, 18, 13}},
+    {"5 poll 1 9\n", {20, 1, 3, 0, 5, 19, 8}},
+    {"6 cancel 3\n", {21, 3, 0, 0, 6, 20, 14}},
+    {"6 cancel 1\n", {22, 1, 0, 0, 6, 20, 14}},
+    {"6 cancel 7\n", {23, 7, 0, 0, 6, 20, 43}},
+    {"4 release 1\n", {24, 1, 0, 0, 4, 13, 11}},
+    {"4 release 1\n", {25, 1, 0, 0, 4, 13, 42}},
+    {"7 begin 30\n", {26, 30, 0, 0, 7, 1, 1}},
+    {"7 abort 30\n", {27, 30, 0, 0, 7, 7, 6}},
+    {"8 collect 19\n", {28, 19, 19, 1, 8, 14, 12}},
+};
+
+static void sees(ripsawbean *handle, uint8_t status, const ripsawbean_record *expected) {
+    ripsawbean_record record;
+    memset(&record, 0xa5, sizeof record);
+    CHECK(ripsawbean_last(handle, &record) == status && is_record(&record, expected));
+}
+
+// It stays through faults, and is all 0 before the first call and of a closed handle.
+static void last_events(void) {
+    static const ripsawbean_record none;
+    ripsawbean handle = RIPSAWBEAN_INITIALIZER;
+    uint8_t out[100];
+    size_t length;
+    sees(&handle, RIPSAWBEAN_CLOSED, &none);
+    CHECK(ripsawbean_open(&handle, 64) == RIPSAWBEAN_OK);
+    sees(&handle, RIPSAWBEAN_OK, &none);
+    for (size_t i = 0; i < sizeof records / sizeof *records; i++) {
+        doing = records[i].line;
+        CHECK(ripsawbean_call(&handle, (const uint8_t *)doing, strlen(doing), out, sizeof out, &length) == RIPSAWBEAN_OK);
+        sees(&handle, RIPSAWBEAN_OK, &records[i].record);
+        CHECK(ripsawbean_call(&handle, (const uint8_t *)doing, strlen(doing) - 1, out, sizeof out, &length) == RIPSAWBEAN_NONEWLINE);
+        sees(&handle, RIPSAWBEAN_OK, &records[i].record);
+    }
+    ripsawbean_close(&handle);
+    sees(&handle, RIPSAWBEAN_CLOSED, &none);
+}
+
 // ---- want of memory
 
 static bool is_long(const step *s) {
@@ -353,6 +420,7 @@ static void messages_are_read(void) {
 int main(void) {
     make_guarded(300000, 70000);
     for (int plan = 0; plan < 6; plan++) plays_with_room(plan);
+    last_events();
     limits();
     messages_are_read();
     unsigned long before = 0;

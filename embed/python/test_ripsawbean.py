@@ -9,7 +9,7 @@ import warnings
 
 import ripsawbean
 from cache import Cache, NotTaken
-from ripsawbean import Database, Event, Refused, Resolved, Row, messages_of, spell, unspell
+from ripsawbean import Closed, Database, Event, LineFault, Record, Refused, Resolved, Row, messages_of, spell, unspell
 
 
 class Words(unittest.TestCase):
@@ -212,6 +212,26 @@ class TypedCalls(unittest.TestCase):
     def setUp(self):
         self.db = Database()
         self.addCleanup(self.db.close)
+
+    def test_the_last_event_in_numbers(self):
+        self.assertIsNone(self.db.last())
+        for line, record in (
+            ("5 openinitial a b 0\n", (0, 5, "openinitial", 0, 13, 1, 0)),
+            ("0 begin 10\n", (1, 0, "begin", 10, 1, 0, 0)),
+            ("63 closehard 20\n", (2, 63, "closehard", 20, 7, 20, 1)),
+            ("0 commit 10\n", (3, 0, "commit", 10, 38, 0, 0)),
+            ("5 poll 1 9\n", (4, 5, "poll", 1, 8, 1, 0)),
+        ):
+            self.db.call(line)
+            self.assertEqual(self.db.last(), Record(*record))
+            with self.assertRaises(LineFault):
+                self.db.call("0 begin\n")
+            self.assertEqual(self.db.last(), Record(*record))
+        self.db.get(30, b"a")
+        self.assertEqual((self.db.last().name, self.db.last().is_refusal), ("notxn", True))
+        self.db.close()
+        with self.assertRaises(Closed):
+            self.db.last()
 
     def answers(self, answer, kind, text, value=None, number=0):
         """What a call told, and the text of its event."""

@@ -2,8 +2,8 @@
 use Rattle.std.proofs.Common.{◌≡◌, ℕ, ◌<◌, ◌≤◌, List, [], ◌∷◌, length, Ok, Err, inl, inr, arith, refl, sym, ap, ◌∙◌, subst}
 use Rattle.std.specs.Prelude.{Result}
 use Rattle.spans.specs.declared.calls.events.Event.{Event}
-use Rattle.word_lines.specs.declared.fault.LineFault.{LineFault}
-use Rattle.word_lines.specs.declared.fault.LineFault.TheVariants as fault
+use Rattle.spelled_words.specs.declared.fault.LineFault.{LineFault}
+use Rattle.spelled_words.specs.declared.fault.LineFault.TheVariants as fault
 use Rattle.word_lines.specs.Faults.{code_of}
 use Rattle.embedded.specs.Embedded.{StandsFor, Called, kept_text, last_of, text_of}
 use Rattle.embedded.specs.Several.{IsNoted, IsShown, IsTaken, Step}

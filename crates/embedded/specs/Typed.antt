@@ -13,6 +13,7 @@ use Rattle.spans.specs.declared.calls.replies.Reply.{Reply}
 use Rattle.spans.specs.declared.calls.replies.Reply.TheVariants as reply
 use Rattle.embedded.specs.Embedded.{HasStepped}
 use Rattle.embedded.specs.declared.database.Database.{Database}
+use Rattle.embedded.specs.declared.event_record.EventRecord.{EventRecord}
 use Rattle.embedded.specs.declared.typed.Answer.{Answer}
 use Rattle.embedded.specs.declared.typed.NoPosition.{NoPosition}
 
@@ -43,7 +44,7 @@ refusal_numbers refusal.FeedCancelled = numbers 44 0 0
 refusal_numbers refusal.NoMemory = numbers 45 0 0
 refusal_numbers refusal.GapRange = numbers 46 0 0
 
--- an answer in numbers. Each answer that no typed call is given has kind 0
+-- an answer in numbers
 abbrev pub reply_numbers : Reply → Answer
 reply_numbers reply.Started = numbers 1 0 0
 reply_numbers (reply.Found None) = numbers 2 0 0
@@ -53,13 +54,72 @@ reply_numbers (reply.Committed keys) = numbers 5 keys 0
 reply_numbers reply.Aborted = numbers 6 0 0
 reply_numbers (reply.Closed at aborted) = numbers 7 at aborted
 reply_numbers (reply.Messages messages) = numbers 8 (length messages) 0
+reply_numbers (reply.Rows rows) = numbers 9 (length rows) 0
+reply_numbers (reply.Protected id) = numbers 10 id 0
+reply_numbers reply.Released = numbers 11 0 0
+reply_numbers (reply.Collected horizon removed) = numbers 12 horizon removed
+reply_numbers (reply.Opened feed) = numbers 13 feed 0
+reply_numbers reply.Cancelled = numbers 14 0 0
+reply_numbers (reply.Stats versions undecided feeds closed horizon) = numbers 15 versions undecided
 reply_numbers (reply.Refused r) = refusal_numbers r
-reply_numbers _ = numbers 0 0 0
 
 -- the numbers of an event's answer; all 0 where there is no event
 abbrev pub answer_of : Option Event → Answer
 answer_of None = numbers 0 0 0
 answer_of (Some e) = reply_numbers e.reply
+
+-- which command it is, from 1 on
+abbrev pub command_number : Cmd → ℕ
+command_number (command.Begin ts) = 1
+command_number (command.Get ts key) = 2
+command_number (command.Scan ts span) = 3
+command_number (command.Put ts key value) = 4
+command_number (command.Del ts key) = 5
+command_number (command.Commit ts) = 6
+command_number (command.Abort ts) = 7
+command_number (command.Close to) = 8
+command_number (command.CloseHard to) = 9
+command_number (command.ReadAt t key) = 10
+command_number (command.ScanAt t span) = 11
+command_number (command.Protect t) = 12
+command_number (command.Release id) = 13
+command_number (command.Collect to) = 14
+command_number (command.Open span cursor) = 15
+command_number (command.OpenInitial span cursor) = 16
+command_number (command.OpenEvery span cursor gap) = 17
+command_number (command.OpenInitialEvery span cursor gap) = 18
+command_number (command.Poll feed most) = 19
+command_number (command.Cancel feed) = 20
+command_number command.Stats = 21
+
+-- the number that a command names: a timestamp, or a protection's or a feed's number; of an open its cursor
+abbrev pub first_number : Cmd → ℕ
+first_number (command.Begin ts) = ts
+first_number (command.Get ts key) = ts
+first_number (command.Scan ts span) = ts
+first_number (command.Put ts key value) = ts
+first_number (command.Del ts key) = ts
+first_number (command.Commit ts) = ts
+first_number (command.Abort ts) = ts
+first_number (command.Close to) = to
+first_number (command.CloseHard to) = to
+first_number (command.ReadAt t key) = t
+first_number (command.ScanAt t span) = t
+first_number (command.Protect t) = t
+first_number (command.Release id) = id
+first_number (command.Collect to) = to
+first_number (command.Open span cursor) = cursor
+first_number (command.OpenInitial span cursor) = cursor
+first_number (command.OpenEvery span cursor gap) = cursor
+first_number (command.OpenInitialEvery span cursor gap) = cursor
+first_number (command.Poll feed most) = feed
+first_number (command.Cancel feed) = feed
+first_number command.Stats = 0
+
+-- an event in numbers; all 0 where there is none
+abbrev pub record_of : Option Event → EventRecord
+record_of None = record { position = 0; at = 0; number = 0; other = 0; seat = 0; command = 0; kind = 0 }
+record_of (Some e) = record { position = e.position; at = first_number e.cmd; number = (reply_numbers e.reply).number; other = (reply_numbers e.reply).other; seat = e.seat; command = command_number e.cmd; kind = (reply_numbers e.reply).kind }
 
 -- the head of a message: what it is, its timestamp, and how many bytes of a key and of a value stand behind the head; each number has
 -- its lowest byte first

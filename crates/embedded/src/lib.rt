@@ -28,7 +28,7 @@
 //! - `call`: its line, the engine's step, and the text of its event
 //! - `call_lines`: the calls of the lines that are taken, and the bytes of their texts again
 //! - `make`: the engine's step
-//! - `answer`: O(1)
+//! - `answer`, `last`: O(1)
 //! - `copy_bytes`: the bytes copied, and all messages
 //! - `write`: the text, where it isn't written; else O(1)
 //! - `copy_text`: the bytes copied
@@ -36,17 +36,20 @@
 //!
 //! `call` takes memory for the keys and values of its line, by the engine's step, and for the text, which keeps its
 //! room; `call_lines` takes what its calls take. `make` takes it by the engine's step, `write` for the text,
-//! `copy_bytes` for messages, and `state` for its own text. `new`, `answer` and `copy_text` take none.
+//! `copy_bytes` for messages, and `state` for its own text. `new`, `answer`, `last` and `copy_text`
+//! take none.
 //!
 //! Tests: `embed/test`, `embed/random`, outside the gate.
 #![tactic(auto)]
 
 mod database;
+mod event_record;
 mod message_bytes;
 mod several;
 mod state;
 mod typed;
 
 pub use database::{CallError, Database};
+pub use event_record::EventRecord;
 pub use several::{Done, Taken};
 pub use typed::{Answer, NoPosition};

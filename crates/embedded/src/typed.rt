@@ -28,7 +28,7 @@ pub struct NoPosition;
 #[repr(C)]
 #[derive(Clone, Copy, Debug)]
 pub struct Answer {
-    /// Which answer it is: from 1 on what was done, from 32 on why it was refused, 0 what no typed call is answered.
+    /// Which answer it is: from 1 on what was done, from 32 on why it was refused, 0 where no call was made.
     pub kind: u8,
     /// What it counts, or the timestamp that it names; 0 where there is none.
     pub number: u64,
@@ -98,7 +98,7 @@ impl Database {
 }
 
 /// A reply in numbers.
-fn reply_numbers(reply: &Reply) -> Answer
+pub(crate) fn reply_numbers(reply: &Reply) -> Answer
     ensures { result ≡ reply_numbers reply.now }
 {
     match reply {
@@ -110,8 +110,18 @@ fn reply_numbers(reply: &Reply) -> Answer
         Reply::Aborted => Answer::new(6, 0, 0),
         Reply::Closed { at, aborted } => Answer::new(7, *at, *aborted),
         Reply::Messages(messages) => Answer::new(8, messages.as_slice().len() as u64, 0),
+        Reply::Rows(rows) => Answer::new(9, rows.as_slice().len() as u64, 0),
+        Reply::Protected { id } => Answer::new(10, *id, 0),
+        Reply::Released => Answer::new(11, 0, 0),
+        Reply::Collected { horizon, removed } => Answer::new(12, *horizon, *removed),
+        Reply::Opened { feed } => Answer::new(13, *feed, 0),
+        Reply::Cancelled => Answer::new(14, 0, 0),
+        Reply::Stats {
+            versions,
+            undecided,
+            ..
+        } => Answer::new(15, *versions, *undecided),
         Reply::Refused(refusal) => refusal_numbers(*refusal),
-        _ => Answer::new(0, 0, 0),
     }
 }
 

@@ -1,10 +1,12 @@
 -- What asking for a handle's state tells the program (this project's own).
 use Rattle.std.specs.Prelude.{ℕ, zero, suc, List, Option, Some, None, ◌≡◌, ◌⊎◌}
 use Rattle.spans.specs.declared.calls.events.Event.{Event}
-use Rattle.embedded.specs.Embedded.{StandsFor}
+use Rattle.embedded.specs.Embedded.{StandsFor, last_of}
 use Rattle.embedded.specs.States.{IsStateText}
 use Rattle.json_lines.specs.Writing.{Copied}
+use Rattle.embedded.specs.Typed.{record_of}
 use Rattle.embedded.specs.declared.database.Database.{Database}
+use Rattle.embedded.specs.declared.event_record.EventRecord.{EventRecord}
 
 -- done, or no memory for the text; of a closed handle that it is closed
 abbrev pub IsStateNumber : Option Database → ℕ → Type 0
@@ -16,3 +18,8 @@ abbrev pub ToldState : ℕ → Option Database → (before after : List ℕ) →
 ToldState zero (Some d) before after length = (h : List Event) → StandsFor d h → (text : List ℕ) × IsStateText h text × Copied text before after length
 ToldState zero None before after length = ⊥
 ToldState (suc n) d before after length = (length ≡ 0) × (after ≡ before)
+
+-- the last event of a handle's database in numbers; all 0 where there is none, or the handle is closed
+abbrev pub ToldLast : Option Database → ℕ → EventRecord → Type 0
+ToldLast (Some d) number told = (number ≡ 0) × (told ≡ record_of (last_of d))
+ToldLast None number told = (number ≡ 16) × (told ≡ record_of None)

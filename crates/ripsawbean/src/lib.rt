@@ -17,6 +17,7 @@
 //! ripsawbean_call   "0 begin 10\n"   room 4   0        24       0 0              0 0 begin 10 => started
 //! ripsawbean_text                    room 64  0        24       its 24 bytes     (as before)
 //! ripsawbean_call   "0 begin\n"      room 64  1        0        (as before)      (as before)
+//! ripsawbean_last                             0                 1 begin, at 10   (as before)
 //! ripsawbean_state                   room 4   0        206      {"ki             (as before)
 //! ripsawbean_close                                                               none: it is closed
 //! ripsawbean_call   "0 begin 20\n"   room 64  16       0        (as before)      none
@@ -24,7 +25,7 @@
 //!
 //! | Number | What it says | By |
 //! |---|---|---|
-//! | 0 | done | open, call, calls, text, state |
+//! | 0 | done | open, call, calls, text, last, state |
 //! | 1 to 9 | the line's fault by its code; no call was made | call, a note of calls |
 //! | 12 | no memory for the line's key, value or span, or for the database; nothing was done | call, open |
 //! | 13 | no position is left; no call was made | call |
@@ -32,7 +33,7 @@
 //! | 14 | no memory for the text; the event stands, and `ripsawbean_text` tries again | call, text, state |
 //! | 14 | no room or no memory for the last text; the event stands, and `ripsawbean_text` shows it | calls and its note |
 //! | 15 | the ring is out of range; nothing was done | open |
-//! | 16 | the handle is closed; nothing was done | call, calls, text, state |
+//! | 16 | the handle is closed; nothing was done | call, calls, text, last, state |
 //! | 17 | the handle is open already; nothing was done | open |
 //!
 //! A program owes pointers that aren't null, also to no bytes, and slices that don't overlap. Its handle is all zero
@@ -45,10 +46,11 @@
 //! - `ripsawbean_calls`: the calls of the lines that are taken, and the bytes of their texts again
 //! - the calls of `typed`: the engine's step, the bytes copied, and all messages of a poll
 //! - `ripsawbean_text`: the bytes copied, and the text where it wasn't written
+//! - `ripsawbean_last`: O(1)
 //! - `ripsawbean_state`: the undecided transactions, the protections and the feeds, with a search for each, and its text
 //!
-//! Memory is the program's own `malloc`, `realloc` and `free`. All but `ripsawbean_close` and `ripsawbean_abort` may
-//! take it.
+//! Memory is the program's own `malloc`, `realloc` and `free`. All but `ripsawbean_last`, `ripsawbean_close` and
+//! `ripsawbean_abort` may take it.
 //!
 //! Tests: `embed/test`, `embed/random`, outside the gate.
 #![tactic(auto)]
@@ -61,6 +63,7 @@ ghost use Rattle.embedded.specs.declared.database.CallError.TheVariants.{NoMemor
 ghost use Rattle.ripsawbean.specs.Exports.{refusal_of, Opened, Numbered, Called, Asked, Rewritten, Told, ToldOf, number_of};
 
 mod handle;
+mod last;
 mod loose;
 mod replica_handle;
 mod replicas;

@@ -27,11 +27,11 @@ from .errors import (
     AlreadyOpen, BadByte, Closed, Error, KeyLength, LineFault, LineTooLong, NoFeed, NoMemory, NoMessage, NoNewline, NotAfter, NotTaken,
     Number, OutsideSpan, Refused, ResolvedBack, RingRange, Session, Spent, UnknownCommand, Unwritten, ValueLength, WordCount,
 )
-from .events import Answer, Event, Message, Resolved, Row, messages_of, spell, unspell
+from .events import Answer, Event, Message, Record, Resolved, Row, messages_of, spell, unspell
 from .replica import Replica
 
 __all__ = [
-    "Database", "Answer", "Event", "Replica", "Row", "Resolved", "messages_of", "spell", "unspell",
+    "Database", "Answer", "Event", "Record", "Replica", "Row", "Resolved", "messages_of", "spell", "unspell",
     "Error", "LineFault", "WordCount", "UnknownCommand", "Number", "KeyLength", "ValueLength", "Session", "NoNewline",
     "LineTooLong", "BadByte", "NoMemory", "Spent", "Unwritten", "RingRange", "Closed", "AlreadyOpen", "Refused",
     "NotTaken", "NoMessage", "NotAfter", "OutsideSpan", "ResolvedBack", "NoFeed",

@@ -5,7 +5,7 @@ import struct
 from typing import Callable, Iterator, List, Optional, Union
 
 from .errors import Closed, Error, LineFault, Number, Refused, RingRange, Session, Unwritten, error_of
-from .events import Answer, Event, Message, bytes_of, part_of, word_of
+from .events import COMMANDS, Answer, Event, Message, Record, bytes_of, part_of, word_of
 from .handles import BYTES, NONE, ROOM, SIZE, TIME, Opened, functions
 
 # The functions, with what each takes behind the handle.
@@ -15,9 +15,10 @@ _database = functions(
     "ripsawbean_", open=[ctypes.c_uint32], call=BYTES + ROOM, text=ROOM, state=ROOM, close=[],
     begin=_timed + _answer, get=_keyed + ROOM + _answer, put=_keyed + BYTES + _answer, delete=_keyed + _answer,
     commit=_timed + _answer, abort=_timed + _answer, close_to=_timed + _answer, read_at=_keyed + ROOM + _answer,
-    poll=[*_timed, TIME, *ROOM, *_answer], bytes=ROOM, calls=[*BYTES, ctypes.c_void_p, SIZE, ctypes.c_void_p, SIZE, ctypes.c_void_p],
+    poll=[*_timed, TIME, *ROOM, *_answer], bytes=ROOM, last=[ctypes.c_void_p], calls=[*BYTES, ctypes.c_void_p, SIZE, ctypes.c_void_p, SIZE, ctypes.c_void_p],
 )
 _ANSWER, _TAKEN, _DONE = struct.Struct("@BQQ"), struct.Struct("@NNN"), struct.Struct("@NB0N")
+_RECORD = struct.Struct("@QQQQBBB0Q")
 
 
 class Database(Opened):
@@ -34,6 +35,8 @@ class Database(Opened):
         # What C writes besides bytes: an answer, and how far lines were taken.
         self._answer = ctypes.create_string_buffer(_ANSWER.size)
         self._answer_at = ctypes.addressof(self._answer)
+        self._record = ctypes.create_string_buffer(_RECORD.size)
+        self._record_at = ctypes.addressof(self._record)
         self._taken = ctypes.create_string_buffer(_TAKEN.size)
         self._notes = ctypes.create_string_buffer(0)
         self.open(ring)
@@ -191,6 +194,13 @@ class Database(Opened):
         with self._turn:
             text = self._show(_database.text)
         return Event(text.decode("ascii")) if text else None
+
+    def last(self) -> Optional[Record]:
+        """The last event in numbers, whoever made its call, or None where no call was made yet. It makes no call."""
+        with self._turn:
+            _database.last(self._at, self._record_at)
+            position, at, number, other, seat, command, kind = _RECORD.unpack(self._record)
+        return Record(position, seat, COMMANDS[command - 1], at, kind, number, other) if command else None
 
     def state(self) -> str:
         """What an operator may ask of the database now, as lines of JSON. It makes no call."""

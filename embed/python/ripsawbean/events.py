@@ -123,12 +123,40 @@ class Event:
 
 
 # The names of answers' kinds, as texts have them. Those from 32 on are refusals.
-_NAMES = dict(enumerate("started none value written committed aborted closed messages".split(), 1))
+COMMANDS = (
+    "begin get scan put del commit abort close closehard readat scanat protect release collect open openinitial openevery openinitialevery "
+    "poll cancel stats".split()
+)
+_NAMES = dict(enumerate(
+    "started none value written committed aborted closed messages rows protected released collected opened cancelled stats".split(), 1
+))
 _NAMES.update(enumerate(
     "belowclosed tsused tsrange blocked notxn notowner ended toolate notclosed belowhorizon noprotection nofeed feedcancelled nomemory "
     "gaprange".split(), 32,
 ))
 _NUMBERED = frozenset((5, 7, 8, 32, 35, 40, 41))
+
+
+class Record(NamedTuple):
+    """An event in numbers: what `Database.last` tells of it, whoever made its call."""
+
+    position: int
+    seat: int
+    command: str
+    at: int  # the number that the command names: a timestamp, a protection's or a feed's; of an open its cursor; else 0
+    kind: int
+    number: int  # what the answer counts, or names
+    other: int  # a closing's aborted transactions, a collection's dropped versions, the undecided ones of `stats`
+
+    @property
+    def name(self) -> str:
+        """The name of the answer, as the event's text has it."""
+        return _NAMES[self.kind]
+
+    @property
+    def is_refusal(self) -> bool:
+        """Whether the call was refused."""
+        return self.kind >= 32
 
 
 class Answer(NamedTuple):

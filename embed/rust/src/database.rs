@@ -63,6 +63,12 @@ impl Database {
         Ok(text.to_string())
     }
 
+    /// Gives back the room that a long text needed, but for so many bytes. It makes no call.
+    pub fn shrink(&mut self, room: usize) {
+        self.out.truncate(room);
+        self.out.shrink_to(room);
+    }
+
     /// The messages of a feed, up to where none is due, by polls of at most `max` each, 0 being taken as 1.
     ///
     /// A poll is made once the messages of the one before are taken. A message is told once: whoever stops midway in

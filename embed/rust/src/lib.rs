@@ -44,6 +44,7 @@ mod error;
 mod event;
 #[allow(unsafe_code)]
 mod raw;
+mod record;
 mod replica;
 mod several;
 mod typed;
@@ -55,6 +56,7 @@ pub use error::{
     CallError, CommandError, LineFault, OpenError, PollError, Refusal, ReplicaError, TakeError, Unwritten,
 };
 pub use event::{Event, Message, Row};
+pub use record::{CommandKind, Outcome, Record};
 pub use replica::Replica;
 pub use several::Calls;
 pub use typed::{Closed, Told};

@@ -18,6 +18,19 @@ pub(crate) struct Answer {
     pub(crate) other: u64,
 }
 
+/// An event in numbers, as C has it.
+#[repr(C)]
+#[derive(Clone, Copy, Default)]
+pub(crate) struct EventRecord {
+    pub(crate) position: u64,
+    pub(crate) at: u64,
+    pub(crate) number: u64,
+    pub(crate) other: u64,
+    pub(crate) seat: u8,
+    pub(crate) command: u8,
+    pub(crate) kind: u8,
+}
+
 /// What became of one line of several, as C has it.
 #[repr(C)]
 #[derive(Clone, Copy, Debug, Default)]
@@ -47,6 +60,7 @@ extern "C" {
     ) -> u8;
     fn ripsawbean_text(db: *mut Handle, out: *mut u8, room: usize, length: *mut usize) -> u8;
     fn ripsawbean_state(db: *mut Handle, out: *mut u8, room: usize, length: *mut usize) -> u8;
+    fn ripsawbean_last(db: *mut Handle, record: *mut EventRecord) -> u8;
     fn ripsawbean_close(db: *mut Handle);
     fn ripsawbean_begin(db: *mut Handle, seat: u8, timestamp: u64, answer: *mut Answer) -> u8;
     fn ripsawbean_get(
@@ -176,6 +190,14 @@ impl Open {
         let mut length = 0;
         let status = unsafe { ripsawbean_state(&mut self.handle, out.as_mut_ptr(), out.len(), &mut length) };
         done(status, length)
+    }
+
+    /// The last event in numbers: all 0 where no call was made yet.
+    pub(crate) fn last(&mut self) -> EventRecord {
+        let mut record = EventRecord::default();
+        let status = unsafe { ripsawbean_last(&mut self.handle, &mut record) };
+        assert_eq!(status, 0, "an open database returned {status}");
+        record
     }
 
     pub(crate) fn begin(&mut self, seat: u8, timestamp: u64) -> Result<Answer, Status> {

@@ -1,6 +1,8 @@
 //! Calls without lines: the same events as by lines, and what they find as values.
 
-use ripsawbean::{CallError, Closed, CommandError, Database, LineFault, Message, Refusal, Row, Told};
+use ripsawbean::{
+    CallError, Closed, CommandError, CommandKind, Database, LineFault, Message, Outcome, Record, Refusal, Row, Told,
+};
 
 fn open() -> Database {
     Database::open(1024).expect("it opens")
@@ -121,4 +123,35 @@ fn values_and_messages_that_outgrow_the_buffer() {
     let text: Vec<_> = db.text().expect("a text").expect("an event").messages().collect();
     assert_eq!(text, all);
     assert_eq!(db.poll(3, feed, 100).expect("a poll").count(), 0);
+}
+
+#[test]
+fn the_last_event() {
+    let mut db = open();
+    assert_eq!(db.last(), None);
+    let script = [
+        ("0 begin 10\n", 0, CommandKind::Begin, 10, Outcome::Started),
+        ("0 put 10 a 1\n", 0, CommandKind::Put, 10, Outcome::Written),
+        ("0 get 10 a\n", 0, CommandKind::Get, 10, Outcome::Value(1)),
+        ("0 get 10 b\n", 0, CommandKind::Get, 10, Outcome::None),
+        ("0 scan 10 - -\n", 0, CommandKind::Scan, 10, Outcome::Rows(1)),
+        ("1 begin 15\n", 1, CommandKind::Begin, 15, Outcome::Started),
+        ("1 get 15 a\n", 1, CommandKind::Get, 15, Outcome::Refused(Refusal::Blocked(10))),
+        ("1 stats\n", 1, CommandKind::Stats, 0, Outcome::Stats { versions: 1, undecided: 2 }),
+        ("0 commit 10\n", 0, CommandKind::Commit, 10, Outcome::Committed(1)),
+        ("63 closehard 20\n", 63, CommandKind::CloseHard, 20, Outcome::Closed(Closed { at: 20, aborted: 1 })),
+        ("4 protect 20\n", 4, CommandKind::Protect, 20, Outcome::Protected(1)),
+        ("4 release 1\n", 4, CommandKind::Release, 1, Outcome::Released),
+        ("5 open - - 9\n", 5, CommandKind::Open, 9, Outcome::Opened(1)),
+        ("5 poll 1 9\n", 5, CommandKind::Poll, 1, Outcome::Messages(2)),
+        ("6 cancel 1\n", 6, CommandKind::Cancel, 1, Outcome::Cancelled),
+        ("8 collect 19\n", 8, CommandKind::Collect, 19, Outcome::Collected { horizon: 19, removed: 0 }),
+    ];
+    for (position, (line, seat, command, at, outcome)) in (0..).zip(script) {
+        db.call(line).expect("a call");
+        let record = Record { position, seat, command, at, outcome };
+        assert_eq!(db.last(), Some(record));
+        db.call("0 begin\n").expect_err("a fault");
+        assert_eq!(db.last(), Some(record));
+    }
 }

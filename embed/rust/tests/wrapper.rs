@@ -123,6 +123,9 @@ fn a_text_that_outgrows_the_buffer() {
     let (text, rows) = (scan.text().to_string(), scan.rows().count());
     assert_eq!(rows, 40);
     assert_eq!(db.text().expect("a text").expect("an event").text(), text);
+    // With less room than it needs, too.
+    db.shrink(10);
+    assert_eq!(db.text().expect("a text").expect("an event").text(), text);
     assert_eq!(db.make(0, Command::Stats).expect("a call").position(), 42);
 }
 
