@@ -1,6 +1,6 @@
 use Rattle.std.proofs.Common.{refl, sym, ◌∙◌}
 use Rattle.spans.proofs.Ascending.{two_rise}
-use Rattle.word_tests.proofs.tests.spans_of_keys.rising_keys.Goals as goal
+use Rattle.unit_tests.proofs.tests.words.spans_of_keys.rising_keys.Goals as goal
 
 pub returns-then-eq : goal.returns-then-eq
 returns-then-eq c =

@@ -1,6 +1,6 @@
 //! What the tests ask of a text.
-use crate::tests::rows;
-use crate::tests::unfolding::unfolded;
+use super::rows;
+use super::unfolding::unfolded;
 use json_lines::{MessageFault, read_message, write_message, write_message_line};
 use script::fault::TranscriptError;
 use script::scripts::read_script;

@@ -42,7 +42,9 @@ pub(super) fn steps(alloc: Global, transcript: &str) -> Option<u64> {
 fn calls(alloc: Global, events: Vec<Event>) -> Result<Vec<(u8, Cmd)>, AllocError> {
     let mut calls = Vec::new(alloc);
     for event in events {
-        calls.push((event.seat, event.cmd))?;
+        let seat = event.seat;
+        let (cmd, _) = event.into_parts();
+        calls.push((seat, cmd))?;
     }
     Ok(calls)
 }

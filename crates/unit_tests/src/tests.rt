@@ -1,0 +1,6 @@
+//! What no clause says of crates by themselves.
+
+mod engines;
+mod replicas;
+mod texts;
+mod words;
