@@ -33,7 +33,7 @@
 //! none for a resolved message, and tells no want of it where a line isn't UTF-8. The writers take it where the buffer
 //! has to grow, and leave that as it was where they find none. `number_of`, `or_undo` and `copy_front` take none.
 //!
-//! Tests: `text_tests`.
+//! Tests: `unit_tests`.
 #![tactic(auto)]
 
 pub mod base64_text;

@@ -17,7 +17,7 @@
 //!
 //! It takes memory where the buffer has to grow, and leaves that as it was where it finds none.
 //!
-//! Tests: `text_tests`.
+//! Tests: `unit_tests`.
 #![tactic(auto)]
 
 mod lines;

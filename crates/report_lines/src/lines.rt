@@ -1,14 +1,12 @@
 //! The lines of a report.
-ghost use Rattle.std.specs.Prelude.{◌≡◌, ◌++◌, option_map, OnOk, OnErr};
+ghost use Rattle.std.specs.Prelude.{◌≡◌, ◌++◌, codes, option_map, OnOk, OnErr};
 ghost use Rattle.std.specs.List.{flat_map};
 ghost use Rattle.json_lines.specs.Writing.{Keeps};
 ghost use Rattle.spans.specs.Collection.{VersionName};
-ghost use Rattle.report_lines.specs.Lines.{holder_word, holder_number, limit_members, oldest_members, version_members, database_line, transaction_line, protection_line, opening_members, told_members, progress_members, feed_line};
+ghost use Rattle.report_lines.specs.Lines.{holder_word, holder_number, member, number_or_null, oldest_members, database_line, transaction_line, protection_line, feed_line};
 
-use crate::members::{
-    put_begin, put_bytes_member, put_end, put_member_in_whole, put_number_member,
-    put_optional_member, put_truth_member, put_word_member,
-};
+use crate::members::Member::{Bytes, Number, NumberIfAny, Truth, Word};
+use crate::members::put_line;
 use spans::bound::Bound;
 use spans::report::{
     FeedReport, Holder, Limit, ProtectionReport, Report, ToldRow, TransactionReport,
@@ -69,48 +67,18 @@ fn key_of(row: &Option<ToldRow>) -> Option<&[u8]>
     }
 }
 
-/// Writes how far a collection can go now, and what holds it.
-#[tactic(auto, using(json_lines::proofs::Writing::keeping, crate::proofs::Writing::went_on), unfolding(crate::specs::Lines::limit_members))]
-fn put_limit(out: &mut Vec<u8>, limit: Limit) -> Result<(), AllocError>
-    ensures ok { OnOk result (out.new.items ≡ out.old.items ++ limit_members limit) }
-    ensures err { OnErr result (Keeps out.old.items out.new.items) }
-{
-    put_number_member(out, b"limit", limit.at)?;
-    put_word_member(out, b"holder", word_of(limit.by))?;
-    put_optional_member(out, b"holder_number", number_of(limit.by))
-}
-
-/// Writes the oldest of the transactions, and its seat.
-#[tactic(auto, using(json_lines::proofs::Writing::keeping, crate::proofs::Writing::went_on), unfolding(crate::specs::Lines::oldest_members))]
-fn put_oldest(out: &mut Vec<u8>, transactions: &[TransactionReport]) -> Result<(), AllocError>
-    ensures ok { OnOk result (out.new.items ≡ out.old.items ++ oldest_members transactions.now) }
-    ensures err { OnErr result (Keeps out.old.items out.new.items) }
+/// The oldest of the transactions, and its seat.
+#[tactic(auto, unfolding(crate::specs::Lines::oldest_members))]
+fn oldest_of(transactions: &[TransactionReport]) -> (Option<u64>, Option<u64>)
+    ensures { member (codes "oldest") (number_or_null result.0) ++ member (codes "oldest_seat") (number_or_null result.1) ≡ oldest_members transactions.now }
 {
     match transactions {
-        [] => {
-            put_optional_member(out, b"oldest", None)?;
-            put_optional_member(out, b"oldest_seat", None)
-        }
-        [oldest, ..] => {
-            put_optional_member(out, b"oldest", Some(oldest.timestamp))?;
-            put_optional_member(out, b"oldest_seat", Some(u64::from(oldest.seat)))
-        }
+        [] => (None, None),
+        [oldest, ..] => (Some(oldest.timestamp), Some(u64::from(oldest.seat))),
     }
 }
 
-/// Writes the oldest of the transactions, and how many versions there are.
-#[tactic(auto, using(json_lines::proofs::Writing::keeping, crate::proofs::Writing::went_on), unfolding(crate::specs::Lines::version_members))]
-fn put_versions(out: &mut Vec<u8>, report: &Report) -> Result<(), AllocError>
-    ensures ok { OnOk result (out.new.items ≡ out.old.items ++ version_members report.now) }
-    ensures err { OnErr result (Keeps out.old.items out.new.items) }
-{
-    put_oldest(out, &report.transactions)?;
-    put_number_member(out, b"versions", report.versions)?;
-    put_member_in_whole(out, b"removable", report.removable)
-}
-
 /// Writes the line of the database.
-#[tactic(auto, using(json_lines::proofs::Writing::keeping, crate::proofs::Writing::went_on), unfolding(crate::specs::Lines::database_line))]
 pub(crate) fn put_database(
     out: &mut Vec<u8>,
     limit: Limit,
@@ -119,88 +87,82 @@ pub(crate) fn put_database(
     ensures ok { OnOk result (out.new.items ≡ out.old.items ++ database_line limit report.now) }
     ensures err { OnErr result (Keeps out.old.items out.new.items) }
 {
-    put_begin(out, b"database")?;
-    put_number_member(out, b"closed", report.closed)?;
-    put_number_member(out, b"horizon", report.horizon)?;
-    put_limit(out, limit)?;
-    put_versions(out, report)?;
-    put_end(out)
+    let (oldest, oldest_seat) = oldest_of(&report.transactions);
+    put_line(
+        out,
+        b"database",
+        &[
+            Number(b"closed", Some(report.closed)),
+            Number(b"horizon", Some(report.horizon)),
+            Number(b"limit", Some(limit.at)),
+            Word(b"holder", word_of(limit.by)),
+            Number(b"holder_number", number_of(limit.by)),
+            Number(b"oldest", oldest),
+            Number(b"oldest_seat", oldest_seat),
+            Number(b"versions", Some(report.versions)),
+            NumberIfAny(b"removable", report.removable),
+        ],
+    )
 }
 
 /// Writes the line of an undecided transaction.
-#[tactic(auto, using(json_lines::proofs::Writing::keeping, crate::proofs::Writing::went_on), unfolding(crate::specs::Lines::transaction_line))]
+#[tactic(auto, unfolding(crate::specs::Lines::transaction_line, crate::specs::Lines::number_or_null, crate::specs::Members::line_of, crate::specs::Members::up_to_end, crate::specs::Members::text_of))]
 fn put_transaction(out: &mut Vec<u8>, transaction: &TransactionReport) -> Result<(), AllocError>
     ensures ok { OnOk result (out.new.items ≡ out.old.items ++ transaction_line transaction.now) }
     ensures err { OnErr result (Keeps out.old.items out.new.items) }
 {
-    put_begin(out, b"transaction")?;
-    put_number_member(out, b"timestamp", transaction.timestamp)?;
-    put_number_member(out, b"seat", u64::from(transaction.seat))?;
-    put_number_member(out, b"keys", transaction.keys)?;
-    put_end(out)
+    put_line(
+        out,
+        b"transaction",
+        &[
+            Number(b"timestamp", Some(transaction.timestamp)),
+            Number(b"seat", Some(u64::from(transaction.seat))),
+            Number(b"keys", Some(transaction.keys)),
+        ],
+    )
 }
 
 /// Writes the line of a protection.
-#[tactic(auto, using(json_lines::proofs::Writing::keeping, crate::proofs::Writing::went_on), unfolding(crate::specs::Lines::protection_line))]
+#[tactic(auto, unfolding(crate::specs::Lines::protection_line, crate::specs::Lines::number_or_null, crate::specs::Members::line_of, crate::specs::Members::up_to_end, crate::specs::Members::text_of))]
 fn put_protection(out: &mut Vec<u8>, protection: &ProtectionReport) -> Result<(), AllocError>
     ensures ok { OnOk result (out.new.items ≡ out.old.items ++ protection_line protection.now) }
     ensures err { OnErr result (Keeps out.old.items out.new.items) }
 {
-    put_begin(out, b"protection")?;
-    put_number_member(out, b"number", protection.number)?;
-    put_number_member(out, b"timestamp", protection.timestamp)?;
-    put_end(out)
-}
-
-/// Writes what was opened of a feed.
-#[tactic(auto, using(json_lines::proofs::Writing::keeping, crate::proofs::Writing::went_on), unfolding(crate::specs::Lines::opening_members))]
-fn put_opening(out: &mut Vec<u8>, feed: &FeedReport) -> Result<(), AllocError>
-    ensures ok { OnOk result (out.new.items ≡ out.old.items ++ opening_members feed.now) }
-    ensures err { OnErr result (Keeps out.old.items out.new.items) }
-{
-    put_number_member(out, b"number", feed.number)?;
-    put_number_member(out, b"seat", u64::from(feed.seat))?;
-    put_truth_member(out, b"initial", feed.kind.initial)?;
-    put_optional_member(out, b"gap", feed.kind.gap)?;
-    put_bytes_member(out, b"lo", bytes_of(&feed.span.lo))?;
-    put_bytes_member(out, b"hi", bytes_of(&feed.span.hi))?;
-    put_number_member(out, b"cursor", feed.cursor)
-}
-
-/// Writes what a feed told last.
-#[tactic(auto, using(json_lines::proofs::Writing::keeping, crate::proofs::Writing::went_on), unfolding(crate::specs::Lines::told_members))]
-fn put_told(out: &mut Vec<u8>, feed: &FeedReport) -> Result<(), AllocError>
-    ensures ok { OnOk result (out.new.items ≡ out.old.items ++ told_members feed.now) }
-    ensures err { OnErr result (Keeps out.old.items out.new.items) }
-{
-    put_optional_member(out, b"updated", timestamp_of(&feed.row))?;
-    put_bytes_member(out, b"key", key_of(&feed.row))?;
-    put_optional_member(out, b"resolved", feed.resolved)
-}
-
-/// Writes how far a feed has come, where the database is closed so far.
-#[tactic(auto, using(json_lines::proofs::Writing::keeping, crate::proofs::Writing::went_on), unfolding(crate::specs::Lines::progress_members))]
-fn put_progress(out: &mut Vec<u8>, closed: u64, feed: &FeedReport) -> Result<(), AllocError>
-    ensures ok { OnOk result (out.new.items ≡ out.old.items ++ progress_members closed feed.now) }
-    ensures err { OnErr result (Keeps out.old.items out.new.items) }
-{
-    put_optional_member(out, b"complete", feed.complete)?;
-    put_number_member(out, b"floor", feed.floor)?;
-    put_number_member(out, b"behind", closed.saturating_sub(feed.floor))?;
-    put_member_in_whole(out, b"untold", feed.untold)
+    put_line(
+        out,
+        b"protection",
+        &[
+            Number(b"number", Some(protection.number)),
+            Number(b"timestamp", Some(protection.timestamp)),
+        ],
+    )
 }
 
 /// Writes the line of a feed, where the database is closed so far.
-#[tactic(auto, using(json_lines::proofs::Writing::keeping, crate::proofs::Writing::went_on), unfolding(crate::specs::Lines::feed_line))]
 fn put_feed(out: &mut Vec<u8>, closed: u64, feed: &FeedReport) -> Result<(), AllocError>
     ensures ok { OnOk result (out.new.items ≡ out.old.items ++ feed_line closed feed.now) }
     ensures err { OnErr result (Keeps out.old.items out.new.items) }
 {
-    put_begin(out, b"feed")?;
-    put_opening(out, feed)?;
-    put_told(out, feed)?;
-    put_progress(out, closed, feed)?;
-    put_end(out)
+    put_line(
+        out,
+        b"feed",
+        &[
+            Number(b"number", Some(feed.number)),
+            Number(b"seat", Some(u64::from(feed.seat))),
+            Truth(b"initial", feed.kind.initial),
+            Number(b"gap", feed.kind.gap),
+            Bytes(b"lo", bytes_of(&feed.span.lo)),
+            Bytes(b"hi", bytes_of(&feed.span.hi)),
+            Number(b"cursor", Some(feed.cursor)),
+            Number(b"updated", timestamp_of(&feed.row)),
+            Bytes(b"key", key_of(&feed.row)),
+            Number(b"resolved", feed.resolved),
+            Number(b"complete", feed.complete),
+            Number(b"floor", Some(feed.floor)),
+            Number(b"behind", Some(closed.saturating_sub(feed.floor))),
+            NumberIfAny(b"untold", feed.untold),
+        ],
+    )
 }
 
 /// Writes a line for each undecided transaction.

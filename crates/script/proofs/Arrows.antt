@@ -3,7 +3,7 @@ use Rattle.std.proofs.Common.{◌≡◌, ℕ, zero, suc, ◌+◌, Bool, cond, Li
 use Rattle.std.specs.Prelude.{codes, bytes_eq, MatchOption}
 use Rattle.std.specs.Borrow.{Bor}
 use Rattle.std.proofs.lemmas.List.{drop-drop}
-use Rattle.word_lines.specs.declared.fault.LineFault.TheVariants.{WordCount}
+use Rattle.spelled_words.specs.declared.fault.LineFault.TheVariants.{WordCount}
 use Rattle.script.specs.EventLines.{behind_arrow}
 
 -- a word was taken, or none was left

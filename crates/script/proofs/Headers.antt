@@ -11,7 +11,7 @@ use Rattle.spans.specs.declared.calls.events.Event.{Event}
 use Rattle.text_format.specs.declared.Format.{Format}
 use Rattle.text_format.specs.Limits.{header, header_lines, format_of}
 use Rattle.text_format.specs.declared.Format.TheVariants.{One, Two}
-use Rattle.word_lines.specs.declared.fault.LineFault.TheVariants.{WordCount}
+use Rattle.spelled_words.specs.declared.fault.LineFault.TheVariants.{WordCount}
 use Rattle.word_lines.specs.Commands.{joined, words_of}
 use Rattle.word_lines.specs.Events.{heading_text}
 use Rattle.word_lines.specs.Limits.{IsEvent}

@@ -15,7 +15,7 @@ use Rattle.base64.specs.GeneralPurpose.{decoded_of}
 use Rattle.base64.proofs.EngineFacts.{decode_of-encode_of}
 use Rattle.spans.specs.declared.calls.messages.Message.{Message}
 use Rattle.spans.specs.declared.calls.messages.Message.TheVariants as message
-use Rattle.word_lines.specs.declared.fault.LineFault.TheVariants.{Follow}
+use Rattle.spelled_words.specs.declared.fault.LineFault.TheVariants.{Follow}
 use Rattle.word_lines.specs.Spelling.{AreBytes}
 use Rattle.word_lines.specs.Words.{text_at}
 use Rattle.json_lines.specs.Messages.{IsTimestamp, IsKey, IsMessage}

@@ -6,7 +6,7 @@ use Rattle.std.proofs.lemmas.List.{append-nil}
 use Rattle.std.proofs.lemmas.List.Elements.{All-from_recursion, recursion_from_All}
 use Rattle.text_format.specs.declared.Format.{Format}
 use Rattle.spans.specs.declared.calls.commands.Cmd.{Cmd}
-use Rattle.word_lines.specs.declared.fault.LineFault.{LineFault}
+use Rattle.spelled_words.specs.declared.fault.LineFault.{LineFault}
 use Rattle.script.specs.declared.fault.TranscriptError.{TranscriptError}
 use Rattle.script.specs.declared.fault.TranscriptError.TheVariants as errors
 use Rattle.word_lines.specs.Commands.{joined, words_of}

@@ -14,7 +14,7 @@ use Rattle.script.specs.declared.reply_reading.Shape.{Shape}
 use Rattle.script.specs.declared.reply_reading.Shape.TheVariants as shape
 use Rattle.script.specs.EventLines.{heading_at, row_line_at, message_line_at}
 use Rattle.script.specs.Memory.{names_want, ok_has, has_lines, counts_lines, lines_want, wants_at}
-use Rattle.word_lines.specs.declared.fault.LineFault.{LineFault}
+use Rattle.spelled_words.specs.declared.fault.LineFault.{LineFault}
 use Rattle.script.specs.declared.fault.TranscriptError.{TranscriptError}
 use Rattle.script.specs.declared.fault.TranscriptError.TheVariants as errors
 use Rattle.word_lines.proofs.ReadWords.{bind_ok, ok_is}

@@ -2,10 +2,10 @@
 use Rattle.std.specs.Prelude.{ℕ, ◌+◌, nat_lt, if◌then◌else◌, List, [], length, drop, slice_index_or, codes, Result, Ok, Err, ok_or, bytes_eq}
 use Rattle.text_format.specs.declared.Format.{Format}
 use Rattle.spans.specs.declared.calls.messages.Message.{Message}
-use Rattle.word_lines.specs.declared.fault.LineFault.{LineFault}
-use Rattle.word_lines.specs.declared.fault.LineFault.TheVariants.{WordCount, Follow}
-use Rattle.word_lines.specs.declared.fault.ReadError.{ReadError}
-use Rattle.word_lines.specs.declared.fault.ReadError.TheVariants as errors
+use Rattle.spelled_words.specs.declared.fault.LineFault.{LineFault}
+use Rattle.spelled_words.specs.declared.fault.LineFault.TheVariants.{WordCount, Follow}
+use Rattle.spelled_words.specs.declared.fault.ReadError.{ReadError}
+use Rattle.spelled_words.specs.declared.fault.ReadError.TheVariants as errors
 use Rattle.json_lines.specs.declared.fault.MessageFault.{MessageFault}
 use Rattle.json_lines.specs.declared.fault.MessageFault.TheVariants as message_faults
 use Rattle.script.specs.declared.headings.Heading.{Heading}

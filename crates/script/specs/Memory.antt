@@ -1,7 +1,7 @@
 -- Which events may want memory to be read: by what their first lines name (this project).
 use Rattle.std.specs.Prelude.{nat_lt, ℕ, Bool, true, false, ◌&&◌, ◌||◌, length, List, [], ◌∷◌, Option, Some, None, Result, Ok, Err}
 use Rattle.text_format.specs.declared.Format.{Format}
-use Rattle.word_lines.specs.declared.fault.LineFault.{LineFault}
+use Rattle.spelled_words.specs.declared.fault.LineFault.{LineFault}
 use Rattle.word_lines.specs.declared.table.Verb.{Verb}
 use Rattle.word_lines.specs.Memory.{has_bytes}
 use Rattle.word_lines.specs.Reading.{◌>>=◌, number_at, session_at, row_at}

@@ -6,10 +6,10 @@ use Rattle.text_format.specs.Limits.{header, header_lines}
 use Rattle.spans.specs.declared.calls.events.Event.{Event}
 use Rattle.spans.specs.declared.calls.replies.Reply.{Reply}
 use Rattle.spans.specs.declared.calls.replies.Reply.TheVariants as reply
-use Rattle.word_lines.specs.declared.fault.LineFault.{LineFault}
-use Rattle.word_lines.specs.declared.fault.LineFault.TheVariants.{WordCount, Follow}
-use Rattle.word_lines.specs.declared.fault.ReadError.{ReadError}
-use Rattle.word_lines.specs.declared.fault.ReadError.TheVariants as read_error
+use Rattle.spelled_words.specs.declared.fault.LineFault.{LineFault}
+use Rattle.spelled_words.specs.declared.fault.LineFault.TheVariants.{WordCount, Follow}
+use Rattle.spelled_words.specs.declared.fault.ReadError.{ReadError}
+use Rattle.spelled_words.specs.declared.fault.ReadError.TheVariants as read_error
 use Rattle.script.specs.declared.fault.TranscriptError.{TranscriptError}
 use Rattle.script.specs.declared.fault.TranscriptError.TheVariants as errors
 use Rattle.script.specs.declared.reply_reading.Shape.{Shape}

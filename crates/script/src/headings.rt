@@ -1,7 +1,7 @@
 //! The first line of an event: its position, its session, its command and what its reply's words say.
 ghost use Rattle.std.specs.Prelude.{◌≡◌, drop, true, IfErr};
 ghost use Rattle.word_lines.specs.Reading.{Gives};
-ghost use Rattle.word_lines.specs.declared.fault.ReadError.TheVariants.{NoMemory};
+ghost use Rattle.spelled_words.specs.declared.fault.ReadError.TheVariants.{NoMemory};
 ghost use Rattle.script.specs.EventLines.{behind_arrow, heading_of, heading_at};
 ghost use Rattle.script.specs.Memory.{name_bytes, names_at, names_of, ok_has};
 

@@ -31,9 +31,9 @@
 //! `read_script` and `read_transcript` take memory for all calls or events. `Events::next` takes it for one event at a
 //! time, and for an event of numbers alone it takes none. Nor does `Events::new`.
 //!
-//! Facts that no clause states are tested in `text_tests`, by the tables of the format.
+//! Facts that no clause states are tested in `unit_tests`, by the tables of the format.
 //!
-//! Tests: `text_tests`.
+//! Tests: `unit_tests`.
 #![tactic(auto)]
 
 pub mod events;

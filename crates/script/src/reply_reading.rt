@@ -1,7 +1,7 @@
 //! Replies read from their words.
 ghost use Rattle.std.specs.Prelude.{◌≡◌, ◌≢◌, Some, IfErr};
 ghost use Rattle.word_lines.specs.Reading.{Gives, Takes};
-ghost use Rattle.word_lines.specs.declared.fault.ReadError.TheVariants.{NoMemory};
+ghost use Rattle.spelled_words.specs.declared.fault.ReadError.TheVariants.{NoMemory};
 ghost use Rattle.script.specs.Memory.{kind_named};
 ghost use Rattle.script.specs.ReplyReading.{stats_at, refusal_at, shape_at, named_at, reply_at};
 ghost use Rattle.script.specs.declared.reply_table.Kind.TheVariants.{Value};

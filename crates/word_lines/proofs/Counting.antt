@@ -6,8 +6,8 @@ use Rattle.std.proofs.lemmas.Bool.{eqb-true, eq-eqb, le-ltb, ne_eqb}
 use Rattle.std.proofs.lemmas.List.{length-append}
 use Rattle.text_format.specs.declared.Format.{Format}
 use Rattle.spans.specs.declared.calls.commands.Cmd.{Cmd}
-use Rattle.word_lines.specs.declared.fault.LineFault.{LineFault}
-use Rattle.word_lines.specs.declared.fault.LineFault.TheVariants.{WordCount}
+use Rattle.spelled_words.specs.declared.fault.LineFault.{LineFault}
+use Rattle.spelled_words.specs.declared.fault.LineFault.TheVariants.{WordCount}
 use Rattle.word_lines.specs.declared.table.Verb.{Verb}
 use Rattle.word_lines.specs.Words.{words, words_left}
 use Rattle.word_lines.specs.Table.{Row, table}
@@ -16,13 +16,6 @@ use Rattle.word_lines.specs.Reading.{◌>>=◌, session_at, row_at, arguments_at
 use Rattle.word_lines.proofs.ReadWords.{bind_ok, guarded, refused, pure, session_word}
 use Rattle.word_lines.proofs.ReadCommands.{name_of, arity_of, Begins, arguments_found, table_right, row_word}
 use Rattle.word_lines.proofs.Splitting.{words_some}
-
--- no word is left where nothing is
-pub words_none : (rest : Option (Bor (List ℕ))) (none : Bool) → is_some rest ≡ not none → none ≡ (length (words_left rest) == 0)
-words_none None true e = refl
-words_none None false e = absurd cc
-words_none (Some rest) true e = absurd cc
-words_none (Some rest) false e = sym (ne_eqb (length (words rest.now)) 0 (λ e. absurd (omega (arith, e, words_some rest.now))))
 
 -- the count is right
 abbrev counted : Result (Unit {0}) LineFault

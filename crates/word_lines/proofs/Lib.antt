@@ -1,12 +1,11 @@
 pub use Rattle.json_lines.proofs.NumberWords
+pub use Rattle.spelled_words.proofs.Spellings
+pub use Rattle.spelled_words.proofs.Splitting
+pub use Rattle.spelled_words.proofs.SpelledWords
 pub mod Writing
 pub mod ReadCommands
 pub mod ReadWords
-pub mod SpelledWords
-pub mod Splitting
-pub mod Unescaping
 pub mod Joining
-pub mod Spellings
 pub mod JoinedParts
 pub mod WrittenWords
 pub mod CommandsAgain

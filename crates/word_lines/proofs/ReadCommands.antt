@@ -10,8 +10,8 @@ use Rattle.text_format.specs.declared.Format.{Format}
 use Rattle.spans.specs.declared.calls.commands.Cmd.{Cmd}
 use Rattle.spans.specs.declared.calls.commands.Cmd.TheVariants as cmd
 use Rattle.spans.specs.declared.span.Span.{Span}
-use Rattle.word_lines.specs.declared.fault.LineFault.{LineFault}
-use Rattle.word_lines.specs.declared.fault.LineFault.TheVariants.{WordCount, UnknownCommand, LineTooLong, NoNewline, BadByte}
+use Rattle.spelled_words.specs.declared.fault.LineFault.{LineFault}
+use Rattle.spelled_words.specs.declared.fault.LineFault.TheVariants.{WordCount, UnknownCommand, LineTooLong, NoNewline, BadByte}
 use Rattle.word_lines.specs.declared.table.Verb.{Verb}
 use Rattle.word_lines.specs.declared.table.Verb.TheVariants as verb
 use Rattle.text_format.specs.Limits.{line_limit}

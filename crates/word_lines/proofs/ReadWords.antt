@@ -6,8 +6,8 @@ use Rattle.std.proofs.lemmas.Slice.Eq.{bytes_eq-Decides}
 use Rattle.text_format.specs.Limits.{key_limit, value_limit, bound_limit}
 use Rattle.text_format.specs.declared.Format.{Format}
 use Rattle.spans.specs.declared.span.Span.{Span}
-use Rattle.word_lines.specs.declared.fault.LineFault.{LineFault}
-use Rattle.word_lines.specs.declared.fault.LineFault.TheVariants.{Number, KeyLength, ValueLength, Session, BadByte}
+use Rattle.spelled_words.specs.declared.fault.LineFault.{LineFault}
+use Rattle.spelled_words.specs.declared.fault.LineFault.TheVariants.{Number, KeyLength, ValueLength, Session, BadByte}
 use Rattle.word_lines.specs.Numbers.{number_of}
 use Rattle.word_lines.specs.Spelling.{spelling, bytes_of, AreBytes}
 use Rattle.word_lines.specs.Commands.{bound_word}

@@ -1,7 +1,7 @@
 -- Which lines may want memory to be read (this project).
 use Rattle.std.specs.Prelude.{◌≡◌, ℕ, Bool, true, false, List, Result, Ok, IsOkAnd}
 use Rattle.text_format.specs.declared.Format.{Format}
-use Rattle.word_lines.specs.declared.fault.LineFault.{LineFault}
+use Rattle.spelled_words.specs.declared.fault.LineFault.{LineFault}
 use Rattle.word_lines.specs.declared.table.Verb.{Verb}
 use Rattle.word_lines.specs.declared.table.Verb.TheVariants as verb
 use Rattle.word_lines.specs.Words.{words, text_at}

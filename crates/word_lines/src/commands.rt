@@ -3,7 +3,7 @@
 ghost use Rattle.std.specs.Prelude.{◌≡◌, ◌++◌, ◌∷◌, [], ◌<◌, decimal, true, IfOk, IfErr, OnOk, OnErr};
 ghost use Rattle.word_lines.specs.Reading.{Gives, Takes, TakesFree, TakesForm, session_at, row_at, arguments_at, counted_at, taken_of, command_at};
 ghost use Rattle.word_lines.specs.Memory.{WantsMemory, has_bytes, verb_of, verb_at};
-ghost use Rattle.word_lines.specs.declared.fault.ReadError.TheVariants.{NoMemory};
+ghost use Rattle.spelled_words.specs.declared.fault.ReadError.TheVariants.{NoMemory};
 ghost use Rattle.word_lines.specs.Table.{table};
 ghost use Rattle.word_lines.specs.Words.{words};
 ghost use Rattle.word_lines.specs.Spelling.{spelling};
@@ -139,6 +139,52 @@ pub fn take_arguments(
         Verb::Begin => Ok(Cmd::Begin {
             ts: take_number(words)?,
         }),
+        Verb::Commit => Ok(Cmd::Commit {
+            ts: take_number(words)?,
+        }),
+        Verb::Abort => Ok(Cmd::Abort {
+            ts: take_number(words)?,
+        }),
+        Verb::Close => Ok(Cmd::Close {
+            to: take_number(words)?,
+        }),
+        Verb::CloseHard => Ok(Cmd::CloseHard {
+            to: take_number(words)?,
+        }),
+        Verb::Protect => Ok(Cmd::Protect {
+            t: take_number(words)?,
+        }),
+        Verb::Release => Ok(Cmd::Release {
+            id: take_number(words)?,
+        }),
+        Verb::Collect => Ok(Cmd::Collect {
+            to: take_number(words)?,
+        }),
+        Verb::Poll => Ok(Cmd::Poll {
+            feed: take_number(words)?,
+            max: take_number(words)?,
+        }),
+        Verb::Cancel => Ok(Cmd::Cancel {
+            feed: take_number(words)?,
+        }),
+        Verb::Stats => Ok(Cmd::Stats),
+        _ => take_bytes(alloc, verb, words, format),
+    }
+}
+
+/// The command, where it has a key, a value or a span.
+#[inline(always)]
+#[tactic(auto, unfolding(crate::specs::Reading::arguments_at))]
+fn take_bytes(
+    alloc: Global,
+    verb: Verb,
+    words: &mut Words,
+    format: Format,
+) -> Result<Cmd, ReadError>
+    requires { has_bytes verb ≡ true }
+    ensures { Takes result words.new (arguments_at format verb words.old) }
+{
+    match verb {
         Verb::Get => {
             let (ts, key) = take_number_and_key(alloc, words, format)?;
             Ok(Cmd::Get { ts, key })
@@ -152,22 +198,10 @@ pub fn take_arguments(
             let (ts, key) = take_number_and_key(alloc, words, format)?;
             Ok(Cmd::Del { ts, key })
         }
-        Verb::Commit => Ok(Cmd::Commit {
-            ts: take_number(words)?,
-        }),
-        Verb::Abort => Ok(Cmd::Abort {
-            ts: take_number(words)?,
-        }),
-        Verb::Close => Ok(Cmd::Close {
-            to: take_number(words)?,
-        }),
         Verb::Scan => {
             let (ts, span) = take_number_and_span(alloc, words, format)?;
             Ok(Cmd::Scan { ts, span })
         }
-        Verb::CloseHard => Ok(Cmd::CloseHard {
-            to: take_number(words)?,
-        }),
         Verb::ReadAt => {
             let (t, key) = take_number_and_key(alloc, words, format)?;
             Ok(Cmd::ReadAt { t, key })
@@ -176,15 +210,6 @@ pub fn take_arguments(
             let (t, span) = take_number_and_span(alloc, words, format)?;
             Ok(Cmd::ScanAt { t, span })
         }
-        Verb::Protect => Ok(Cmd::Protect {
-            t: take_number(words)?,
-        }),
-        Verb::Release => Ok(Cmd::Release {
-            id: take_number(words)?,
-        }),
-        Verb::Collect => Ok(Cmd::Collect {
-            to: take_number(words)?,
-        }),
         Verb::Open => {
             let (span, cursor) = take_opening(alloc, words, format)?;
             Ok(Cmd::Open { span, cursor })
@@ -201,14 +226,7 @@ pub fn take_arguments(
             let (span, cursor, gap) = take_opening_every(alloc, words, format)?;
             Ok(Cmd::OpenInitialEvery { span, cursor, gap })
         }
-        Verb::Poll => Ok(Cmd::Poll {
-            feed: take_number(words)?,
-            max: take_number(words)?,
-        }),
-        Verb::Cancel => Ok(Cmd::Cancel {
-            feed: take_number(words)?,
-        }),
-        Verb::Stats => Ok(Cmd::Stats),
+        _ => unreachable!(),
     }
 }
 

@@ -3,9 +3,8 @@
 //! `sessions` and `embedded` read commands and write events by it. `script` takes the words of an event by its calls,
 //! `jobs` writes faults, and `follow` spells keys.
 //!
-//! A line is words with one space between two, and a newline. A number is decimal digits without a leading zero; a key,
-//! a value or a bound is spelled: a printable byte as itself, any other as `%` and two digits, no bytes as `-`. So each
-//! value has one text, and only that text is read.
+//! A line is words with one space between two, and a newline. `spelled_words` cuts it, and reads its words as numbers,
+//! keys, values and spans. Its modules are passed on here. Each value has one text, and only that text is read.
 //!
 //! ```text
 //! 0 put 10 a -             Ok((0, Put { ts: 10, key: "a", value: "" }))
@@ -18,26 +17,22 @@
 //!
 //! - `read_command`: O(b); each byte is looked at twice, as words are cut and read. Those of a faulty line are looked
 //!   at again, for the first fault
-//! - `text_of`: O(1); `words_of`: O(b), each byte once
-//! - `take_number`, `take_key`, `take_value`, `take_form` and their like: the bytes of their words, twice
+//! - `take_seat`, `take_form`, `take_arguments`: the bytes of their words, twice
 //! - `write_command`, `write_reply`, `write_event`, `write_fault`, `write_spent`: O(b), for the lines that they write
 //!
 //! A reader takes the words of a line that it is lent, and takes memory for keys, values and bounds alone. A writer
 //! pushes into the caller's buffer, takes memory where that has to grow, and where it finds none leaves that as it was.
 //!
-//! Facts that no clause states are tested in `text_tests`, by the tables of the format.
+//! Facts that no clause states are tested in `unit_tests`, by the tables of the format.
 //!
-//! Tests: `text_tests`.
+//! Tests: `unit_tests`.
 #![tactic(auto)]
 
-pub mod arguments;
 pub mod commands;
 pub mod events;
-pub mod fault;
 pub mod laws;
 pub mod replies;
-pub mod spelling;
 pub mod table;
-pub mod words;
 
 use json_lines::{buffer, numbers};
+pub use spelled_words::{arguments, fault, spelling, words};

@@ -1,9 +1,28 @@
 use Rattle.std.proofs.Common.{ap, ◌∙◌, ◌++◌}
 use Rattle.std.specs.Prelude.{decimal}
 use Rattle.word_lines.proofs.Joining.{event_written}
+use Rattle.word_lines.proofs.Writing.{keeps_on, keeps_same, on_error}
 use Rattle.word_lines.proofs.events.put_event.Goals as goal
 
 pub returns-clause-ok : goal.returns-clause-ok
 returns-clause-ok c =
     let seat = c.in_ok-put_number-2.ensures.ok ∙ ap (λ n. c.push.new.self.items ++ decimal n) c.from.ensures in
     event_written _ _ _ _ _ _ _ _ _ _ _ c.in_ok-put_number.ensures.ok c.in_ok-push.ensures.items seat c.in_ok-put_words.ensures.ok c.in_ok-extend_from_slice.ensures.items c.in_ok-put_reply.ensures.ok
+
+pub returns-in_err-put_number-clause-err : goal.returns-in_err-put_number-clause-err
+returns-in_err-put_number-clause-err c = on_error _ _ _ c.in_err-put_number.ensures.err
+
+pub returns-in_err-push-clause-err : goal.returns-in_err-push-clause-err
+returns-in_err-push-clause-err c = on_error _ _ _ (keeps_on _ _ _ _ c.in_ok-put_number.ensures.ok (keeps_same _ _ c.in_err-push.ensures.items))
+
+pub returns-in_err-put_number-2-clause-err : goal.returns-in_err-put_number-2-clause-err
+returns-in_err-put_number-2-clause-err c = on_error _ _ _ (keeps_on _ _ _ _ c.in_ok-put_number.ensures.ok (keeps_on _ _ _ _ c.in_ok-push.ensures.items c.in_err-put_number-2.ensures.err))
+
+pub returns-in_err-put_words-clause-err : goal.returns-in_err-put_words-clause-err
+returns-in_err-put_words-clause-err c = on_error _ _ _ (keeps_on _ _ _ _ c.in_ok-put_number.ensures.ok (keeps_on _ _ _ _ c.in_ok-push.ensures.items (keeps_on _ _ _ _ c.in_ok-put_number-2.ensures.ok c.in_err-put_words.ensures.err)))
+
+pub returns-in_err-extend_from_slice-clause-err : goal.returns-in_err-extend_from_slice-clause-err
+returns-in_err-extend_from_slice-clause-err c = on_error _ _ _ (keeps_on _ _ _ _ c.in_ok-put_number.ensures.ok (keeps_on _ _ _ _ c.in_ok-push.ensures.items (keeps_on _ _ _ _ c.in_ok-put_number-2.ensures.ok (keeps_on _ _ _ _ c.in_ok-put_words.ensures.ok (keeps_same _ _ c.in_err-extend_from_slice.ensures.items)))))
+
+pub returns-in_err-put_reply-clause-err : goal.returns-in_err-put_reply-clause-err
+returns-in_err-put_reply-clause-err c = on_error _ _ _ (keeps_on _ _ _ _ c.in_ok-put_number.ensures.ok (keeps_on _ _ _ _ c.in_ok-push.ensures.items (keeps_on _ _ _ _ c.in_ok-put_number-2.ensures.ok (keeps_on _ _ _ _ c.in_ok-put_words.ensures.ok (keeps_on _ _ _ _ c.in_ok-extend_from_slice.ensures.items c.in_err-put_reply.ensures.err)))))

@@ -1,8 +1,8 @@
 use Rattle.std.proofs.Common.{◌≡◌, ℕ, ◌+◌, ◌<◌, ◌≤◌, ◌^◌, ◌++◌, ◌∙◌, length, decimal, vec_len, Vec, arith}
 use Rattle.std.specs.Global.{Global}
-use Rattle.word_lines.specs.declared.fault.LineFault.{LineFault}
+use Rattle.spelled_words.specs.declared.fault.LineFault.{LineFault}
 use Rattle.word_lines.specs.Faults.{code_of, name_of}
-use Rattle.word_lines.proofs.Writing.{numbered}
+use Rattle.word_lines.proofs.Writing.{keeps_on, keeps_same, numbered, on_error}
 use Rattle.word_lines.proofs.events.put_fault.Goals as goal
 
 coded : (f : LineFault) (old new : Vec ℕ Global) (n : ℕ) → n ≡ code_of f → new.items ≡ old.items ++ decimal n → vec_len new ≤ vec_len old + 20
@@ -40,3 +40,24 @@ returns-in_err-push-3-clause-room c =
     let code = coded c.args.fault c.push.new.self c.put_number-2.new.out c.from.result (c.from.ensures ∙ c.code.ensures) c.in_ok-put_number-2.ensures.ok in
     let name = short_name c.args.fault in
     grind arith
+
+pub returns-in_err-extend_from_slice-clause-err : goal.returns-in_err-extend_from_slice-clause-err
+returns-in_err-extend_from_slice-clause-err c = on_error _ _ _ (keeps_same _ _ c.in_err-extend_from_slice.ensures.items)
+
+pub returns-in_err-put_number-clause-err : goal.returns-in_err-put_number-clause-err
+returns-in_err-put_number-clause-err c = on_error _ _ _ (keeps_on _ _ _ _ c.in_ok-extend_from_slice.ensures.items c.in_err-put_number.ensures.err)
+
+pub returns-in_err-push-clause-err : goal.returns-in_err-push-clause-err
+returns-in_err-push-clause-err c = on_error _ _ _ (keeps_on _ _ _ _ c.in_ok-extend_from_slice.ensures.items (keeps_on _ _ _ _ c.in_ok-put_number.ensures.ok (keeps_same _ _ c.in_err-push.ensures.items)))
+
+pub returns-in_err-put_number-2-clause-err : goal.returns-in_err-put_number-2-clause-err
+returns-in_err-put_number-2-clause-err c = on_error _ _ _ (keeps_on _ _ _ _ c.in_ok-extend_from_slice.ensures.items (keeps_on _ _ _ _ c.in_ok-put_number.ensures.ok (keeps_on _ _ _ _ c.in_ok-push.ensures.items c.in_err-put_number-2.ensures.err)))
+
+pub returns-in_err-push-2-clause-err : goal.returns-in_err-push-2-clause-err
+returns-in_err-push-2-clause-err c = on_error _ _ _ (keeps_on _ _ _ _ c.in_ok-extend_from_slice.ensures.items (keeps_on _ _ _ _ c.in_ok-put_number.ensures.ok (keeps_on _ _ _ _ c.in_ok-push.ensures.items (keeps_on _ _ _ _ c.in_ok-put_number-2.ensures.ok (keeps_same _ _ c.in_err-push-2.ensures.items)))))
+
+pub returns-in_err-extend_from_slice-2-clause-err : goal.returns-in_err-extend_from_slice-2-clause-err
+returns-in_err-extend_from_slice-2-clause-err c = on_error _ _ _ (keeps_on _ _ _ _ c.in_ok-extend_from_slice.ensures.items (keeps_on _ _ _ _ c.in_ok-put_number.ensures.ok (keeps_on _ _ _ _ c.in_ok-push.ensures.items (keeps_on _ _ _ _ c.in_ok-put_number-2.ensures.ok (keeps_on _ _ _ _ c.in_ok-push-2.ensures.items (keeps_same _ _ c.in_err-extend_from_slice-2.ensures.items))))))
+
+pub returns-in_err-push-3-clause-err : goal.returns-in_err-push-3-clause-err
+returns-in_err-push-3-clause-err c = on_error _ _ _ (keeps_on _ _ _ _ c.in_ok-extend_from_slice.ensures.items (keeps_on _ _ _ _ c.in_ok-put_number.ensures.ok (keeps_on _ _ _ _ c.in_ok-push.ensures.items (keeps_on _ _ _ _ c.in_ok-put_number-2.ensures.ok (keeps_on _ _ _ _ c.in_ok-push-2.ensures.items (keeps_on _ _ _ _ c.in_ok-extend_from_slice-2.ensures.items (keeps_same _ _ c.in_err-push-3.ensures.items)))))))

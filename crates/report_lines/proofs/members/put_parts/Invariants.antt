@@ -1,0 +1,10 @@
+use Rattle.std.proofs.Common.{◌≡◌, ◌++◌, drop}
+use Rattle.std.specs.List.{flat_map}
+use Rattle.json_lines.specs.Writing.{Keeps}
+use Rattle.report_lines.proofs.members.put_parts.Given as goal
+
+abbrev pub invariant-loop-part : goal.invariant-loop-part
+invariant-loop-part l = record {
+  keeps : Keeps l.fn.out.items l.out.items;
+  so_far : l.out.items ++ flat_map (λ part. part.now) (drop l.part-index l.parts) ≡ l.fn.out.items ++ flat_map (λ part. part.now) l.parts;
+}

@@ -1,0 +1,4 @@
+pub mod Spellings
+pub mod Splitting
+pub mod Unescaping
+pub mod SpelledWords

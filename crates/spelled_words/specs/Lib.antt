@@ -1,0 +1,5 @@
+pub mod Spelling
+pub mod SpelledBytes
+pub mod Words
+pub mod Faults
+pub mod Reading

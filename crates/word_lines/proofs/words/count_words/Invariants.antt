@@ -1,9 +1,0 @@
-use Rattle.std.proofs.Common.{◌≡◌, ◌+◌, ◌≤◌, length, drop}
-use Rattle.word_lines.specs.Words.{words}
-use Rattle.word_lines.proofs.words.count_words.Given as goal
-
-abbrev pub invariant-loop-byte : goal.invariant-loop-byte
-invariant-loop-byte l = record {
-  few : l.spaces ≤ l.byte-index;
-  counts : l.spaces + length (words (drop l.byte-index l.text)) ≡ length (words l.text);
-}
