@@ -33,7 +33,7 @@
 //! them: for as many as it still wants rows, and for one more. `next_snapshot` also takes it for a copy of the span. They
 //! change nothing, so a refusal leaves no trace.
 //!
-//! Tests: `engine_tests`, `job_tests`.
+//! Tests: `unit_tests`, `job_tests`.
 #![tactic(auto)]
 
 mod heads;

@@ -25,7 +25,7 @@
 //!
 //! It takes no memory.
 //!
-//! Tests: `layer_tests`, `engine_tests`.
+//! Tests: `layer_tests`, `unit_tests`.
 #![tactic(auto)]
 
 mod collector;

@@ -5,8 +5,8 @@ use Rattle.std.specs.List.{list_all, list_any}
 use Rattle.spans.specs.declared.calls.commands.Cmd.{Cmd}
 use Rattle.spans.specs.declared.calls.commands.Cmd.TheVariants as cmd
 use Rattle.text_format.specs.declared.Format.TheVariants.{Two}
-use Rattle.word_lines.specs.declared.fault.LineFault.{LineFault}
-use Rattle.word_lines.specs.declared.fault.LineFault.TheVariants.{WordCount, BadByte}
+use Rattle.spelled_words.specs.declared.fault.LineFault.{LineFault}
+use Rattle.spelled_words.specs.declared.fault.LineFault.TheVariants.{WordCount, BadByte}
 use Rattle.word_lines.specs.declared.table.Verb.{Verb}
 use Rattle.word_lines.specs.declared.table.Verb.TheVariants as verb
 use Rattle.word_lines.specs.Memory.{WantsMemory, has_bytes, verb_of, verb_at}

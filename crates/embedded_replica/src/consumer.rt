@@ -19,10 +19,19 @@ use word_lines::commands::read_command;
 use word_lines::fault::{LineFault, ReadError};
 
 /// A replica of a feed's span, with the program's heap.
-#[derive(Drop)]
 pub struct Consumer {
     alloc: Global,
     pub(crate) replica: Replica,
+}
+
+// a call of its own, so that where a consumer is dropped no proof has a case for each part of it
+impl Drop for Consumer {
+    fn drop(self) {
+        let Consumer {
+            alloc: _,
+            replica: _,
+        } = self;
+    }
 }
 
 /// Why no consumer begins by a line.
@@ -140,31 +149,17 @@ struct Opening {
 fn opening_of(cmd: Cmd) -> Option<Opening>
     ensures { result ≡ opening_of cmd }
 {
-    match cmd {
-        Cmd::Open { span, cursor }
-        | Cmd::OpenEvery {
-            span,
-            cursor,
-            gap: _,
-        } => Some(Opening {
-            span,
-            cursor,
-            initial: false,
-        }),
-        Cmd::OpenInitial { span, cursor }
-        | Cmd::OpenInitialEvery {
-            span,
-            cursor,
-            gap: _,
-        } => {
-            Some(Opening {
-                span,
-                cursor,
-                initial: true,
-            })
-        }
-        _ => None,
-    }
+    let (cursor, initial) = match &cmd {
+        Cmd::Open { cursor, .. } | Cmd::OpenEvery { cursor, .. } => (*cursor, false),
+        Cmd::OpenInitial { cursor, .. } | Cmd::OpenInitialEvery { cursor, .. } => (*cursor, true),
+        _ => return None,
+    };
+    let span = cmd.into_span()?;
+    Some(Opening {
+        span,
+        cursor,
+        initial,
+    })
 }
 
 /// The replica of the feed that a command opens, if it opens one at a timestamp.

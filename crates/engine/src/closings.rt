@@ -14,12 +14,13 @@ impl Layers {
         ensures step { IsStep (kept_of self.old) (kept_of self.new) seat (Close to) result }
         ensures served { IsServed self.old self.new seat (Close to) result }
     {
-        match self.rules.close(to) {
-            Reply::Closed { at, aborted } => {
+        let reply = self.rules.close(to);
+        match reply {
+            Reply::Closed { at, .. } => {
                 release_through(&mut self.feeds, &mut self.held_back, at);
-                Reply::Closed { at, aborted }
+                reply
             }
-            reply => reply,
+            _ => reply,
         }
     }
 
@@ -27,12 +28,13 @@ impl Layers {
         ensures step { IsStep (kept_of self.old) (kept_of self.new) seat (CloseHard to) result }
         ensures served { IsServed self.old self.new seat (CloseHard to) result }
     {
-        match self.rules.close_hard(to) {
-            Reply::Closed { at, aborted } => {
+        let reply = self.rules.close_hard(to);
+        match reply {
+            Reply::Closed { at, .. } => {
                 release_through(&mut self.feeds, &mut self.held_back, at);
-                Reply::Closed { at, aborted }
+                reply
             }
-            reply => reply,
+            _ => reply,
         }
     }
 }

@@ -14,12 +14,13 @@ impl Layers {
         ensures step { IsStep (kept_of self.old) (kept_of self.new) seat (Commit ts) result }
         ensures served { IsServed self.old self.new seat (Commit ts) result }
     {
-        match self.rules.commit(seat, ts) {
-            Reply::Committed { keys } => {
+        let reply = self.rules.commit(seat, ts);
+        match reply {
+            Reply::Committed { .. } => {
                 hold_written(&mut self.held_back, &self.rules, ts, self.feeds.count());
-                Reply::Committed { keys }
+                reply
             }
-            reply => reply,
+            _ => reply,
         }
     }
 }

@@ -35,7 +35,7 @@
 //! and `report` take memory. An offer never refuses: without memory for the row it sends the feeds behind that want it, and
 //! without memory for the new order it keeps the old one. The other calls take none.
 //!
-//! Tests: `engine_tests`, `job_tests`; numbers above the greatest timestamp in `layer_tests`.
+//! Tests: `unit_tests`, `job_tests`; numbers above the greatest timestamp in `layer_tests`.
 #![tactic(auto)]
 
 mod feeds;

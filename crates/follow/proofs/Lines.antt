@@ -14,8 +14,8 @@ use Rattle.spans.specs.Consumer as consumer
 use Rattle.json_lines.specs.declared.fault.MessageFault.{MessageFault}
 use Rattle.json_lines.specs.Messages.{IsMessage, message_line}
 use Rattle.json_lines.specs.Tests.{message_at}
-use Rattle.word_lines.specs.declared.fault.LineFault.{LineFault}
-use Rattle.word_lines.specs.declared.fault.LineFault.TheVariants as faults
+use Rattle.spelled_words.specs.declared.fault.LineFault.{LineFault}
+use Rattle.spelled_words.specs.declared.fault.LineFault.TheVariants as faults
 use Rattle.word_lines.specs.Words.{has_newline, without_newline, text_at}
 use Rattle.word_lines.proofs.Splitting.{place_cases}
 use Rattle.script.specs.Lines.{is_newline, lines_of}

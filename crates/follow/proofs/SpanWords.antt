@@ -4,8 +4,8 @@ use Rattle.std.specs.Prelude.{nat_le, ◌&&◌, bytes_eq, codes, ok_or}
 use Rattle.text_format.specs.declared.Format.{Format}
 use Rattle.text_format.specs.Limits.{bound_limit}
 use Rattle.spans.specs.declared.span.Span.{Span}
-use Rattle.word_lines.specs.declared.fault.LineFault.{LineFault}
-use Rattle.word_lines.specs.declared.fault.LineFault.TheVariants.{KeyLength, BadByte}
+use Rattle.spelled_words.specs.declared.fault.LineFault.{LineFault}
+use Rattle.spelled_words.specs.declared.fault.LineFault.TheVariants.{KeyLength, BadByte}
 use Rattle.word_lines.specs.Reading.{◌>>=◌, bound_at, span_at}
 use Rattle.word_lines.specs.Spelling.{bytes_of}
 use Rattle.follow.specs.SpanWords.{bound_in, span_in}

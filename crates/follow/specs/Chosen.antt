@@ -2,7 +2,7 @@
 use Rattle.std.specs.Prelude.{ℕ, ◌==◌, Bool, false, if◌then◌else◌, List, [], ◌∷◌, Option, Some, None, Result, Ok, Err, bytes_eq, codes}
 use Rattle.json_lines.specs.Numbers.{number_of}
 use Rattle.word_lines.specs.Words.{words_at}
-use Rattle.word_lines.specs.declared.fault.LineFault.{LineFault}
+use Rattle.spelled_words.specs.declared.fault.LineFault.{LineFault}
 
 -- a line that begins with `{` is to be a message's
 abbrev pub begins_message : List ℕ → Bool

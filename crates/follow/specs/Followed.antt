@@ -3,8 +3,8 @@ use Rattle.std.specs.Prelude.{◌≡◌, ℕ, ◌&&◌, Bool, List, [], ◌∷�
 use Rattle.spans.specs.declared.span.Span.{Span}
 use Rattle.json_lines.specs.declared.fault.MessageFault.{MessageFault}
 use Rattle.json_lines.specs.declared.fault.MessageFault.TheVariants as message
-use Rattle.word_lines.specs.declared.fault.LineFault.{LineFault}
-use Rattle.word_lines.specs.declared.fault.LineFault.TheVariants as line_faults
+use Rattle.spelled_words.specs.declared.fault.LineFault.{LineFault}
+use Rattle.spelled_words.specs.declared.fault.LineFault.TheVariants as line_faults
 use Rattle.word_lines.specs.Commands.{joined}
 use Rattle.word_lines.specs.Spelling.{spelling}
 use Rattle.replica.specs.declared.fault.Fault.{Fault}

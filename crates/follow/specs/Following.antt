@@ -6,7 +6,7 @@ use Rattle.spans.specs.Consumer as consumer
 use Rattle.spans.specs.Consumer.{ApplyFault, apply_fault}
 use Rattle.json_lines.specs.declared.fault.MessageFault.{MessageFault}
 use Rattle.json_lines.specs.Tests.{message_at}
-use Rattle.word_lines.specs.declared.fault.LineFault.{LineFault}
+use Rattle.spelled_words.specs.declared.fault.LineFault.{LineFault}
 use Rattle.word_lines.specs.Words.{text_at}
 use Rattle.script.specs.Lines.{lines_of}
 use Rattle.follow.specs.declared.options.FollowOptions.{FollowOptions}

@@ -2,7 +2,7 @@
 use Rattle.std.specs.Prelude.{ℕ, List, [], ◌∷◌, Option, Result, Ok}
 use Rattle.text_format.specs.declared.Format.{Format}
 use Rattle.spans.specs.declared.span.Span.{Span}
-use Rattle.word_lines.specs.declared.fault.LineFault.{LineFault}
+use Rattle.spelled_words.specs.declared.fault.LineFault.{LineFault}
 use Rattle.word_lines.specs.Reading.{◌>>=◌, bound_at, span_at}
 
 -- the bound that a word spells in a format, or none where it is `-`

@@ -90,8 +90,12 @@ fn last_scan(alloc: Global, events: &mut Events) -> Result<Scan, SeedError>
 fn scan_of(event: Event) -> Option<Scan>
     ensures { option_map scan_parts result ≡ scan_in event }
 {
-    match (event.cmd, event.reply) {
-        (Cmd::ScanAt { t, span }, Reply::Rows(rows)) => Some(Scan {
+    let Cmd::ScanAt { t, .. } = event.cmd else {
+        return None;
+    };
+    let (cmd, reply) = event.into_parts();
+    match (cmd.into_span(), reply.into_rows()) {
+        (Some(span), Some(rows)) => Some(Scan {
             span,
             cursor: t,
             rows,

@@ -30,7 +30,7 @@
 //! `add` takes memory for a copy of the key and of the value, and for the row's place, and `skip` for the timestamp. They
 //! never refuse: a row that finds none is lost, and a lost timestamp that finds none is in the gap. The others take none.
 //!
-//! Tests: `engine_tests`, `job_tests`.
+//! Tests: `unit_tests`, `job_tests`.
 #![tactic(auto)]
 
 mod hold_back;

@@ -10,7 +10,7 @@ ghost use Rattle.kept.specs.Marks as marking;
 
 use crate::spot::span_of;
 use read_marks::{Marks, Piece};
-use spans::bound::Bound;
+use spans::bound::{Bound, copy_bound};
 use spans::span::Span;
 use std::alloc::{AllocError, Global};
 use std::mem;
@@ -30,10 +30,10 @@ impl Cut {
     pub(crate) fn new(alloc: Global, span: &Span) -> Result<Cut, AllocError>
         ensures { IfOk result (λ cut. IsWhole cut span.now) }
     {
-        let whole = span.copy()?;
+        let lo = copy_bound(&span.lo)?;
         Ok(Cut {
             pieces: Vec::new(alloc),
-            lo: whole.lo,
+            lo,
         })
     }
 
@@ -80,7 +80,7 @@ impl Cut {
     pub(crate) fn finish(self, span: &Span) -> Result<Vec<Piece>, AllocError>
         ensures { IfOk result (λ pieces. pieces.items ≡ self.pieces.items ++ open_piece self span.now.hi ∷ []) }
     {
-        let Span { hi, .. } = span.copy()?;
+        let hi = copy_bound(&span.hi)?;
         let Cut { mut pieces, lo } = self;
         pieces.push(whole_gap(Span { lo, hi }))?;
         Ok(pieces)

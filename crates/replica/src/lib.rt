@@ -36,7 +36,7 @@
 //! A row takes memory for its key twice, and for its value once more where no other key has it. `new` and `apply` take
 //! that, and `keys_with` takes it for its answer. A delete and a resolved message take none, nor do the other calls.
 //!
-//! Tests: `replica_tests`.
+//! Tests: `unit_tests`.
 #![tactic(auto)]
 
 mod content;

@@ -9,8 +9,8 @@ use Rattle.std.proofs.lemmas.List.Sums.{fails_before_first}
 use Rattle.text_format.specs.declared.Format.{Format}
 use Rattle.text_format.specs.Limits.{line_limit}
 use Rattle.spans.specs.declared.calls.commands.Cmd.{Cmd}
-use Rattle.word_lines.specs.declared.fault.LineFault.{LineFault}
-use Rattle.word_lines.specs.declared.fault.LineFault.TheVariants as faults
+use Rattle.spelled_words.specs.declared.fault.LineFault.{LineFault}
+use Rattle.spelled_words.specs.declared.fault.LineFault.TheVariants as faults
 use Rattle.word_lines.specs.Words.{has_newline, without_newline, text_at}
 use Rattle.word_lines.specs.Reading.{command_at}
 use Rattle.word_lines.specs.Table.{table}

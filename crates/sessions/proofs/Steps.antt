@@ -6,7 +6,7 @@ use Rattle.std.proofs.lemmas.List.{take-append-drop}
 use Rattle.std.proofs.lemmas.List.Elements.{All-append, All-cons, All-nil}
 use Rattle.spans.specs.declared.calls.commands.Cmd.{Cmd}
 use Rattle.spans.specs.declared.calls.events.Event.{Event}
-use Rattle.word_lines.specs.declared.fault.LineFault.{LineFault}
+use Rattle.spelled_words.specs.declared.fault.LineFault.{LineFault}
 use Rattle.word_lines.specs.Commands.{command_line}
 use Rattle.word_lines.specs.Limits.{IsCommand}
 use Rattle.word_lines.specs.Events.{event_text, fault_line, spent_line}

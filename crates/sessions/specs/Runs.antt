@@ -3,7 +3,7 @@ use Rattle.std.specs.Prelude.{◌≡◌, ℕ, ◌+◌, ◌≤◌, ◌⊎◌, Boo
 use Rattle.text_format.specs.declared.Format.{Format}
 use Rattle.spans.specs.declared.calls.commands.Cmd.{Cmd}
 use Rattle.spans.specs.declared.calls.events.Event.{Event}
-use Rattle.word_lines.specs.declared.fault.LineFault.{LineFault}
+use Rattle.spelled_words.specs.declared.fault.LineFault.{LineFault}
 use Rattle.word_lines.specs.Events.{fault_line, spent_line}
 use Rattle.word_lines.specs.Memory.{WantsMemory, verb_at}
 use Rattle.word_lines.specs.Table.{table}

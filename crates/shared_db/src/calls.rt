@@ -43,7 +43,7 @@ impl Db {
         match self.call_in_place(rt, seat, &mut event) {
             Ok(()) => Ok(event),
             Err(_) => {
-                let Event { cmd, .. } = event;
+                let (cmd, _) = event.into_parts();
                 Err(Spent { cmd })
             }
         }

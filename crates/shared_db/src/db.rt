@@ -13,10 +13,16 @@ use ticket_lock::TicketLock;
 use timestamps::oracle::{Oracle, OraclePass};
 
 /// A database that threads share by reference.
-#[derive(Drop)]
 pub struct Db {
     pub(crate) lock: TicketLock<Served>,
     pub(crate) oracle: Oracle,
+}
+
+// a call of its own, so that where a database is dropped no proof has a case for each part of it
+impl Drop for Db {
+    fn drop(self) {
+        let Db { lock: _, oracle: _ } = self;
+    }
 }
 
 /// One caller of a database. At run time it is its number alone.

@@ -23,6 +23,7 @@ pub mod WorkedHistories
 pub mod WorkedCompleteness
 pub mod WorkedReports
 pub mod WorkedPromises
+pub mod Parts
 pub mod Pieces
 pub mod Successors
 pub mod Starting

@@ -257,7 +257,7 @@ pub fn is_below(high: &Option<Bound>, key: &Key) -> bool
 }
 
 /// The same bound once more, where there is one.
-pub(crate) fn copy_bound(bound: &Option<Bound>) -> Result<Option<Bound>, AllocError>
+pub fn copy_bound(bound: &Option<Bound>) -> Result<Option<Bound>, AllocError>
     ensures { IfOk result (λ copy. copy ≡ bound.now) }
 {
     match bound {

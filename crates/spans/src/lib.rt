@@ -34,7 +34,7 @@
 //! A bound of up to 24 bytes lies in place. A longer one takes memory, in the four calls that copy bytes.
 //! `Span::without` takes it also for its list. The other calls take none.
 //!
-//! Tests: `word_tests`.
+//! Tests: `unit_tests`.
 #![tactic(auto)]
 
 pub mod bound;

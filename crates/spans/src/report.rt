@@ -72,7 +72,7 @@ pub struct FeedReport {
 }
 
 /// The report of a database. Its lists rise by timestamp, and by number.
-#[derive(Debug, Drop)]
+#[derive(Debug)]
 pub struct Report {
     pub closed: u64,
     pub horizon: u64,
@@ -83,6 +83,21 @@ pub struct Report {
     pub transactions: Vec<TransactionReport>,
     pub protections: Vec<ProtectionReport>,
     pub feeds: Vec<FeedReport>,
+}
+
+// a call of its own, so that where a report is dropped no proof has a case for each part of it
+impl Drop for Report {
+    fn drop(self) {
+        let Report {
+            closed: _,
+            horizon: _,
+            versions: _,
+            removable: _,
+            transactions: _,
+            protections: _,
+            feeds: _,
+        } = self;
+    }
 }
 
 /// What keeps a collection from going further.

@@ -21,7 +21,7 @@
 //!
 //! No call takes memory.
 //!
-//! Tests: `text_tests`.
+//! Tests: `unit_tests`.
 #![tactic(auto)]
 
 ghost use Rattle.std.specs.Prelude.{◌≡◌, ◌≤◌, ◌+◌};

@@ -22,7 +22,7 @@
 //! - `draw`: 32 timestamps by two steps on one word; it takes no memory
 //! - a search by `BinarySearch`: as many timestamps as the length of the list has binary digits
 //!
-//! Tests: `word_tests`; leases also in `session_tests`.
+//! Tests: `unit_tests`; leases also in `session_tests`.
 #![tactic(auto)]
 
 pub mod binary_search;

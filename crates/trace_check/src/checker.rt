@@ -10,11 +10,20 @@ use spans::report::Report;
 use std::alloc::{AllocError, Global};
 
 /// The events that were taken so far are legal and have no gap. It holds what they left, and not the events.
-#[derive(Drop)]
 pub struct Checker {
     database: PlainDatabase,
     /// Where the latest event stands, if there was one.
     last: Option<u64>,
+}
+
+// a call of its own, so that where a checker is dropped no proof has a case for each part of it
+impl Drop for Checker {
+    fn drop(self) {
+        let Checker {
+            database: _,
+            last: _,
+        } = self;
+    }
 }
 
 impl Checker {

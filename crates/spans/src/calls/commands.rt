@@ -1,4 +1,6 @@
 //! What a session asks for.
+ghost use Rattle.std.specs.Prelude.{◌≡◌};
+ghost use Rattle.spans.specs.Parts.{asked_span};
 
 use crate::span::Span;
 use timestamps::key::Key;
@@ -6,7 +8,7 @@ use timestamps::value::Value;
 
 /// A command. Numbers range over the whole of `u64`: the database answers those that it can't take
 /// with a [`Refusal`](crate::calls::Refusal).
-#[derive(Debug, Drop, PartialEq, Eq)]
+#[derive(Debug, PartialEq, Eq)]
 pub enum Cmd {
     /// Begins the transaction of this timestamp.
     Begin { ts: u64 },
@@ -52,4 +54,70 @@ pub enum Cmd {
     Cancel { feed: u64 },
     /// Counts what the database holds.
     Stats,
+}
+
+// a call of its own, so that where a command is dropped no proof has a case for each kind of it
+impl Drop for Cmd {
+    fn drop(self) {
+        match self {
+            Cmd::Begin { ts: _ } => {}
+            Cmd::Get { ts: _, key: _ } => {}
+            Cmd::Scan { ts: _, span: _ } => {}
+            Cmd::Put {
+                ts: _,
+                key: _,
+                value: _,
+            } => {}
+            Cmd::Del { ts: _, key: _ } => {}
+            Cmd::Commit { ts: _ } => {}
+            Cmd::Abort { ts: _ } => {}
+            Cmd::Close { to: _ } => {}
+            Cmd::CloseHard { to: _ } => {}
+            Cmd::ReadAt { t: _, key: _ } => {}
+            Cmd::ScanAt { t: _, span: _ } => {}
+            Cmd::Protect { t: _ } => {}
+            Cmd::Release { id: _ } => {}
+            Cmd::Collect { to: _ } => {}
+            Cmd::Open { span: _, cursor: _ } => {}
+            Cmd::OpenInitial { span: _, cursor: _ } => {}
+            Cmd::OpenEvery {
+                span: _,
+                cursor: _,
+                gap: _,
+            } => {}
+            Cmd::OpenInitialEvery {
+                span: _,
+                cursor: _,
+                gap: _,
+            } => {}
+            Cmd::Poll { feed: _, max: _ } => {}
+            Cmd::Cancel { feed: _ } => {}
+            Cmd::Stats => {}
+        }
+    }
+}
+
+impl Cmd {
+    /// Its span, if it has one.
+    pub fn into_span(self) -> Option<Span>
+        ensures { result ≡ asked_span self }
+    {
+        match self {
+            Cmd::Scan { ts: _, span }
+            | Cmd::ScanAt { t: _, span }
+            | Cmd::Open { span, cursor: _ }
+            | Cmd::OpenInitial { span, cursor: _ }
+            | Cmd::OpenEvery {
+                span,
+                cursor: _,
+                gap: _,
+            }
+            | Cmd::OpenInitialEvery {
+                span,
+                cursor: _,
+                gap: _,
+            } => Some(span),
+            _ => None,
+        }
+    }
 }

@@ -1,10 +1,11 @@
 //! What happened: a command with its answer.
+ghost use Rattle.std.specs.Prelude.{◌≡◌};
 
 use crate::calls::commands::Cmd;
 use crate::calls::replies::Reply;
 
 /// A command of a seat with its reply, at its place in the one order of all commands.
-#[derive(Debug, Drop)]
+#[derive(Debug)]
 pub struct Event {
     /// Its number among the events of the database.
     pub position: u64,
@@ -12,4 +13,31 @@ pub struct Event {
     pub seat: u8,
     pub cmd: Cmd,
     pub reply: Reply,
+}
+
+// a call of its own, so that where an event is dropped no proof has a case for each part of it
+impl Drop for Event {
+    fn drop(self) {
+        let Event {
+            position: _,
+            seat: _,
+            cmd: _,
+            reply: _,
+        } = self;
+    }
+}
+
+impl Event {
+    /// Its command and its reply.
+    pub fn into_parts(self) -> (Cmd, Reply)
+        ensures { result ≡ (self.cmd, self.reply) }
+    {
+        let Event {
+            position: _,
+            seat: _,
+            cmd,
+            reply,
+        } = self;
+        (cmd, reply)
+    }
 }

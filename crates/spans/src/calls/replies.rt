@@ -1,5 +1,6 @@
 //! What a command is answered.
 ghost use Rattle.std.specs.Prelude.{◌≡◌};
+ghost use Rattle.spans.specs.Parts.{answered_rows};
 
 use crate::calls::messages::Messages;
 use std::marker::Model;
@@ -7,7 +8,7 @@ use timestamps::key::Key;
 use timestamps::value::Value;
 
 /// The answer to a command.
-#[derive(Debug, Drop)]
+#[derive(Debug)]
 pub enum Reply {
     Started,
     Found(Option<Value>),
@@ -42,6 +43,50 @@ pub enum Reply {
         horizon: u64,
     },
     Refused(Refusal),
+}
+
+// a call of its own, so that where a reply is dropped no proof has a case for each kind of it
+impl Drop for Reply {
+    fn drop(self) {
+        match self {
+            Reply::Started => {}
+            Reply::Found(_) => {}
+            Reply::Rows(_) => {}
+            Reply::Written => {}
+            Reply::Committed { keys: _ } => {}
+            Reply::Aborted => {}
+            Reply::Closed { at: _, aborted: _ } => {}
+            Reply::Protected { id: _ } => {}
+            Reply::Released => {}
+            Reply::Collected {
+                horizon: _,
+                removed: _,
+            } => {}
+            Reply::Opened { feed: _ } => {}
+            Reply::Messages(_) => {}
+            Reply::Cancelled => {}
+            Reply::Stats {
+                versions: _,
+                undecided: _,
+                feeds: _,
+                closed: _,
+                horizon: _,
+            } => {}
+            Reply::Refused(_) => {}
+        }
+    }
+}
+
+impl Reply {
+    /// Its rows, if it has some.
+    pub fn into_rows(self) -> Option<Rows>
+        ensures { result ≡ answered_rows self }
+    {
+        match self {
+            Reply::Rows(rows) => Some(rows),
+            _ => None,
+        }
+    }
 }
 
 /// Why a command was refused. After every refusal but `TooLate` the database is as it was.

@@ -8,7 +8,7 @@ use Rattle.engine.proofs.layers.Layers.close_hard.Goals as goal
 
 pub returns-in-Closed-clause-step : goal.returns-in-Closed-clause-step
 returns-in-Closed-clause-step c = let e = c.args.self.now in let new = c.release_through.ensures in
-    rules_step e.rules c.close_hard.new.self e.feeds c.release_through.new.feeds c.args.seat (CloseHard c.args.to) c.close_hard.result (Closed c.in-Closed.at c.in-Closed.aborted) new.places new.opened c.in-Closed.is (c.close_hard.ensures.step c.args.seat)
+    rules_step e.rules c.close_hard-reply.new.self e.feeds c.release_through.new.feeds c.args.seat (CloseHard c.args.to) c.close_hard-reply.result (Closed c.in-Closed.at c.in-Closed.aborted) new.places new.opened c.in-Closed.is (c.close_hard-reply.ensures.step c.args.seat)
 
 pub returns-in-Closed-clause-served : goal.returns-in-Closed-clause-served
 returns-in-Closed-clause-served c = let new = c.release_through.ensures in record {
@@ -17,7 +17,7 @@ returns-in-Closed-clause-served c = let new = c.release_through.ensures in recor
 }
 
 pub returns-in_default-clause-step : goal.returns-in_default-clause-step
-returns-in_default-clause-step c = c.close_hard.ensures.step c.args.seat (feeds_of c.args.self.now.feeds)
+returns-in_default-clause-step c = c.close_hard-reply.ensures.step c.args.seat (feeds_of c.args.self.now.feeds)
 
 pub returns-in_default-clause-served : goal.returns-in_default-clause-served
-returns-in_default-clause-served c = hard_unclosed c.args.self.now (record c.args.self.now { rules = c.close_hard.new.self }) c.args.seat c.args.to c.close_hard.result c.in_default.not-Closed (refl, refl)
+returns-in_default-clause-served c = hard_unclosed c.args.self.now (record c.args.self.now { rules = c.close_hard-reply.new.self }) c.args.seat c.args.to c.close_hard-reply.result c.in_default.not-Closed (refl, refl)
