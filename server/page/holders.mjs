@@ -1,54 +1,142 @@
-// Who holds what, as a list: the lowest first, because that one decides how far closed or the horizon may go.
+// Who holds what: what closed and the horizon wait for, in a sentence each, then all that hold them or would.
+//
+// First stands what holds closed or the horizon now, then what is late, then the lowest. A consumer and the feed that
+// it follows are one. More than a few are folded, streams that nobody has named last.
 import { markup } from "/picture/markup.mjs";
-import { bytesOf, counted, spanOf } from "/picture/words.mjs";
+import { bytesOf, counted, short, spanOf } from "/picture/words.mjs";
+import { keep } from "./keep.mjs";
+import { ageText } from "./vitals.mjs";
 
-export function holdersList({ server, transaction, protection, feed, consumer }) {
-  const held = [
-    ...consumer.filter((it) => it.stored !== null).map((it) => consumerItem(it, feed)),
-    ...feed.map(feedItem),
+const SHOWN = 5; // items that aren't folded
+const UNFOLDED = 200; // items behind them, at most
+const LATE = 5; // seconds from which on a transaction is late
+const LONGEST = 18; // letters of a bound
+
+export class Holders {
+  #part;
+  #folded = [];
+
+  /** `part(name)` gives the page's elements. */
+  constructor(part) {
+    this.#part = part;
+    part("holders-more").addEventListener("toggle", () => this.#drawFolded());
+  }
+
+  draw(holders) {
+    const items = itemsOf(holders);
+    this.#part("seats").textContent = `${holders.server.sessions} of 64 seats`;
+    keep(this.#part("held"), sentencesOf(holders, items));
+    keep(this.#part("holders"), items.slice(0, SHOWN).map(itemOf));
+    this.#folded = items.slice(SHOWN);
+    this.#drawFolded();
+  }
+
+  #drawFolded() {
+    const [details, list] = [this.#part("holders-more"), this.#part("holders-folded")];
+    details.hidden = this.#folded.length === 0;
+    const summary = `${this.#folded.length} more: ${kindsOf(this.#folded)}`;
+    if (!details.hidden) details.firstElementChild.textContent = summary;
+    keep(list, details.open ? this.#folded.slice(0, UNFOLDED).map(itemOf) : []);
+  }
+}
+
+// "2 transactions, 7 streams"
+function kindsOf(items) {
+  const counts = new Map();
+  for (const { kind } of items) counts.set(kind, (counts.get(kind) ?? 0) + 1);
+  return [...counts].map(([kind, count]) => counted(count, kind)).join(", ");
+}
+
+function itemsOf({ server, transaction, protection, feed, consumer }) {
+  const followed = new Map(feed.map((it) => [it.number, it]));
+  const items = [
+    ...transaction.map((it) => transactionItem(it, server)),
+    ...consumer.filter((it) => it.stored !== null).map((it) => consumerItem(it, followed.get(it.feed))),
+    ...feed.filter((it) => it.consumer === null).map(feedItem),
     ...protection.filter((it) => it.consumer === null).map(protectionItem),
-  ].sort((a, b) => (BigInt(a.at) < BigInt(b.at) ? -1 : 1));
-  const holds = (it) => it.isHeld && it.at === server.limit && it.at !== server.closed;
-  return markup`<p class="sentence">${sentence(server, held.some(holds))}</p>
-    ${list(transaction.map(transactionItem))}${list(held.map((it) => ({ ...it, holds: holds(it) })))}`;
+  ];
+  const isNamed = ({ numbers }) => numbers?.[server.holder] === server.holder_number;
+  const isLimit = (it) => it.isHeld && it.at === server.limit && it.at !== server.closed;
+  for (const it of items)
+    if (isLimit(it) || (server.holder !== "closed" && isNamed(it)))
+      Object.assign(it, { holds: "holds the horizon", rank: HOLDS_HORIZON });
+  return items.sort((a, b) => a.rank - b.rank || (BigInt(a.at) < BigInt(b.at) ? -1 : 1));
 }
 
-function sentence({ closed, horizon, limit, sessions }, isHeld) {
-  const kept = isHeld ? `All from ${limit} on is kept.` : "Nothing holds the horizon below closed.";
-  return `${sessions} of 64 seats are taken. Closed is ${closed}, the horizon ${horizon}. ${kept}`;
+// The order of items: a number for what each is.
+const [HOLDS_CLOSED, HOLDS_HORIZON, IS_LATE, OTHER, STREAM] = [0, 1, 2, 3, 4];
+
+function transactionItem({ timestamp, seat, age }, { oldest }) {
+  const isLate = age > LATE;
+  const holds = timestamp === oldest && "holds closed";
+  const rank = holds ? HOLDS_CLOSED : isLate ? IS_LATE : OTHER;
+  const lag = `undecided for ${ageText(age).join(" ")}`;
+  const name = `transaction ${timestamp}`;
+  return { kind: "transaction", name, says: `session ${seat}`, at: timestamp, lag, isLate, holds, rank };
 }
 
-const list = (items) => items.length > 0 && markup`<ul>${items.map(itemOf)}</ul>`;
+function consumerItem({ name, stored, held, generation, feed, protection, lag }, follows) {
+  const away = held ? "not connected" : "let go: it has to begin anew";
+  const says = follows ? `consumer, by feed ${feed}${spanAndRoom(follows)}` : `consumer, ${away}`;
+  const isLate = !held || follows?.waits;
+  return {
+    kind: "consumer", name, says, at: stored, lag: behind(lag), isLate, isHeld: held, rank: isLate ? IS_LATE : OTHER,
+    whole: [`generation ${generation}`, follows && spanOf(boundsOf(follows.opened))].filter(Boolean).join(", "),
+    numbers: { feed, protection },
+  };
+}
 
-function itemOf({ name, says, at, lag, isLate, holds }) {
-  const held = holds && markup` <strong>holds the horizon</strong>`;
-  return markup`<li class="${holds && "holds"} ${isLate && "late"}"><b>${name}</b> <span class="at">${at}</span>
-    <span class="says">${says}</span> <span class="lag">${lag}${held}</span></li>`;
+function feedItem({ number, opened, streamed, seat, floor, lag, told, waits }) {
+  const says = `${streamed ? "a stream" : `session ${seat}`}${spanAndRoom({ opened, waits })}`;
+  const [kind, rank] = streamed ? ["stream", STREAM] : ["feed", OTHER];
+  return {
+    kind, name: `feed ${number}`, says, at: floor, lag: behind(lag), isLate: waits, isHeld: true, rank,
+    whole: `${spanOf(boundsOf(opened))}, ${told.toLocaleString("en")} told`, numbers: { feed: number },
+  };
+}
+
+function protectionItem({ number, timestamp, seat, lag }) {
+  return {
+    kind: "protection", name: `protection ${number}`, says: `session ${seat}`, at: timestamp, lag: behind(lag),
+    isHeld: true, rank: OTHER, numbers: { protection: number },
+  };
 }
 
 const behind = (lag) => (lag === 0 ? "up to date" : `${lag.toLocaleString("en")} ${lag === 1 ? "row" : "rows"} behind`);
 
-function transactionItem({ timestamp, seat, age }) {
-  const lag = `undecided for ${counted(Math.round(age), "second")}`;
-  const says = `of session ${seat}; closed stays below it`;
-  return { name: `transaction ${timestamp}`, says, at: "", lag, isLate: age > 5 };
-}
-
-function consumerItem({ name, stored, held, generation, feed, lag }, feeds) {
-  const away = held ? "not connected" : "let go: it has to begin anew";
-  const by = feeds.some((it) => it.number === feed) ? `it follows feed ${feed}` : away;
-  const says = `a consumer, generation ${generation}; ${by}`;
-  return { name, says, at: stored, lag: behind(lag), isLate: !held, isHeld: held };
-}
-
-function feedItem({ number, opened, consumer, streamed, seat, floor, lag, told, waits }) {
+function boundsOf(opened) {
   const [, lo, hi] = opened.split(" ");
-  const whose = consumer ? `of ${consumer}` : streamed ? "of a stream" : `of session ${seat}`;
-  const room = waits ? "; its reader has no room" : "";
-  const says = `${whose}, ${spanOf({ lo: bytesOf(lo), hi: bytesOf(hi) })}, ${told.toLocaleString("en")} told${room}`;
-  return { name: `feed ${number}`, says, at: floor, lag: behind(lag), isLate: waits, isHeld: true };
+  return { lo: bytesOf(lo), hi: bytesOf(hi) };
 }
 
-function protectionItem({ number, timestamp, seat, lag }) {
-  return { name: `protection ${number}`, says: `of session ${seat}`, at: timestamp, lag: behind(lag), isHeld: true };
+function spanAndRoom({ opened, waits }) {
+  const [, lo, hi] = opened.split(" ").map((it) => (it === "-" ? "" : short(it, LONGEST)));
+  const span = lo || hi ? `${lo} … ${hi}`.trim() : "every key";
+  return `, ${span}${waits ? ", its reader has no room" : ""}`;
+}
+
+// ---- what is drawn
+
+// The two that matter most. What isn't held back is said, too.
+function sentencesOf({ server, transaction }, items) {
+  const { closed, horizon, limit, oldest } = server;
+  const first = transaction.find((it) => it.timestamp === oldest);
+  const waits = first ? markup`, below transaction <b>${oldest}</b> of session ${first.seat}.`
+    : ". Nothing keeps it back.";
+  const holder = items.find((it) => it.rank === HOLDS_HORIZON);
+  const keeps = holder && markup`<b>${holder.name}</b> keeps all from ${limit} on.`;
+  return [
+    { key: "closed", html: markup`<li><em class="closed">Closed</em> is ${closed}${waits}</li>` },
+    { key: "horizon", html: markup`<li><em class="horizon">The horizon</em> is ${horizon}.
+      ${keeps ?? "Nothing keeps it below closed."}</li>` },
+  ];
+}
+
+function itemOf({ kind, name, says, at, lag, isLate, holds, whole }) {
+  const state = [holds && "holds", isLate && "late"].filter(Boolean).join(" ");
+  const held = holds && markup` <strong>${holds}</strong>`;
+  const stands = kind !== "transaction" && markup`<span class="at">${at}</span>`;
+  const html = markup`<li class="${state}" title="${whole}"><span class="who"><b>${name}</b>${held}</span>${stands}
+    <span class="says">${says}</span><span class="lag">${lag}</span></li>`;
+  return { key: `${kind} ${name}`, html };
 }

@@ -1,51 +1,42 @@
-// The page: the picture of the live database, its events, who holds what, and a line to type commands.
-import { markup } from "/picture/markup.mjs";
-import { draw, REFUSALS } from "/picture/picture.mjs";
+// The page: numbers, who holds what, the picture of the live database, its events, and a line to type commands.
+//
+// It asks the server each second while it is seen. What was told is drawn by animation frame, a part each (frames.mjs).
+import { draw } from "/picture/picture.mjs";
+import { Commands } from "./commands.mjs";
 import { Events } from "./events.mjs";
-import { examples, run, shiftAbove } from "./guide.mjs";
-import { holdersList } from "./holders.mjs";
+import { Frames } from "./frames.mjs";
+import { Holders } from "./holders.mjs";
 import { Live } from "./live.mjs";
-import { Session } from "./session.mjs";
+import { Refusals } from "./refusals.mjs";
+import { View } from "./view.mjs";
+import { Vitals } from "./vitals.mjs";
 
-const EVERY = 1000; // milliseconds between two looks, while the page is seen
-const COMMANDS = `begin                  draws a timestamp
-begin TS               . is the one that was begun last
-get . KEY              scan . LO HI
-put . KEY VALUE        del . KEY
-commit .               abort .
-readat T KEY           scanat T LO HI
-open LO HI CURSOR      openinitial LO HI CURSOR
-openevery LO HI CURSOR GAP
-openinitialevery LO HI CURSOR GAP
-poll FEED MAX          cancel FEED
-protect T              release ID
-close TO               closehard TO
-collect TO             stats
-
-LO HI   keys from LO on and below HI; - is no bound`;
+const EVERY = 1000; // milliseconds between two looks
 
 const part = (id) => document.getElementById(id);
 
 class Page {
   #live = new Live();
-  #session = new Session(() => this.#drawSession());
-  #events = new Events(part("events"), (place) => this.#show(place));
-  #place = null; // the event that is shown, or null for the last one
-  #typed = [];
-  #at = 0; // which of the typed lines is shown
-  #examples = [];
+  #view = new View(this.#live.history);
+  #frames = new Frames();
+  #vitals = new Vitals();
+  #holders = new Holders(part);
+  #refusals = new Refusals();
+  #events;
   #shown = null; // what the picture was drawn of
+  #listed = null; // what the list was drawn of
 
   constructor() {
-    part("commands").textContent = COMMANDS;
-    part("lines").addEventListener("keydown", (event) => this.#pressed(event));
-    part("lines").addEventListener("input", () => fit(part("lines")));
-    part("end").onclick = () => this.#session.end();
-    part("run").onclick = () => this.#runExample(this.#examples[part("guide").value]);
-    part("moment").addEventListener("click", (event) => event.target.matches("button") && this.#show(null));
+    const change = (how) => () => this.#change(how);
+    this.#events = new Events(part, {
+      onShow: (place) => this.#change((view) => view.hold(place)),
+      onLast: change((view) => view.goOn()),
+    });
+    part("own").onchange = change((view) => (view.showsOwn = part("own").checked));
+    new Commands(part, () => this.#look());
+    part("pause").onclick = () => this.#turn();
     document.addEventListener("visibilitychange", () => this.#look());
-    document.addEventListener("keydown", (event) => this.#pressedAnywhere(event));
-    this.#offerExamples();
+    document.addEventListener("keydown", (event) => this.#pressed(event));
     this.#look();
     setInterval(() => this.#look(), EVERY);
   }
@@ -53,17 +44,23 @@ class Page {
   // ---- what the server tells
 
   async #look() {
-    if (document.hidden) return;
-    const { history } = this.#live;
+    if (document.hidden) return this.#live;
     try {
       await this.#live.refresh();
-      this.#tell(`database ${this.#live.holders.server.identity}`, true);
     } catch (error) {
       this.#tell(`the server doesn't answer: ${error.message}`, false);
-      return;
+      return this.#live;
     }
-    if (this.#live.history !== history) this.#place = null;
+    const { identity, shouts } = this.#live.holders.server;
+    const wrong = "an answer wasn't the one that had to come: look at the server's standard error";
+    this.#tell(shouts > 0 ? wrong : `database ${identity}`, shouts === 0);
+    this.#vitals.take(performance.now(), this.#live);
+    this.#view.follow(this.#live.history, this.#live.state);
+    this.#frames.ask("vitals", () => this.#vitals.draw(part("vitals"), this.#live));
+    this.#frames.ask("holders", () => this.#holders.draw(this.#live.holders));
+    this.#frames.ask("refusals", () => this.#refusals.draw(part, this.#live));
     this.#draw();
+    return this.#live;
   }
 
   #tell(status, isLive) {
@@ -71,112 +68,74 @@ class Page {
     part("status").classList.toggle("live", isLive);
   }
 
-  #show(place) {
-    this.#place = place === this.#live.history.events.length - 1 ? null : place;
+  // ---- which event is shown
+
+  #turn() {
+    this.#change((view) => (view.isStopped ? view.goOn() : view.pause()));
+  }
+
+  // A mark that is chosen stays in the picture: the view stops for it.
+  #chose(id) {
+    if (id !== null && !this.#view.isStopped) this.#change((view) => view.pause());
+  }
+
+  #change(how) {
+    how(this.#view);
     this.#draw();
   }
 
-  // What hasn't changed isn't drawn anew, so that it can be read and selected.
+  #pressed(event) {
+    if (event.target.matches("textarea, select") || event.ctrlKey || event.metaKey || event.altKey) return;
+    const act = { "/": () => part("lines").focus(), p: () => this.#turn(), P: () => this.#turn() }[event.key];
+    if (!act) return;
+    event.preventDefault();
+    act();
+  }
+
+  // ---- drawing
+
   #draw() {
-    const { history, state, holders } = this.#live;
-    const last = history.events.length - 1;
-    const place = this.#place ?? last;
-    part("holders").innerHTML = holdersList(holders);
-    const shown = [history.events[last]?.position, place, state].join();
+    this.#frames.ask("picture", () => {
+      this.#drawStanding();
+      this.#drawPicture();
+    });
+    this.#frames.ask("events", () => this.#drawEvents());
+  }
+
+  #drawStanding() {
+    const { isStopped, isPaused, event } = this.#view;
+    const newer = event ? Number(this.#live.holders?.server.next ?? 0) - 1 - Number(event.position) : 0;
+    const stands = isPaused ? "paused" : isStopped ? "held" : "live";
+    if (part("view").textContent !== stands) part("view").textContent = stands;
+    part("view").classList.toggle("live", !isStopped);
+    part("newer").textContent = isStopped && newer > 0 ? `${newer.toLocaleString("en")} newer` : "";
+    part("pause").firstChild.textContent = isStopped ? "Back to now" : "Pause";
+    part("picture").classList.toggle("then", isStopped);
+    const line = event ? lineOf(event) : "no event is kept";
+    if (part("moment").textContent !== line) part("moment").textContent = line;
+  }
+
+  // What hasn't changed isn't drawn anew, so that it can be read and selected.
+  #drawPicture() {
+    const { history, place, told, state, isStopped } = this.#view;
+    const shown = [history.story, history.first, place, told, state, isStopped].map(String).join();
     if (shown === this.#shown) return;
     this.#shown = shown;
-    draw(part("picture"), history, { place, state: place === last ? state : undefined });
-    this.#events.show(history, place);
-    const event = history.events[place];
-    const back = place < last && markup`<button type="button">Back to now</button>`;
-    part("moment").innerHTML = markup`<code>${event ? lineOf(event) : "no event is kept"}</code>${back}`;
+    const choice = { onChoose: (id) => this.#chose(id), ...(!isStopped && { chosen: null }) };
+    draw(part("picture"), history, { place, told, state, isQuiet: !isStopped, ...choice });
   }
 
-  // ---- commands
-
-  #pressed(event) {
-    const input = event.target;
-    if (event.key === "Enter" && !event.shiftKey) {
-      event.preventDefault();
-      if (input.value.trim() === "") return;
-      this.#at = this.#typed.push(input.value);
-      const lines = input.value.replace(/\n*$/, "\n");
-      this.#fill("");
-      this.#say(lines).then(() => this.#look());
-    } else if ((event.key === "ArrowUp" || event.key === "ArrowDown") && !input.value.includes("\n")) {
-      event.preventDefault();
-      this.#at = Math.max(0, Math.min(this.#typed.length, this.#at + (event.key === "ArrowUp" ? -1 : 1)));
-      this.#fill(this.#typed[this.#at] ?? "");
-    }
-  }
-
-  #pressedAnywhere(event) {
-    if (event.key !== "/" || event.target.matches("textarea, select")) return;
-    event.preventDefault();
-    part("lines").focus();
-  }
-
-  #fill(text) {
-    part("lines").value = text;
-    fit(part("lines"));
-  }
-
-  async #say(lines) {
-    try {
-      const text = await this.#session.say(lines);
-      this.#log(text.split("\n").slice(0, -1).map(answerOf));
-      return text;
-    } catch (error) {
-      this.#log([markup`<p class="no">${error.message}</p>`]);
-      return "";
-    }
-  }
-
-  async #runExample(example) {
-    await this.#session.end();
-    await this.#live.refresh();
-    const shift = shiftAbove(this.#live.holders.server);
-    this.#log([markup`<p class="title">${example.title}, its timestamps moved by ${shift}</p>`]);
-    await run(example, shift, (lines) => this.#say(lines));
-    this.#show(null);
-    await this.#look();
-  }
-
-  async #offerExamples() {
-    this.#examples = await examples();
-    const options = this.#examples.map(({ title }, i) => markup`<option value="${i}">${title}</option>`);
-    part("guide").innerHTML = markup`${options}`;
-  }
-
-  #log(answers) {
-    part("log").insertAdjacentHTML("beforeend", answers.join(""));
-    while (part("log").childElementCount > 300) part("log").firstElementChild.remove();
-    part("log").scrollTop = part("log").scrollHeight;
-  }
-
-  #drawSession() {
-    part("end").disabled = !this.#session.isOpen;
-    part("seat").textContent = this.#session.isOpen ? "has a seat" : "";
+  #drawEvents() {
+    const { history, told, last, showsOwn, isStopped } = this.#view;
+    const listed = [history.story, history.first, told, last, showsOwn, isStopped].map(String).join();
+    if (listed === this.#listed) return;
+    this.#listed = listed;
+    this.#events.show(this.#view);
   }
 }
 
 function lineOf({ position, seat, command, words, answer, details }) {
   return [position, seat, command, ...words, "=>", answer, ...details].join(" ");
-}
-
-// A line of an answer: an event, a row or message behind one, or a fault.
-function answerOf(line) {
-  const at = line.lastIndexOf(" => ");
-  if (/^fault /.test(line)) return markup`<p class="no">${line}</p>`;
-  if (at < 0 || !/^\d+ \d+ /.test(line)) return markup`<p class="more">${line}</p>`;
-  const answer = line.slice(at + 4);
-  const kind = REFUSALS.has(answer.split(" ")[0]) ? "no" : "ok";
-  return markup`<p>${line.slice(0, at)} =&gt; <span class="${kind}">${answer}</span></p>`;
-}
-
-// As high as its lines.
-function fit(area) {
-  area.rows = Math.min(8, area.value.split("\n").length);
 }
 
 new Page();

@@ -1,5 +1,9 @@
 // The page's own session: a seat from the first line on, until it is ended or the page goes.
 
+import { textOf } from "./live.mjs";
+
+const SEATS = 64;
+
 export class Session {
   #socket = null;
   #waiting = []; // {resolve, reject} of each message that isn't answered yet
@@ -42,7 +46,7 @@ export class Session {
         this.onChange();
         resolve(socket);
       };
-      socket.onerror = () => reject(new Error("no session: the server is gone, or all its seats are taken"));
+      socket.onerror = async () => reject(new Error(await refusal()));
     });
   }
 
@@ -52,5 +56,16 @@ export class Session {
       this.#socket = null;
       this.onChange();
     }
+  }
+}
+
+// A browser doesn't tell why it got no WebSocket, so the server is asked.
+async function refusal() {
+  try {
+    const { sessions } = JSON.parse((await textOf("/holders")).split("\n")[0]);
+    if (sessions >= SEATS) return "seats: all 64 seats are taken. End a session, or try again once one has ended.";
+    return "no session: the server refuses one.";
+  } catch {
+    return "no session: the server doesn't answer.";
   }
 }

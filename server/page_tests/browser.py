@@ -13,7 +13,7 @@ import tempfile
 
 import aiohttp
 
-KEYS = {"Enter": 13, "Tab": 9, "Escape": 27, "ArrowUp": 38, "ArrowDown": 40, "End": 35}
+KEYS = {"Enter": 13, "Tab": 9, "Escape": 27, "ArrowUp": 38, "ArrowDown": 40, "End": 35, "Home": 36, " ": 32}
 FLAGS = (
     "--headless", "--no-sandbox", "--disable-gpu", "--no-first-run", "--hide-scrollbars", "--remote-debugging-port=0",
 )
@@ -23,6 +23,7 @@ class Tab:
     def __init__(self, socket):
         self.socket, self.asked, self.waiting = socket, 0, {}
         self.complaints = []  # exceptions and errors of the page
+        self.traced = None  # what was traced so far, or None
 
     async def listen(self):
         async for message in self.socket:
@@ -31,6 +32,10 @@ class Tab:
                 self.waiting.pop(told["id"]).set_result(told)
             elif told["method"] in ("Runtime.exceptionThrown", "Log.entryAdded"):
                 self.complaints.append(json.dumps(told["params"]))
+            elif told["method"] == "Tracing.dataCollected":
+                self.traced += told["params"]["value"]
+            elif told["method"] == "Tracing.tracingComplete":
+                self.trace_ends.set()
 
     async def ask(self, method, **parameters):
         self.asked += 1
@@ -42,10 +47,10 @@ class Tab:
         return told["result"]
 
     async def value(self, expression):
-        told = await self.ask("Runtime.evaluate", expression=expression, returnByValue=True)
+        told = await self.ask("Runtime.evaluate", expression=expression, returnByValue=True, awaitPromise=True)
         return told["result"].get("value")
 
-    async def until(self, expression, seconds=5):
+    async def until(self, expression, seconds=20):
         for _ in range(int(seconds * 20)):
             if await self.value(expression):
                 return
@@ -60,6 +65,24 @@ class Tab:
                 if text and kind == "keyDown":
                     event["text"] = text
                 await self.ask("Input.dispatchKeyEvent", **event)
+
+    async def tasks(self, seconds):
+        """How long each task of the page's main thread ran in so many seconds: milliseconds of the processor.
+
+        So the times are the page's own, however busy the machine is.
+        """
+        self.traced, self.trace_ends = [], asyncio.Event()
+        await self.ask("Tracing.start", categories="toplevel,devtools.timeline,disabled-by-default-devtools.timeline")
+        await asyncio.sleep(seconds)
+        await self.ask("Tracing.end")
+        await asyncio.wait_for(self.trace_ends.wait(), 30)
+        names = {one["tid"]: one["args"]["name"] for one in self.traced if one["name"] == "thread_name"}
+        main = max(
+            (tid for tid, name in names.items() if name == "CrRendererMain"),
+            key=lambda tid: sum(one.get("tdur", 0) for one in self.traced if one["tid"] == tid))
+        return [
+            one["tdur"] / 1000 for one in self.traced
+            if one["tid"] == main and one["name"] == "RunTask" and "tdur" in one]
 
     async def write(self, text):
         await self.ask("Input.insertText", text=text)

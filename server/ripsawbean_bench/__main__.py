@@ -1,69 +1,94 @@
 """Runs all measurements once, and writes them as tables."""
 
-import asyncio
 import os
 import sys
+from collections.abc import Callable
 
-from .figures import milliseconds, rate
-from .ours import CALLS_A_ROW, Ours
+from .figures import Found
+from .loaded import Etcd, Ours, Redis, build_load
 from .postgres import Postgres
-from .redis import Redis
 
-# What is sent ahead: lines a message here, rows a message for the others, messages ahead, rows in all.
-BATCHES = ((1, 1, 64, 5_000), (100, 25, 16, 50_000), (1000, 250, 8, 50_000))
-ONE_AT_A_TIME = (1, 1, 1, 2_500)
-HEAD_OF_RATES = """
-| Rows sent | calls/s | us of processor a call | rows/s | Redis, XADD/s | PostgreSQL, rows/s |
+# What is sent: the words for it, the way to ask, clients, transactions in all, transactions a message, messages ahead.
+WORKS = (
+    ("16 clients, a request at a time (`POST /call`)", "requests", 16, 40_000, 1, 1),
+    ("64 clients, a request at a time", "requests", 64, 40_000, 1, 1),
+    ("1 client, a transaction at a time in one message", "messages", 1, 5_000, 1, 1),
+    ("64 clients, the same", "messages", 64, 40_000, 1, 1),
+    ("1 client, a line at a time", "lines", 1, 2_500, 1, 1),
+    ("1 client, single lines, 64 ahead", "lines", 1, 10_000, 1, 64),
+    ("1 client, a transaction a message, 16 ahead", "messages", 1, 20_000, 1, 16),
+    ("1 client, 25 transactions (100 lines) a message, 16 ahead", "messages", 1, 100_000, 25, 16),
+)
+PUSHES = ((1, 400, 0.005), (100, 100, 0.05))  # readers, rows, seconds between two
+FLOOD = (100, 10_000)  # readers, rows
+FIRST = 100_000  # rows
+LEAST = 100  # rows, however small a part is asked for
+HEAD_OF_WORKS = """
+| Transactions a second | Ripsawbean | us of its processor | Redis | etcd | PostgreSQL |
 |---|---|---|---|---|---|"""
-HEAD_OF_SESSIONS = """
-| 64 sessions at once, one message at a time each | calls/s | the 65th is refused by name |
-|---|---|---|"""
-HEAD_OF_PUSHES = """
-| Push to the reader, ms: median, p99 | Ripsawbean | Redis, XREAD BLOCK | PostgreSQL, pg_recvlogical |
-|---|---|---|---|"""
-PUSHES = ((1, 300, 0.005), (100, 100, 0.05))  # readers, rows, seconds between two
+HEAD_OF_LATENCIES = """
+| Milliseconds: median, 99th percentile | Ripsawbean | Redis | etcd | PostgreSQL |
+|---|---|---|---|---|"""
+HEAD_OF_READERS = """
+| Rows a second | Ripsawbean | Redis | etcd | PostgreSQL |
+|---|---|---|---|---|"""
+Peers = tuple[Ours, Redis, Etcd, Postgres]
+SHORTER = {"etcd": 10}  # what is slow gets less to do: rates don't depend on it
 
 
-async def main(scale):
-    ours, redis, postgres = Ours(), Redis(), Postgres()
+def main(scale: float) -> None:
+    build_load()
+    peers = Ours(), Redis(), Etcd(), Postgres()
     try:
-        print("load at the start: %.1f, %d processors" % (os.getloadavg()[0], os.cpu_count()))
-        await rates(ours, redis, postgres, scale)
-        await sessions(ours, scale)
-        await pushes(ours, redis, postgres, scale)
-        print("load at the end: %.1f" % os.getloadavg()[0])
+        print("load at the start: %.1f, %d processors" % (os.getloadavg()[0], os.cpu_count() or 0))
+        waited = works(peers, scale)
+        print(HEAD_OF_LATENCIES)
+        for name, found in waited:
+            print("| %s | %s |" % (name, " | ".join(one.told_latency() for one in found)))
+        pushes(peers, scale)
+        readers(peers, scale)
+        print("load at the end: %.1f" % os.getloadavg()[0], flush=True)
     finally:
-        for peer in (ours, redis, postgres):
+        for peer in peers:
             peer.end()
 
 
-async def rates(ours, redis, postgres, scale):
-    print(HEAD_OF_RATES)
-    for lines, rows, ahead, count in (*BATCHES, ONE_AT_A_TIME):
-        count = int(count * scale) // 250 * 250
-        found, used = await ours.rows(count, lines, ahead)
-        added = await redis.rows(count, rows, ahead)
-        decoded = await postgres.rows(min(count, 20_000), rows, ahead)
-        how = "one line at a time" if ahead == 1 else "%d lines a message, ahead" % lines
-        calls = rate(found * CALLS_A_ROW)
-        print("| %s | %s | %.1f | %s | %s | %s |" % (how, calls, used, rate(found), rate(added), rate(decoded)))
+def ask(peers: Peers, measure: Callable[..., Found]) -> list[Found]:
+    return [measure(peer, SHORTER.get(peer.name, 1)) for peer in peers]
 
 
-async def sessions(ours, scale):
-    print(HEAD_OF_SESSIONS)
-    for lines, rows in ((1, 100), (4, 250), (100, 500)):
-        found, refused = await ours.sessions(64, int(rows * scale) // 25 * 25, lines)
-        print("| %d lines a message | %s | %s |" % (lines, rate(found), "yes" if refused else "NO"))
+def scaled(count: float, scale: float, shorter: int = 1) -> int:
+    return max(int(count * scale / shorter), LEAST)
 
 
-async def pushes(ours, redis, postgres, scale):
-    print(HEAD_OF_PUSHES)
-    one, count, pause = PUSHES[0]
-    found = milliseconds(await ours.push(one, int(count * scale), pause, from_closing=True))
-    print("| from sending a commit and its closing, 1 reader | %s | | |" % found)
-    for readers, count, pause in PUSHES:
-        told = [milliseconds(await peer.push(readers, int(count * scale), pause)) for peer in (ours, redis, postgres)]
-        print("| from sending a transaction, %d reader%s | %s |" % (readers, "s" * (readers > 1), " | ".join(told)))
+def works(peers: Peers, scale: float) -> list[tuple[str, list[Found]]]:
+    """Writes the rates, and gives the latencies of what was sent one at a time."""
+    print(HEAD_OF_WORKS, flush=True)
+    waited = []
+    for name, way, clients, count, rows, ahead in WORKS:
+        found = ask(peers, lambda peer, shorter: peer.transactions(way, clients, scaled(count, scale, shorter), rows, ahead))
+        ours, *others = found
+        told = [ours.told_rate(), ours.told_processor(), *(one.told_rate() for one in others)]
+        print("| %s | %s |" % (name, " | ".join(told)), flush=True)
+        if ahead == 1:
+            waited.append((name, found))
+    return waited
 
 
-asyncio.run(main(float(sys.argv[1]) if len(sys.argv) > 1 else 1.0))
+def pushes(peers: Peers, scale: float) -> None:
+    for count_of_readers, count, pause in PUSHES:
+        found = ask(peers, lambda peer, _: peer.push(count_of_readers, scaled(count, scale) if scale < 1 else count, pause))
+        name = "a row pushed to %d reader%s" % (count_of_readers, "s" * (count_of_readers > 1))
+        print("| %s | %s |" % (name, " | ".join(one.told_latency() for one in found)), flush=True)
+
+
+def readers(peers: Peers, scale: float) -> None:
+    print(HEAD_OF_READERS, flush=True)
+    many, count = FLOOD
+    found = ask(peers, lambda peer, shorter: peer.flood(many, scaled(count, scale, shorter)))
+    print("| commits told to each of %d readers | %s |" % (many, " | ".join(one.told_rate() for one in found)), flush=True)
+    found = ask(peers, lambda peer, _: peer.first(scaled(FIRST, scale)))
+    print("| a first read of %d rows | %s |" % (scaled(FIRST, scale), " | ".join(one.told_rate() for one in found)), flush=True)
+
+
+main(float(sys.argv[1]) if len(sys.argv) > 1 else 1.0)

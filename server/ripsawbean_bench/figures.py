@@ -1,34 +1,44 @@
-"""Numbers: quantiles, a process's processor time, words for a table."""
+"""What is measured, and words for a table."""
 
+import dataclasses
 import os
 
 TICK = os.sysconf("SC_CLK_TCK")
 
 
-def quantile(values, share):
+@dataclasses.dataclass(frozen=True)
+class Found:
+    """What one run has found: rows a second, milliseconds, microseconds of the server's processor a row."""
+
+    rate: float | None = None
+    p50: float | None = None
+    p99: float | None = None
+    processor: float | None = None
+
+    def told_rate(self) -> str:
+        return "-" if self.rate is None else "{:,.0f}".format(self.rate)
+
+    def told_latency(self) -> str:
+        return "-" if self.p50 is None or self.p99 is None else "%.2f, %.1f" % (self.p50, self.p99)
+
+    def told_processor(self) -> str:
+        return "-" if self.processor is None else "%.1f" % self.processor
+
+
+NOTHING = Found()
+
+
+def quantile(values: list[float], share: float) -> float:
     ordered = sorted(values)
     return ordered[min(int(len(ordered) * share), len(ordered) - 1)]
 
 
-def processor_seconds(process):
+def latencies_of(seconds: list[float]) -> Found:
+    return Found(p50=quantile(seconds, 0.5) * 1e3, p99=quantile(seconds, 0.99) * 1e3)
+
+
+def processor_seconds(process: int) -> float:
     """Seconds of the processor that a process has used."""
     with open("/proc/%d/stat" % process) as words:
         found = words.read().rpartition(")")[2].split()
     return (int(found[11]) + int(found[12])) / TICK
-
-
-def rate(count):
-    return "{:,.0f}".format(count)
-
-
-def milliseconds(values):
-    """The median and the 99th percentile."""
-    return "%.2f, %.1f" % (quantile(values, 0.5) * 1e3, quantile(values, 0.99) * 1e3)
-
-
-def latencies(sent, told, readers):
-    """Seconds from sending to having, where `told` has each value of `sent` once for each reader."""
-    found = [now - sent[value] for value, now in told if value in sent]
-    if len(found) != len(sent) * readers:
-        raise SystemExit("bench: %d of %d rows came to the readers" % (len(found), len(sent) * readers))
-    return found

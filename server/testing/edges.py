@@ -7,6 +7,7 @@ import asyncio
 import contextlib
 import json
 import random
+import re
 import resource
 import signal
 import socket
@@ -23,6 +24,7 @@ from search_index import Index
 
 OPTIONS = ("--max-age", "2", "--history", "0.2", "--max-lag", "20000")
 SEATS = 64
+LAST = re.compile(rb'\{"end":.*\}\n')  # the message with which a stream ends
 
 
 def put(server, count, size=100, keys=50):
@@ -173,14 +175,14 @@ def memory_of(server):
 
 def all_of(one):
     one.settimeout(10)
-    parts = []
+    told = bytearray()
     with contextlib.suppress(TimeoutError, ConnectionError):
         while data := one.recv(1 << 16):
-            parts.append(data)
-            if b'{"end"' in data:
+            told += data
+            if LAST.search(told[-200:]):
                 break
     one.close()
-    return b"".join(parts)
+    return bytes(told)
 
 
 class Cutter(threading.Thread):

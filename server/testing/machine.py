@@ -71,10 +71,13 @@ class Program:
 
 
 class Server(Program):
-    def __init__(self, room, *options):
+    """The server under test. `before` are words of a command that runs it, `token` is shown in each request."""
+
+    def __init__(self, room, *options, before=(), token="", **more):
         self.port = free_port()
         self.url = "http://127.0.0.1:%d" % self.port
-        super().__init__(room, "server", [SERVER, "--port", str(self.port), *options])
+        self.shown = {"Authorization": "Bearer " + token} if token else {}
+        super().__init__(room, "server", [*before, SERVER, "--port", str(self.port), *options], **more)
 
     def start(self):
         super().start()
@@ -92,7 +95,7 @@ class Server(Program):
         """Status and text of one request."""
         connection = http.client.HTTPConnection("127.0.0.1", self.port, timeout=LONGEST)
         try:
-            connection.request(method, path, body, headers)
+            connection.request(method, path, body, {**self.shown, **headers})
             response = connection.getresponse()
             return response.status, response.read().decode()
         finally:

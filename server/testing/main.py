@@ -1,4 +1,7 @@
-"""The whole test: server/test hands over its options. The last line says how many passed."""
+"""The whole test: server/test hands over its options. The last line says how many passed.
+
+Where the first word is `attacks` or `correct`, those tests are run, and no others.
+"""
 
 import argparse
 import os
@@ -7,25 +10,17 @@ import subprocess
 import sys
 import time
 import traceback
+import unittest
 
+import attacks
+import correct
 import edges
 from kills import kill_and_compare
 from machine import TOP, Room, Server
 from page import run_page
+from tally import Tally
 
-
-class Tally:
-    def __init__(self):
-        self.passed = self.failed = 0
-
-    def say(self, text):
-        print(text, flush=True)
-
-    def told(self, name, faults):
-        self.passed, self.failed = self.passed + (not faults), self.failed + bool(faults)
-        self.say("%s: %s" % (name, "FAILED" if faults else "passed"))
-        for fault in faults[:20]:
-            self.say("    " + fault)
+OTHERS = {"attacks": attacks.main, "correct": correct.main}
 
 
 def try_edges(tally, only):
@@ -45,10 +40,32 @@ def try_edges(tally, only):
 def try_units(tally):
     """The server's modules, each by itself."""
     done = subprocess.run([os.path.join(TOP, "server", "unit")], text=True, capture_output=True)
-    tally.told("the server's modules", done.stderr.strip().split("\n")[-20:] if done.returncode else [])
+    tally.told("the server's modules", (done.stdout + done.stderr).strip().split("\n")[-20:] if done.returncode else [])
+
+
+def tests_of(module):
+    return unittest.defaultTestLoader.loadTestsFromName(module)
+
+
+def try_served(tally, only):
+    """Each test of test_served.py and test_costs.py, with a server of its own."""
+    suite = unittest.TestSuite(case for name in ("test_served", "test_costs") for case in tests_of(name))
+    for test in (test for case in suite for test in case):
+        name = test.id().split(".test_")[1].replace("_", " ")
+        if only in name:
+            result = unittest.TestResult()
+            test.run(result)
+            faults = [fault for _, text in result.failures + result.errors for fault in text.strip().split("\n")[-12:]]
+            tally.told(name, faults)
 
 
 def main():
+    signal.signal(signal.SIGTERM, lambda *_: sys.exit(143))
+    other = OTHERS.get(sys.argv[1])
+    sys.exit((other(sys.argv[2:]) if other else whole()).end())
+
+
+def whole():
     words = argparse.ArgumentParser(prog="server/test", description="Tests the server and its consumers on loopback.")
     for name, kind, default, letter, meaning in (
         ("--kills", int, 150, "N", "how many processes are killed (150)"),
@@ -58,11 +75,10 @@ def main():
     ):
         words.add_argument(name, type=kind, default=default, metavar=letter, help=meaning)
     words.add_argument("program", metavar="MVFEED", help="the built program, which checks transcripts")
-    given = words.parse_args()
-    signal.signal(signal.SIGTERM, lambda *_: sys.exit(143))
-    tally = Tally()
+    given, tally = words.parse_args(), Tally("server")
     if given.only in "modules":
         try_units(tally)
+    try_served(tally, given.only)
     try_edges(tally, given.only)
     if given.only in "page":
         with Room() as room:
@@ -73,8 +89,7 @@ def main():
         seconds = given.seconds or 120 + 4 * given.kills
         faults = kill_and_compare(given.program, given.kills, given.seed, seconds, tally.say)
         tally.told("kills", faults)
-    print("server: %d passed, %d failed" % (tally.passed, tally.failed))
-    sys.exit(1 if tally.failed else 0)
+    return tally
 
 
 if __name__ == "__main__":

@@ -19,7 +19,7 @@ from machine import CONSUMERS, TOP, free_port
 PAGE = os.path.join(TOP, "docs", "OPERATING.md")
 BLOCK = re.compile(r"^```(\w*)\n(.*?)^```$", re.M | re.S)
 EXCERPT = re.compile(r"From `([^`]*)`[^`]*\n\n\Z")
-DONE_BEFORE = re.compile(r"apt-get |server/install|embed/build")
+DONE_BEFORE = re.compile(r"apt-get |server/install|server/build|embed/build")
 MARK = "--- this command has ended with"
 
 

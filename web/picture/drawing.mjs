@@ -6,31 +6,41 @@ import { markup } from "./markup.mjs";
 import { closedMeaning, horizonMeaning } from "./meanings.mjs";
 import { reasonOf } from "./reasons.mjs";
 import { LETTER, line, Sheet } from "./sheet.mjs";
-import { ascending, brief, bytesOf } from "./words.mjs";
+import { ascending, brief, bytesOf, shortened, wordOf } from "./words.mjs";
 
 const TOP = 38; // where the grounds begin, below the names of closed and the horizon
-const NARROW = 560; // pixels below which names have less room
+// Pixels for names: in a drawing of less than 560, and in a wider one, where long keys may take more.
+const NAMES = { narrow: 104, least: 118, most: 190, narrowBelow: 560 };
 
 /**
- * The drawing of a moment: {svg, marks, axis, keysLeft}. `state` has closed, the horizon and the feeds. `zoom` tells
- * from the pixels of the axis which timestamps are shown, and `mostKeys` is how many keys.
+ * The drawing of a moment: {svg, marks, axis, keysLeft, feedsLeft}. `state` has closed, the horizon and the feeds.
+ * `zoom` tells from the pixels of the axis which timestamps are shown, `mostKeys` and `mostFeeds` are how many lanes.
  */
-export function drawingOf(history, moment, state, { zoom, width, mostKeys }) {
-  const [left, right] = [width < NARROW ? 104 : 118, width - 12];
+export function drawingOf(history, moment, state, { zoom, width, mostKeys, mostFeeds }) {
+  const [left, right] = [roomOfNames(moment, width), width - 12];
   const axis = new Axis(pointsOf(moment, state), zoom(right - left), left, right);
   const hasFlags = state.database.closed > 0n;
   const sheet = new Sheet(axis, { left, right, y: hasFlags ? TOP + 10 : 4 });
   const refusals = refusalsOf(history, moment);
   const { keys, keysLeft } = keysOf(moment, refusals, axis, mostKeys);
   drawTransactions(sheet, moment, refusals.find((it) => it.key === null));
-  for (const key of keys) drawKey(sheet, moment, key, refusals.filter((it) => it.key === key));
+  const names = shortened(keys.map(wordOf), sheet.letters);
+  keys.forEach((key, i) => drawKey(sheet, moment, { key, shown: names[i] }, refusals.filter((it) => it.key === key)));
   drawScans(sheet, moment);
-  const factsOf = (feed) => state.feeds.find((it) => `${it.number}` === feed.number);
-  for (const it of feedsOf(moment)) drawFeed(sheet, moment, it, factsOf(it));
+  const facts = new Map(state.feeds.map((it) => [`${it.number}`, it]));
+  const { feeds, feedsLeft } = feedsOf(moment, facts, mostFeeds);
+  for (const it of feeds) drawFeed(sheet, moment, it, facts.get(it.number));
   drawProtections(sheet, moment);
   drawAxis(sheet);
   drawFlags(sheet, state);
-  return { svg: wholeOf(sheet, width), marks: sheet.marks, axis, keysLeft };
+  return { svg: wholeOf(sheet, width), marks: sheet.marks, axis, keysLeft, feedsLeft };
+}
+
+// The room steps, so that the picture doesn't move with each key that comes.
+function roomOfNames(moment, width) {
+  if (width < NAMES.narrowBelow) return NAMES.narrow;
+  const isLong = [...moment.versions.keys()].some((it) => it.length * LETTER > NAMES.least - 12);
+  return isLong ? NAMES.most : NAMES.least;
 }
 
 // Every timestamp at which something is drawn.
@@ -74,9 +84,18 @@ function keysOf(moment, refusals, axis, most) {
   return { keys: latest.slice(0, most).sort(ascending), keysLeft: Math.max(0, latest.length - most) };
 }
 
-// Live feeds, and cancelled ones that have told something.
-function feedsOf(moment) {
-  return [...moment.feeds.values()].filter((it) => !it.cancelled || it.told.length > 0);
+// Live feeds, and behind them cancelled ones that have told something. Where there is room for some alone they are the
+// live ones that have told least far, since they hold most, and then those that were cancelled last.
+function feedsOf(moment, facts, most) {
+  const all = [...moment.feeds.values()];
+  const floorOf = (it) => facts.get(it.number)?.floor ?? 0n;
+  const live = all.filter((it) => !it.cancelled).sort((a, b) => ascending(floorOf(a), floorOf(b)));
+  const gone = all.filter((it) => it.cancelled && it.told.length > 0);
+  gone.sort((a, b) => b.cancelled.place - a.cancelled.place);
+  const byNumber = (a, b) => ascending(BigInt(a.number), BigInt(b.number));
+  const shown = live.slice(0, most).sort(byNumber);
+  const feeds = [...shown, ...gone.slice(0, most - shown.length).sort(byNumber)];
+  return { feeds, feedsLeft: live.length + gone.length - feeds.length };
 }
 
 function drawAxis(sheet) {

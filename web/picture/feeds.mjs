@@ -2,8 +2,8 @@
 import { markup } from "./markup.mjs";
 import * as meanings from "./meanings.mjs";
 import { resolvedReason } from "./reasons.mjs";
-import { circle, LETTER, line, ofSeat, seatColour } from "./sheet.mjs";
-import { brief, briefSpanOf, rough, wordOf } from "./words.mjs";
+import { circle, LETTER, line, LONGEST, ofSeat, seatColour } from "./sheet.mjs";
+import { brief, briefSpanOf, rough, shortWordOf, wordOf } from "./words.mjs";
 
 const STEP = 16; // pixels from one row of a timestamp to the next
 const MOST_ROWS = 4; // rows of a timestamp, one above the other
@@ -67,7 +67,8 @@ function drawStack(sheet, moment, feed, rows, base, next) {
 }
 
 function drawRow(sheet, moment, feed, row, [x, y], room) {
-  const word = row.value === null ? `${wordOf(row.key)} ✕` : `${wordOf(row.key)} ${wordOf(row.value)}`;
+  const value = row.value === null ? "✕" : shortWordOf(row.value, LONGEST);
+  const word = `${wordOf(row.key)} ${value}`;
   const mark = {
     id: `row ${feed.number} ${wordOf(row.key)} ${row.ts}`, x, name: `feed ${feed.number} told ${word} of ${row.ts}`,
     meaning: () => meanings.rowMeaning(feed, row), isFresh: row.event === moment.event,

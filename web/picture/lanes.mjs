@@ -1,8 +1,8 @@
 // The lanes of transactions, of keys and of protections.
 import { markup } from "./markup.mjs";
 import * as meanings from "./meanings.mjs";
-import { circle, cross, LETTER, line, ofSeat } from "./sheet.mjs";
-import { ascending, counted, holds, wordOf } from "./words.mjs";
+import { circle, cross, LETTER, line, LONGEST, ofSeat } from "./sheet.mjs";
+import { ascending, counted, holds, shortWordOf, wordOf } from "./words.mjs";
 
 const TALL = 26; // pixels of a version from top to bottom
 const MOST_READS = 4; // lines of reads below a key
@@ -29,14 +29,14 @@ function drawTransaction(sheet, moment, transaction, y) {
 }
 
 /** A lane for one key: its versions from their timestamps on, the reads that keep writes out, and refusals. */
-export function drawKey(sheet, moment, key, refusals) {
-  sheet.begin(wordOf(key));
+export function drawKey(sheet, moment, { key, shown }, refusals) {
+  sheet.begin(wordOf(key), { shown });
   const y = sheet.y + 2;
   sheet.shapes.push(line("rule", [sheet.left, y + TALL], [sheet.right, y + TALL]));
   const versions = moment.versions.get(key) ?? [];
   versions.forEach((it, i) => drawVersion(sheet, moment, it, versions[i + 1], y));
   const lines = drawReads(sheet, moment, key, y + TALL + READ);
-  const taken = versions.map((it, i) => roomOf(sheet, it, versions[i + 1]));
+  const taken = refusals.length > 0 ? versions.map((it, i) => roomOf(sheet, it, versions[i + 1])) : [];
   for (const it of refusals) drawRefusal(sheet, it, y + TALL / 2, taken);
   sheet.end(TALL + 14 + READ * lines);
 }
@@ -44,7 +44,7 @@ export function drawKey(sheet, moment, key, refusals) {
 // Where the edge and the word of a version stand, from left to right.
 function roomOf(sheet, { ts, value }, next) {
   const [from, end] = [sheet.axis.x(ts), next ? sheet.axis.x(next.ts) : sheet.right];
-  const wide = value === null ? 18 : 10 + LETTER * wordOf(value).length;
+  const wide = value === null ? 18 : 10 + LETTER * shortWordOf(value, LONGEST).length;
   return { from, to: Math.min(from + wide, end) };
 }
 
@@ -53,7 +53,7 @@ function drawVersion(sheet, moment, version, next, y) {
   const { key, ts, value, transaction } = version;
   if (!axis.meets(ts, next?.ts ?? axis.points.at(-1))) return;
   const [x, wide] = [axis.x(ts), Math.max(3, (next ? axis.x(next.ts) : right) - axis.x(ts) - 1)];
-  const word = value === null ? "deleted" : wordOf(value);
+  const word = value === null ? "deleted" : shortWordOf(value, LONGEST);
   const box = (kind, width) => markup`<rect class="${kind}" x="${x}" y="${y}" width="${width}" height="${TALL}"/>`;
   const shapes = value === null ? [box("hit", 18), cross(x + 10, y + TALL / 2, 4)]
     : [box("hit", wide), box("body", wide), sheet.text(x + 8, y + 17, word, wide - 11)];

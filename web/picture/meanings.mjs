@@ -1,8 +1,7 @@
-// What each mark of the picture means, in a sentence or two.
-import { short, spanOf, wordOf } from "./words.mjs";
+// What each mark of the picture means, in a sentence or two. Keys and values are whole here: the picture cuts them.
+import { spanOf, wordOf } from "./words.mjs";
 
-const word = (bytes) => short(wordOf(bytes), 24);
-const change = ({ key, value }) => (value === null ? `${word(key)} is deleted` : `${word(key)} is ${word(value)}`);
+const change = ({ key, value }) => `${wordOf(key)} is ${value === null ? "deleted" : wordOf(value)}`;
 
 export function versionMeaning(moment, version) {
   const { ts, transaction } = version;
@@ -31,7 +30,7 @@ function deadMeaning(moment, version, next) {
 }
 
 export function readMeaning(read, key) {
-  const [name, found] = [word(key), read.found.get(key)];
+  const [name, found] = [wordOf(key), read.found.get(key)];
   const answer = found ? `as it is from ${found} on` : "and found nothing";
   const writes = found ? `between ${found} and ${read.ts}` : `below ${read.ts}`;
   return `Transaction ${read.ts} has read ${name} ${answer}, so no write of ${name} ${writes} is let in any more.`;

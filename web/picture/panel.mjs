@@ -37,7 +37,7 @@ function whatHoldsHorizon({ horizon, limit, holder, holder_number }) {
 }
 
 function feedOf(feed, database) {
-  const span = spanOf({ lo: feed.lo ?? "", hi: feed.hi ?? "" });
+  const span = spanOf({ lo: feed.lo ?? "", hi: feed.hi ?? "", isUntold: feed.isUntold });
   const isWhole = feed.complete !== null;
   const told = isWhole ? `has told all through ${feed.complete}` : `is still telling the map at ${feed.cursor}`;
   const lag = feed.behind === 0n ? "not behind closed" : `${feed.behind} behind closed`;

@@ -7,12 +7,16 @@
 //     draw(element, history, { place: 12, state });    // draw anew after each change: the zoom and the choice stay
 //
 // historyOf(text)                  a History: `events` in their order; `add(text)`; `after(place)`, what is known right
-//                                  after the event at that place of the list. A line of no transcript is an Error
+//                                  after the event at that place of the list. A line of no transcript is an Error.
+//                                  For one that has no end: `know(..)`, what stood before its events, and
+//                                  `since(place)`, the same without the events before
 // draw(element, history, options)  draws, and listens in the element for clicks and keys. Each option may be left out:
 //     place                        the event after which the database is shown; else the last one
 //     state                        the state's text there, as ripsawbean_state writes it; else what the answers tell
 //     chosen                       the mark that is chosen from here on, null for none; else the choice stays
 //     onChoose(id)                 is called with the mark that was chosen, and with null when none is any more
+//     told                         the event whose reason is told, where it is another one
+//     isQuiet                      whether the sentence isn't read aloud when it changes: it may change each second
 // reasonOf(history, place)         why that event was answered so, in a sentence or two
 // stateText(history.after(place))  the text of the state there, from the answers alone
 // stateOf(text)                    the lines of a state's text, as objects
@@ -49,6 +53,7 @@ const FEWEST = 6; // timestamps, however little room there is
 const CLOSEST = 3; // timestamps, however often one zooms
 const LEAST_WIDTH = 300; // pixels
 const KEYS = 8; // lanes of keys, before anybody asks for more
+const FEEDS = 4; // lanes of feeds, before anybody asks for more
 
 class Picture {
   #element;
@@ -58,6 +63,7 @@ class Picture {
   #width; // of the drawing, in pixels
   #zoom; // {count, later}: how many timestamps are shown, null for as many as fit; and how many are left out after them
   #mostKeys;
+  #mostFeeds;
   #chosen; // the id of the mark that is told of, or null
   #at; // the id of the mark that keys begin at
 
@@ -73,8 +79,11 @@ class Picture {
   }
 
   show(history, options) {
-    if (history !== this.#history)
-      [this.#zoom, this.#mostKeys, this.#chosen, this.#at] = [{ count: null, later: 0 }, KEYS, null, null];
+    if (history.story !== this.#history?.story) {
+      [this.#mostKeys, this.#mostFeeds] = [KEYS, FEEDS];
+      [this.#zoom, this.#chosen, this.#at] = [{ count: null, later: 0 }, null, null];
+    }
+    this.#part("sentence").ariaLive = options.isQuiet ? "off" : "polite";
     if (options.chosen !== undefined) this.#chosen = options.chosen;
     this.#history = history;
     this.#options = options;
@@ -90,19 +99,28 @@ class Picture {
   }
 
   #render() {
-    const place = this.#options.place ?? this.#history.events.length - 1;
+    const place = this.#options.place ?? this.#history.last;
     const moment = this.#history.after(place);
     const state = stateOf(this.#options.state ?? stateText(moment));
     const hasFocus = this.#part("drawing").contains(document.activeElement);
     this.#width = this.#fullWidth();
     const fitting = (pixels) => Math.max(FEWEST, Math.floor(pixels / ROOM_OF_A_POINT));
     const zoom = (pixels) => ({ count: this.#zoom.count ?? fitting(pixels), later: this.#zoom.later });
-    this.#drawing = drawingOf(this.#history, moment, state, { width: this.#width, zoom, mostKeys: this.#mostKeys });
+    const most = { mostKeys: this.#mostKeys, mostFeeds: this.#mostFeeds };
+    this.#drawing = drawingOf(this.#history, moment, state, { width: this.#width, zoom, ...most });
     this.#part("drawing").innerHTML = this.#drawing.svg;
-    this.#part("zoom").innerHTML = zoomOf(this.#drawing, this.#zoom);
+    this.#drawZoom();
     this.#part("state").innerHTML = panelOf(state);
     this.#markAt(hasFocus);
-    this.#tell(place);
+    this.#tell(this.#options.told ?? place);
+  }
+
+  // A button that has the focus keeps it: a picture may be drawn anew more often than one goes on by Tab.
+  #drawZoom() {
+    const bar = this.#part("zoom");
+    const how = bar.contains(document.activeElement) ? document.activeElement.dataset.zoom : null;
+    bar.innerHTML = zoomOf(this.#drawing, this.#zoom);
+    if (how) bar.querySelector(`[data-zoom=${how}]:enabled`)?.focus();
   }
 
   // Tab reaches one mark, and the arrows go on from there.
@@ -117,10 +135,10 @@ class Picture {
     }
   }
 
-  // The sentence of the mark that was chosen, or else of the event that is shown.
+  // The sentence of the mark that was chosen, or else of the event that is told of.
   #tell(place) {
     const mark = this.#drawing.marks.find((it) => it.id === this.#chosen);
-    const reason = () => (place < 0 ? "Nothing has happened yet." : reasonOf(this.#history, place));
+    const reason = () => (this.#history.at(place) ? reasonOf(this.#history, place) : "Nothing has happened yet.");
     const sentence = mark ? mark.meaning() : reason();
     const element = this.#part("sentence");
     if (element.textContent !== sentence) element.textContent = sentence;
@@ -175,6 +193,7 @@ class Picture {
     if (how === "earlier") zoom.later += Math.min(axis.before, half);
     if (how === "later") zoom.later = Math.max(0, zoom.later - half);
     if (how === "keys") this.#mostKeys *= 2;
+    if (how === "feeds") this.#mostFeeds *= 2;
     this.#render();
   }
 }
@@ -190,7 +209,7 @@ function nearestTo(x, marks) {
 }
 
 // The buttons, where the history is too long to be drawn whole, and what isn't shown.
-function zoomOf({ axis, keysLeft }, { count }) {
+function zoomOf({ axis, keysLeft, feedsLeft }, { count }) {
   const hidden = axis.before + axis.after;
   const button = (how, word, name, isUseful) => markup`<button type="button" data-zoom="${how}" title="${name}"
     aria-label="${name}" ${!isUseful && "disabled"}>${word}</button>`;
@@ -202,8 +221,8 @@ function zoomOf({ axis, keysLeft }, { count }) {
     button("all", "all", "all timestamps", hidden > 0),
     markup`<span>${hidden > 0 ? `${counted(hidden, "timestamp")} not shown` : "all timestamps shown"}</span>`,
   ];
-  const keys = [
-    button("keys", "more keys", "more keys", true), markup`<span>${counted(keysLeft, "key")} not shown</span>`,
+  const more = (left, one) => left > 0 && [
+    button(`${one}s`, `more ${one}s`, `more ${one}s`, true), markup`<span>${counted(left, one)} not shown</span>`,
   ];
-  return markup`${(hidden > 0 || count !== null) && times}${keysLeft > 0 && keys}`;
+  return markup`${(hidden > 0 || count !== null) && times}${more(keysLeft, "key")}${more(feedsLeft, "feed")}`;
 }

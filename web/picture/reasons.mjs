@@ -3,7 +3,7 @@ import { bytesOf, counted, holds, spanOf } from "./words.mjs";
 
 /** Why the event at this place of a history was answered so. */
 export function reasonOf(history, place) {
-  const event = history.events[place];
+  const event = history.at(place);
   return REASONS[event.answer]?.(history.after(place), event, event.words[0]) ?? "";
 }
 

@@ -3,7 +3,9 @@ import { markup } from "./markup.mjs";
 import { short } from "./words.mjs";
 
 export const LETTER = 7.25; // pixels of a letter, which has one width for all
+export const LONGEST = 300; // letters of a value, for a name and a tooltip; its meaning has it whole
 
+const LEAST = 4; // letters that a text is cut to
 const BESIDE = 12; // pixels between a lane's name and the lane
 
 export class Sheet {
@@ -17,21 +19,25 @@ export class Sheet {
     Object.assign(this, { axis, left, right, y });
   }
 
-  /** A lane from here on, with its name at the left, and further words below that. */
-  begin(name, { y = 19, colour = "var(--ink)", below = "" } = {}) {
+  /** A lane from here on, with its name at the left as it is or as it is shown, and further words below that. */
+  begin(name, { shown = short(name, this.letters), y = 19, colour = "var(--ink)", below = "" } = {}) {
     this.lane++;
-    this.#word("name", name, this.y + y, colour);
-    if (below) this.#word("below", below, this.y + y + 15, "var(--soft)");
+    this.#word("name", name, shown, this.y + y, colour);
+    if (below) this.#word("below", below, short(below, this.letters), this.y + y + 15, "var(--soft)");
+  }
+
+  /** How many letters of a name there is room for. */
+  get letters() {
+    return Math.floor((this.left - BESIDE) / LETTER);
   }
 
   end(height) {
     this.y += height;
   }
 
-  #word(kind, word, y, colour) {
-    const most = Math.floor((this.left - BESIDE) / LETTER);
+  #word(kind, word, shown, y, colour) {
     this.shapes.push(markup`<text class="${kind}" x="${this.left - BESIDE}" y="${y}" style="fill: ${colour}">
-      ${short(word, most)}<title>${word}</title></text>`);
+      ${shown}<title>${word}</title></text>`);
   }
 
   /** A mark: its name, a function that tells what it means, and its shape, in the layer `shapes` or `front`. */
@@ -41,11 +47,12 @@ export class Sheet {
       aria-label="${name}">${shape}</g>`);
   }
 
-  /** A text that is cut where its room ends. Where that would leave a letter there is none. */
+  /** A text that is cut where its room ends. Where that would leave next to nothing there is none. */
   text(x, y, word, room, kind = "") {
     const most = Math.floor(room / LETTER);
-    if (most < 2 && word.length > most) return "";
-    return markup`<text class="${kind}" x="${x}" y="${y}">${short(word, most)}</text>`;
+    if (most < LEAST && word.length > most) return "";
+    const whole = word.length > most && markup`<title>${word}</title>`;
+    return markup`<text class="${kind}" x="${x}" y="${y}">${short(word, most)}${whole}</text>`;
   }
 }
 

@@ -56,21 +56,22 @@ function databaseLine(moment, oldest, protections, feeds) {
 function feedLine(feed, closed) {
   const row = feed.told.findLast((it) => "ts" in it);
   const resolved = feed.told.findLast((it) => "resolved" in it);
-  const told = toldThrough(feed);
+  const told = toldThrough(feed, closed);
   const floor = told < feed.cursor ? feed.cursor : told;
   return {
     kind: "feed", number: feed.number, seat: `${feed.seat}`, initial: feed.initial, gap: digits(feed.gap),
     lo: base64(feed.lo), hi: base64(feed.hi), cursor: `${feed.cursor}`,
     updated: digits(row?.ts), key: row ? btoa(row.key) : null,
     resolved: digits(resolved?.resolved), complete: told < feed.cursor ? null : `${told}`, floor: `${floor}`,
-    behind: `${closed > floor ? closed - floor : 0n}`,
+    behind: `${closed > floor ? closed - floor : 0n}`, ...(feed.isUntold && { isUntold: true }),
   };
 }
 
 // All at or below it was told, by the last message. Below the cursor of an initial feed there is no such timestamp.
-function toldThrough(feed) {
+function toldThrough(feed, closed) {
   const last = feed.told.at(-1);
   if (last) return last.resolved ?? last.ts - 1n;
+  if (feed.floor !== null) return feed.floor < closed ? feed.floor : closed;
   return feed.initial && feed.cursor > 0n ? feed.cursor - 1n : feed.cursor;
 }
 

@@ -15,9 +15,38 @@ export function wordOf(bytes) {
   return bytes.replace(/[^!-$&-~]/g, (it) => `%${it.charCodeAt(0).toString(16).toUpperCase().padStart(2, "0")}`);
 }
 
-/** A word that is longer than there is room for, cut. */
+/** A word that is longer than there is room for, cut in the middle: keys that begin alike differ at their ends. */
 export function short(word, most) {
-  return word.length > most ? `${word.slice(0, Math.max(0, most - 1))}…` : word;
+  if (word.length <= most) return word;
+  const kept = Math.max(0, most - 1);
+  const head = Math.ceil(kept / 2);
+  return `${word.slice(0, head)}…${word.slice(word.length - kept + head)}`;
+}
+
+/**
+ * Words for one list, each cut as `short` does. Those that would then look alike are shown from where they differ on:
+ * of lib/a-dev/12 and lib/a-doc/12 with 6 letters …-dev…, and …-doc….
+ */
+export function shortened(words, most) {
+  const shown = new Map(words.map((it) => [it, short(it, most)]));
+  const alike = (word) => words.filter((it) => it !== word && shown.get(it) === shown.get(word));
+  for (const word of words) {
+    const others = alike(word);
+    if (others.length === 0) continue;
+    const same = [word, ...others];
+    const differ = [...word].findIndex((letter, i) => same.some((it) => it[i] !== letter));
+    const from = Math.max(0, Math.min(differ < 0 ? word.length : differ, word.length - most + 3) - 2);
+    for (const it of same) shown.set(it, `…${ended(it.slice(from), most - 1)}`);
+  }
+  return words.map((it) => shown.get(it));
+}
+
+const ended = (word, most) => (word.length > most ? `${word.slice(0, most - 1)}…` : word);
+
+/** The word of these bytes, cut to so many letters. What is left out of long ones isn't spelled for it. */
+export function shortWordOf(bytes, most) {
+  const ends = bytes.length > 2 * most ? bytes.slice(0, most) + bytes.slice(-most) : bytes;
+  return short(wordOf(ends), most);
 }
 
 /** A long timestamp by its last digits, since neighbours differ there. */
@@ -33,14 +62,16 @@ export function rough(count) {
 }
 
 /** A span in words. An empty bound is none. */
-export function spanOf({ lo, hi }) {
+export function spanOf({ lo, hi, isUntold = false }) {
+  if (isUntold) return "a span that isn't told here";
   if (lo === "" && hi === "") return "every key";
   if (hi === "") return `keys from ${wordOf(lo)} on`;
   return lo === "" ? `keys below ${wordOf(hi)}` : `keys from ${wordOf(lo)} to below ${wordOf(hi)}`;
 }
 
 /** The same where there is little room. */
-export function briefSpanOf({ lo, hi }) {
+export function briefSpanOf({ lo, hi, isUntold = false }) {
+  if (isUntold) return "span not told";
   return lo === "" && hi === "" ? "every key" : `${lo && wordOf(lo)} … ${hi && wordOf(hi)}`.trim();
 }
 

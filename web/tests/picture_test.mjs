@@ -7,7 +7,7 @@ import { Axis } from "../picture/axis.mjs";
 import { drawingOf } from "../picture/drawing.mjs";
 import { markup } from "../picture/markup.mjs";
 import { historyOf, reasonOf, stateOf, stateText } from "../picture/picture.mjs";
-import { bytesOf, wordOf } from "../picture/words.mjs";
+import { bytesOf, short, wordOf } from "../picture/words.mjs";
 import { exampleTranscripts, guideTranscripts, read } from "./guide.mjs";
 
 const last = (history) => history.after(history.events.length - 1);
@@ -16,7 +16,7 @@ const zoom = () => ({ count: Infinity, later: 0 });
 function drawn(transcript, options = {}) {
   const history = historyOf(transcript);
   const moment = last(history);
-  return drawingOf(history, moment, stateOf(stateText(moment)), { zoom, width: 800, mostKeys: 8, ...options });
+  return drawingOf(history, moment, stateOf(stateText(moment)), { zoom, width: 800, mostKeys: 8, mostFeeds: 4, ...options });
 }
 
 test("the state of each worked transcript, byte for byte", () => {
@@ -194,4 +194,83 @@ test("a transcript that begins in the middle is drawn as far as it goes", () => 
   const wanted = ["version kiwi 26", "row 1 kiwi 26", "resolved 1 28", "transaction 29"];
   for (const id of wanted) assert.ok(ids.includes(id), id);
   for (const mark of marks) assert.doesNotMatch(mark.meaning(), /undefined|null/);
+});
+
+// A feed of old, whose opening the transcript doesn't have: three rows of it, and then it is resolved.
+const MIDDLE = `900 5 begin 40 => started
+901 5 put 40 meta/a 1 => written
+902 5 commit 40 => committed 1
+903 63 close 40 => closed 40 0
+904 63 poll 7 10 => messages 2
+{"after":"MQ==","key":"bWV0YS9h","updated":"40"}
+{"resolved":"40"}
+`;
+const OLD = { number: "7", seat: 63, opened: "openinitial meta/ meta0 12", floor: "40" };
+
+test("a feed that was opened before the transcript has the span that it was opened for", () => {
+  const history = historyOf(MIDDLE);
+  assert.match(reasonOf(history, 4), /now has the whole map of 40 for a span that isn't told here\.$/);
+  assert.doesNotMatch(`${drawn(MIDDLE).svg}`, /every key/);
+  history.know({ feeds: [OLD] });
+  assert.match(reasonOf(history, 4), /Its consumer now has the whole map of 40 for keys from meta\/ to below meta0\.$/);
+  const [feed] = stateOf(stateText(history.after(4))).feeds;
+  assert.deepEqual([feed.lo, feed.hi, feed.cursor, feed.initial, feed.floor], ["meta/", "meta0", 12n, true, 40n]);
+  const [before] = stateOf(stateText(history.after(3))).feeds;
+  assert.deepEqual([before.lo, before.floor, before.behind], ["meta/", 39n, 1n]);
+});
+
+test("what is told of a feed doesn't change what its opening in the transcript says", () => {
+  const history = historyOf("0 1 open a b 0 => opened 7\n");
+  history.know({ feeds: [OLD] });
+  assert.equal(history.after(0).feeds.get("7").lo, "a");
+});
+
+test("what stood before the transcript is there from its first event on, and what was released isn't", () => {
+  const history = historyOf("8 1 release 3 => released\n9 1 begin 50 => started\n");
+  const protections = [{ number: "3", timestamp: "20" }, { number: "4", timestamp: "21" }];
+  history.know({ feeds: [{ ...OLD, floor: "30" }], protections, transactions: [{ timestamp: "44", seat: 2 }] });
+  const { transactions, protections: stand, feeds } = stateOf(stateText(history.after(0)));
+  assert.deepEqual([transactions.map((it) => it.timestamp), stand.map((it) => it.number)], [[44n], [4n]]);
+  assert.deepEqual([feeds.length, feeds[0].floor], [1, 12n]); // closed isn't told yet, and no floor is below its cursor
+});
+
+test("a history without its first events knows what they left, and places stay", () => {
+  const whole = historyOf(STORY + "19 0 open a c 3 => opened 1\n20 0 begin 30 => started\n21 0 put 30 a 9 => written\n" +
+    "22 0 close 40 => closed 29 0\n23 0 poll 1 9 => messages 1\n" + '{"resolved":"29"}\n24 0 commit 30 => committed 1\n');
+  const later = whole.since(24);
+  assert.deepEqual([later.events.length, later.first, later.last, later.story], [1, 24, 24, whole.story]);
+  const [before, after] = [later.after(23), whole.after(23)];
+  const known = (moment) => [moment.closed, moment.horizon, moment.undecided().map((it) => it.ts)];
+  assert.deepEqual(known(before), known(after));
+  assert.deepEqual(stateOf(stateText(before)).feeds, stateOf(stateText(after)).feeds);
+  assert.match(reasonOf(later, 24), /^Transaction 30 is committed: what it wrote, 1 key, /);
+  assert.equal(later.after(24).transactions.get(30n).standing, "committed");
+  assert.equal(whole.after(23).transactions.get(30n).standing, "undecided");
+  later.add("25 0 begin 31 => started\n");
+  assert.equal(later.at(25).place, 25);
+  assert.equal(whole.last, 24);
+});
+
+test("live feeds come before cancelled ones, and what has no room is counted", () => {
+  const opened = [1, 2, 3, 4, 5].map((it) => `${it} 0 open ${it} - 0 => opened ${it}\n`).join("");
+  const told = (it) => `10 0 poll ${it} 9 => messages 1\n{"resolved":"9"}\n`;
+  const gone = "11 0 cancel 1 => cancelled\n12 0 cancel 2 => cancelled\n";
+  const text = `0 0 close 9 => closed 9 0\n${opened}${told(1)}${told(2)}${gone}`;
+  const lanes = (most) => {
+    const { svg, feedsLeft } = drawn(text, { mostFeeds: most });
+    return [`${svg}`.match(/(?<=<title>feed )\d/g).join(""), feedsLeft];
+  };
+  assert.deepEqual(lanes(8), ["34512", 0]);
+  assert.deepEqual(lanes(4), ["3452", 1]);
+  assert.deepEqual(lanes(2), ["34", 3]);
+});
+
+test("long words are cut in the middle, and a mark tells them whole", () => {
+  assert.deepEqual(["abcdef", "abcdefg"].map((it) => short(it, 6)), ["abcdef", "abc…fg"]);
+  assert.deepEqual([short("abc", 1), short("abc", 2)], ["…", "a…"]);
+  const long = "x".repeat(70) + "%20" + "y".repeat(900);
+  const { svg, marks } = drawn(`0 0 begin 5 => started\n1 0 put 5 ${"k".repeat(60)}z ${long} => written\n`);
+  assert.match(`${svg}`, /k…k*z</);
+  assert.doesNotMatch(`${svg}`, /y{301}/);
+  assert.match(marks.find((it) => it.id.startsWith("version")).meaning(), new RegExp(`^k{60}z is ${long} from 5 on`));
 });

@@ -1,0 +1,118 @@
+"""The peers that server/load asks: this server, Redis and etcd, each started for itself, with its data in memory."""
+
+import contextlib
+import json
+import os
+import pathlib
+import shutil
+import socket
+import subprocess
+import tempfile
+import time
+
+from .figures import NOTHING, Found, processor_seconds
+
+SERVER = pathlib.Path(__file__).resolve().parent.parent
+LOAD = SERVER / "load" / "out" / "release" / "load"
+LONGEST = 600  # seconds that one measurement may take
+MEMORY = "/dev/shm"  # a folder that is no disk
+
+
+def build_load() -> None:
+    subprocess.run(["cargo", "build", "--quiet", "--offline", "--release", "-j2"], cwd=SERVER / "load", check=True)
+
+
+def free_port() -> int:
+    with socket.create_server(("127.0.0.1", 0)) as one:
+        return int(one.getsockname()[1])
+
+
+class Loaded:
+    """A program that listens on a port of loopback."""
+
+    name = ""
+    kinds: dict[str, str] = {}  # a measurement's way to ask, and the word for it that server/load has
+
+    def __init__(self, command: list[str], port: int):
+        self.port = port
+        self.process = subprocess.Popen(command, stdout=subprocess.DEVNULL, stderr=subprocess.DEVNULL)
+        end = time.monotonic() + 60
+        while not self._listens():
+            if time.monotonic() > end or self.process.poll() is not None:
+                raise SystemExit("bench: %s doesn't start: %s" % (self.name, " ".join(command)))
+            time.sleep(0.05)
+
+    def _listens(self) -> bool:
+        with contextlib.suppress(OSError):
+            socket.create_connection(("127.0.0.1", self.port)).close()
+            return True
+        return False
+
+    def end(self) -> None:
+        self.process.terminate()
+        self.process.wait()
+
+    def load(self, way: str, *words: object) -> Found:
+        """Runs server/load. Where a peer has no such way to be asked, there is nothing to find."""
+        if way not in self.kinds:
+            return NOTHING
+        used = processor_seconds(self.process.pid)
+        command = [LOAD, self.kinds[way], str(self.port), *map(str, words)]
+        done = subprocess.run(command, capture_output=True, text=True, timeout=LONGEST)
+        if done.returncode:
+            raise SystemExit("bench: %s: %s: %s" % (self.name, " ".join(map(str, command)), done.stderr))
+        used = processor_seconds(self.process.pid) - used
+        found = json.loads(done.stdout)
+        return Found(found.get("rate"), found.get("p50"), found.get("p99"), used / found["rows"] * 1e6)
+
+    def transactions(self, way: str, clients: int, count: int, rows: int, ahead: int) -> Found:
+        return self.load(way, "transactions", clients, max(count // clients, rows), rows, ahead)
+
+    def push(self, readers: int, count: int, pause: float) -> Found:
+        return self.load("messages", "push", readers, count, int(pause * 1e6))
+
+    def flood(self, readers: int, count: int) -> Found:
+        return self.load("messages", "flood", readers, count)
+
+    def first(self, count: int) -> Found:
+        return self.load("messages", "first", count)
+
+
+class Ours(Loaded):
+    name = "Ripsawbean"
+    kinds = {"requests": "call", "messages": "session", "lines": "lines"}
+
+    def __init__(self) -> None:
+        port = free_port()
+        super().__init__([os.environ.get("SERVER") or str(SERVER / "run"), "--port", str(port)], port)
+
+
+class Redis(Loaded):
+    name = "Redis"
+    kinds = {"requests": "redis", "messages": "redis"}
+
+    def __init__(self) -> None:
+        port = free_port()
+        super().__init__(
+            ["redis-server", "--port", str(port), "--bind", "127.0.0.1", "--save", "", "--appendonly", "no"], port)
+
+
+class Etcd(Loaded):
+    """Asked by its gateway of HTTP, which costs it a translation: gRPC is faster."""
+
+    name = "etcd"
+    kinds = {"requests": "etcd", "messages": "etcd"}
+
+    def __init__(self) -> None:
+        port, peers = free_port(), "http://127.0.0.1:%d" % free_port()
+        self.folder = tempfile.mkdtemp(dir=MEMORY)
+        here = "http://127.0.0.1:%d" % port
+        super().__init__([
+            "etcd", "--data-dir", self.folder, "--listen-client-urls", here, "--advertise-client-urls", here,
+            "--listen-peer-urls", peers, "--initial-advertise-peer-urls", peers, "--initial-cluster", "default=" + peers,
+        ], port)
+        time.sleep(2)  # until it has chosen itself
+
+    def end(self) -> None:
+        super().end()
+        shutil.rmtree(self.folder, ignore_errors=True)

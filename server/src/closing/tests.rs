@@ -1,0 +1,279 @@
+//! The ledger and the server's own work beside the database itself, which is the judge: `stats`, `close` and `collect`
+//! answer what the ledger has foretold.
+
+use super::*;
+use crate::seats::Session;
+use crate::testing::{answers, core, core_and_log, end, session, tidy, Dice};
+use ripsawbean::Database;
+
+const COMMANDS: [&str; 22] = [
+    "begin",
+    "begin",
+    "begin",
+    "begin FREE",
+    "put TS KEY x",
+    "put . KEY y",
+    "del TS KEY",
+    "get TS KEY",
+    "get . KEY",
+    "scan TS - -",
+    "commit TS",
+    "commit .",
+    "abort TS",
+    "close AT",
+    "closehard AT",
+    "open - - AT",
+    "openinitialevery a d AT 3",
+    "poll NUMBER COUNT",
+    "cancel NUMBER",
+    "protect AT",
+    "release NUMBER",
+    "collect AT",
+];
+
+/// A line whose numbers are often those of the ledger.
+fn line(dice: &mut Dice, core: &Core) -> String {
+    let undecided: Vec<u64> = core.ledger.undecided.keys().copied().collect();
+    let free = 1 + dice.below(core.ledger.greatest + 4);
+    let ts = if undecided.is_empty() || dice.one_in(5) { free } else { *dice.of(&undecided) };
+    let key = *dice.of(&["a", "b", "c", "d", "e", "f"]);
+    let words = [
+        ("FREE", free.to_string()),
+        ("TS", ts.to_string()),
+        ("KEY", key.to_string()),
+        ("AT", dice.below(core.ledger.closed + 3).to_string()),
+        ("NUMBER", (1 + dice.below(7)).to_string()),
+        ("COUNT", dice.below(4).to_string()),
+    ];
+    let mut line = dice.of(&COMMANDS).to_string();
+    for (name, word) in words {
+        line = line.replace(name, &word);
+    }
+    line + "\n"
+}
+
+/// `stats` is answered by what the ledger knows.
+fn check(core: &mut Core, session: &mut Session) {
+    let told = answers(core, session, "stats\n").remove(0);
+    let numbers: Vec<u64> = told.split(' ').skip(2).map(|word| word.parse().expect("a number")).collect();
+    let ledger = &core.ledger;
+    let known = [ledger.undecided.len() as u64, ledger.feeds.len() as u64, ledger.closed, ledger.horizon];
+    assert_eq!(numbers, known, "{told}");
+}
+
+#[test]
+fn random_lines_of_several_sessions() {
+    for seed in 0..60 {
+        let mut dice = Dice::new(seed);
+        let mut core = core(&["--history", "0", "--ahead", "50"]);
+        let mut sessions: Vec<Session> = (0..4).map(|_| session(&mut core)).collect();
+        for _ in 0..300 {
+            let text = line(&mut dice, &core);
+            let at = dice.below(4) as usize;
+            answers(&mut core, &mut sessions[at], &text);
+            if dice.one_in(10) {
+                core.close(); // demands what the ledger foretells
+            }
+            if dice.one_in(20) {
+                tidy(&mut core);
+            }
+            if dice.one_in(100) {
+                end(&mut core, &sessions[at]);
+                sessions[at] = session(&mut core);
+            }
+            check(&mut core, &mut sessions[at]);
+        }
+        assert_eq!(core.shouts, 0, "seed {seed}");
+        assert_eq!(core.transcript.next(), core.ledger.calls, "each call is an event of the transcript");
+    }
+}
+
+#[test]
+fn an_answer_that_is_not_foretold_is_shouted() {
+    let (mut core, said) = core_and_log(&[]);
+    let mut one = session(&mut core);
+    answers(&mut core, &mut one, "begin\n");
+    core.ledger.undecided.clear();
+    core.close();
+    assert_eq!(core.shouts, 1);
+    assert!(said.text().contains("close 1 => closed 0 0, and not closed 1 0"), "{}", said.text());
+}
+
+#[test]
+fn what_lags_too_far_is_let_go() {
+    let mut core = core(&["--max-lag", "3", "--history", "0"]);
+    let mut one = session(&mut core);
+    answers(&mut core, &mut one, "open - - 0\nprotect 0\n");
+    for (rows, left) in [(3, 1), (1, 0)] {
+        let puts: String = (0..rows).map(|row| format!("put . k{row} v\n")).collect();
+        answers(&mut core, &mut one, &format!("begin\n{puts}commit .\n"));
+        tidy(&mut core);
+        assert_eq!((core.ledger.feeds.len(), core.ledger.protections.len()), (left, left));
+    }
+    assert_eq!(answers(&mut core, &mut one, "poll 1 9\n"), ["feedcancelled"]);
+}
+
+#[test]
+fn what_lags_in_bytes_is_let_go() {
+    let mut core = core(&["--max-lag-bytes", "1000"]);
+    let mut one = session(&mut core);
+    answers(&mut core, &mut one, "protect 0\n");
+    for (size, left) in [(100, 1), (1000, 0)] {
+        answers(&mut core, &mut one, &format!("begin\nput . k {}\ncommit .\n", "x".repeat(size)));
+        tidy(&mut core);
+        assert_eq!(core.ledger.protections.len(), left);
+    }
+}
+
+#[test]
+fn while_memory_is_full_those_that_hold_an_eighth_of_it_are_let_go() {
+    for (size, resident, left) in [(2000, 8000, 1), (500, 8001, 1), (2000, 8001, 0)] {
+        let mut core = core(&["--max-memory", "8000"]);
+        let mut one = session(&mut core);
+        let value = "x".repeat(size);
+        answers(&mut core, &mut one, &format!("open - - 0\nprotect 0\nbegin\nput . k {value}\ncommit .\n"));
+        core.watch_memory(resident);
+        tidy(&mut core);
+        assert_eq!((core.ledger.feeds.len(), core.ledger.protections.len()), (left, left), "{size} {resident}");
+    }
+}
+
+#[test]
+fn an_old_transaction_is_aborted_by_its_own_seat_and_a_younger_one_stays() {
+    let mut core = core(&["--max-age", "0.2"]);
+    let (mut one, mut two) = (session(&mut core), session(&mut core));
+    answers(&mut core, &mut one, "begin\nput . a 1\n");
+    std::thread::sleep(Duration::from_millis(250));
+    answers(&mut core, &mut two, "begin\nput . b 1\n");
+    tidy(&mut core);
+    assert_eq!(answers(&mut core, &mut one, "commit .\n"), ["ended"]);
+    assert_eq!(answers(&mut core, &mut two, "commit .\n"), ["committed 1"]);
+    assert_eq!(core.shouts, 0);
+}
+
+#[test]
+fn the_horizon_moves_once_what_held_it_is_gone_though_nothing_more_is_closed() {
+    let mut core = core(&["--history", "0"]);
+    let mut one = session(&mut core);
+    assert_eq!(
+        answers(&mut core, &mut one, "protect 0\nbegin 7\ncommit 7\n"),
+        ["protected 1", "started", "committed 0"]
+    );
+    tidy(&mut core);
+    tidy(&mut core);
+    assert_eq!((core.ledger.closed, core.ledger.horizon), (7, 0));
+    assert_eq!(answers(&mut core, &mut one, "release 1\n"), ["released"]);
+    tidy(&mut core);
+    assert_eq!(core.ledger.horizon, 7);
+}
+
+#[test]
+fn much_is_collected_in_steps() {
+    let mut core = core(&["--history", "0"]);
+    let mut one = session(&mut core);
+    answers(&mut core, &mut one, "protect 0\n");
+    for _ in 0..5 {
+        let puts: String = (0..9000).map(|row| format!("put . k{row} v\n")).collect();
+        answers(&mut core, &mut one, &format!("begin\n{puts}commit .\n"));
+        core.close();
+    }
+    answers(&mut core, &mut one, "release 1\n");
+    let past = Instant::now();
+    let mut horizons = Vec::new();
+    while core.collect(past) == Turn::More {
+        horizons.push(core.ledger.horizon);
+    }
+    // Each step has 20,000 rows at most: two transactions.
+    assert_eq!(horizons, [2, 4, 5]);
+    assert_eq!((core.shouts, core.ledger.collected), (0, 4 * 9000));
+}
+
+#[test]
+fn closing_is_done_at_once_or_after_the_pause() {
+    for (pause, closed) in [("0", 1), ("100", 0)] {
+        let mut core = core(&["--close-every", pause]);
+        let mut one = session(&mut core);
+        answers(&mut core, &mut one, "begin\nput . a 1\ncommit .\n");
+        let settled = core.settle(Instant::now());
+        assert_eq!((core.ledger.closed, settled.moved, settled.is_due), (closed, closed == 1, closed == 0));
+        // The timer is told once.
+        assert!(!core.settle(Instant::now()).is_due);
+        core.settle(Instant::now() + Duration::from_secs(101));
+        assert_eq!(core.ledger.closed, 1);
+        assert_eq!(core.next_close(), None);
+    }
+}
+
+#[test]
+fn closing_waits_for_streams_that_are_behind_and_not_for_slow_readers() {
+    let mut core = core(&[]);
+    let mut one = session(&mut core);
+    for _ in 0..2 {
+        core.ask(Owner::Server, Command::OpenInitial { span: ripsawbean::Span::ALL, cursor: 0 }).expect("a call");
+    }
+    let mut commit = |core: &mut Core| {
+        answers(core, &mut one, "begin\nput . a 1\ncommit .\n");
+        core.settle(Instant::now());
+        core.ledger.closed
+    };
+    assert_eq!(commit(&mut core), 1);
+    assert_eq!((commit(&mut core), core.ledger.behind), (1, 2));
+    let mut out = Vec::new();
+    core.poll(1, 9, &mut out).expect("a poll");
+    core.settle(Instant::now());
+    assert_eq!((core.ledger.closed, core.ledger.behind), (1, 1));
+    core.ledger.set_waits(2, true);
+    core.settle(Instant::now());
+    assert_eq!((core.ledger.closed, core.ledger.behind), (2, 1));
+    assert_eq!(commit(&mut core), 2);
+    // A stream that doesn't poll is waited for 20 ms at most.
+    core.settle(Instant::now() + LONGEST_WAIT);
+    assert_eq!(core.ledger.closed, 3);
+    core.stop_feed(1, Reason::Gone);
+    assert_eq!(core.ledger.behind, 0);
+    assert_eq!(core.ledger.take_end(1).map(|end| end.reason), Some(Reason::Gone));
+    assert_eq!(core.ledger.take_end(1), None);
+}
+
+#[test]
+fn what_holds_the_horizon_is_the_lowest() {
+    use crate::ledger::Holder;
+    let mut core = core(&[]);
+    let mut one = session(&mut core);
+    answers(&mut core, &mut one, "begin 5\ncommit 5\nclose 5\n");
+    assert_eq!(core.ledger.limit(), (5, Holder::Closed));
+    answers(&mut core, &mut one, "protect 4\nopen - - 3\nprotect 2\n");
+    assert_eq!(core.ledger.limit(), (2, Holder::Protection(2)));
+    answers(&mut core, &mut one, "release 2\n");
+    assert_eq!(core.ledger.limit(), (3, Holder::Feed(1)));
+    answers(&mut core, &mut one, "poll 1 9\n");
+    assert_eq!(core.ledger.limit(), (4, Holder::Protection(1)));
+}
+
+/// The transcript is the script with its answers: made once more it gives the same.
+#[test]
+fn the_transcript_is_all_that_the_database_did() {
+    let mut core = core(&["--history", "0"]);
+    let mut one = session(&mut core);
+    let mut dice = Dice::new(7);
+    for _ in 0..500 {
+        let text = line(&mut dice, &core);
+        answers(&mut core, &mut one, &text);
+        core.settle(Instant::now());
+        if dice.one_in(30) {
+            tidy(&mut core);
+        }
+    }
+    let (text, next) = core.transcript.piece(0, u64::MAX, usize::MAX).expect("all is kept");
+    assert_eq!(next, core.transcript.next());
+    let mut other = Database::open(1024).expect("it opens");
+    let mut rest = std::str::from_utf8(&text).expect("text");
+    while !rest.is_empty() {
+        let first = rest.split_once('\n').map_or(rest, |(line, _)| line);
+        let (line, _) = first.rsplit_once(" => ").expect("an event");
+        let (_, line) = line.split_once(' ').expect("a position");
+        let again = other.call(format!("{line}\n")).expect("a call").text();
+        assert_eq!(again, &rest[..again.len()]);
+        rest = &rest[again.len()..];
+    }
+}

@@ -1,0 +1,244 @@
+//! How many connections, and which of them are cut.
+//!
+//! `serving` asks for a place for each connection, and wraps its stream; `http` says when a request has passed the gate
+//! and when it is answered. Between requests, and before the first one, a connection is silent. It is cut where it is
+//! silent for too long, and earlier where another one needs its place. A busy one is cut where its reader takes nothing
+//! for `--patience`, and where it sends on while a feed is streamed to it. See `watched`.
+//!
+//! ```text
+//! come             silent, for 10 s at most
+//! asks             busy, as long as a `Busy` is there
+//! Busy is dropped  silent, for 60 s at most
+//! ```
+//!
+//! 1. At most `most` have a place, each from `come` until it is cut, or until its last `Arc` is dropped.
+//! 2. A busy connection is never cut to make room.
+//! 3. To make room, to become busy and to become silent cost O(log n).
+
+mod watched;
+
+use parking_lot::Mutex;
+use std::collections::{BTreeMap, BTreeSet, HashMap};
+use std::net::SocketAddr;
+use std::sync::atomic::{AtomicBool, AtomicU64, Ordering};
+use std::sync::{Arc, Weak};
+use std::time::{Duration, Instant};
+use tokio::sync::Notify;
+pub use watched::Watched;
+
+const HEAD: Duration = Duration::from_secs(10); // how long a new connection may take for its first request
+const REST: Duration = Duration::from_secs(60); // how long it may rest between two
+
+pub struct Connections {
+    most: usize,
+    patience: Duration,
+    table: Mutex<Table>,
+    /// Bytes that all connections together have read and written.
+    read: AtomicU64,
+    written: AtomicU64,
+}
+
+#[derive(Default)]
+struct Table {
+    /// The number of the next connection, and of the next silence.
+    next: u64,
+    open: HashMap<u64, Entry>,
+    /// Silences by their number, so the one that is silent for longest first: whose each is.
+    silent: BTreeMap<u64, u64>,
+    /// When each silence has lasted too long: the connection's number.
+    until: BTreeSet<(Instant, u64)>,
+}
+
+struct Entry {
+    connection: Weak<Connection>,
+    /// Requests that are not answered yet.
+    busy: usize,
+    silence: Option<(u64, Instant)>,
+}
+
+impl Connections {
+    pub fn new(most: usize, patience: Duration) -> Arc<Connections> {
+        let (read, written) = (AtomicU64::new(0), AtomicU64::new(0));
+        Arc::new(Connections { most, patience, table: Mutex::default(), read, written })
+    }
+
+    /// A new connection that may be served, or `None` where there are too many and none is silent.
+    pub fn come(self: &Arc<Connections>, peer: SocketAddr) -> Option<Arc<Connection>> {
+        let mut table = self.table.lock();
+        let oldest = if table.open.len() >= self.most { table.take_oldest() } else { None };
+        let connection = (table.open.len() < self.most).then(|| {
+            let number = table.draw();
+            let connection = Arc::new(Connection::new(self.clone(), number, peer));
+            table.add(number, &connection);
+            connection
+        });
+        drop(table);
+        cut_all(oldest);
+        connection
+    }
+
+    /// Connections that have a place.
+    pub fn open(&self) -> usize {
+        self.table.lock().open.len()
+    }
+
+    /// Bytes that were read and written, those of connections that are gone too.
+    pub fn bytes(&self) -> (u64, u64) {
+        (self.read.load(Ordering::Relaxed), self.written.load(Ordering::Relaxed))
+    }
+
+    /// Once a second: cuts those that are silent for too long.
+    pub fn tidy(&self) {
+        self.tidy_at(Instant::now());
+    }
+
+    fn tidy_at(&self, now: Instant) {
+        let over = self.table.lock().take_over(now);
+        cut_all(over);
+    }
+}
+
+/// Not under the lock, as the end of a connection takes it.
+fn cut_all(connections: impl IntoIterator<Item = Weak<Connection>>) {
+    connections.into_iter().filter_map(|one| one.upgrade()).for_each(|one| one.cut());
+}
+
+impl Table {
+    fn draw(&mut self) -> u64 {
+        self.next += 1;
+        self.next
+    }
+
+    fn add(&mut self, number: u64, connection: &Arc<Connection>) {
+        let entry = Entry { connection: Arc::downgrade(connection), busy: 0, silence: None };
+        self.open.insert(number, entry);
+        self.rests(number, HEAD);
+    }
+
+    fn rests(&mut self, number: u64, most: Duration) {
+        let silence = (self.draw(), Instant::now() + most);
+        if let Some(entry) = self.open.get_mut(&number) {
+            entry.silence = Some(silence);
+            self.silent.insert(silence.0, number);
+            self.until.insert((silence.1, number));
+        }
+    }
+
+    fn speaks(&mut self, number: u64) {
+        let Some((silence, until)) = self.open.get_mut(&number).and_then(|entry| entry.silence.take()) else { return };
+        self.silent.remove(&silence);
+        self.until.remove(&(until, number));
+    }
+
+    fn goes(&mut self, number: u64) -> Option<Weak<Connection>> {
+        self.speaks(number);
+        self.open.remove(&number).map(|entry| entry.connection)
+    }
+
+    fn take_oldest(&mut self) -> Option<Weak<Connection>> {
+        let (_, number) = self.silent.first_key_value()?;
+        self.goes(*number)
+    }
+
+    fn take_over(&mut self, now: Instant) -> Vec<Weak<Connection>> {
+        let mut over = Vec::new();
+        while let Some((_, number)) = self.until.first().copied().filter(|(until, _)| *until < now) {
+            over.extend(self.goes(number));
+        }
+        over
+    }
+}
+
+/// What is known of one connection. It is open until the last of its `Arc`s is dropped.
+pub struct Connection {
+    pub peer: SocketAddr,
+    number: u64,
+    all: Arc<Connections>,
+    is_cut: AtomicBool,
+    /// A feed is streamed to it.
+    is_exempt: AtomicBool,
+    cut: Notify,
+}
+
+impl std::fmt::Debug for Connection {
+    fn fmt(&self, f: &mut std::fmt::Formatter<'_>) -> std::fmt::Result {
+        write!(f, "Connection({} of {})", self.number, self.peer)
+    }
+}
+
+/// As long as one is there, its connection has a request that isn't answered yet, so it isn't silent.
+#[derive(Debug)]
+pub struct Busy(Arc<Connection>);
+
+impl Connection {
+    fn new(all: Arc<Connections>, number: u64, peer: SocketAddr) -> Connection {
+        let (is_cut, is_exempt) = (AtomicBool::new(false), AtomicBool::new(false));
+        Connection { peer, number, all, is_cut, is_exempt, cut: Notify::new() }
+    }
+
+    /// A request has passed the gate.
+    pub fn asks(self: &Arc<Connection>) -> Busy {
+        let mut table = self.all.table.lock();
+        table.speaks(self.number);
+        if let Some(entry) = table.open.get_mut(&self.number) {
+            entry.busy += 1;
+        }
+        Busy(self.clone())
+    }
+
+    /// Its reader may be slow until the request is answered: it isn't cut as one that takes nothing. Streams of feeds
+    /// are so. In return it may send nothing meanwhile.
+    pub fn exempt(&self) {
+        self.is_exempt.store(true, Ordering::Release);
+    }
+
+    fn is_exempt(&self) -> bool {
+        self.is_exempt.load(Ordering::Acquire)
+    }
+
+    /// Ends it: its place is free at once, and whoever waits for its end is told. Nothing more is read or written.
+    pub fn cut(&self) {
+        self.all.table.lock().goes(self.number);
+        self.is_cut.store(true, Ordering::Release);
+        self.cut.notify_waiters();
+    }
+
+    pub fn is_cut(&self) -> bool {
+        self.is_cut.load(Ordering::Acquire)
+    }
+
+    /// Waits until it is to end.
+    pub async fn cut_off(&self) {
+        // Whoever is notified is told of each cut from here on, and is asked for those before.
+        let told = self.cut.notified();
+        if !self.is_cut() {
+            told.await;
+        }
+    }
+
+    /// The stream, which notes what is written and read.
+    pub fn watch<S>(self: &Arc<Connection>, stream: S) -> Watched<S> {
+        Watched::new(stream, self.clone(), self.all.patience)
+    }
+}
+
+impl Drop for Connection {
+    fn drop(&mut self) {
+        self.all.table.lock().goes(self.number);
+    }
+}
+
+impl Drop for Busy {
+    fn drop(&mut self) {
+        let mut table = self.0.all.table.lock();
+        let Some(entry) = table.open.get_mut(&self.0.number) else { return };
+        entry.busy -= 1;
+        if entry.busy == 0 {
+            self.0.is_exempt.store(false, Ordering::Release);
+            table.rests(self.0.number, REST);
+        }
+    }
+}
+
+#[cfg(test)]
+mod tests;

@@ -1,0 +1,227 @@
+//! The one database with what follows it. Every call of the server goes through here.
+//!
+//! `lines` makes the calls of clients; `closing`, `streams` and `consumers` those of the server. Nothing here waits.
+//!
+//! 1. Each event of the database is in the ledger and in the transcript, in its order, by the time that the call
+//!    returns. So nobody else sees the one without the other.
+//! 2. A call that was made is never told as one that wasn't. Where there is no memory for an event's text, room is
+//!    given back that was kept for this, and then the transcript's, and the text is asked for again.
+//! 3. `identity` is drawn at random at the start. A timestamp means something only together with it, because each start
+//!    is a new history.
+
+use crate::closing::Closing;
+use crate::consumers::Consumers;
+use crate::door::Turn;
+use crate::ledger::{Ledger, Reason};
+use crate::lines::Limits;
+use crate::log::Log;
+use crate::options::Options;
+use crate::outcome::Outcome;
+use crate::seats::{Owner, Seats, Session};
+use crate::transcript::Transcript;
+use ripsawbean::{CallError, Command, Database, Event, OpenError, Refusal};
+use std::io::Write;
+use std::sync::Arc;
+use std::time::Instant;
+
+/// Bytes that are kept for the text of an event: more than a line and its answer may have, but for rows and messages.
+const SPARE: usize = 1 << 20;
+
+pub struct Core {
+    database: Database,
+    pub identity: String,
+    pub ledger: Ledger,
+    pub seats: Seats,
+    pub transcript: Transcript,
+    pub consumers: Consumers,
+    pub closing: Closing,
+    pub limits: Limits,
+    /// Answers that were not the ones that had to come.
+    pub shouts: u64,
+    pub log: Arc<Log>,
+    /// The line that is called, with its seat.
+    line: Vec<u8>,
+    spare: Vec<u8>,
+}
+
+/// What of an event's text is wanted.
+enum Wanted<'a> {
+    Nothing,
+    /// All of it, behind this.
+    Text(&'a mut Vec<u8>),
+    /// The lines behind the first one, behind this.
+    Messages(&'a mut Vec<u8>),
+}
+
+impl Core {
+    /// A new and empty database. Who starts the server draws its identity.
+    pub fn new(options: &Options, identity: String, log: Arc<Log>) -> Result<Core, OpenError> {
+        Ok(Core {
+            database: Database::open(options.ring)?,
+            identity,
+            ledger: Ledger::default(),
+            seats: Seats::default(),
+            transcript: Transcript::new(options.keep, options.keep_bytes),
+            consumers: Consumers::new(options.max_consumers),
+            closing: Closing::new(options),
+            limits: Limits::of(options),
+            shouts: 0,
+            log,
+            line: Vec::new(),
+            spare: Vec::with_capacity(SPARE),
+        })
+    }
+
+    /// Makes the call of a session's line, which has its newline and no seat, and puts the event's text behind `out`.
+    /// After an error no call was made, but for `Unwritten`: the call was made, and its text is lost.
+    pub fn call(&mut self, session: &mut Session, line: &[u8], out: &mut Vec<u8>) -> Result<Outcome, CallError> {
+        let owner = Owner::Seat(session.seat);
+        let mut wanted = Wanted::Text(out);
+        self.line.clear();
+        // Writing to a vector can't fail.
+        let _ = write!(self.line, "{} ", session.seat);
+        self.line.extend_from_slice(line);
+        let outcome = match self.database.call(&self.line) {
+            Ok(event) => enter(&mut self.transcript, &mut self.ledger, &mut self.seats, owner, event, &mut wanted),
+            Err(CallError::Unwritten) => self.enter_again(owner, &mut wanted),
+            Err(error) => Err(error),
+        }?;
+        if let Outcome::Started { ts } = outcome {
+            session.last = Some(ts);
+        }
+        Ok(outcome)
+    }
+
+    /// What a command of the server's own did: `Refused(NoMemory)` also where there was none to make the call. Errors
+    /// are those of `call`.
+    pub fn ask(&mut self, owner: Owner, command: Command<'_>) -> Result<Outcome, CallError> {
+        self.make(owner, command, Wanted::Nothing)
+    }
+
+    /// Asks what has one right outcome, and shouts where another comes.
+    pub fn demand(&mut self, owner: Owner, command: Command<'_>, expected: &Outcome) {
+        match self.ask(owner, command) {
+            Ok(outcome) if outcome == *expected => {}
+            Ok(outcome) => self.shout(&format!("{command} => {outcome}, and not {expected}")),
+            Err(error) => self.shout(&format!("{command}: {error}, and not {expected}")),
+        }
+    }
+
+    /// Polls a feed of the server's own, and puts its messages behind `out`, a line of JSON each. After `Unwritten`
+    /// messages are lost, and the stream has to be cut.
+    pub fn poll(&mut self, feed: u64, most: u64, out: &mut Vec<u8>) -> Result<Outcome, CallError> {
+        self.make(Owner::Server, Command::Poll { feed, max: most }, Wanted::Messages(out))
+    }
+
+    /// Cancels a feed where it lives, so that what streams it ends for this reason.
+    pub fn stop_feed(&mut self, feed: u64, reason: Reason) {
+        if self.ledger.feeds.contains_key(&feed) {
+            self.ledger.will_end(feed, reason);
+            self.demand(Owner::Server, Command::Cancel { feed }, &Outcome::Cancelled { feed });
+        }
+    }
+
+    /// Releases a protection where it stands.
+    pub fn release(&mut self, id: u64) {
+        if self.ledger.protections.contains_key(&id) {
+            self.demand(Owner::Server, Command::Release { id }, &Outcome::Released { id });
+        }
+    }
+
+    /// Ends what a session has left, and frees its seat, in turns.
+    pub fn end(&mut self, seat: u8, until: Instant) -> Turn {
+        while let Some(taken) = self.seats.taken_mut(seat) {
+            // What can't be ended for want of memory is the work of each second: it isn't asked for here again.
+            if let Some(ts) = taken.begun.pop_first() {
+                self.demand(Owner::Seat(seat), Command::Abort { ts }, &Outcome::Aborted { ts });
+            } else if let Some(feed) = taken.feeds.pop_first() {
+                self.stop_feed(feed, Reason::FeedCancelled);
+            } else if let Some(id) = taken.protections.pop_first() {
+                self.release(id);
+            } else {
+                self.seats.give_back(seat);
+            }
+            if Instant::now() >= until {
+                return Turn::More;
+            }
+        }
+        Turn::Done
+    }
+
+    /// The database's own report. `None` where there is no memory for it.
+    pub fn state(&mut self) -> Option<String> {
+        self.database.state().ok()
+    }
+
+    /// Says aloud that an answer was not the one that had to come.
+    pub fn shout(&mut self, message: &str) {
+        self.shouts += 1;
+        self.log.error("shout", &[("why", message.into())]);
+    }
+
+    fn make(&mut self, owner: Owner, command: Command<'_>, mut wanted: Wanted<'_>) -> Result<Outcome, CallError> {
+        match self.database.make(owner.seat(), command) {
+            Ok(event) => enter(&mut self.transcript, &mut self.ledger, &mut self.seats, owner, event, &mut wanted),
+            Err(CallError::Unwritten) => self.enter_again(owner, &mut wanted),
+            Err(CallError::NoMemory) => Ok(Outcome::Refused(Refusal::NoMemory)),
+            Err(error) => Err(error),
+        }
+    }
+
+    /// The last call was made, and there was no memory for its text.
+    fn enter_again(&mut self, owner: Owner, wanted: &mut Wanted<'_>) -> Result<Outcome, CallError> {
+        for give in [Core::give_spare, Core::give_transcript] {
+            give(self);
+            if let Ok(Some(event)) = self.database.text() {
+                return enter(&mut self.transcript, &mut self.ledger, &mut self.seats, owner, event, wanted);
+            }
+        }
+        // Only rows and messages are longer than what was given back, so the ledger misses a feed's floor at most.
+        self.ledger.calls += 1;
+        self.transcript.begin_at(self.transcript.next() + 1);
+        self.shout("an event's text found no memory: the transcript begins behind it");
+        Err(CallError::Unwritten)
+    }
+
+    fn give_spare(&mut self) {
+        self.spare = Vec::new();
+    }
+
+    fn give_transcript(&mut self) {
+        self.transcript.begin_at(self.transcript.next());
+    }
+
+    /// Room that a long answer needed isn't kept: it would count as memory that is taken.
+    pub fn give_back_room(&mut self) {
+        self.database.shrink(SPARE);
+    }
+
+    /// Keeps room for the text of an event again, where it was given.
+    pub fn take_spare(&mut self) {
+        if self.spare.capacity() == 0 && self.spare.try_reserve_exact(SPARE).is_err() {
+            self.spare = Vec::new();
+        }
+    }
+}
+
+/// Notes an event in the ledger and the transcript, and tells what is wanted of its text.
+fn enter(
+    transcript: &mut Transcript,
+    ledger: &mut Ledger,
+    seats: &mut Seats,
+    owner: Owner,
+    event: Event<'_>,
+    wanted: &mut Wanted<'_>,
+) -> Result<Outcome, CallError> {
+    let outcome = Outcome::of(event);
+    transcript.add(event.text());
+    ledger.note(seats, owner, &outcome);
+    let (out, text) = match wanted {
+        Wanted::Nothing => return Ok(outcome),
+        Wanted::Text(out) => (out, event.text()),
+        Wanted::Messages(out) => (out, event.text().split_once('\n').map_or("", |(_, lines)| lines)),
+    };
+    out.try_reserve(text.len()).map_err(|_| CallError::Unwritten)?;
+    out.extend_from_slice(text.as_bytes());
+    Ok(outcome)
+}

@@ -1,0 +1,84 @@
+//! The lock before the one database, and who is woken when it was used.
+//!
+//! Each handler, stream and timer works by `run`. The lock is one that is handed on in turn where it was held for long,
+//! so who works in turns lets all others in.
+//!
+//! 1. No one holds the lock over an await: `run` takes a closure that can't have one.
+//! 2. When the lock is given back, closing was done where it is due, or its time is known to `due`.
+//! 3. `moved` changes after the lock was given back, so who is woken finds it free.
+//!
+//! ```text
+//! door.run(|core| core.ledger.closed)                       a short look
+//! door.turns(|core, until| core.end(seat, until)).await     work that may be long: 5 ms, and again
+//! ```
+
+use crate::core::Core;
+use parking_lot::Mutex;
+use std::time::{Duration, Instant};
+use tokio::sync::{watch, Notify};
+
+/// After so long others get a turn.
+const TURN: Duration = Duration::from_millis(5);
+
+/// Whether work has come to its end in its turn.
+#[derive(Clone, Copy, Debug, PartialEq, Eq)]
+pub enum Turn {
+    Done,
+    More,
+}
+
+pub struct Door {
+    core: Mutex<Core>,
+    moved: watch::Sender<u64>,
+    due: Notify,
+}
+
+impl Door {
+    pub fn new(core: Core) -> Door {
+        Door { core: Mutex::new(core), moved: watch::channel(0).0, due: Notify::new() }
+    }
+
+    /// Takes the lock, works, settles (closes where that is due, wakes the streams), and gives the result. Work of more
+    /// than 5 ms is to be done in turns, each by a call of its own, with an await between them.
+    pub fn run<R>(&self, work: impl FnOnce(&mut Core) -> R) -> R {
+        let mut core = self.core.lock();
+        let result = work(&mut core);
+        let settled = core.settle(Instant::now());
+        drop(core);
+        if settled.moved {
+            self.ring();
+        }
+        if settled.is_due {
+            self.due.notify_one();
+        }
+        result
+    }
+
+    /// One turn of work, which looks at the time that it gets.
+    pub fn turn<R>(&self, work: impl FnOnce(&mut Core, Instant) -> R) -> R {
+        self.run(|core| work(core, Instant::now() + TURN))
+    }
+
+    /// Work in turns, to its end.
+    pub async fn turns(&self, mut work: impl FnMut(&mut Core, Instant) -> Turn) {
+        while self.turn(&mut work) == Turn::More {
+            tokio::task::yield_now().await;
+        }
+    }
+
+    /// Changes after closed has moved or a feed of the server's own has ended, and each second. Who takes
+    /// `borrow_and_update` before it looks misses nothing.
+    pub fn moved(&self) -> watch::Receiver<u64> {
+        self.moved.subscribe()
+    }
+
+    /// Wakes all streams.
+    pub fn ring(&self) {
+        self.moved.send_modify(|count| *count += 1);
+    }
+
+    /// Waits until a closing has to be done later than now.
+    pub async fn due(&self) {
+        self.due.notified().await;
+    }
+}

@@ -1,0 +1,333 @@
+//! A client's lines, each to its event's text or its fault.
+//!
+//! `session` hands over a message or a body as `Lines`, and asks for one turn after another. Before the database sees a
+//! line:
+//!
+//! ```text
+//! begin            the timestamp is drawn: above closed and above each that began
+//! get . KEY        `.` is the timestamp that the session began last; so in scan, put, del, commit and abort
+//! begin TS         is refused far ahead of all others, and so are close and closehard: it would end the database
+//! poll, release    are refused for what the server holds for a stream or a name
+//! poll FEED MAX    has a MAX of 128 at most
+//! ```
+//!
+//! 1. A line is answered by exactly one event or one `fault LINE CODE NAME`, in its order. LINE counts the session's
+//!    lines from 1.
+//! 2. A faulty line makes no call, and the session goes on.
+//! 3. Codes below 64 are the database's own, which docs/GUIDE.md lists. Those from 64 on are the server's.
+
+use crate::core::Core;
+use crate::door::Turn;
+use crate::gate::Right;
+use crate::options::Options;
+use crate::outcome::Outcome;
+use crate::seats::{Owner, Session};
+use ripsawbean::{unspell, CallError};
+use std::io::Write;
+use std::time::Instant;
+
+const GREATEST_LENGTH: usize = 19; // digits of the greatest timestamp
+const MOST_POLLED: u64 = 128; // messages: at their longest 12 MB of text
+
+/// What a session may do.
+#[derive(Clone, Copy, Debug)]
+pub struct Limits {
+    ahead: u64,
+    max_reply: usize,
+    max_held: usize,
+    /// The server ends, and no transaction begins any more.
+    pub is_draining: bool,
+}
+
+impl Limits {
+    pub fn of(options: &Options) -> Limits {
+        Limits { ahead: options.ahead, max_reply: options.max_reply, max_held: options.max_held, is_draining: false }
+    }
+}
+
+/// The server takes no such line.
+#[derive(Clone, Copy, Debug, PartialEq, Eq)]
+pub enum Fault {
+    NotYours,
+    Ahead,
+    ReplyTooLong,
+    Full,
+    TooMany,
+    NoRight,
+    Draining,
+}
+
+impl Fault {
+    fn code(self) -> u8 {
+        match self {
+            Fault::NotYours => 64,
+            Fault::Ahead => 65,
+            Fault::ReplyTooLong => 66,
+            Fault::Full => 67,
+            Fault::TooMany => 68,
+            Fault::NoRight => 69,
+            Fault::Draining => 70,
+        }
+    }
+
+    fn name(self) -> &'static str {
+        match self {
+            Fault::NotYours => "notyours",
+            Fault::Ahead => "ahead",
+            Fault::ReplyTooLong => "replytoolong",
+            Fault::Full => "full",
+            Fault::TooMany => "toomany",
+            Fault::NoRight => "noright",
+            Fault::Draining => "draining",
+        }
+    }
+}
+
+/// A call was made and its text is lost for want of memory. The session has to end, as its client can't know of it.
+#[derive(Clone, Copy, Debug, PartialEq, Eq)]
+pub struct Lost;
+
+/// Whole lines, and their answers so far.
+#[derive(Debug)]
+pub struct Lines {
+    data: Vec<u8>,
+    taken: usize,
+    pub answers: Vec<u8>,
+}
+
+impl Lines {
+    pub fn new(data: Vec<u8>) -> Lines {
+        Lines { data, taken: 0, answers: Vec::new() }
+    }
+
+    /// Takes lines until this time, one at least. Once the answers are too long, no further call is made.
+    pub fn turn(&mut self, core: &mut Core, session: &mut Session, until: Instant) -> Result<Turn, Lost> {
+        while self.taken < self.data.len() {
+            let rest = &self.data[self.taken..];
+            let end = rest.iter().position(|&byte| byte == b'\n').map_or(rest.len(), |at| at + 1);
+            session.lines += 1;
+            if self.answers.len() < core.limits.max_reply {
+                take(core, session, &rest[..end], &mut self.answers)?;
+            } else {
+                tell_fault(core, session, Fault::ReplyTooLong, &mut self.answers);
+            }
+            self.taken += end;
+            if Instant::now() >= until {
+                return Ok(Turn::More);
+            }
+        }
+        Ok(Turn::Done)
+    }
+}
+
+fn take(core: &mut Core, session: &mut Session, line: &[u8], out: &mut Vec<u8>) -> Result<(), Lost> {
+    let made = match prepared(core, session, line) {
+        Err(fault) => {
+            tell_fault(core, session, fault, out);
+            return Ok(());
+        }
+        Ok(None) => core.call(session, line, out),
+        Ok(Some(other)) => core.call(session, &other, out),
+    };
+    match made {
+        Ok(Outcome::Closed { at, aborted: 1.. }) if line.starts_with(b"closehard ") => {
+            audit(core, session, "closehard", at);
+        }
+        Ok(_) => {}
+        Err(CallError::Line(fault)) => tell(core, session, fault.code(), fault.name(), out),
+        Err(CallError::NoMemory) => tell(core, session, 12, "nomemory", out),
+        Err(CallError::Spent) => tell(core, session, 13, "spent", out),
+        Err(CallError::Unwritten) => return Err(Lost),
+    }
+    Ok(())
+}
+
+fn tell_fault(core: &mut Core, session: &Session, fault: Fault, out: &mut Vec<u8>) {
+    tell(core, session, fault.code(), fault.name(), out);
+}
+
+fn tell(core: &mut Core, session: &Session, code: u8, name: &'static str, out: &mut Vec<u8>) {
+    core.ledger.refused(name);
+    // Writing to a vector can't fail.
+    let _ = writeln!(out, "fault {} {code} {name}", session.lines);
+}
+
+/// Who has ended what is another's.
+fn audit(core: &Core, session: &Session, event: &'static str, number: u64) {
+    let fields = [("number", number.into()), ("seat", session.seat.into()), ("by", session.who.name().into())];
+    core.log.audit(event, &fields);
+}
+
+/// The line that the database is to see, where it is another one.
+type Prepared = Result<Option<Vec<u8>>, Fault>;
+
+/// One rule for each command that isn't handed on as it is.
+fn prepared(core: &Core, session: &mut Session, line: &[u8]) -> Prepared {
+    let whole = line.strip_suffix(b"\n").unwrap_or(line);
+    let end = whole.iter().position(|&byte| byte == b' ');
+    let (command, rest) = end.map_or((whole, None), |at| (&whole[..at], Some(&whole[at + 1..])));
+    check_right(session, command)?;
+    check_keys(session, command, rest.unwrap_or(b""))?;
+    match (command, rest) {
+        (b"begin", _) => begin(core, session, line, rest),
+        (b"close", Some(to)) => bound(core, to).map(|()| None),
+        (b"closehard", Some(to)) => bound(core, to).map(|()| None),
+        (b"put", Some(rest)) if !core.is_full() => Ok(dot(session, command, rest, line)),
+        (b"put", Some(_)) => Err(Fault::Full),
+        (b"get" | b"scan" | b"del" | b"commit" | b"abort", Some(rest)) => Ok(dot(session, command, rest, line)),
+        (b"open" | b"openinitial" | b"openevery" | b"openinitialevery", Some(_)) => has_room(core, session, Kind::Feed),
+        (b"protect", Some(_)) => has_room(core, session, Kind::Protection),
+        (b"poll", Some(rest)) => poll(core, line, rest),
+        (b"cancel", Some(rest)) if line.ends_with(b"\n") => cancel(core, session, rest),
+        (b"release", Some(rest)) if line.ends_with(b"\n") => release(core, session, rest),
+        _ => Ok(None),
+    }
+}
+
+/// Who may only read writes nothing, and what changes the database for others is an operator's.
+fn check_right(session: &Session, command: &[u8]) -> Result<(), Fault> {
+    let right = match command {
+        b"put" | b"del" | b"close" => Right::Write,
+        b"closehard" | b"collect" => Right::Operate,
+        _ => Right::Read,
+    };
+    check(session, right)
+}
+
+/// Who has a token for some keys names those alone. A word that spells no bytes is the database's to refuse.
+fn check_keys(session: &Session, command: &[u8], rest: &[u8]) -> Result<(), Fault> {
+    let keys = session.who.keys();
+    if keys.is_all() {
+        return Ok(());
+    }
+    let words: Vec<&[u8]> = rest.split(|&byte| byte == b' ').collect();
+    let bytes = |at: usize| words.get(at).and_then(|word| unspell(std::str::from_utf8(word).ok()?));
+    let is_within = |at: usize| match (bytes(at), bytes(at + 1)) {
+        (Some(lo), Some(hi)) => keys.covers(&lo, Some(hi.as_slice()).filter(|hi| !hi.is_empty())),
+        _ => true,
+    };
+    let is_allowed = match command {
+        b"get" | b"put" | b"del" | b"readat" => bytes(1).is_none_or(|key| keys.holds(&key)),
+        b"scan" | b"scanat" => is_within(1),
+        b"open" | b"openinitial" | b"openevery" | b"openinitialevery" => is_within(0),
+        _ => true,
+    };
+    if is_allowed {
+        Ok(())
+    } else {
+        Err(Fault::NoRight)
+    }
+}
+
+fn check(session: &Session, right: Right) -> Result<(), Fault> {
+    if session.who.may(right) {
+        Ok(())
+    } else {
+        Err(Fault::NoRight)
+    }
+}
+
+fn begin(core: &Core, session: &mut Session, line: &[u8], rest: Option<&[u8]>) -> Prepared {
+    session.last = None;
+    if core.limits.is_draining {
+        return Err(Fault::Draining);
+    }
+    if let Some(timestamp) = rest {
+        bound(core, timestamp)?;
+    }
+    has_room(core, session, Kind::Transaction)?;
+    // Half a line is never taken for a line.
+    let is_drawn = rest.is_none() && line.ends_with(b"\n");
+    Ok(is_drawn.then(|| format!("begin {}\n", core.ledger.next_timestamp()).into_bytes()))
+}
+
+/// The line with the session's last timestamp for a dot as the first word.
+fn dot(session: &Session, command: &[u8], rest: &[u8], line: &[u8]) -> Option<Vec<u8>> {
+    let last = session.last?;
+    let has_dot = rest.first() == Some(&b'.') && matches!(rest.get(1), None | Some(b' '));
+    has_dot.then(|| {
+        let mut spelled = Vec::with_capacity(line.len() + GREATEST_LENGTH);
+        spelled.extend_from_slice(command);
+        // Writing to a vector can't fail.
+        let _ = write!(spelled, " {last}");
+        spelled.extend_from_slice(&line[command.len() + 2..]);
+        spelled
+    })
+}
+
+/// A timestamp is not far ahead of all others.
+fn bound(core: &Core, word: &[u8]) -> Result<(), Fault> {
+    let most = core.ledger.next_timestamp().saturating_add(core.limits.ahead);
+    match number_in(word) {
+        Some(number) if number < most => Ok(()),
+        _ if is_number(word) => Err(Fault::Ahead),
+        _ => Ok(()),
+    }
+}
+
+enum Kind {
+    Transaction,
+    Feed,
+    Protection,
+}
+
+/// A session holds so many things of each kind at most.
+fn has_room(core: &Core, session: &Session, kind: Kind) -> Prepared {
+    let held = core.seats.taken(session.seat).map_or(0, |taken| match kind {
+        Kind::Transaction => taken.begun.len(),
+        Kind::Feed => taken.feeds.len(),
+        Kind::Protection => taken.protections.len(),
+    });
+    if held < core.limits.max_held {
+        Ok(None)
+    } else {
+        Err(Fault::TooMany)
+    }
+}
+
+fn poll(core: &Core, line: &[u8], rest: &[u8]) -> Prepared {
+    let mut words = rest.split(|&byte| byte == b' ');
+    let Some(number) = words.next().and_then(number_in) else { return Ok(None) };
+    if core.ledger.feeds.get(&number).is_some_and(|feed| feed.owner == Owner::Server) {
+        return Err(Fault::NotYours);
+    }
+    let most = words.next().and_then(number_in).filter(|&most| most > MOST_POLLED);
+    // Half a line is never taken for a line.
+    let is_whole = words.next().is_none() && line.ends_with(b"\n");
+    Ok(most.filter(|_| is_whole).map(|_| format!("poll {number} {MOST_POLLED}\n").into_bytes()))
+}
+
+fn cancel(core: &Core, session: &Session, rest: &[u8]) -> Prepared {
+    let Some(number) = number_in(rest) else { return Ok(None) };
+    if core.ledger.feeds.get(&number).is_some_and(|feed| feed.owner != Owner::Seat(session.seat)) {
+        check(session, Right::Operate)?;
+        audit(core, session, "cancel", number);
+    }
+    Ok(None)
+}
+
+fn release(core: &Core, session: &Session, rest: &[u8]) -> Prepared {
+    let Some(id) = number_in(rest) else { return Ok(None) };
+    match core.ledger.protections.get(&id).map(|protection| protection.owner) {
+        Some(Owner::Server) => return Err(Fault::NotYours),
+        Some(owner) if owner != Owner::Seat(session.seat) => {
+            check(session, Right::Operate)?;
+            audit(core, session, "release", id);
+        }
+        _ => {}
+    }
+    Ok(None)
+}
+
+/// Whether a word is digits without a leading zero, as the database's numbers are.
+fn is_number(word: &[u8]) -> bool {
+    word.iter().all(u8::is_ascii_digit) && (word.len() == 1 || !matches!(word.first(), None | Some(b'0')))
+}
+
+/// A word as a number, if it is one of 64 bits.
+fn number_in(word: &[u8]) -> Option<u64> {
+    std::str::from_utf8(word).ok().filter(|_| is_number(word))?.parse().ok()
+}
+
+#[cfg(test)]
+mod tests;

@@ -1,0 +1,306 @@
+//! Lines of a session beside the database itself: what README promises of them.
+
+use super::*;
+use crate::gate::{Right, Who};
+use crate::testing::{answers, core, end, session, texts};
+use ripsawbean::{Command, Span};
+use std::time::Duration;
+
+#[test]
+fn a_timestamp_is_drawn_and_put_in_for_the_dot() {
+    let mut core = core(&[]);
+    let mut one = session(&mut core);
+    let told = texts(&mut core, &mut one, "begin\nput . a 1\nget . a\ncommit .\n");
+    let seat = one.seat;
+    let expected = format!(
+        "0 {seat} begin 1 => started\n1 {seat} put 1 a 1 => written\n2 {seat} get 1 a => value 1\n\
+         3 {seat} commit 1 => committed 1\n"
+    );
+    assert_eq!(told, expected);
+}
+
+#[test]
+fn drawn_timestamps_are_above_all_that_began_and_above_closed() {
+    let mut core = core(&[]);
+    let mut one = session(&mut core);
+    answers(&mut core, &mut one, "begin 7\ncommit 7\nbegin\n");
+    assert_eq!(core.ledger.undecided.keys().copied().collect::<Vec<_>>(), [8]);
+    answers(&mut core, &mut one, "commit .\nclose 20\nbegin\n");
+    assert_eq!(core.ledger.undecided.keys().copied().collect::<Vec<_>>(), [21]);
+}
+
+#[test]
+fn a_dot_of_one_session_is_not_the_others() {
+    let mut core = core(&[]);
+    let (mut one, mut two) = (session(&mut core), session(&mut core));
+    answers(&mut core, &mut one, "begin\n");
+    answers(&mut core, &mut two, "begin\n");
+    assert_eq!(answers(&mut core, &mut one, "commit .\n"), ["committed 0"]);
+    assert_eq!(core.ledger.undecided.keys().copied().collect::<Vec<_>>(), [2]);
+}
+
+#[test]
+fn where_begin_is_refused_no_line_goes_to_the_transaction_before() {
+    let mut core = core(&[]);
+    let mut one = session(&mut core);
+    answers(&mut core, &mut one, "begin\n");
+    assert_eq!(answers(&mut core, &mut one, "begin 1\nput . a 1\n"), ["tsused", "fault 3 3 number"]);
+}
+
+#[test]
+fn a_dot_elsewhere_is_itself() {
+    let mut core = core(&[]);
+    let mut one = session(&mut core);
+    let told = answers(&mut core, &mut one, "begin\nput . . .\nget . .\nput .x a 1\nreadat . a\n");
+    assert_eq!(told, ["started", "written", "value .", "fault 4 3 number", "fault 5 3 number"]);
+}
+
+#[test]
+fn faults_are_numbered_and_the_session_goes_on() {
+    let mut core = core(&[]);
+    let mut one = session(&mut core);
+    assert_eq!(
+        answers(&mut core, &mut one, "foo\n\nput 1 a\nbegin\r\nstats\n0 begin 10\n"),
+        [
+            "fault 1 2 unknowncommand",
+            "fault 2 1 wordcount",
+            "fault 3 1 wordcount",
+            "fault 4 9 badbyte",
+            "stats 0 0 0 0 0",
+            "fault 6 2 unknowncommand"
+        ]
+    );
+    assert_eq!(core.ledger.refusals.get("unknowncommand"), Some(&2));
+}
+
+#[test]
+fn half_a_line_is_no_line() {
+    let mut core = core(&[]);
+    let mut one = session(&mut core);
+    assert_eq!(answers(&mut core, &mut one, "begin\nput . a 12"), ["started", "fault 2 7 nonewline"]);
+    assert_eq!(answers(&mut core, &mut one, "34\ncommit .\n"), ["fault 3 2 unknowncommand", "committed 0"]);
+    assert_eq!(answers(&mut core, &mut one, "begin"), ["fault 5 7 nonewline"]);
+    assert_eq!(core.ledger.undecided.len(), 0);
+}
+
+#[test]
+fn far_ahead_is_refused() {
+    let mut core = core(&["--ahead", "100"]);
+    let mut one = session(&mut core);
+    let lines = "begin 101\nbegin 100\nclose 201\nclosehard 201\nclose 9223372036854775807\n";
+    let ahead = |line| format!("fault {line} 65 ahead");
+    assert_eq!(answers(&mut core, &mut one, lines), [ahead(1), "started".to_string(), ahead(3), ahead(4), ahead(5)]);
+    for digits in ["9".repeat(19), "9".repeat(20), "9".repeat(5000), "18446744073709551616".to_string()] {
+        let told = answers(&mut core, &mut one, &format!("begin {digits}\n"));
+        assert!(told[0].ends_with(" 65 ahead"), "{told:?}");
+    }
+    assert_eq!(answers(&mut core, &mut one, "close 200\n"), ["closed 99 0"]);
+}
+
+#[test]
+fn the_servers_feeds_and_protections_are_not_a_sessions() {
+    let mut core = core(&[]);
+    core.ask(Owner::Server, Command::Open { span: Span::ALL, cursor: 0 }).expect("a call");
+    core.ask(Owner::Server, Command::Protect { t: 0 }).expect("a call");
+    // Also not of the session that has the seat of the server's own calls.
+    let mut last = (0..64).map(|_| session(&mut core)).last().expect("there are seats");
+    assert_eq!(last.seat, 63);
+    let told = answers(&mut core, &mut last, "poll 1 5\nrelease 1\ncancel 1\n");
+    assert_eq!(told, ["fault 1 64 notyours", "fault 2 64 notyours", "cancelled"]);
+}
+
+#[test]
+fn beyond_the_longest_reply_no_call_is_made() {
+    let mut core = core(&["--max-reply", "200"]);
+    let mut one = session(&mut core);
+    let told = answers(&mut core, &mut one, &"stats\n".repeat(20));
+    let made = told.iter().filter(|answer| *answer == "stats 0 0 0 0 0").count();
+    assert!(0 < made && made < 20);
+    assert_eq!(told.len(), 20);
+    assert_eq!(told[made], format!("fault {} 66 replytoolong", made + 1));
+    assert_eq!(core.ledger.calls, made as u64);
+}
+
+#[test]
+fn a_session_holds_so_many_of_each() {
+    let mut core = core(&["--max-held", "2"]);
+    let mut one = session(&mut core);
+    for (line, made, ended) in [
+        ("begin\n", "started", "commit .\n"),
+        ("protect 0\n", "protected", "release 1\n"),
+        ("open - - 0\n", "opened", "cancel 1\n"),
+        ("openinitialevery - - 0 1\n", "opened", "cancel 2\n"),
+    ] {
+        let first = answers(&mut core, &mut one, line);
+        assert!(first[0].starts_with(made), "{first:?}");
+        if line != "openinitialevery - - 0 1\n" {
+            answers(&mut core, &mut one, line);
+        }
+        let told = answers(&mut core, &mut one, line);
+        assert!(told[0].ends_with(" 68 toomany"), "{line} {told:?}");
+        answers(&mut core, &mut one, ended);
+    }
+    let mut two = session(&mut core);
+    assert_eq!(answers(&mut core, &mut two, "begin\n"), ["started"]);
+}
+
+#[test]
+fn where_memory_is_full_rows_can_be_deleted_and_not_put() {
+    let mut core = core(&["--max-memory", "1000"]);
+    let mut one = session(&mut core);
+    core.watch_memory(1001);
+    let told = answers(&mut core, &mut one, "begin\nput . a 1\ndel . a\ncommit .\n");
+    assert_eq!(told, ["started", "fault 2 67 full", "written", "committed 1"]);
+    core.watch_memory(999);
+    assert_eq!(answers(&mut core, &mut one, "begin\nput . a 1\n"), ["started", "written"]);
+}
+
+#[test]
+fn lines_want_rights() {
+    let mut core = core(&[]);
+    let mut owner = session(&mut core);
+    answers(&mut core, &mut owner, "open - - 0\nprotect 0\n");
+    let mut told = |rights: &[Right]| {
+        let mut one = core.seats.take("127.0.0.1:1".into(), Who::of("reader", rights), 0).expect("a seat");
+        let lines = "begin\nget . a\nput . a 1\ndel . a\nabort .\nclosehard 0\ncollect 0\ncancel 1\nrelease 1\nstats\n";
+        let told = answers(&mut core, &mut one, lines);
+        end(&mut core, &one);
+        told.iter().map(|answer| !answer.ends_with("69 noright")).collect::<Vec<_>>()
+    };
+    let all = |lines: [u8; 10]| lines.map(|line| line == 1).to_vec();
+    assert_eq!(told(&[Right::Read]), all([1, 1, 0, 0, 1, 0, 0, 0, 0, 1]));
+    assert_eq!(told(&[Right::Read, Right::Write]), all([1, 1, 1, 1, 1, 0, 0, 0, 0, 1]));
+    assert_eq!(told(&[Right::Read, Right::Write, Right::Operate]), all([1; 10]));
+}
+
+#[test]
+fn a_token_for_some_keys_names_those_alone() {
+    use crate::gate::Keys;
+    let mut core = core(&[]);
+    let keys = Keys { lo: b"b".to_vec(), hi: Some(b"d".to_vec()) };
+    let who = Who::of("some", &[Right::Read, Right::Write]).with_keys(keys);
+    let mut one = core.seats.take("127.0.0.1:1".into(), who, 0).expect("a seat");
+    answers(&mut core, &mut one, "begin\n");
+    for (line, is_allowed) in [
+        ("put . b 1", true),
+        ("put . c%20 1", true),
+        ("put . d 1", false),
+        ("put . a 1", false),
+        ("get . %01", false),
+        ("get . cz", true),
+        ("del . d", false),
+        ("scan . b d", true),
+        ("scan . b c", true),
+        ("scan . - -", false),
+        ("scan . b -", false),
+        ("scan . a c", false),
+        ("readat 0 a", false),
+        ("scanat 0 b d", true),
+        ("scanat 0 - d", false),
+        ("open - - 0", false),
+        ("openinitial b d 0", true),
+        ("openevery b e 0 3", false),
+        ("stats", true),
+    ] {
+        let told = answers(&mut core, &mut one, &format!("{line}\n"));
+        assert_eq!(!told[0].ends_with(" 69 noright"), is_allowed, "{line} {told:?}");
+    }
+    assert!(answers(&mut core, &mut one, "put . a%41 1\n")[0].ends_with(" 9 badbyte"));
+}
+
+#[test]
+fn who_has_a_feed_or_a_protection_may_end_it() {
+    let mut core = core(&[]);
+    let mut one = core.seats.take("127.0.0.1:1".into(), Who::of("reader", &[Right::Read]), 0).expect("a seat");
+    let told = answers(&mut core, &mut one, "open - - 0\nprotect 0\ncancel 1\nrelease 1\ncancel 9\n");
+    assert_eq!(told, ["opened 1", "protected 1", "cancelled", "released", "nofeed"]);
+}
+
+#[test]
+fn the_log_says_who_has_ended_what_is_anothers() {
+    let (mut core, said) = crate::testing::core_and_log(&[]);
+    let (mut one, mut two) = (session(&mut core), session(&mut core));
+    answers(&mut core, &mut one, "begin 5\nopen - - 0\nopen - - 0\nprotect 0\nprotect 0\ncancel 1\nrelease 1\n");
+    let told = answers(&mut core, &mut two, "closehard 1\ncancel 2\nrelease 2\nclosehard 7\ncancel 2\nrelease 2\n");
+    assert_eq!(told, ["closed 1 0", "cancelled", "released", "closed 7 1", "feedcancelled", "noprotection"]);
+    answers(&mut core, &mut one, "open - - 7\n");
+    assert!(answers(&mut core, &mut two, "cancel 3")[0].ends_with(" 7 nonewline"));
+    let text = said.text();
+    let lines: Vec<&str> = text.lines().filter_map(|line| Some(line.split_once(" info ")?.1)).collect();
+    let seat = two.seat;
+    assert_eq!(
+        lines,
+        ["cancel 2", "release 2", "closehard 7"].map(|what| {
+            let (event, number) = what.split_once(' ').expect("two words");
+            format!("{event} number={number} seat={seat} by=\"\"")
+        })
+    );
+}
+
+#[test]
+fn a_poll_asks_for_so_many_at_most() {
+    let mut core = core(&[]);
+    let mut one = session(&mut core);
+    answers(&mut core, &mut one, "open - - 0\n");
+    for (line, made) in [
+        ("poll 1 18446744073709551615\n", "poll 1 128 => messages 0\n"),
+        ("poll 1 9999999\n", "poll 1 128 => messages 0\n"),
+        ("poll 1 129\n", "poll 1 128 => messages 0\n"),
+        ("poll 1 128\n", "poll 1 128 => messages 0\n"),
+        ("poll 1 7\n", "poll 1 7 => messages 0\n"),
+    ] {
+        assert!(texts(&mut core, &mut one, line).ends_with(made), "{line}");
+    }
+    for (line, fault) in [
+        ("poll 1 9999999 1\n", " 1 wordcount"),
+        ("poll 1 9999999", " 7 nonewline"),
+        ("poll 01 9999999\n", " 3 number"),
+        ("poll 1 18446744073709551616\n", " 3 number"),
+    ] {
+        assert!(answers(&mut core, &mut one, line)[0].ends_with(fault), "{line}");
+    }
+}
+
+#[test]
+fn where_the_server_ends_no_transaction_begins() {
+    let mut core = core(&[]);
+    let mut one = session(&mut core);
+    answers(&mut core, &mut one, "begin\n");
+    core.limits.is_draining = true;
+    let told = answers(&mut core, &mut one, "put . a 1\ncommit .\nbegin\nbegin 9\nstats\n");
+    assert_eq!(told[..4], ["written", "committed 1", "fault 4 70 draining", "fault 5 70 draining"]);
+}
+
+#[test]
+fn lines_are_taken_in_turns() {
+    let mut core = core(&[]);
+    let mut one = session(&mut core);
+    let mut lines = Lines::new(b"stats\n".repeat(3));
+    // A turn that is over already takes one line.
+    let past = Instant::now();
+    assert_eq!(lines.turn(&mut core, &mut one, past), Ok(Turn::More));
+    assert_eq!(core.ledger.calls, 1);
+    assert_eq!(lines.turn(&mut core, &mut one, past + Duration::from_secs(60)), Ok(Turn::Done));
+    assert_eq!((core.ledger.calls, lines.answers.len()), (3, 3 * "0 0 stats => stats 0 0 0 0 0\n".len()));
+}
+
+#[test]
+fn a_session_leaves_nothing() {
+    let mut core = core(&[]);
+    let mut two = session(&mut core);
+    answers(&mut core, &mut two, "begin\nput . a 1\nopen - - 0\nprotect 0\n");
+    end(&mut core, &two);
+    let ledger = &core.ledger;
+    assert_eq!((ledger.undecided.len(), ledger.feeds.len(), ledger.protections.len()), (0, 0, 0));
+    assert_eq!((core.shouts, core.seats.count()), (0, 0));
+}
+
+#[test]
+fn a_session_ends_in_turns() {
+    let mut core = core(&[]);
+    let mut one = session(&mut core);
+    answers(&mut core, &mut one, &"begin\n".repeat(5));
+    let past = Instant::now();
+    let turns = std::iter::from_fn(|| (core.end(one.seat, past) == Turn::More).then_some(())).count();
+    assert_eq!((turns, core.ledger.undecided.len(), core.seats.count()), (6, 0, 0));
+}

@@ -1,0 +1,359 @@
+//! What the server says of itself: lines to standard error.
+//!
+//! A line has the time, its level, the name of an event, and fields. Whoever reads it by a program asks for JSON.
+//!
+//! ```text
+//! 2026-11-28T23:12:10.123Z warn connections_full open=1000 cut=192.0.2.7:4711
+//! {"time":"2026-11-28T23:12:10.123Z","level":"warn","event":"connections_full","open":1000,"cut":"192.0.2.7:4711"}
+//! ```
+//!
+//! 1. A line is one line, whatever stands in a field, so no client can forge one.
+//! 2. An event is written at most `MOST` times a minute. What was left out is told as a count, after the minute.
+//! 3. Audit lines, which say who did what an operator may, are never left out.
+//! 4. No token and no value of the database is ever a field. That is the callers' care.
+
+use serde_json::Value;
+use std::collections::BTreeMap;
+use std::fmt::Write as _;
+use std::io::Write;
+use std::str::FromStr;
+use std::sync::{Mutex, PoisonError};
+use std::time::{Duration, Instant, SystemTime, UNIX_EPOCH};
+
+const MOST: u64 = 60; // lines of one event a minute
+const MINUTE: Duration = Duration::from_secs(60);
+
+#[derive(Debug, Clone, Copy, PartialEq, Eq, PartialOrd, Ord)]
+pub enum Level {
+    Error,
+    Warn,
+    Info,
+    Debug,
+}
+
+impl Level {
+    fn name(self) -> &'static str {
+        match self {
+            Level::Error => "error",
+            Level::Warn => "warn",
+            Level::Info => "info",
+            Level::Debug => "debug",
+        }
+    }
+}
+
+impl FromStr for Level {
+    type Err = ();
+
+    fn from_str(word: &str) -> Result<Level, ()> {
+        [Level::Error, Level::Warn, Level::Info, Level::Debug].into_iter().find(|level| level.name() == word).ok_or(())
+    }
+}
+
+pub type Field<'a> = (&'a str, Value);
+
+pub struct Log {
+    level: Level,
+    is_json: bool,
+    inner: Mutex<Inner>,
+}
+
+struct Inner {
+    out: Box<dyn Write + Send>,
+    repeats: BTreeMap<&'static str, Repeats>,
+}
+
+/// How often an event came within a minute.
+struct Repeats {
+    since: Instant,
+    level: Level,
+    count: u64,
+}
+
+impl Repeats {
+    fn left_out(&self) -> u64 {
+        self.count.saturating_sub(MOST)
+    }
+
+    fn is_over(&self, now: Instant) -> bool {
+        now.saturating_duration_since(self.since) >= MINUTE
+    }
+}
+
+impl Log {
+    pub fn new(level: Level, is_json: bool) -> Log {
+        Log::to(level, is_json, Box::new(std::io::stderr()))
+    }
+
+    pub fn to(level: Level, is_json: bool, out: Box<dyn Write + Send>) -> Log {
+        Log { level, is_json, inner: Mutex::new(Inner { out, repeats: BTreeMap::new() }) }
+    }
+
+    pub fn error(&self, event: &'static str, fields: &[Field]) {
+        self.say(Level::Error, event, fields, Instant::now());
+    }
+
+    pub fn warn(&self, event: &'static str, fields: &[Field]) {
+        self.say(Level::Warn, event, fields, Instant::now());
+    }
+
+    pub fn info(&self, event: &'static str, fields: &[Field]) {
+        self.say(Level::Info, event, fields, Instant::now());
+    }
+
+    pub fn debug(&self, event: &'static str, fields: &[Field]) {
+        self.say(Level::Debug, event, fields, Instant::now());
+    }
+
+    /// Who did what an operator may do.
+    pub fn audit(&self, event: &'static str, fields: &[Field]) {
+        if Level::Info <= self.level {
+            let line = self.line(Level::Info, event, fields);
+            self.with(|inner| inner.write(&line));
+        }
+    }
+
+    /// Tells the counts of minutes that are over. Once a second is often enough.
+    pub fn tidy(&self) {
+        self.tidy_at(Instant::now());
+    }
+
+    fn tidy_at(&self, now: Instant) {
+        self.with(|inner| {
+            let over: Vec<_> =
+                inner.repeats.iter().filter(|(_, one)| one.is_over(now)).map(|(event, _)| *event).collect();
+            for event in over {
+                self.end_minute(inner, event);
+            }
+        });
+    }
+
+    fn say(&self, level: Level, event: &'static str, fields: &[Field], now: Instant) {
+        if level > self.level {
+            return;
+        }
+        self.with(|inner| {
+            if inner.repeats.get(event).is_some_and(|one| one.is_over(now)) {
+                self.end_minute(inner, event);
+            }
+            let repeats = inner.repeats.entry(event).or_insert(Repeats { since: now, level, count: 0 });
+            repeats.count += 1;
+            if repeats.count <= MOST {
+                inner.write(&self.line(level, event, fields));
+            }
+        });
+    }
+
+    fn end_minute(&self, inner: &mut Inner, event: &'static str) {
+        let Some(one) = inner.repeats.remove(event) else { return };
+        if one.left_out() > 0 {
+            inner.write(&self.line(one.level, event, &[("left_out", one.left_out().into())]));
+        }
+    }
+
+    /// A log that panicked in one thread goes on in the others.
+    fn with(&self, work: impl FnOnce(&mut Inner)) {
+        work(&mut self.inner.lock().unwrap_or_else(PoisonError::into_inner));
+    }
+
+    fn line(&self, level: Level, event: &str, fields: &[Field]) -> String {
+        let time = time_text(SystemTime::now());
+        match self.is_json {
+            true => json_line(&time, level, event, fields),
+            false => text_line(&time, level, event, fields),
+        }
+    }
+}
+
+impl Inner {
+    /// Where standard error takes nothing there is nobody to tell.
+    fn write(&mut self, line: &str) {
+        let _ = self.out.write_all(line.as_bytes());
+        let _ = self.out.flush();
+    }
+}
+
+fn json_line(time: &str, level: Level, event: &str, fields: &[Field]) -> String {
+    let head: [Field; 3] = [("time", time.into()), ("level", level.name().into()), ("event", event.into())];
+    let members: Vec<String> =
+        head.iter().chain(fields).map(|(name, value)| format!("{}:{value}", Value::from(*name))).collect();
+    format!("{{{}}}\n", members.join(","))
+}
+
+fn text_line(time: &str, level: Level, event: &str, fields: &[Field]) -> String {
+    let mut line = format!("{time} {} {event}", level.name());
+    for (name, value) in fields {
+        // Writing to a string can't fail.
+        let _ = match value.as_str() {
+            Some(word) if is_plain(word) => write!(line, " {name}={word}"),
+            _ => write!(line, " {name}={}", plain_ascii(value)),
+        };
+    }
+    line.push('\n');
+    line
+}
+
+fn is_plain(word: &str) -> bool {
+    !word.is_empty() && word.bytes().all(|byte| byte.is_ascii_graphic() && !b"\"\\=".contains(&byte))
+}
+
+/// As JSON, where whatever isn't printable ASCII is escaped, so that no terminal takes it for a command.
+fn plain_ascii(value: &Value) -> String {
+    let mut text = String::new();
+    for unit in value.to_string().encode_utf16() {
+        match u8::try_from(unit) {
+            Ok(byte @ b' '..=b'~') => text.push(char::from(byte)),
+            _ => text.push_str(&format!("\\u{unit:04x}")),
+        }
+    }
+    text
+}
+
+/// The time in UTC, as RFC 3339 writes it.
+fn time_text(time: SystemTime) -> String {
+    let since = time.duration_since(UNIX_EPOCH).unwrap_or_default();
+    let (days, second) = (since.as_secs() / 86_400, since.as_secs() % 86_400);
+    let (year, month, day) = date_of(days);
+    let (hour, minute, second) = (second / 3600, second / 60 % 60, second % 60);
+    format!("{year:04}-{month:02}-{day:02}T{hour:02}:{minute:02}:{second:02}.{:03}Z", since.subsec_millis())
+}
+
+/// Year, month and day of the Gregorian calendar, from days since 1 January 1970.
+///
+/// Years begin in March here, so that the day of a leap year comes last; 400 years have 146,097 days.
+fn date_of(days: u64) -> (u64, u64, u64) {
+    let days = days + 719_468; // since 1 March of the year 0
+    let (era, day) = (days / 146_097, days % 146_097);
+    let year = (day - day / 1460 + day / 36_524 - day / 146_096) / 365;
+    let day = day - (365 * year + year / 4 - year / 100);
+    let march = (5 * day + 2) / 153; // months since March
+    let (month, day) = ((march + 2) % 12 + 1, day - (153 * march + 2) / 5 + 1);
+    (era * 400 + year + u64::from(month <= 2), month, day)
+}
+
+#[cfg(test)]
+mod tests {
+    use super::*;
+    use std::sync::Arc;
+
+    #[derive(Clone, Default)]
+    struct Kept(Arc<Mutex<Vec<u8>>>);
+
+    impl Write for Kept {
+        fn write(&mut self, bytes: &[u8]) -> std::io::Result<usize> {
+            self.0.lock().unwrap().write(bytes)
+        }
+
+        fn flush(&mut self) -> std::io::Result<()> {
+            Ok(())
+        }
+    }
+
+    impl Kept {
+        /// The lines so far, without their times.
+        fn lines(&self) -> Vec<String> {
+            let text = String::from_utf8(self.0.lock().unwrap().clone()).unwrap();
+            assert!(text.is_empty() || text.ends_with('\n'));
+            text.lines().map(|line| line.split_once(' ').map_or(line, |(_, rest)| rest).to_string()).collect()
+        }
+    }
+
+    fn log(level: Level, is_json: bool) -> (Log, Kept) {
+        let kept = Kept::default();
+        (Log::to(level, is_json, Box::new(kept.clone())), kept)
+    }
+
+    #[test]
+    fn days_are_those_of_the_calendar() {
+        for (seconds, text) in [
+            (0, "1970-01-01T00:00:00.000Z"),
+            (951_782_399, "2000-02-28T23:59:59.000Z"),
+            (951_782_400, "2000-02-29T00:00:00.000Z"),
+            (951_868_800, "2000-03-01T00:00:00.000Z"),
+            (1_000_000_000, "2001-09-09T01:46:40.000Z"),
+            (1_709_164_800, "2024-02-29T00:00:00.000Z"),
+            (1_735_689_599, "2024-12-31T23:59:59.000Z"),
+            (2_147_483_647, "2038-01-19T03:14:07.000Z"),
+            (4_107_542_400, "2100-03-01T00:00:00.000Z"),
+        ] {
+            assert_eq!(time_text(UNIX_EPOCH + Duration::from_secs(seconds)), text);
+        }
+        assert_eq!(time_text(UNIX_EPOCH + Duration::from_millis(1_001)), "1970-01-01T00:00:01.001Z");
+    }
+
+    #[test]
+    fn a_line_stays_one_line_and_printable() {
+        let (log, kept) = log(Level::Info, false);
+        let fields = [("a", "x y".into()), ("b", "1\n2 error forged".into()), ("c", 7.into()), ("d", "".into())];
+        log.info("one", &fields);
+        log.info("two", &[("peer", "[::1]:80".into()), ("e", "\u{1b}[2J\u{e9}\u{1f600}\"".into())]);
+        assert_eq!(
+            kept.lines(),
+            [
+                "info one a=\"x y\" b=\"1\\n2 error forged\" c=7 d=\"\"",
+                "info two peer=[::1]:80 e=\"\\u001b[2J\\u00e9\\ud83d\\ude00\\\"\"",
+            ]
+        );
+    }
+
+    #[test]
+    fn json_lines_are_objects() {
+        let (log, kept) = log(Level::Info, true);
+        log.warn("full", &[("open", 1000.into()), ("cut", "a \"b\"\n".into())]);
+        let text = String::from_utf8(kept.0.lock().unwrap().clone()).unwrap();
+        assert_eq!(text.matches('\n').count(), 1);
+        let value: Value = serde_json::from_str(&text).unwrap();
+        assert_eq!((&value["level"], &value["event"], &value["open"]), (&"warn".into(), &"full".into(), &1000.into()));
+        assert_eq!(value["cut"], "a \"b\"\n");
+        assert!(text.starts_with("{\"time\":\"2"));
+    }
+
+    #[test]
+    fn levels_above_the_chosen_one_are_left_out() {
+        let (log, kept) = log(Level::Warn, false);
+        log.error("a", &[]);
+        log.warn("b", &[]);
+        log.info("c", &[]);
+        log.debug("d", &[]);
+        log.audit("e", &[]);
+        assert_eq!(kept.lines(), ["error a", "warn b"]);
+        assert_eq!("debug".parse(), Ok(Level::Debug));
+        assert_eq!("Debug".parse::<Level>(), Err(()));
+    }
+
+    #[test]
+    fn a_flood_of_one_event_is_counted_and_others_are_told() {
+        let (log, kept) = log(Level::Info, false);
+        let start = Instant::now();
+        for _ in 0..1000 {
+            log.say(Level::Warn, "flood", &[], start);
+        }
+        log.say(Level::Info, "other", &[], start);
+        for _ in 0..100 {
+            log.audit("closehard", &[]);
+        }
+        let count = |line: &str| kept.lines().iter().filter(|one| *one == line).count();
+        assert_eq!((count("warn flood"), count("info other"), count("info closehard")), (60, 1, 100));
+        log.tidy_at(start + Duration::from_secs(59));
+        assert_eq!(count("warn flood left_out=940"), 0);
+        log.tidy_at(start + Duration::from_secs(60));
+        log.tidy_at(start + Duration::from_secs(61));
+        assert_eq!(count("warn flood left_out=940"), 1);
+        log.say(Level::Warn, "flood", &[], start + Duration::from_secs(62));
+        assert_eq!(count("warn flood"), 61);
+    }
+
+    #[test]
+    fn a_flood_that_goes_on_is_counted_each_minute() {
+        let (log, kept) = log(Level::Info, false);
+        let start = Instant::now();
+        for second in 0..180 {
+            for _ in 0..2 {
+                log.say(Level::Error, "flood", &[], start + Duration::from_secs(second));
+            }
+        }
+        let lines = kept.lines();
+        assert_eq!(lines.iter().filter(|line| *line == "error flood").count(), 180);
+        assert_eq!(lines.iter().filter(|line| *line == "error flood left_out=60").count(), 2);
+    }
+}

@@ -1,0 +1,100 @@
+//! One Ripsawbean database for many processes, over HTTP and WebSocket.
+//!
+//! The life of a line that a client sends, and the module that has each step:
+//!
+//! ```text
+//! serving       a connection
+//! http          a request, or the connection of a session
+//! gate          who may speak
+//! routes        its path
+//! session       a message or a body: whole lines, answered in turns (`socket` has the WebSocket)
+//! lines         one line: its timestamp is drawn or put in for `.`, and what a client may not do is refused
+//! core          the one database makes the call, under the seat of the client's session
+//! outcome       what the event did, as a value
+//! ledger        what it did is noted: timestamps, transactions, feeds, protections, rows
+//! closing       soon after, closed moves as far as transactions are decided
+//! streams       each feed that is followed is polled once closed has moved, and its messages are pushed
+//! ```
+//!
+//! Beside them: `door` (the lock, and turns), `seats` (the 64 seats), `consumers` (names that hold the horizon while
+//! they are down), `lag` (rows closed above a timestamp), `transcript` (the events kept), `reports`, `metrics`,
+//! `connections` (how many, and which are silent or stuck), `ws`, `query`, `refusal`, `options`, `tokens`, `tls`,
+//! `notify`, `log`, `page`.
+//!
+//! Three rules hold everywhere. All calls are made under one lock, which no one holds over an await. The database alone
+//! decides: the ledger only follows its answers, and where an answer isn't as the ledger foretells, the server says so
+//! aloud. An event is in the transcript and in the ledger before the lock is given back.
+#![forbid(unsafe_code)]
+
+mod closing;
+mod connections;
+mod consumers;
+mod core;
+mod door;
+mod form;
+mod gate;
+#[cfg(test)]
+mod guide;
+mod histogram;
+mod http;
+mod json;
+mod lag;
+mod ledger;
+mod lines;
+mod log;
+mod memory;
+mod metrics;
+mod notify;
+mod options;
+mod outcome;
+mod pace;
+mod page;
+mod process;
+mod query;
+mod refusal;
+mod reports;
+mod routes;
+mod seats;
+mod serving;
+mod session;
+mod socket;
+mod stream;
+mod streams;
+mod tasks;
+#[cfg(test)]
+mod testing;
+mod tls;
+mod tokens;
+mod transcript;
+mod ws;
+
+use options::Asked;
+use std::process::ExitCode;
+
+/// The status of a wrong command line.
+const WRONG: u8 = 2;
+
+fn main() -> ExitCode {
+    let options = match options::read(std::env::args_os().skip(1)) {
+        Ok(Asked::Serve(options)) => *options,
+        Ok(Asked::Help(text) | Asked::Version(text)) => {
+            print!("{text}");
+            return ExitCode::SUCCESS;
+        }
+        Err(fault) => {
+            eprintln!("ripsawbean-server: {fault}");
+            return ExitCode::from(WRONG);
+        }
+    };
+    match serving::serve(options) {
+        Ok(()) => ExitCode::SUCCESS,
+        Err(failure) => {
+            eprintln!("ripsawbean-server: {failure}");
+            if failure.is_of_an_option() {
+                ExitCode::from(WRONG)
+            } else {
+                ExitCode::FAILURE
+            }
+        }
+    }
+}

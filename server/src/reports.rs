@@ -1,0 +1,275 @@
+//! What an operator may ask. Nothing here makes a call.
+//!
+//! `GET /state` is the database's own report: JSON lines about closed, the horizon and what holds them, exactly as the
+//! library writes them.
+//!
+//! `GET /holders` is what the server knows beside it, because the database can't: sessions, ages of transactions, lags,
+//! whose name a feed or a protection has, whether a stream waits for its reader.
+//!
+//! `GET /transcript` has the events that are kept. `GET /healthz` says whether the server is well, to everyone.
+//!
+//! 1. The lock is held for a few milliseconds at a time, however much there is to tell.
+//! 2. A transcript is whole from its first event to below `Ripsawbean-Next`, or its connection is cut.
+
+use crate::consumers::lines_of_all;
+use crate::core::Core;
+use crate::http::{Request, Response, Sender};
+use crate::json::{self, Object};
+use crate::ledger::{Feed, Holder, Protection, Transaction};
+use crate::query::arguments;
+use crate::refusal::Refusal;
+use crate::routes::Server;
+use crate::seats::{Owner, Taken};
+use bytes::Bytes;
+use std::sync::Arc;
+use std::time::Instant;
+
+/// Lines of each kind: those that stand lowest.
+const MOST_LINES: usize = 1000;
+/// Bytes of a transcript that are taken at a time. Small ones are whole in one piece.
+const PIECE: usize = 1 << 20;
+/// A transcript's first line.
+const HEADER: &[u8] = b"mvfeed 2\n";
+
+pub async fn state(server: &Arc<Server>, request: Request) -> Result<Response, Refusal> {
+    check_keys(&request)?;
+    arguments(&request.path, &request.query, &[])?;
+    server.door.run(Core::state).map(json::lines).ok_or_else(Refusal::no_memory)
+}
+
+pub async fn holders(server: &Arc<Server>, request: Request) -> Result<Response, Refusal> {
+    arguments(&request.path, &request.query, &[])?;
+    let mut text = String::new();
+    for each in [sessions, transactions, protections, feeds] {
+        text.push_str(&server.door.run(|core| each(core)));
+        tokio::task::yield_now().await;
+    }
+    text.push_str(&lines_of_all(&server.door).await);
+    Ok(json::lines(text))
+}
+
+/// The events kept, as a transcript of format two.
+pub async fn transcript(server: &Arc<Server>, request: Request) -> Result<Response, Refusal> {
+    check_keys(&request)?;
+    let since = arguments(&request.path, &request.query, &["since"])?.number("since");
+    let (identity, first, next) = server.door.run(|core| {
+        let kept = &core.transcript;
+        (core.identity.clone(), kept.first, kept.next())
+    });
+    let from = since.unwrap_or(first);
+    if from < first {
+        let why = "events below the first one are kept no longer";
+        return Err(Refusal::new(410, "gone", why).with_number("first", first));
+    }
+    let (response, sender) = Response::stream("text/plain; charset=us-ascii");
+    server.spawn(tell(server.clone(), from, next, sender));
+    Ok(response
+        .with("cache-control", "no-store")
+        .with("ripsawbean-identity", identity)
+        .with("ripsawbean-next", next.to_string()))
+}
+
+/// Who may see some keys alone may not see what has others in it.
+fn check_keys(request: &Request) -> Result<(), Refusal> {
+    if request.who.keys().is_all() {
+        return Ok(());
+    }
+    Err(Refusal::other_keys())
+}
+
+/// Tells the events from one position to below another, piece by piece, as their reader has room.
+async fn tell(server: Arc<Server>, from: u64, until: u64, sender: Sender) {
+    let (mut at, mut piece) = (from, Bytes::from_static(HEADER));
+    while sender.send(piece).await.is_ok() && at < until && sender.room().await.is_ok() {
+        // Events may be dropped while their reader takes those before them.
+        let taken = server.door.run(|core| core.transcript.piece(at, until, PIECE));
+        let Some((data, next)) = taken else { return sender.cut() };
+        (piece, at) = (data.into(), next);
+    }
+}
+
+/// Whether the server is well. It says nothing that a stranger may not know.
+pub async fn healthz(server: &Arc<Server>, request: Request) -> Result<Response, Refusal> {
+    arguments(&request.path, &request.query, &[])?;
+    match server.door.run(|core| fault_of(core)) {
+        None => Ok(Response::whole("text/plain; charset=utf-8", "ok\n").with("cache-control", "no-store")),
+        Some(why) => Err(Refusal::new(503, "unwell", why)),
+    }
+}
+
+/// What is wrong. A closing that failed is tried again each second, so it may get well by itself.
+fn fault_of(core: &Core) -> Option<&'static str> {
+    core.closing.has_failed().then_some("closing has failed, and no stream is told more: look at the log")
+}
+
+fn sessions(core: &Core) -> String {
+    let now = Instant::now();
+    let lines = core.seats.all().map(|(seat, taken)| session(seat, taken, now));
+    std::iter::once(server_line(core)).chain(lines).collect()
+}
+
+fn server_line(core: &Core) -> String {
+    let ledger = &core.ledger;
+    let (limit, holder) = ledger.limit();
+    let (holder, number) = match holder {
+        Holder::Closed => ("closed", None),
+        Holder::Feed(number) => ("feed", Some(number)),
+        Holder::Protection(number) => ("protection", Some(number)),
+    };
+    Object::new()
+        .text("kind", "server")
+        .text("identity", core.identity.as_str())
+        .digits("closed", ledger.closed)
+        .digits("horizon", ledger.horizon)
+        .digits("greatest", ledger.greatest)
+        .digits("limit", limit)
+        .text("holder", holder)
+        .digits("holder_number", number)
+        .digits("oldest", ledger.oldest())
+        .count("sessions", core.seats.count() as u64)
+        .count("calls", ledger.calls)
+        .count("rows", ledger.rows.total.rows)
+        .digits("first", core.transcript.first)
+        .digits("next", core.transcript.next())
+        .count("shouts", core.shouts)
+        .line()
+}
+
+fn session(seat: u8, taken: &Taken, now: Instant) -> String {
+    Object::new()
+        .text("kind", "session")
+        .count("seat", u64::from(seat))
+        .text("peer", taken.peer.as_str())
+        .seconds("age", now.saturating_duration_since(taken.since))
+        .seconds("silent", now.saturating_duration_since(taken.heard))
+        .line()
+}
+
+fn transactions(core: &Core) -> String {
+    let now = Instant::now();
+    core.ledger.undecided.iter().take(MOST_LINES).map(|(ts, one)| transaction(*ts, one, now)).collect()
+}
+
+fn transaction(timestamp: u64, one: &Transaction, now: Instant) -> String {
+    Object::new()
+        .text("kind", "transaction")
+        .digits("timestamp", timestamp)
+        .count("seat", u64::from(one.seat))
+        .seconds("age", now.saturating_duration_since(one.since))
+        .line()
+}
+
+fn protections(core: &Core) -> String {
+    core.ledger.lowest_protections().take(MOST_LINES).map(|(number, one)| protection(core, number, one)).collect()
+}
+
+fn protection(core: &Core, number: u64, one: &Protection) -> String {
+    Object::new()
+        .text("kind", "protection")
+        .digits("number", number)
+        .digits("timestamp", one.timestamp)
+        .text("consumer", one.consumer.as_deref())
+        .count("seat", seat_of(one.owner))
+        .count("lag", core.ledger.rows.above(one.timestamp).rows)
+        .line()
+}
+
+fn feeds(core: &Core) -> String {
+    core.ledger.lowest_feeds().take(MOST_LINES).map(|(number, one)| feed(core, number, one)).collect()
+}
+
+fn feed(core: &Core, number: u64, one: &Feed) -> String {
+    Object::new()
+        .text("kind", "feed")
+        .digits("number", number)
+        .text("opened", one.opened.as_str())
+        .text("consumer", one.consumer.as_deref())
+        .flag("streamed", one.owner == Owner::Server)
+        .count("seat", seat_of(one.owner))
+        .digits("floor", one.floor)
+        .count("told", one.told)
+        .count("lag", core.ledger.rows.above(one.floor).rows)
+        .flag("waits", one.waits)
+        .line()
+}
+
+/// The seat of a session; what is the server's has none.
+fn seat_of(owner: Owner) -> Option<u64> {
+    match owner {
+        Owner::Server => None,
+        Owner::Seat(seat) => Some(u64::from(seat)),
+    }
+}
+
+#[cfg(test)]
+mod tests {
+    use super::*;
+    use crate::testing::{core, put, say, session, tidy, IDENTITY};
+    use serde_json::Value;
+
+    fn objects(lines: &str) -> Vec<Value> {
+        lines.lines().map(|line| serde_json::from_str(line).expect("JSON")).collect()
+    }
+
+    #[test]
+    fn the_servers_line_says_what_holds_the_horizon() {
+        let mut core = core(&[]);
+        let mut one = session(&mut core);
+        put(&mut core, &mut one, &[("a", "1"), ("a", "2")]);
+        say(&mut core, &mut one, "protect 1\nbegin\n");
+        let identity = IDENTITY;
+        assert_eq!(
+            server_line(&core),
+            format!(
+                "{{\"kind\":\"server\",\"identity\":\"{identity}\",\"closed\":\"2\",\"horizon\":\"0\",\"greatest\":\"3\",\
+                 \"limit\":\"1\",\"holder\":\"protection\",\"holder_number\":\"1\",\"oldest\":\"3\",\"sessions\":1,\
+                 \"calls\":10,\"rows\":2,\"first\":\"0\",\"next\":\"10\",\"shouts\":0}}\n"
+            )
+        );
+    }
+
+    #[test]
+    fn holders_are_told_the_lowest_first_and_by_whom() {
+        let mut core = core(&[]);
+        let mut one = session(&mut core);
+        put(&mut core, &mut one, &[("a", "1"), ("a", "2")]);
+        say(&mut core, &mut one, "open a b 2\nopen - - 1\nprotect 2\nprotect 0\nbegin\nbegin\n");
+        let told = |lines: &str, member: &str| -> Vec<String> {
+            objects(lines).iter().map(|line| line[member].as_str().unwrap_or_default().to_string()).collect()
+        };
+        assert_eq!(told(&feeds(&core), "floor"), ["1", "2"]);
+        assert_eq!(told(&protections(&core), "timestamp"), ["0", "2"]);
+        assert_eq!(told(&transactions(&core), "timestamp"), ["3", "4"]);
+        let first = feeds(&core).lines().next().map(str::to_string);
+        let expected = "{\"kind\":\"feed\",\"number\":\"2\",\"opened\":\"open - - 1\",\"consumer\":null,\
+                        \"streamed\":false,\"seat\":0,\"floor\":\"1\",\"told\":0,\"lag\":1,\"waits\":false}";
+        assert_eq!(first.as_deref(), Some(expected));
+        assert_eq!(objects(&protections(&core))[0]["seat"], 0);
+        assert_eq!(objects(&sessions(&core))[1]["peer"], "127.0.0.1:1");
+    }
+
+    #[test]
+    fn a_thousand_of_each_are_told_at_most() {
+        let mut core = core(&["--max-held", "5000"]);
+        let mut one = session(&mut core);
+        say(&mut core, &mut one, &"begin\nprotect 0\n".repeat(1100));
+        assert_eq!(transactions(&core).lines().count(), 1000);
+        assert_eq!(protections(&core).lines().count(), 1000);
+    }
+
+    #[test]
+    fn a_server_that_closes_is_well() {
+        let mut core = core(&[]);
+        let mut one = session(&mut core);
+        assert_eq!(fault_of(&core), None);
+        put(&mut core, &mut one, &[("a", "1")]);
+        say(&mut core, &mut one, "begin\n");
+        assert_eq!(fault_of(&core), None);
+        // A timestamp far above closed is no fault.
+        say(&mut core, &mut one, "commit .\nbegin 100\n");
+        assert_eq!(fault_of(&core), None);
+        core.ledger.undecided.clear();
+        tidy(&mut core);
+        assert!(fault_of(&core).is_some());
+    }
+}

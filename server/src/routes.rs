@@ -1,0 +1,191 @@
+//! The server's paths, with the methods and rights of each. `http` asks for the right, lets the gate judge, and hands
+//! over what passes.
+//!
+//! Each handler is `async fn(&Arc<Server>, Request) -> Result<Response, Refusal>`. server/README.md says what each takes
+//! and gives.
+
+use crate::connections::Connections;
+use crate::door::Door;
+use crate::gate::{Gate, Right};
+use crate::http::{Method, Request, Response};
+use crate::log::Log;
+use crate::options::Options;
+use crate::refusal::Refusal;
+use crate::tasks::Tasks;
+use crate::{consumers, metrics, page, reports, session, streams};
+use std::future::Future;
+use std::sync::Arc;
+use tokio::sync::{watch, Semaphore};
+
+/// The server's parts, put together. Each handler gets it.
+pub struct Server {
+    pub options: Options,
+    pub door: Door,
+    pub gate: Gate,
+    pub log: Arc<Log>,
+    pub connections: Arc<Connections>,
+    pub streams: streams::Streams,
+    pub metrics: metrics::Metrics,
+    pub tasks: Tasks,
+    /// Places of the answers of `POST /call`, until they were handed to their sockets.
+    pub answers: Arc<Semaphore>,
+    /// Whether the server ends.
+    pub is_ending: watch::Sender<bool>,
+}
+
+impl Server {
+    /// Waits until the server ends.
+    pub async fn ending(&self) {
+        let mut is_ending = self.is_ending.subscribe();
+        while !*is_ending.borrow_and_update() {
+            if is_ending.changed().await.is_err() {
+                return;
+            }
+        }
+    }
+
+    /// Runs a task that the server waits for at its end.
+    pub fn spawn(&self, task: impl Future<Output = ()> + Send + 'static) {
+        self.tasks.spawn(task);
+    }
+}
+
+/// What a path stands for.
+#[derive(Clone, Copy, Debug, PartialEq, Eq)]
+enum Place {
+    Session,
+    Seat,
+    Call,
+    Feed,
+    Consumers,
+    Consumer,
+    State,
+    Holders,
+    Metrics,
+    Transcript,
+    Health,
+    Examples,
+    File,
+}
+
+/// The paths that are one word. Beside them there are `/session/SEAT`, `/consumer/NAME` and the page's files.
+const PATHS: [(&str, Place); 10] = [
+    ("/session", Place::Session),
+    ("/call", Place::Call),
+    ("/feed", Place::Feed),
+    ("/consumer", Place::Consumers),
+    ("/state", Place::State),
+    ("/holders", Place::Holders),
+    ("/metrics", Place::Metrics),
+    ("/transcript", Place::Transcript),
+    ("/healthz", Place::Health),
+    ("/page/examples", Place::Examples),
+];
+
+impl Place {
+    fn of(path: &str) -> Option<Place> {
+        let is_below = |front| path.strip_prefix(front).is_some_and(|rest| !rest.is_empty() && !rest.contains('/'));
+        match PATHS.iter().find(|(one, _)| *one == path) {
+            Some(&(_, place)) => Some(place),
+            None if is_below("/session/") => Some(Place::Seat),
+            None if is_below("/consumer/") => Some(Place::Consumer),
+            None if page::has(path) => Some(Place::File),
+            None => None,
+        }
+    }
+
+    /// The methods that it takes, and the right that each wants.
+    fn methods(self) -> &'static [(Method, Right)] {
+        use Method::{Delete, Get, Head, Post};
+        match self {
+            // What a session's lines may do is asked of each line.
+            Place::Session => &[(Get, Right::Read)],
+            Place::Call => &[(Post, Right::Read)],
+            Place::Seat => &[(Delete, Right::Operate)],
+            Place::Feed => &[(Get, Right::Read)],
+            Place::Consumer => &[(Get, Right::Read), (Head, Right::Read), (Post, Right::Write), (Delete, Right::Write)],
+            Place::Health => &[(Get, Right::Nobody), (Head, Right::Nobody)],
+            _ => &[(Get, Right::Read), (Head, Right::Read)],
+        }
+    }
+
+    fn right(self, method: Method) -> Option<Right> {
+        self.methods().iter().find(|(one, _)| *one == method).map(|&(_, right)| right)
+    }
+
+    fn allowed(self) -> String {
+        let names: Vec<&str> = self.methods().iter().map(|(method, _)| method.name()).collect();
+        names.join(", ")
+    }
+}
+
+/// The right that a request wants. A path that isn't there is told to those alone who may read.
+pub fn right_of(method: Method, path: &str) -> Right {
+    Place::of(path).and_then(|place| place.right(method)).unwrap_or(Right::Read)
+}
+
+/// Answers a request that passed the gate.
+pub async fn handle(server: &Arc<Server>, request: Request) -> Result<Response, Refusal> {
+    let place = Place::of(&request.path).ok_or_else(Refusal::no_path)?;
+    if place.right(request.method).is_none() {
+        return Err(Refusal::no_method(&place.allowed()));
+    }
+    match (place, request.method) {
+        (Place::Session, _) => session::session(server, request).await,
+        (Place::Seat, _) => session::end(server, request).await,
+        (Place::Call, _) => session::call(server, request).await,
+        (Place::Feed, _) => streams::feed(server, request).await,
+        (Place::Consumers, _) => consumers::list(server, request).await,
+        (Place::Consumer, Method::Post) => consumers::post(server, request).await,
+        (Place::Consumer, Method::Delete) => consumers::delete(server, request).await,
+        (Place::Consumer, _) => consumers::get(server, request).await,
+        (Place::State, _) => reports::state(server, request).await,
+        (Place::Holders, _) => reports::holders(server, request).await,
+        (Place::Metrics, _) => metrics::metrics(server, request).await,
+        (Place::Transcript, _) => reports::transcript(server, request).await,
+        (Place::Health, _) => reports::healthz(server, request).await,
+        (Place::Examples, _) => page::examples(server, request).await,
+        (Place::File, _) => page::file(server, request).await,
+    }
+}
+
+#[cfg(test)]
+mod tests {
+    use super::*;
+
+    #[test]
+    fn each_path_of_the_readme_has_its_methods() {
+        for (path, allowed) in [
+            ("/session", "GET"),
+            ("/session/7", "DELETE"),
+            ("/call", "POST"),
+            ("/feed", "GET"),
+            ("/consumer", "GET, HEAD"),
+            ("/consumer/a.b-c_D", "GET, HEAD, POST, DELETE"),
+            ("/state", "GET, HEAD"),
+            ("/holders", "GET, HEAD"),
+            ("/metrics", "GET, HEAD"),
+            ("/transcript", "GET, HEAD"),
+            ("/healthz", "GET, HEAD"),
+            ("/", "GET, HEAD"),
+            ("/page/examples", "GET, HEAD"),
+            ("/page/page.mjs", "GET, HEAD"),
+        ] {
+            assert_eq!(Place::of(path).map(Place::allowed).as_deref(), Some(allowed), "{path}");
+        }
+        for path in ["", "/nothing", "/call/", "/consumer/", "/consumer/a/b", "/session/", "/page/", "/page/../call"] {
+            assert_eq!(Place::of(path), None, "{path}");
+        }
+    }
+
+    #[test]
+    fn rights_by_method() {
+        assert_eq!(right_of(Method::Get, "/consumer/a"), Right::Read);
+        assert_eq!(right_of(Method::Post, "/consumer/a"), Right::Write);
+        assert_eq!(right_of(Method::Delete, "/consumer/a"), Right::Write);
+        assert_eq!(right_of(Method::Delete, "/session/5"), Right::Operate);
+        assert_eq!(right_of(Method::Get, "/healthz"), Right::Nobody);
+        assert_eq!(right_of(Method::Other, "/healthz"), Right::Read);
+        assert_eq!(right_of(Method::Get, "/nothing"), Right::Read);
+    }
+}

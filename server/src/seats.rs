@@ -1,0 +1,208 @@
+//! The 64 seats of the database, and the sessions that have one.
+//!
+//! A session is one WebSocket, or one request of `POST /call`. The server makes its own calls and opens the feeds that
+//! it streams under the last seat, which a client's session may have as well: `Owner` keeps the two apart.
+//!
+//! 1. No two clients' sessions have one seat.
+//! 2. A `Taken` has what stands in the database under the seat by its session's own lines. All of it ends with the
+//!    session (`Core::end`), and only then is the seat given back.
+
+use crate::gate::Who;
+use std::collections::{BTreeSet, VecDeque};
+use std::time::Instant;
+use tokio::sync::watch;
+
+/// How many seats the database has.
+pub const SEATS: u8 = 64;
+/// The seat of the server's own calls, which a client's session may have as well.
+pub const OWN_SEAT: u8 = SEATS - 1;
+
+/// Whose a feed or a protection is.
+#[derive(Clone, Copy, Debug, PartialEq, Eq, PartialOrd, Ord)]
+pub enum Owner {
+    /// The server's: it streams the feed, or a name has the protection.
+    Server,
+    /// That of the session with this seat.
+    Seat(u8),
+}
+
+impl Owner {
+    /// The seat by which its calls are made.
+    pub fn seat(self) -> u8 {
+        match self {
+            Owner::Server => OWN_SEAT,
+            Owner::Seat(seat) => seat,
+        }
+    }
+}
+
+/// What a connection knows of its session. What it has in the database is in `Seats`.
+#[derive(Debug)]
+pub struct Session {
+    pub seat: u8,
+    /// Lines that were taken.
+    pub lines: u64,
+    /// The timestamp that it began last: what `.` stands for.
+    pub last: Option<u64>,
+    pub who: Who,
+    /// Whether an operator, or its age, ends the session.
+    end: watch::Receiver<bool>,
+}
+
+impl Session {
+    pub fn is_told_to_end(&self) -> bool {
+        *self.end.borrow()
+    }
+
+    /// Waits until it is told to end.
+    pub async fn told_to_end(&self) {
+        let mut end = self.end.clone();
+        while !*end.borrow_and_update() {
+            if end.changed().await.is_err() {
+                return;
+            }
+        }
+    }
+}
+
+/// A seat that is taken, and what stands in the database by its session's lines.
+#[derive(Debug)]
+pub struct Taken {
+    pub since: Instant,
+    /// When its last message came.
+    pub heard: Instant,
+    /// The address of its client.
+    pub peer: String,
+    pub begun: BTreeSet<u64>,
+    pub feeds: BTreeSet<u64>,
+    pub protections: BTreeSet<u64>,
+    end: watch::Sender<bool>,
+}
+
+impl Taken {
+    /// Tells its connection to end the session.
+    pub fn tell_to_end(&self) {
+        self.end.send_replace(true);
+    }
+}
+
+/// The seat that was free for longest is taken first.
+#[derive(Debug)]
+pub struct Seats {
+    free: VecDeque<u8>,
+    taken: Vec<Option<Taken>>,
+}
+
+impl Default for Seats {
+    fn default() -> Seats {
+        Seats { free: (0..SEATS).collect(), taken: (0..SEATS).map(|_| None).collect() }
+    }
+}
+
+impl Seats {
+    /// A new session, or `None` where no more seats are free than so many, which are kept for others.
+    pub fn take(&mut self, peer: String, who: Who, kept: usize) -> Option<Session> {
+        if self.free.len() <= kept {
+            return None;
+        }
+        let seat = self.free.pop_front()?;
+        let (now, (tell, end)) = (Instant::now(), watch::channel(false));
+        self.taken[usize::from(seat)] = Some(Taken {
+            since: now,
+            heard: now,
+            peer,
+            begun: BTreeSet::new(),
+            feeds: BTreeSet::new(),
+            protections: BTreeSet::new(),
+            end: tell,
+        });
+        Some(Session { seat, lines: 0, last: None, who, end })
+    }
+
+    /// Frees a seat.
+    pub fn give_back(&mut self, seat: u8) {
+        if self.taken[usize::from(seat)].take().is_some() {
+            self.free.push_back(seat);
+        }
+    }
+
+    /// The session of a seat.
+    pub fn taken(&self, seat: u8) -> Option<&Taken> {
+        self.taken.get(usize::from(seat))?.as_ref()
+    }
+
+    pub fn taken_mut(&mut self, seat: u8) -> Option<&mut Taken> {
+        self.taken.get_mut(usize::from(seat))?.as_mut()
+    }
+
+    /// Its client has sent something that is answered now.
+    pub fn hears(&mut self, seat: u8) {
+        if let Some(taken) = self.taken_mut(seat) {
+            taken.heard = Instant::now();
+        }
+    }
+
+    /// The session of an owner, where it is one.
+    pub fn of_mut(&mut self, owner: Owner) -> Option<&mut Taken> {
+        match owner {
+            Owner::Server => None,
+            Owner::Seat(seat) => self.taken_mut(seat),
+        }
+    }
+
+    /// All sessions, by their seat.
+    pub fn all(&self) -> impl Iterator<Item = (u8, &Taken)> {
+        (0..SEATS).filter_map(|seat| Some((seat, self.taken(seat)?)))
+    }
+
+    /// How many are taken.
+    pub fn count(&self) -> usize {
+        usize::from(SEATS) - self.free.len()
+    }
+}
+
+#[cfg(test)]
+mod tests {
+    use super::*;
+
+    #[test]
+    fn no_two_sessions_have_one_seat() {
+        let mut seats = Seats::default();
+        let sessions: Vec<Session> = std::iter::from_fn(|| seats.take("peer".into(), Who::anyone(), 0)).collect();
+        let distinct: BTreeSet<u8> = sessions.iter().map(|session| session.seat).collect();
+        assert_eq!((sessions.len(), distinct.len(), seats.count()), (64, 64, 64));
+        seats.give_back(7);
+        seats.give_back(7);
+        assert_eq!(seats.take("peer".into(), Who::anyone(), 0).map(|session| session.seat), Some(7));
+        assert!(seats.take("peer".into(), Who::anyone(), 0).is_none());
+    }
+
+    #[test]
+    fn one_seat_can_be_kept() {
+        let mut seats = Seats::default();
+        let count = std::iter::from_fn(|| seats.take("peer".into(), Who::anyone(), 1)).count();
+        assert_eq!(count, 63);
+        assert!(seats.take("operator".into(), Who::anyone(), 0).is_some());
+    }
+
+    #[tokio::test]
+    async fn a_session_that_is_told_to_end_knows_it_from_then_on() {
+        let mut seats = Seats::default();
+        let [one, other] = [0, 0].map(|kept| seats.take("peer".into(), Who::anyone(), kept).expect("a seat"));
+        assert!(!one.is_told_to_end());
+        seats.taken(one.seat).expect("it is taken").tell_to_end();
+        one.told_to_end().await;
+        one.told_to_end().await;
+        assert!(one.is_told_to_end() && !other.is_told_to_end());
+    }
+
+    #[test]
+    fn the_seat_that_was_free_for_longest_comes_first() {
+        let mut seats = Seats::default();
+        let first = seats.take("peer".into(), Who::anyone(), 0).expect("a seat");
+        seats.give_back(first.seat);
+        let others: Vec<u8> =
+            (0..63).map(|_| seats.take("peer".into(), Who::anyone(), 0).expect("a seat").seat).collect();
+        assert!(!others.contains(&first.seat));
+    }
+}

@@ -1,0 +1,313 @@
+//! The server's parts, put together, and its beginning and end.
+//!
+//! The first line of the output names the database and the address. SIGTERM and SIGINT end the server: transactions may
+//! go on for `--drain`, streams are told, sessions are closed, and the database is gone.
+//!
+//! 1. What is accepted is served within the limits of `connections`, or answered 503 and closed.
+//! 2. The work on the database never stops in silence: a panic in it ends the process.
+
+use crate::closing;
+use crate::connections::Connections;
+use crate::core::Core;
+use crate::door::{Door, Turn};
+use crate::gate::Gate;
+use crate::http;
+use crate::ledger::Reason;
+use crate::log::Log;
+use crate::metrics::Metrics;
+use crate::notify::Notify;
+use crate::options::Options;
+use crate::process;
+use crate::routes::Server;
+use crate::seats::SEATS;
+use crate::streams::Streams;
+use crate::tasks::Tasks;
+use crate::tls::{self, Acceptor};
+use crate::tokens::{self, Tokens};
+use ripsawbean::OpenError;
+use std::fmt;
+use std::io::{self, Write};
+use std::net::SocketAddr;
+use std::sync::Arc;
+use std::time::{Duration, Instant};
+use tokio::io::AsyncWriteExt;
+use tokio::net::{TcpListener, TcpSocket, TcpStream};
+use tokio::signal::unix::{signal, Signal, SignalKind};
+use tokio::sync::{watch, Semaphore};
+use tokio::time::{interval, sleep, timeout, MissedTickBehavior};
+
+const SPARE_FILES: u64 = 1024; // beside the connections: as many as the kernel may hand over at once
+const FEWEST_FILES: u64 = 64; // for everything but connections
+const BACKLOG: u32 = 1024; // connections that the kernel keeps until they are taken
+const SEND_BUFFER: usize = 1 << 18; // bytes that the kernel may hold for one reader
+const END: Duration = Duration::from_secs(1); // how long connections have to end
+const PAUSE: Duration = Duration::from_millis(100); // after a connection that couldn't be taken
+const FULL: &[u8] = b"HTTP/1.1 503 Service Unavailable\r\nContent-Length: 0\r\nConnection: close\r\n\r\n";
+
+/// Why the server doesn't serve.
+#[derive(Debug)]
+pub enum Failure {
+    Listen(SocketAddr, io::Error),
+    Open(OpenError),
+    Tokens(tokens::Fault),
+    Tls(tls::Fault),
+    Random,
+    System(io::Error),
+}
+
+impl fmt::Display for Failure {
+    fn fmt(&self, f: &mut fmt::Formatter<'_>) -> fmt::Result {
+        match self {
+            Failure::Listen(address, error) => write!(f, "{address} can't be listened to: {error}"),
+            Failure::Open(error) => write!(f, "the database doesn't open: {error}"),
+            Failure::Tokens(fault) => write!(f, "{fault}"),
+            Failure::Tls(fault) => write!(f, "{fault}"),
+            Failure::Random => f.write_str("the system gives no random bytes for an identity"),
+            Failure::System(error) => write!(f, "the system refuses: {error}"),
+        }
+    }
+}
+
+impl std::error::Error for Failure {}
+
+impl Failure {
+    /// Whether an option names a file that doesn't serve.
+    pub fn is_of_an_option(&self) -> bool {
+        matches!(self, Failure::Tokens(_) | Failure::Tls(_))
+    }
+}
+
+/// Serves until a signal comes.
+pub fn serve(options: Options) -> Result<(), Failure> {
+    let runtime = tokio::runtime::Builder::new_multi_thread().enable_all().build().map_err(Failure::System)?;
+    let result = runtime.block_on(run(options));
+    // What doesn't end by itself has had its time.
+    runtime.shutdown_background();
+    result
+}
+
+async fn run(mut options: Options) -> Result<(), Failure> {
+    let log = Arc::new(Log::new(options.log_level, options.log_json));
+    allow_files(&mut options, &log);
+    let listener = listener(SocketAddr::new(options.address, options.port))?;
+    let address = listener.local_addr().map_err(Failure::System)?;
+    let acceptor = options.tls.as_ref().map(Acceptor::read).transpose().map_err(Failure::Tls)?.map(Arc::new);
+    let server = Arc::new(put_together(options, address, log)?);
+    warn_of_open_tokens(&server);
+    let place = format!("{}://{address}", if acceptor.is_some() { "https" } else { "http" });
+    let identity = server.door.run(|core| core.identity.clone());
+    // Signals are caught before anyone is told that the server is there.
+    let signals = Signals::caught().map_err(Failure::System)?;
+    say_where(&identity, &place).map_err(Failure::System)?;
+    let notify = Notify::from_environment();
+    notify.ready(&place);
+    let works = [
+        tokio::spawn(accept(server.clone(), listener, acceptor.clone())),
+        tokio::spawn(close_when_due(server.clone())),
+        tokio::spawn(each_second(server.clone())),
+    ];
+    work_until_told_to_end(&server, signals, &notify, acceptor.as_deref()).await;
+    notify.stopping();
+    works[0].abort();
+    end(&server).await;
+    works.iter().for_each(|work| work.abort());
+    Ok(())
+}
+
+fn put_together(options: Options, address: SocketAddr, log: Arc<Log>) -> Result<Server, Failure> {
+    let core = Core::new(&options, identity()?, log.clone()).map_err(Failure::Open)?;
+    Ok(Server {
+        door: Door::new(core),
+        gate: Gate::new(&options, address.port()).map_err(Failure::Tokens)?,
+        connections: Connections::new(options.max_connections, options.patience),
+        streams: Streams::default(),
+        metrics: Metrics::default(),
+        tasks: Tasks::default(),
+        answers: Arc::new(Semaphore::new(usize::from(SEATS))),
+        is_ending: watch::channel(false).0,
+        log,
+        options,
+    })
+}
+
+/// An identity that no other database has.
+fn identity() -> Result<String, Failure> {
+    let mut bytes = [0; 8];
+    getrandom::getrandom(&mut bytes).map_err(|_| Failure::Random)?;
+    Ok(bytes.iter().map(|byte| format!("{byte:02x}")).collect())
+}
+
+fn listener(address: SocketAddr) -> Result<TcpListener, Failure> {
+    let listen = || {
+        let socket = if address.is_ipv4() { TcpSocket::new_v4() } else { TcpSocket::new_v6() }?;
+        socket.set_reuseaddr(true)?;
+        socket.bind(address)?;
+        socket.listen(BACKLOG)
+    };
+    listen().map_err(|error| Failure::Listen(address, error))
+}
+
+fn say_where(identity: &str, place: &str) -> io::Result<()> {
+    let mut out = io::stdout();
+    writeln!(out, "ripsawbean {identity} on {place}")?;
+    out.flush()
+}
+
+/// Raises the limit of open files. Where it can't be raised far enough there are fewer connections.
+fn allow_files(options: &mut Options, log: &Log) {
+    let wanted = options.max_connections as u64 + SPARE_FILES;
+    let allowed = rlimit::increase_nofile_limit(wanted).unwrap_or(wanted);
+    let most = allowed.saturating_sub(FEWEST_FILES).max(1) as usize;
+    if most < options.max_connections {
+        log.warn("few_files", &[("files", allowed.into()), ("connections", most.into())]);
+        options.max_connections = most;
+    }
+}
+
+fn warn_of_open_tokens(server: &Server) {
+    if let Some(tokens) = server.gate.tokens().filter(|tokens| tokens.is_open_to_others()) {
+        server.log.warn("tokens_open_to_others", &[("file", tokens.path().display().to_string().into())]);
+    }
+}
+
+/// What the server may be told from outside.
+struct Signals {
+    terminate: Signal,
+    interrupt: Signal,
+    hang_up: Signal,
+}
+
+impl Signals {
+    fn caught() -> io::Result<Signals> {
+        Ok(Signals {
+            terminate: signal(SignalKind::terminate())?,
+            interrupt: signal(SignalKind::interrupt())?,
+            hang_up: signal(SignalKind::hangup())?,
+        })
+    }
+}
+
+/// Reads tokens and certificates anew at SIGHUP, and tells systemd that the server lives, until SIGTERM or SIGINT comes.
+async fn work_until_told_to_end(server: &Server, mut signals: Signals, notify: &Notify, acceptor: Option<&Acceptor>) {
+    const FAR: Duration = Duration::from_secs(3600);
+    let mut beats = interval(notify.every.unwrap_or(FAR));
+    loop {
+        tokio::select! {
+            _ = signals.terminate.recv() => return,
+            _ = signals.interrupt.recv() => return,
+            _ = signals.hang_up.recv() => {
+                read_tokens_anew(server);
+                read_certificate_anew(server, acceptor);
+            }
+            _ = beats.tick() => notify.lives(),
+        }
+    }
+}
+
+fn read_tokens_anew(server: &Server) {
+    match server.gate.tokens().map(Tokens::reload) {
+        None => {}
+        Some(Ok(count)) => server.log.info("tokens_read", &[("tokens", count.into())]),
+        Some(Err(fault)) => server.log.error("tokens_not_read", &[("why", fault.to_string().into())]),
+    }
+}
+
+fn read_certificate_anew(server: &Server, acceptor: Option<&Acceptor>) {
+    match acceptor.map(Acceptor::reload) {
+        None => {}
+        Some(Ok(())) => server.log.info("certificate_read", &[]),
+        Some(Err(fault)) => server.log.error("certificate_not_read", &[("why", fault.to_string().into())]),
+    }
+}
+
+// ---- connections
+
+async fn accept(server: Arc<Server>, listener: TcpListener, acceptor: Option<Arc<Acceptor>>) {
+    loop {
+        match listener.accept().await {
+            Ok((stream, peer)) => take(&server, stream, peer, acceptor.clone()),
+            Err(error) => {
+                // No file is free, or the client is gone already.
+                server.log.warn("not_accepted", &[("why", error.to_string().into())]);
+                sleep(PAUSE).await;
+            }
+        }
+    }
+}
+
+fn take(server: &Arc<Server>, mut stream: TcpStream, peer: SocketAddr, acceptor: Option<Arc<Acceptor>>) {
+    // A connection that refuses this is served nonetheless.
+    let _ = stream.set_nodelay(true);
+    let _ = socket2::SockRef::from(&stream).set_send_buffer_size(SEND_BUFFER);
+    let server = server.clone();
+    server.clone().spawn(async move {
+        match (server.connections.come(peer), acceptor) {
+            (Some(connection), None) => http::serve(connection.watch(stream), server, connection).await,
+            (Some(connection), Some(acceptor)) => {
+                let agreed = tokio::select! {
+                    agreed = acceptor.accept(connection.watch(stream)) => agreed,
+                    () = connection.cut_off() => return,
+                };
+                match agreed {
+                    Ok(stream) => http::serve(stream, server, connection).await,
+                    Err(error) => server
+                        .log
+                        .debug("no_tls", &[("peer", peer.to_string().into()), ("why", error.to_string().into())]),
+                }
+            }
+            // It is told if it can be told at once.
+            (None, _) => {
+                server.log.warn("connections_full", &[("peer", peer.to_string().into())]);
+                drop(timeout(END, stream.write_all(FULL)).await);
+            }
+        }
+    });
+}
+
+// ---- the work that no request asks for
+
+async fn close_when_due(server: Arc<Server>) {
+    closing::close_when_due(&server.door).await;
+}
+
+async fn each_second(server: Arc<Server>) {
+    let mut seconds = interval(Duration::from_secs(1));
+    seconds.set_missed_tick_behavior(MissedTickBehavior::Delay);
+    loop {
+        seconds.tick().await;
+        closing::tidy(&server.door, process::resident().unwrap_or(0)).await;
+        server.connections.tidy();
+        server.log.tidy();
+    }
+}
+
+// ---- the end
+
+async fn end(server: &Arc<Server>) {
+    drain(server).await;
+    server.door.turns(stop_feeds).await;
+    server.is_ending.send_replace(true);
+    let _ = timeout(END, server.tasks.all_ended()).await;
+}
+
+/// No transaction begins any more, and those that are undecided may go on for a while.
+async fn drain(server: &Server) {
+    let end = Instant::now() + server.options.drain;
+    server.door.run(|core| core.limits.is_draining = true);
+    while Instant::now() < end && server.door.run(|core| !core.ledger.undecided.is_empty()) {
+        sleep(Duration::from_millis(10)).await;
+    }
+}
+
+fn stop_feeds(core: &mut Core, until: Instant) -> Turn {
+    while let Some(feed) = core.ledger.feeds.keys().next().copied() {
+        core.stop_feed(feed, Reason::Shutdown);
+        if core.ledger.feeds.contains_key(&feed) {
+            break; // for want of memory: its stream is just cut
+        }
+        if Instant::now() >= until {
+            return Turn::More;
+        }
+    }
+    Turn::Done
+}

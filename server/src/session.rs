@@ -1,0 +1,167 @@
+//! Sessions: `GET /session`, a WebSocket, and `POST /call`, which is a session of one request.
+//!
+//! `socket` carries the messages of a WebSocket; here is what both have in common.
+//!
+//! 1. A session has a seat as long as its `Seated` lives. However that ends, what the session left in the database ends
+//!    with it, and then the seat is free.
+//! 2. Lines are taken in turns, and between two of them everyone else is let in.
+//! 3. No more calls' answers wait for their readers than there are seats.
+//! 4. Where an answer's text was lost for want of memory, the session ends: nobody is told that a call wasn't made.
+
+use crate::connections::Connection;
+use crate::door::Turn;
+use crate::gate::{Right, Who};
+use crate::http::{Request, Response};
+use crate::lines::{Lines, Lost};
+use crate::query::{arguments, number_of};
+use crate::refusal::Refusal;
+use crate::routes::Server;
+use crate::seats::Session;
+use crate::socket::Socket;
+use crate::ws::{self, Asked};
+use std::sync::Arc;
+use std::time::{Duration, Instant};
+use tokio::sync::OwnedSemaphorePermit;
+
+/// How long a body may take.
+const BODY: Duration = Duration::from_secs(10);
+/// How long a connection may take to become a WebSocket.
+const UPGRADE: Duration = Duration::from_secs(10);
+
+/// A session with its seat.
+pub struct Seated {
+    pub server: Arc<Server>,
+    pub session: Session,
+}
+
+impl Seated {
+    /// Takes a seat. The last one is kept for those who may operate.
+    fn take(server: &Arc<Server>, who: Who, connection: &Connection) -> Result<Seated, Refusal> {
+        let kept = usize::from(!who.may(Right::Operate));
+        let peer = connection.peer.to_string();
+        let session = server.door.run(|core| core.seats.take(peer, who, kept)).ok_or_else(Refusal::no_seats)?;
+        Ok(Seated { server: server.clone(), session })
+    }
+}
+
+impl Drop for Seated {
+    fn drop(&mut self) {
+        let seat = self.session.seat;
+        if self.server.door.turn(|core, until| core.end(seat, until)) == Turn::More {
+            let server = self.server.clone();
+            tokio::spawn(async move { server.door.turns(|core, until| core.end(seat, until)).await });
+        }
+    }
+}
+
+/// `POST /call`: lines in, events out.
+pub async fn call(server: &Arc<Server>, request: Request) -> Result<Response, Refusal> {
+    arguments(&request.path, &request.query, &[])?;
+    let (who, connection) = (request.who.clone(), request.connection.clone());
+    let mut data = request.body(server.options.max_message, BODY).await?;
+    if data.last() != Some(&b'\n') {
+        data.push(b'\n');
+    }
+    let start = Instant::now();
+    // A body that comes slowly holds no seat. An answer that is taken slowly counts as one: it may be long.
+    let place = place_of_answer(server, &who)?;
+    let mut seated = Seated::take(server, who, &connection)?;
+    let mut lines = Lines::new(data);
+    let told = answer(&mut seated, &mut lines).await;
+    drop(seated);
+    server.metrics.calls.note(start.elapsed());
+    told.map(|()| Response::whole("text/plain; charset=utf-8", lines.answers).keeping(place))
+}
+
+/// So many answers are there at once at most, the last one of someone who may operate.
+fn place_of_answer(server: &Server, who: &Who) -> Result<OwnedSemaphorePermit, Refusal> {
+    let kept = usize::from(!who.may(Right::Operate));
+    let place = server.answers.clone().try_acquire_owned().ok().filter(|_| server.answers.available_permits() >= kept);
+    place.ok_or_else(Refusal::no_seats)
+}
+
+async fn answer(seated: &mut Seated, lines: &mut Lines) -> Result<(), Refusal> {
+    let Seated { server, session } = seated;
+    let refused = |error, why| Err(Refusal::new(500, error, why));
+    loop {
+        let turn = server.door.turn(|core, until| {
+            core.seats.hears(session.seat);
+            lines.turn(core, session, until)
+        });
+        match turn {
+            Ok(Turn::Done) => return Ok(()),
+            Ok(Turn::More) if session.is_told_to_end() => {
+                return refused("ended", "an operator has ended the session: lines were taken, and others weren't")
+            }
+            Ok(Turn::More) => tokio::task::yield_now().await,
+            Err(Lost) => return refused("unwritten", "lines were taken, and there is no memory for their answers"),
+        }
+    }
+}
+
+/// `GET /session`: a WebSocket.
+pub async fn session(server: &Arc<Server>, mut request: Request) -> Result<Response, Refusal> {
+    arguments(&request.path, &request.query, &[])?;
+    let lists = ["upgrade", "connection", "sec-websocket-version", "sec-websocket-key"].map(|name| request.list(name));
+    let [upgrade, connection, version, key] = &lists;
+    let accept = ws::accept(&Asked { upgrade, connection, version, key })?;
+    let connection = request.connection.clone();
+    let seated = Seated::take(server, request.who.clone(), &connection)?;
+    let busy = connection.asks();
+    let upgraded = request.upgraded();
+    let opened = [
+        ("seat", seated.session.seat.into()),
+        ("peer", connection.peer.to_string().into()),
+        ("by", request.who.name().into()),
+    ];
+    server.log.info("session_opened", &opened);
+    let task = async move {
+        if let Ok(Some(stream)) = tokio::time::timeout(UPGRADE, upgraded).await {
+            Socket::new(stream, connection, seated).run().await;
+        }
+        drop(busy);
+    };
+    server.spawn(task);
+    Ok(Response::switching(accept))
+}
+
+/// `DELETE /session/SEAT`: an operator ends a session.
+pub async fn end(server: &Arc<Server>, request: Request) -> Result<Response, Refusal> {
+    arguments(&request.path, &request.query, &[])?;
+    let word = request.path.rsplit('/').next().unwrap_or_default();
+    let seat = number_of(word.as_bytes()).and_then(|seat| u8::try_from(seat).ok()).ok_or_else(no_session)?;
+    let peer = server.door.run(|core| {
+        let taken = core.seats.taken(seat).ok_or_else(no_session)?;
+        taken.tell_to_end();
+        Ok(taken.peer.clone())
+    })?;
+    let by: &Who = &request.who;
+    server
+        .log
+        .audit("session_ended", &[("seat", seat.into()), ("peer", peer.as_str().into()), ("by", by.name().into())]);
+    Ok(Response::whole("application/json; charset=utf-8", format!("{{\"seat\":{seat},\"peer\":\"{peer}\"}}\n")))
+}
+
+fn no_session() -> Refusal {
+    Refusal::new(404, "session", "no session has this seat")
+}
+
+#[cfg(test)]
+mod tests {
+    use super::*;
+    use crate::testing::server;
+
+    #[test]
+    fn as_many_answers_wait_as_there_are_seats_and_the_last_is_an_operators() {
+        let server = server(&[]);
+        let writer = Who::of("writer", &[Right::Read, Right::Write]);
+        let mut places: Vec<_> = std::iter::from_fn(|| place_of_answer(&server, &writer).ok()).collect();
+        assert_eq!(places.len(), 63);
+        places.push(place_of_answer(&server, &Who::anyone()).expect("one is kept"));
+        assert!(place_of_answer(&server, &Who::anyone()).is_err());
+        places.pop();
+        assert!(place_of_answer(&server, &writer).is_err());
+        places.pop();
+        assert!(place_of_answer(&server, &writer).is_ok());
+    }
+}

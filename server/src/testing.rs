@@ -1,0 +1,181 @@
+//! What tests share: a core without sockets, and numbers that are drawn.
+
+use crate::closing;
+use crate::connections::Connections;
+use crate::core::Core;
+use crate::door::{Door, Turn};
+use crate::gate::{Gate, Who};
+use crate::lines::Lines;
+use crate::log::{Level, Log};
+use crate::metrics::Metrics;
+use crate::options::{self, Asked, Options};
+use crate::routes::Server;
+use crate::seats::{Session, SEATS};
+use crate::streams::Streams;
+use crate::tasks::Tasks;
+use std::io::Write;
+use std::path::PathBuf;
+use std::sync::atomic::{AtomicU64, Ordering};
+use std::sync::{Arc, Mutex};
+use std::time::{Duration, Instant};
+use tokio::sync::{watch, Semaphore};
+
+/// The identity of a test's database.
+pub const IDENTITY: &str = "0123456789abcdef";
+
+pub fn options(words: &[&str]) -> Options {
+    match options::read(words.iter().map(|word| (*word).into())).expect("options") {
+        Asked::Serve(options) => *options,
+        other => panic!("{other:?}"),
+    }
+}
+
+/// What the log has said.
+#[derive(Clone, Default)]
+pub struct Said(Arc<Mutex<Vec<u8>>>);
+
+impl Said {
+    pub fn text(&self) -> String {
+        String::from_utf8(self.0.lock().expect("no test panics with it").clone()).expect("text")
+    }
+}
+
+impl Write for Said {
+    fn write(&mut self, data: &[u8]) -> std::io::Result<usize> {
+        self.0.lock().expect("no test panics with it").extend_from_slice(data);
+        Ok(data.len())
+    }
+
+    fn flush(&mut self) -> std::io::Result<()> {
+        Ok(())
+    }
+}
+
+/// A core with these options, and what its log says.
+pub fn core_and_log(words: &[&str]) -> (Core, Said) {
+    let said = Said::default();
+    let log = Log::to(Level::Info, false, Box::new(said.clone()));
+    (Core::new(&options(words), IDENTITY.into(), Arc::new(log)).expect("it opens"), said)
+}
+
+pub fn core(words: &[&str]) -> Core {
+    core_and_log(words).0
+}
+
+/// A server with these options that listens nowhere.
+pub fn server(words: &[&str]) -> Arc<Server> {
+    let (options, (core, said)) = (options(words), core_and_log(words));
+    Arc::new(Server {
+        door: Door::new(core),
+        gate: Gate::new(&options, options.port).expect("a gate"),
+        log: Arc::new(Log::to(Level::Error, false, Box::new(said))),
+        connections: Connections::new(options.max_connections, options.patience),
+        streams: Streams::default(),
+        metrics: Metrics::default(),
+        tasks: Tasks::default(),
+        answers: Arc::new(Semaphore::new(usize::from(SEATS))),
+        is_ending: watch::channel(false).0,
+        options,
+    })
+}
+
+/// A session of someone who may do everything.
+pub fn session(core: &mut Core) -> Session {
+    core.seats.take("127.0.0.1:1".into(), Who::anyone(), 0).expect("a seat is free")
+}
+
+pub fn end(core: &mut Core, session: &Session) {
+    let far = Instant::now() + Duration::from_secs(60);
+    assert_eq!(core.end(session.seat, far), Turn::Done);
+}
+
+/// The answers to some lines as they come, in one turn.
+pub fn texts(core: &mut Core, session: &mut Session, text: &str) -> String {
+    let mut lines = Lines::new(text.as_bytes().to_vec());
+    let far = Instant::now() + Duration::from_secs(60);
+    assert_eq!(lines.turn(core, session, far), Ok(Turn::Done));
+    String::from_utf8(lines.answers).expect("text")
+}
+
+/// The same without what stands before each answer.
+pub fn answers(core: &mut Core, session: &mut Session, text: &str) -> Vec<String> {
+    let told = texts(core, session, text);
+    told.lines().map(|line| line.rsplit_once(" => ").map_or(line, |(_, answer)| answer).to_string()).collect()
+}
+
+/// The same, and then closing as far as transactions are decided.
+pub fn say(core: &mut Core, session: &mut Session, text: &str) -> Vec<String> {
+    let told = answers(core, session, text);
+    core.settle(Instant::now());
+    told
+}
+
+/// Transactions of one row each.
+pub fn put(core: &mut Core, session: &mut Session, rows: &[(&str, &str)]) {
+    for (key, value) in rows {
+        let told = say(core, session, &format!("begin\nput . {key} {value}\ncommit .\n"));
+        assert_eq!(told, ["started", "written", "committed 1"]);
+    }
+}
+
+/// The work of a second.
+pub fn tidy(core: &mut Core) {
+    let far = Instant::now() + Duration::from_secs(60);
+    for step in closing::STEPS {
+        assert_eq!(step(core, far), Turn::Done);
+    }
+}
+
+/// Nanoseconds that this thread had a processor, so that a busy machine changes little.
+pub fn processor_time() -> u64 {
+    let text = std::fs::read_to_string("/proc/thread-self/schedstat").expect("Linux tells it");
+    text.split(' ').next().and_then(|word| word.parse().ok()).expect("a number")
+}
+
+/// Numbers that look drawn, the same for each seed (Marsaglia's xorshift).
+pub struct Dice(u64);
+
+impl Dice {
+    pub fn new(seed: u64) -> Dice {
+        Dice(seed.wrapping_mul(0x9e37_79b9_7f4a_7c15) | 1)
+    }
+
+    /// One below a bound.
+    pub fn below(&mut self, bound: u64) -> u64 {
+        self.0 ^= self.0 << 13;
+        self.0 ^= self.0 >> 7;
+        self.0 ^= self.0 << 17;
+        (self.0 >> 11) % bound
+    }
+
+    pub fn one_in(&mut self, bound: u64) -> bool {
+        self.below(bound) == 0
+    }
+
+    pub fn of<'a, T>(&mut self, all: &'a [T]) -> &'a T {
+        &all[self.below(all.len() as u64) as usize]
+    }
+
+    /// Some of these pieces, fewer than `most`, one behind another.
+    pub fn some(&mut self, pieces: &[&[u8]], most: u64) -> Vec<u8> {
+        (0..self.below(most)).flat_map(|_| self.of(pieces).to_vec()).collect()
+    }
+
+    /// Tries again and again: for as many seconds as FUZZ_SECONDS says, or for two.
+    pub fn each(&mut self, mut attempt: impl FnMut(&mut Dice)) {
+        let seconds = std::env::var("FUZZ_SECONDS").ok().and_then(|word| word.parse().ok()).unwrap_or(2);
+        let end = Instant::now() + Duration::from_secs(seconds);
+        while Instant::now() < end {
+            (0..100).for_each(|_| attempt(self));
+        }
+    }
+}
+
+/// A file of a test's own, with this text. It stays in the system's temporary folder.
+pub fn file(text: &[u8]) -> PathBuf {
+    static COUNT: AtomicU64 = AtomicU64::new(0);
+    let name = format!("ripsawbean-test-{}-{}", std::process::id(), COUNT.fetch_add(1, Ordering::Relaxed));
+    let path = std::env::temp_dir().join(name);
+    std::fs::write(&path, text).expect("it is written");
+    path
+}

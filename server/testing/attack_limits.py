@@ -1,0 +1,264 @@
+"""Servers that get no more memory: whatever fails, no event is lost, and what is told is true.
+
+A run gives the server's process 250 to 700 MB of addresses, and writers who want more. Meanwhile the transcript is read
+along. In the end
+
+    the transcript has each position, up to `Ripsawbean-Next`, and no other
+    each answer that a writer got is the event of the transcript at its position, word for word
+    no line that was answered with a fault has an event
+    /holders tells the same as the database's own report, /state
+    the server answers: it may end for want of memory, but never live on and be deaf
+
+A server with `--max-memory` below its limit may not end either.
+"""
+
+import contextlib
+import dataclasses
+import json
+import random
+import re
+import threading
+import time
+import zlib
+from collections.abc import Callable
+
+from attack_beside import Scale
+from handmade import Session, Wire
+from machine import LONGEST, Room, Server, wait_for
+
+MEGABYTE = 1 << 20
+WRITERS = 4
+VALUE = "x" * 16_000
+LONG = 200  # characters of a line beyond which a digest stands for it
+COUNTED = re.compile(r"(?:rows|messages) (\d+)")  # an answer with so many lines behind it
+SECONDS_AT_LIMIT = 2.5  # how long the writers go on once they were told that there is no memory
+
+
+def heads_of(text: str) -> list[str]:
+    """The first line of each event of a text, and each fault. A digest stands for a long one."""
+    lines, found, at = text.split("\n"), [], 0
+    while at < len(lines) - 1:
+        line = lines[at]
+        counted = COUNTED.fullmatch(line.rpartition(" => ")[2])
+        at += 1 + (int(counted[1]) if counted else 0)
+        if len(line) > LONG:
+            line = "%s #%08x => %s" % (line[:80], zlib.crc32(line.encode()), line.rpartition(" => ")[2])
+        found.append(line)
+    return found
+
+
+@dataclasses.dataclass
+class Writer(threading.Thread):
+    """Writes rows of 16,000 bytes, reads, opens, protects. Each row has a key of its own, by which its event is found."""
+
+    server: Server
+    number: int
+    limit: threading.Event
+    over: threading.Event
+    told: list[tuple[list[str], list[str]]] = dataclasses.field(default_factory=list)  # lines and answers of messages
+    lost: list[list[str]] = dataclasses.field(default_factory=list)  # messages without an answer
+    made: int = 0
+
+    def __post_init__(self) -> None:
+        super().__init__(daemon=True)
+        self.dice = random.Random(self.number)
+
+    def __hash__(self) -> int:
+        return self.number
+
+    def message(self) -> list[str]:
+        lines = ["begin"]
+        for _ in range(self.dice.randrange(1, 12)):
+            self.made += 1
+            lines.append("put . w%d/%07d %s" % (self.number, self.made, VALUE))
+        if self.dice.random() < 0.2:
+            lines.append("scan . w%d/%07d w%d0" % (self.number, max(self.made - 20, 0), self.number))
+        if self.dice.random() < 0.1:
+            lines += ["open - - %d" % self.made, "protect 0"]
+        if self.dice.random() < 0.2:
+            lines.append("del . w%d/%07d" % (self.number, self.dice.randrange(self.made)))
+        return lines + ["commit ."]
+
+    def run(self) -> None:
+        while not self.over.is_set():
+            try:
+                session = Session(self.server.port, timeout=20)
+                while not self.over.is_set():
+                    self.ask(session, self.message())
+            except OSError:
+                self.limit.set()
+                time.sleep(0.05)
+
+    def ask(self, session: Session, lines: list[str]) -> None:
+        try:
+            answer = session.call("".join(line + "\n" for line in lines))
+        except OSError:
+            self.lost.append(lines)
+            raise
+        self.told.append((lines, heads_of(answer)))
+        if "nomemory" in answer or "full" in answer:
+            self.limit.set()
+
+
+@dataclasses.dataclass
+class Reader(threading.Thread):
+    """Reads the transcript along."""
+
+    server: Server
+    over: threading.Event
+    events: dict[int, str] = dataclasses.field(default_factory=dict)
+    next: int = 0
+    faults: list[str] = dataclasses.field(default_factory=list)
+    dropped: set[int] = dataclasses.field(default_factory=set)  # that the transcript kept no longer
+
+    def __post_init__(self) -> None:
+        super().__init__(daemon=True)
+
+    def __hash__(self) -> int:
+        return id(self)
+
+    def run(self) -> None:
+        while not self.over.is_set():
+            try:
+                self.read()
+            except (OSError, EOFError):
+                pass
+            time.sleep(0.1)
+
+    def read(self) -> None:
+        """Asks for what is new. An answer that was cut is left out, and asked for again."""
+        status, headers, text = fetch(self.server, "/transcript?since=%d" % self.next)
+        if status == 410:
+            first = int(json.loads(text)["first"])
+            self.dropped.update(range(self.next, first))
+            self.next = first
+            return
+        if status != 200:
+            return
+        places = [int(one.split(" ", 1)[0]) for one in heads_of(text.removeprefix("mvfeed 2\n"))]
+        wanted = list(range(self.next, int(headers["ripsawbean-next"])))
+        if places != wanted:
+            missing = sorted(set(wanted) - set(places))
+            self.faults.append("of %d to Ripsawbean-Next %s, %d events are missing, first %s; %d are there" % (
+                self.next, headers["ripsawbean-next"], len(missing), missing[:5], len(places)))
+        self.events.update(zip(places, heads_of(text.removeprefix("mvfeed 2\n"))))
+        self.next = max(int(headers["ripsawbean-next"]), self.next)
+
+
+def fetch(server: Server, path: str) -> tuple[int, dict[str, str], str]:
+    """One answer, whole, or an OSError."""
+    with contextlib.closing(Wire(server.port, timeout=20)) as wire:
+        wire.ask("GET", path)
+        status, headers = wire.head()
+        is_chunked = headers.get("transfer-encoding") == "chunked"
+        body = wire.chunks() if is_chunked else wire.exactly(int(headers["content-length"]))
+        return status, headers, body.decode()
+
+
+# ---- what has to be so
+
+def compare_answers(writers: list[Writer], reader: Reader) -> list[str]:
+    """Each answer with the event at its position, and each fault with all events."""
+    faults, events = [], reader.events
+    keys = {words[4] for one in events.values() if len(words := one.split(" ")) > 4 and words[2] == "put"}
+    for writer in writers:
+        for lines, answers in writer.told:
+            if len(lines) != len(answers):
+                faults.append("%d answers to %d lines: %s" % (len(answers), len(lines), [one[:80] for one in answers]))
+                continue
+            for line, answer in zip(lines, answers):
+                if answer.startswith("fault "):
+                    if line.startswith("put") and line.split(" ")[2] in keys:
+                        faults.append("%s of %s, which was made" % (answer, line[:60]))
+                elif (at := int(answer.split(" ", 1)[0])) not in reader.dropped and events.get(at) != answer:
+                    there = events.get(at)
+                    faults.append("told %s, and the transcript has %s" % (answer[:80], there and there[:80]))
+    return faults
+
+
+def compare_reports(server: Server) -> list[str]:
+    """What the server knows, with what the database itself says."""
+    state = [json.loads(one) for one in server.ask("GET", "/state")[1].splitlines()]
+    known = {kind: server.holders(kind) for kind in ("server", "transaction", "protection", "feed")}
+    faults = []
+    for kind, name in (("transaction", "timestamp"), ("protection", "number"), ("feed", "number")):
+        ours, theirs = (sorted(one[name] for one in many) for many in (known[kind], (s for s in state if s["kind"] == kind)))
+        if ours != theirs:
+            faults.append("%ss: /holders has %s, and /state %s" % (kind, ours[:20], theirs[:20]))
+    for name in ("closed", "horizon", "limit"):
+        if known["server"][0][name] != state[0][name]:
+            faults.append("%s: /holders has %s, and /state %s" % (name, known["server"][0][name], state[0][name]))
+    return faults
+
+
+def is_quiet(server: Server) -> bool:
+    try:
+        first, second = (server.holders("server")[0] for _ in range(2))
+        return first["sessions"] == 0 and first["next"] == second["next"] and first["closed"] == first["greatest"]
+    except (OSError, ValueError, IndexError):
+        return False
+
+
+def reads_on(reader: Reader) -> bool:
+    try:
+        reader.read()
+        return True
+    except OSError:
+        return False
+
+
+def run_at(room: Room, megabytes: int, has_own_limit: bool) -> tuple[str, list[str]]:
+    """How a run ended, and what was wrong."""
+    options = ["--keep", "10000000", "--keep-bytes", str(megabytes * MEGABYTE // 3), "--history", "1"]
+    if has_own_limit:
+        options += ["--max-memory", str(megabytes * MEGABYTE // 3)]
+    limit = ("prlimit", "--as=%d" % (megabytes * MEGABYTE))
+    server = room.start(Server(room.path, *options, before=limit))
+    at_limit, over, read_over = threading.Event(), threading.Event(), threading.Event()
+    writers = [Writer(server, number, at_limit, over) for number in range(WRITERS)]
+    reader = Reader(server, read_over)
+    for one in (*writers, reader):
+        one.start()
+    has_come = at_limit.wait(LONGEST)
+    time.sleep(SECONDS_AT_LIMIT)
+    over.set()
+    for one in writers:
+        one.join(LONGEST)
+    faults = [] if has_come else ["no limit was reached"]
+    if not server.has_ended():
+        try:
+            wait_for(lambda: server.has_ended() or is_quiet(server), "the server to answer")
+        except TimeoutError:
+            faults.append("it lives, and is deaf: " + server.tail())
+    read_over.set()
+    reader.join(LONGEST)
+    how = "lives"
+    if server.has_ended():
+        how = "ended with %d" % server.child.returncode
+        if has_own_limit or server.child.returncode == 0:
+            faults.append("it has ended: " + server.tail())
+    elif not faults:
+        try:
+            wait_for(lambda: reads_on(reader), "the transcript")
+            faults += compare_reports(server) + compare_answers(writers, reader)
+        except (TimeoutError, OSError) as why:
+            faults.append("it lives, and doesn't answer: %r: %s" % (why, server.tail()))
+    faults += reader.faults
+    told = sum(len(one.told) for one in writers)
+    return "%s after %d events, %d messages, %d without an answer" % (
+        how, len(reader.events), told, sum(len(one.lost) for one in writers)), faults
+
+
+def test_limits(room: Room, scale: Scale, runs: int = 3) -> str:
+    """Runs at several limits, of which each second one has --max-memory too."""
+    dice, figures = random.Random(1), []
+    for run in range(runs):
+        megabytes = (250, 450, 700)[run] if run < 3 else dice.randrange(250, 700)
+        with Room() as own:
+            how, faults = run_at(own, megabytes, run % 2 == 1)
+        figures.append("%d MB%s: %s" % (megabytes, " and --max-memory" * (run % 2), how))
+        assert not faults, "%s: %s" % (figures[-1], "; ".join(faults[:6]))
+    return "; ".join(figures[:6])
+
+
+TESTS: list[Callable[[Room, Scale], str]] = [test_limits]

@@ -1,0 +1,145 @@
+"""Tokens with rights and spans: who may read, who may write, who may operate, and within which keys.
+
+Each function is a test. It gets a room, and how heavy the load is to be.
+"""
+
+import contextlib
+import os
+import re
+import signal
+import subprocess
+import time
+from collections.abc import Callable, Iterator
+
+from attack_beside import Scale
+from attack_memory import started
+from attack_wire import refused_start
+from handmade import Refused, Session, Wire, bearer
+from machine import Room, Server, wait_for
+
+READ, WRITE, OPERATE, PART = ("%s-0123456789abcdef" % name for name in ("read", "write", "operate", "part"))
+
+
+def shown(token: str) -> dict[str, str]:
+    return {"Authorization": "Bearer " + token}
+
+
+def status_of(server: Server, path: str, token: str) -> int:
+    """Of a GET whose answer may be a stream."""
+    with contextlib.closing(Wire(server.port)) as wire:
+        wire.ask("GET", path, bearer(token))
+        return wire.head()[0]
+
+
+@contextlib.contextmanager
+def with_tokens(room: Room) -> Iterator[tuple[Server, str]]:
+    """A server with four tokens, and their file."""
+    path = room.file("tokens")
+    with open(path, "w") as file:
+        file.write("reader read - - %s\nwriter read,write - - %s\n" % (READ, WRITE))
+        file.write("operator read,write,operate - - %s\npart read,write b c %s\n" % (OPERATE, PART))
+    os.chmod(path, 0o600)
+    yield started(room, "--tokens", path, token=OPERATE), path
+
+
+def test_rights(room: Room, scale: Scale) -> str:
+    """Who may only read changes nothing, and who may not operate ends no other's session."""
+    with with_tokens(room) as (server, _):
+        write = b"begin\nput . a x\ncommit .\n"
+        assert server.ask("POST", "/call", write, shown("none-0123456789abcdef"))[0] == 401
+        assert server.ask("GET", "/holders", None, shown("none-0123456789abcdef"))[0] == 401
+        status, told = server.ask("POST", "/call", write, shown(READ))
+        assert status == 403 or "fault " in told and "=> written" not in told, (status, told)
+        for token in (READ, WRITE, OPERATE):
+            for path in ("/holders", "/metrics", "/state", "/consumer"):
+                assert server.ask("GET", path, None, shown(token))[0] == 200, (path, token)
+        assert "=> committed 1" in server.ask("POST", "/call", write, shown(WRITE))[1]
+        name = "/consumer/mine?identity=%s&generation=0&stored=0" % server.identity
+        assert server.ask("POST", name, None, shown(READ))[0] == 403
+        assert server.ask("POST", name, None, shown(WRITE))[0] == 200
+        assert server.ask("DELETE", "/consumer/mine", None, shown(READ))[0] == 403
+        for token, status in ((READ, 403), (WRITE, 200)):
+            assert status_of(server, "/feed?consumer=mine", token) == status, token
+        session = Session(server.port, WRITE)
+        session.call("begin\n")
+        (seat,) = [one["seat"] for one in server.holders("transaction")]
+        for token, wanted in ((READ, 403), (WRITE, 403), (OPERATE, 200)):
+            status = server.ask("DELETE", "/session/%d" % seat, None, shown(token))[0]
+            assert status == wanted or wanted == 200 and status == 204, (token, status)
+        for line in ("closehard 5\n", "collect 0\n"):
+            status, told = server.ask("POST", "/call", line.encode(), shown(WRITE))
+            assert status == 403 or "fault " in told, (line, status, told)
+            assert "=> c" in server.ask("POST", "/call", line.encode(), shown(OPERATE))[1], line
+    return "three kinds"
+
+
+def test_spans_of_tokens(room: Room, scale: Scale) -> str:
+    """A token of a span sees and changes nothing outside of it."""
+    with with_tokens(room) as (server, _):
+        server.ask("POST", "/call", b"begin\nput . a secret\nput . b/1 open\ncommit .\n")
+        assert "=> committed 1" in server.ask("POST", "/call", b"begin\nput . b/2 x\ncommit .\n", shown(PART))[1]
+        for path, status in (("/feed", 403), ("/feed?lo=a&hi=c", 403), ("/feed?lo=b", 403), ("/feed?lo=b&hi=c", 200)):
+            assert status_of(server, path, PART) == status, (path, status_of(server, path, PART))
+        for lines in ("begin\nput . a/1 x\ncommit .\n", "begin\nput . c x\ncommit .\n", "begin\ndel . a\ncommit .\n"):
+            server.ask("POST", "/call", lines.encode(), shown(PART))
+        for lines in ("begin\nget . a\n", "begin\nscan . - -\n", "begin\nscan . a d\n", "readat 1 a\n", "scanat 1 - -\n",
+                      "open - - 0\npoll 1 100\n", "openinitial - - 0\npoll 1 100\n"):
+            told = server.ask("POST", "/call", lines.encode(), shown(PART))[1]
+            assert "secret" not in told and "c2VjcmV0" not in told, (lines, told)
+        for path in ("/transcript", "/holders", "/state"):
+            told = server.ask("GET", path, None, shown(PART))[1]
+            assert "secret" not in told, path
+        rows = server.ask("POST", "/call", b"begin\nscan . - -\n")[1]
+        assert re.findall(r"row (\S+)", rows) == ["a", "b/1", "b/2"], rows
+    return "four tokens"
+
+
+def test_tokens_read_anew(room: Room, scale: Scale) -> str:
+    """SIGHUP: new ones are taken, old ones go, and a file that is wrong changes nothing."""
+    with with_tokens(room) as (server, path):
+        fresh = "fresh-0123456789abcdef"
+        with open(path, "w") as file:
+            file.write("operator read,write,operate - - %s\n" % fresh)
+        server.child.send_signal(signal.SIGHUP)
+        wait_for(lambda: server.ask("GET", "/holders", None, shown(fresh))[0] == 200, "the new token")
+        assert server.ask("GET", "/holders", None, shown(OPERATE))[0] == 401
+        with open(path, "w") as file:
+            file.write("a line that is none\n")
+        server.child.send_signal(signal.SIGHUP)
+        time.sleep(0.5)
+        assert server.ask("GET", "/holders", None, shown(fresh))[0] == 200
+        assert not server.has_ended()
+    return "twice"
+
+
+def test_wrong_token_files(room: Room, scale: Scale) -> str:
+    path = room.file("wrong")
+    good = "a read - - %s\n" % READ
+    for text in ("", "a read - -\n", "a reed - - %s\n" % READ, "a read - - short\n", good + good,
+                 good + "b write - - %s\n" % READ):
+        with open(path, "w") as file:
+            file.write(text)
+        os.chmod(path, 0o600)
+        try:
+            refused_start(room, "--tokens", path)
+        except subprocess.TimeoutExpired:
+            raise AssertionError("it starts with %r" % text) from None
+    return "six of them"
+
+
+def test_a_seat_is_kept_for_the_operator(room: Room, scale: Scale) -> str:
+    """Those who may not operate take sixty-three seats, and an operator's call still has one."""
+    with with_tokens(room) as (server, _):
+        taken = [Session(server.port, WRITE) for _ in range(63)]
+        try:
+            Session(server.port, WRITE)
+            raise AssertionError("a writer has the last seat")
+        except Refused as refused:
+            assert refused.status == 503 and b'"seats"' in refused.body, refused
+        assert "=> stats" in server.ask("POST", "/call", b"stats\n", shown(OPERATE))[1]
+        for one in taken:
+            one.reset()
+    return "63 and one"
+
+
+TESTS: list[Callable[[Room, Scale], str]] = [one for name, one in list(globals().items()) if name.startswith("test_")]

@@ -1,0 +1,340 @@
+"""Clients that are slow, many, half there or gone: each is ended in time, and an honest one is served meanwhile.
+
+Each function is a test. It gets a room, and how heavy the load is to be.
+"""
+
+import contextlib
+import json
+import os
+import random
+import signal
+import subprocess
+import time
+from collections.abc import Callable
+
+from attack_beside import Scale
+from attack_memory import started
+from handmade import HANDSHAKE, PING, PONG, TEXT, Cut, Ended, Refused, Session, Wire, fill, framed
+from machine import LONGEST, SERVER, Room, Server, wait_for
+
+HEAD_SECONDS = 10  # in which a connection has to have sent a head, as the page promises
+SEATS = 64
+STARTS_SECONDS = 15  # after which a server that should have ended counts as one that serves
+
+
+def honest(server: Server, most: float = 1.0) -> float:
+    """The longest of ten requests on new connections. The best of three rounds has to stay below a limit."""
+    rounds = []
+    for _ in range(3):
+        took = []
+        for _ in range(10):
+            began = time.monotonic()
+            assert server.ask("GET", "/consumer/nobody")[0] == 200
+            took.append(time.monotonic() - began)
+        rounds.append(max(took))
+        if rounds[-1] <= most:
+            return rounds[-1]
+    raise AssertionError("an honest request takes %s s" % rounds)
+
+
+def head(server: Server, method: str, path: str, more: str = "") -> bytes:
+    return ("%s %s HTTP/1.1\r\nHost: 127.0.0.1:%d\r\n%s" % (method, path, server.port, more)).encode()
+
+
+def ended_within(wires: list[Wire], seconds: float) -> int:
+    """How many of them the server has ended, after so many seconds for all."""
+    end = time.monotonic() + seconds
+    return sum(one.ends_within(max(end - time.monotonic(), 0.01)) for one in wires)
+
+
+def test_slow_heads(room: Room, scale: Scale) -> str:
+    """A head that comes a byte a second is cut after ten seconds, and costs no others anything."""
+    server = started(room)
+    slow = [Wire(server.port) for _ in range(200)]
+    began, whole = time.monotonic(), head(server, "GET", "/state", "X: %s\r\n\r\n" % ("x" * 100))
+    left = list(slow)
+    for at in range(HEAD_SECONDS + 6):
+        for one in list(left):
+            try:
+                one.send(whole[at : at + 1])
+            except OSError:
+                left.remove(one)
+        took = honest(server)
+        time.sleep(1)
+    cut = ended_within(slow, 5)
+    assert cut == len(slow), "%d of %d slow connections were ended" % (cut, len(slow))
+    return "%d cut after %.0f s; an honest request took %.0f ms" % (cut, time.monotonic() - began, took * 1e3)
+
+
+def test_slow_bodies(room: Room, scale: Scale) -> str:
+    """A body has ten seconds. Those who wait for theirs take no seats."""
+    server = started(room)
+    slow = [Wire(server.port) for _ in range(100)]
+    for one in slow:
+        one.send(head(server, "POST", "/call", "Content-Length: 1000\r\n\r\n") + b"begin\n")
+    time.sleep(0.5)
+    assert "=> stats" in server.call("stats\n"), "a seat is free"
+    took = honest(server)
+    for one in slow[:10]:
+        one.socket.settimeout(HEAD_SECONDS + 5)
+        with contextlib.suppress(OSError):
+            status, body = one.answer()
+            assert status in (400, 408), (status, body)
+    ended = ended_within(slow, 15)
+    assert ended == len(slow), "%d of %d were ended" % (ended, len(slow))
+    assert server.holders("transaction") == []
+    return "honest %.0f ms" % (took * 1e3)
+
+
+def test_half_frames(room: Room, scale: Scale) -> str:
+    """Who stops in the middle of a frame, and answers no ping, has no seat any more after two heartbeats."""
+    server = started(room, "--heartbeat", "1")
+    half = [Session(server.port) for _ in range(20)]
+    for at, one in enumerate(half):
+        one.call("begin\n")
+        one.send(framed(b"put . half x\n" * 500)[: 3 + at * 100])
+    wait_for(lambda: not server.holders("transaction"), "sessions with half a frame to be ended")
+    for one in half:
+        with contextlib.suppress(Ended, Cut):
+            one.told()
+        assert one.ends_within(10)
+    assert "=> none\n" in server.call("begin\nget . half\n")
+    return "20 ended"
+
+
+def test_requests_behind_a_feed(room: Room, scale: Scale) -> str:
+    """An Upgrade on another path is refused or left aside, and what stands behind it is never taken for a request."""
+    server = started(room)
+    marker = head(server, "POST", "/call", "Content-Length: 37\r\n\r\n") + b"begin\nput . smuggled x\ncommit .\nstats\n"
+    for path in ("/feed", "/holders", "/transcript"):
+        one = Wire(server.port)
+        one.send(head(server, "GET", path, HANDSHAKE + "\r\n") + framed(b"stats\n") + b"x" * 50_000 + marker)
+        time.sleep(0.2)
+        one.reset()
+    one = Wire(server.port)
+    one.send(head(server, "POST", "/call", HANDSHAKE + "Content-Length: 6\r\n\r\n") + b"stats\n")
+    with contextlib.suppress(Cut, ConnectionError):
+        status, body = one.answer()
+        assert status != 101, "a WebSocket of another path"
+    assert "=> none\n" in server.call("begin\nget . smuggled\n")
+    return "of four paths"
+
+
+def test_three_thousand_connections(room: Room, scale: Scale) -> str:
+    """The silent ones make room, and an honest request takes no second."""
+    server = started(room)
+    silent = []
+    for _ in range(3000):
+        with contextlib.suppress(OSError):
+            silent.append(Wire(server.port, timeout=5))
+    took = honest(server)
+    files = len(os.listdir("/proc/%d/fd" % server.child.pid))
+    for one in silent:
+        one.close()
+    assert len(silent) >= 2900, "only %d could connect" % len(silent)
+    assert files < 1200, "%d files are open" % files
+    return "honest %.0f ms, %d files" % (took * 1e3, files)
+
+
+def test_fewer_files_than_connections(room: Room, scale: Scale) -> str:
+    """With 120 files and 300 connections the log stays short, and an honest request is served."""
+    limit = ("sh", "-c", 'ulimit -n 120; exec "$@"', "sh")
+    server = started(room, before=limit)
+    silent = []
+    for _ in range(300):
+        with contextlib.suppress(OSError):
+            silent.append(Wire(server.port, timeout=2))
+    began = time.monotonic()
+    took = honest(server, 2.0)
+    time.sleep(3)
+    size = os.path.getsize(server.log)
+    for one in silent:
+        one.close()
+    took = max(took, honest(server, 2.0))
+    assert size < 1 << 20, "the log has %d MB after %.0f s" % (size >> 20, time.monotonic() - began)
+    return "honest %.0f ms, %d bytes of log" % (took * 1e3, size)
+
+
+def test_a_client_that_takes_all_seats(room: Room, scale: Scale) -> str:
+    """An operator ends a session by its seat, and so makes room."""
+    server = started(room)
+    taken = [Session(server.port) for _ in range(SEATS - 1)]
+    with contextlib.suppress(Refused):
+        taken.append(Session(server.port))
+    taken[3].call("begin\n")
+    (seat,) = [one["seat"] for one in server.holders("transaction")]
+    status, told = server.ask("DELETE", "/session/%d" % seat)
+    assert status in (200, 204), (status, told)
+    try:
+        told = taken[3].told()
+        raise AssertionError("the session goes on: " + told)
+    except (Ended, Cut):
+        pass
+    assert server.holders("transaction") == []
+    wait_for(lambda: server.ask("POST", "/call", b"stats\n")[0] == 200, "a seat")
+    assert "=> stats" in taken[4].call("stats\n"), "the others stand"
+    status, told = server.ask("DELETE", "/session/%d" % seat)
+    assert status == 404 and json.loads(told)["error"], (status, told)
+    for wrong in ("64", "x", "-1", "03", "99999999999999999999"):
+        assert server.ask("DELETE", "/session/" + wrong)[0] in (400, 404), wrong
+    for one in taken:
+        one.reset()
+    wait_for(lambda: server.holders("server")[0]["sessions"] == 0, "all to end")
+    return "seat %d" % seat
+
+
+def test_names_that_no_client_can_ask_for(room: Room, scale: Scale) -> str:
+    """`.` and `..` are no names: a client's own path has no place for them, so they'd stand for ever."""
+    server = started(room)
+    for name in (".", "..", "%2e", "%2E%2e", "", "a/b", "a%00b", "x" * 65, "%C3%A4"):
+        with contextlib.closing(Wire(server.port)) as wire:
+            wire.ask("GET", "/feed?consumer=" + name)
+            assert wire.head()[0] == 400, name
+        path = "/consumer/%s?identity=%s&generation=0&stored=0" % (name, server.identity)
+        assert server.ask("POST", path)[0] in (400, 404, 405), name
+    assert server.ask("GET", "/consumer")[1] == ""
+    with contextlib.closing(Wire(server.port)) as one:
+        one.ask("GET", "/feed?consumer=a.b")
+        assert one.head()[0] == 200, "dots are letters of a name"
+    return "nine of them"
+
+
+def refused_start(room: Room, *options: str) -> str:
+    """What a server says that doesn't start, with status 2."""
+    done = subprocess.run([SERVER, "--port", "0", *options], capture_output=True, text=True, errors="replace",
+                          timeout=STARTS_SECONDS, stdin=subprocess.DEVNULL)
+    assert done.returncode == 2, (options, done.returncode, done.stderr[-300:])
+    assert done.stderr.strip() and "Traceback" not in done.stderr and "panicked" not in done.stderr, done.stderr
+    return done.stderr
+
+
+def test_tokens_with_odd_bytes(room: Room, scale: Scale) -> str:
+    """A token that no client could show is refused at the start, with a sentence."""
+    path = room.file("token")
+    for token in (b"short", b"", b"k\xc3\xa4sekuchen-mit-sahne", b"0123456789\x00abcdef-more", b"0123456789\x07abcdef-more",
+                  b"x" * 100_000, b"0123456789 abcdef with spaces"[:0] + b"\xff" * 32):
+        with open(path, "wb") as file:
+            file.write(token + b"\n")
+        os.chmod(path, 0o600)
+        try:
+            refused_start(room, "--token", path)
+        except subprocess.TimeoutExpired:
+            raise AssertionError("it starts with the token %r" % token[:40]) from None
+    refused_start(room, "--token", room.file("nothing"))
+    return "seven of them"
+
+
+def test_a_token_that_others_can_read(room: Room, scale: Scale) -> str:
+    """It starts, and says so."""
+    path = room.file("token")
+    with open(path, "w") as file:
+        file.write("0123456789abcdef-mine\n")
+    os.chmod(path, 0o644)
+    server = started(room, "--token", path, token="0123456789abcdef-mine")
+    assert path in server.words() and "others" in server.words(), server.words()
+    assert "0123456789abcdef-mine" not in server.words(), "the log shows the token"
+    return "warned"
+
+
+def long_message(session: Session, rows: int = 20_000, times: int = 400) -> str:
+    """A message that takes seconds: scans of rows that are deleted, and at last a row that shows how far it went."""
+    session.call("protect 0\n")
+    fill(session, "long/", rows)
+    fill(session, "long/", rows, delete=True)
+    return "begin\n%sput . long_message_ended x\ncommit .\n" % ("scan . long/ long0\n" * times)
+
+
+def test_pings_during_a_long_message(room: Room, scale: Scale) -> str:
+    """A client that answers pings keeps its connection, and has its answer, however long its message takes."""
+    server = started(room, "--heartbeat", "0.3", "--history", "1000")
+    session, pings, began = Session(server.port), 0, time.monotonic()
+    session.tell(long_message(session))
+    while True:
+        opcode, data = session.frame()
+        if opcode == PING:
+            pings += 1
+            session.send(framed(data, PONG))
+        else:
+            break
+    took = time.monotonic() - began
+    assert opcode == TEXT and data.endswith(b"=> committed 1\n"), (opcode, data[-200:])
+    assert data.count(b"=> rows 0\n") == 400, data[-200:]
+    return "%.1f s, %d pings" % (took, pings)
+
+
+def test_a_message_whose_client_is_gone(room: Room, scale: Scale) -> str:
+    """It doesn't go on: not its lines, and its transaction is aborted."""
+    server = started(room, "--history", "1000")
+    for is_reset in (True, False):
+        session = Session(server.port)
+        message = long_message(session, times=1500)
+        session.tell(message)
+        time.sleep(0.3)
+        if is_reset:
+            session.reset()
+        else:
+            session.close()
+        wait_for(lambda: server.holders("server")[0]["sessions"] == 0, "the session to end")
+        assert "=> none\n" in server.call("begin\nget . long_message_ended\n"), "a message without its client went on"
+    return "reset, and closed"
+
+
+# ---- the end
+
+WRITERS = 30
+
+
+def test_an_end_while_thirty_write(room: Room, scale: Scale) -> str:
+    """SIGTERM ends the server in some seconds with status 0, each session with 1001, each feed with `shutdown`."""
+    server = started(room)
+    feeds = [Wire(server.port) for _ in range(10)]
+    for one in feeds:
+        one.ask("GET", "/feed")
+        one.until(b"\r\n\r\n")
+    writers = [Session(server.port) for _ in range(WRITERS)]
+    dice = random.Random(1)
+    for turn in range(20):
+        for at, one in enumerate(writers):
+            one.tell("begin\nput . end/%d/%d x\ncommit .\n" % (at, turn))
+            if dice.random() < 0.5:
+                assert "=> committed 1\n" in one.told()
+            else:
+                one.tell("stats\n")
+                one.told(), one.told()
+    for at, one in enumerate(writers):
+        one.tell("begin\nput . last/%d x\ncommit .\n" % at)
+    began = time.monotonic()
+    server.child.send_signal(signal.SIGTERM)
+    codes = [code_of(one) for one in writers]
+    told = [rest_of(one) for one in feeds]
+    status = server.child.wait(LONGEST)
+    took = time.monotonic() - began
+    server.child = None
+    assert status == 0, "status %d" % status
+    assert took < 8, "it took %.1f s" % took
+    assert codes == [1001] * WRITERS, codes
+    assert all(b'{"end":"shutdown"' in one for one in told), [one[-100:] for one in told]
+    return "%.1f s" % took
+
+
+def code_of(session: Session) -> int | str:
+    """The code with which a session ends. What it is told before has to be whole."""
+    try:
+        while True:
+            text = session.told()
+            is_refused = all(line.startswith("fault ") for line in text.splitlines())  # it takes no more
+            assert text.count("\n") == 3 and (is_refused or text.endswith("=> committed 1\n")), text
+    except Ended as end:
+        return end.code
+    except OSError as cut:
+        return repr(cut)
+
+
+def rest_of(wire: Wire) -> bytes:
+    with contextlib.suppress(Cut, OSError):
+        while True:
+            wire.read()
+    return bytes(wire.held)
+
+
+TESTS: list[Callable[[Room, Scale], str]] = [one for name, one in list(globals().items()) if name.startswith("test_")]

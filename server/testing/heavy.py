@@ -1,0 +1,232 @@
+#!/usr/bin/python3
+"""Clients that ask for much: heavy.py KIND PORT [N [TOKEN]] works until it is killed.
+
+It writes `ready` once it has prepared what it needs, and `done` after each piece of work. N is how much: rows, lines,
+names. Each KIND is a function here. What a server may refuse of it, it may refuse: then the client goes on asking.
+"""
+
+import contextlib
+import itertools
+import json
+import selectors
+import sys
+import time
+from collections.abc import Callable
+
+from handmade import HANDSHAKE, Cut, Session, Wire, bearer, fill, framed
+
+TOKEN = ""
+PAUSE = 0.05  # seconds before a client that was thrown out comes again
+
+
+def say(word: str) -> None:
+    print(word, flush=True)
+
+
+def again_and_again(work: Callable[[], object]) -> None:
+    """Works for ever. A server may end the connection, and then the work begins anew."""
+    say("ready")
+    while True:
+        try:
+            work()
+            say("done")
+        except OSError:
+            time.sleep(PAUSE)
+
+
+def session(port: int) -> Session:
+    return Session(port, TOKEN)
+
+
+def asking(port: int, message: str) -> Callable[[], object]:
+    """Work that sends the message over a session, which is opened anew where it was ended."""
+    held: list[Session] = []
+
+    def work() -> None:
+        if not held:
+            held.append(session(port))
+        try:
+            held[0].call(message)
+        except OSError:
+            held.clear()
+            raise
+    return work
+
+
+def closed_at(mine: Session) -> str:
+    return mine.call("stats\n").split(" ")[-2]
+
+
+# ---- lines
+
+def long_lines(port: int, word: str = "x" * 10_000) -> None:
+    """Messages of a hundred lines of ten thousand bytes."""
+    rows = "".join("put . long/%d %s\n" % (at, word) for at in range(100))
+    again_and_again(asking(port, "begin\n%scommit .\n" % rows))
+
+
+def spelled_lines(port: int) -> None:
+    """The same, where each byte is spelled."""
+    long_lines(port, "%00" * 3_300)
+
+
+def begins(port: int, count: int = 170_000) -> None:
+    """Begins as many transactions as a message holds, and leaves: all of them end with the session."""
+    def work() -> None:
+        mine = session(port)
+        answer = mine.call("begin\n" * count)
+        mine.close()
+        if answer.count("\n") != count or answer.count("=> started\n") + answer.count("fault ") != count:
+            raise ValueError("other answers than one for each line: " + answer[-200:])
+    again_and_again(work)
+
+
+def protections(port: int, count: int = 1_000_000) -> None:
+    """Protects the same again and again, and keeps what it gets. Then it asks who holds what."""
+    mine = session(port)
+    line = "protect %s\n" % closed_at(mine)
+    say("ready")
+    for _ in range(0, count, 50_000):
+        mine.call(line * 50_000)
+        say("done")
+    again_and_again(lambda: (time.sleep(0.2), fetch(port, "/holders")))
+
+
+def scans(port: int, count: int = 100_000) -> None:
+    """One call each, which nothing interrupts: so it is asked again after a while."""
+    fill(session(port), "scanned/", count)
+    ask = asking(port, "begin\nscan . scanned/ scanned0\nabort .\n")
+    again_and_again(lambda: (ask(), time.sleep(0.2)))
+
+
+def deleted_scans(port: int, count: int = 100_000, times: int = 500) -> None:
+    """Scans of rows that are deleted and not collected: each answers `rows 0`, so no answer gets long."""
+    holder = session(port)
+    if "=> protected" not in (told := holder.call("protect %s\n" % closed_at(holder))):
+        raise ValueError(told)
+    fill(session(port), "gone/", count)
+    fill(session(port), "gone/", count, delete=True)
+    again_and_again(asking(port, "begin\n%sabort .\n" % ("scan . gone/ gone0\n" * times)))
+
+
+# ---- requests
+
+def fetch(port: int, path: str) -> int:
+    """Reads the whole answer of a GET, and returns its bytes."""
+    wire = Wire(port)
+    wire.ask("GET", path, bearer(TOKEN) + "Connection: close\r\n")
+    count, room = 0, bytearray(1 << 20)
+    while got := wire.socket.recv_into(room):
+        count += got
+    wire.close()
+    return count
+
+
+def transcripts(port: int, count: int = 64 << 20) -> None:
+    fill(session(port), "kept/", count // 6_600, "x" * 6_500)
+    again_and_again(lambda: fetch(port, "/transcript"))
+
+
+def names(port: int, count: int = 10_000) -> None:
+    """As many names of consumers, and who asks for the list of them."""
+    wire = Wire(port)
+    wire.ask("GET", "/consumer/nobody", bearer(TOKEN))
+    known = json.loads(wire.answer()[1])
+    place = "identity=%s&generation=0&stored=%s" % (known["identity"], known["closed"])
+    for at in range(count):
+        wire.ask("POST", "/consumer/n%d?%s" % (at, place), bearer(TOKEN))
+        status, body = wire.answer()
+        if status != 200:
+            raise ValueError("a name was refused: %r" % body)
+    again_and_again(lambda: fetch(port, "/holders"))
+
+
+def first_feeds(port: int, count: int = 1_000_000) -> None:
+    """Feeds from their beginning, read as fast as they come, one after the other."""
+    fill(session(port), "", count)
+
+    def work() -> None:
+        wire = Wire(port)
+        wire.ask("GET", "/feed", bearer(TOKEN))
+        room, tail = bytearray(1 << 20), b""
+        while b'{"resolved":"' not in tail:
+            got = wire.socket.recv_into(room)
+            if not got:
+                raise Cut
+            tail = (tail + room[max(got - 200, 0) : got])[-200:]
+        wire.close()
+    again_and_again(work)
+
+
+def readers(port: int, count: int = 30) -> None:
+    """So many feeds at once, read as fast as they come. `done` for each that was told what comes after `end/`."""
+    choose = selectors.DefaultSelector()
+    for _ in range(count):
+        wire = Wire(port)
+        wire.ask("GET", "/feed", bearer(TOKEN))
+        choose.register(wire.socket, selectors.EVENT_READ, bytearray(b"-" * 64))
+    room, mark = bytearray(1 << 20), b'"key":"ZW5kL'  # `end/` in base64
+    say("ready")
+    while choose.get_map():
+        for key, _ in choose.select():
+            got = key.fileobj.recv_into(room)  # type: ignore[union-attr]
+            if mark in key.data + room[:got]:
+                say("done")
+            if not got or mark in key.data + room[:got]:
+                choose.unregister(key.fileobj)
+            key.data[:] = (key.data + room[max(got - 64, 0) : got])[-64:]
+    time.sleep(3600)
+
+
+# ---- bytes
+
+def tiny_chunks(port: int, count: int = 10) -> None:
+    """Bodies in chunks of one byte, on so many connections, without looking at the answers."""
+    head = "POST /call HTTP/1.1\r\nHost: 127.0.0.1:%d\r\n%sTransfer-Encoding: chunked\r\n\r\n" % (port, bearer(TOKEN))
+    flood(port, count, head.encode(), b"1\r\nx\r\n" * 43_000)
+
+
+def behind_upgrade(port: int, count: int = 4) -> None:
+    """Bytes behind a feed that asks to be a WebSocket."""
+    head = "GET /feed HTTP/1.1\r\nHost: 127.0.0.1:%d\r\n%s%s\r\n" % (port, bearer(TOKEN), HANDSHAKE)
+    flood(port, count, head.encode(), b"x" * (1 << 18))
+
+
+def half_frames(port: int, count: int = 10) -> None:
+    """Frames of a message without an end, each as small as can be."""
+    head = "GET /session HTTP/1.1\r\nHost: 127.0.0.1:%d\r\n%s%s\r\n" % (port, bearer(TOKEN), HANDSHAKE)
+    flood(port, count, head.encode(), framed(b"x", 0, False) * 30_000, framed(b"x", 1, False))
+
+
+def flood(port: int, count: int, head: bytes, blob: bytes, first: bytes = b"") -> None:
+    """Sends a head, and then as much of the blob as is taken, on so many connections, each anew where it is cut."""
+    choose = selectors.DefaultSelector()
+
+    def open_one() -> None:
+        wire = Wire(port)
+        wire.send(head)
+        if first:
+            wire.until(b"\r\n\r\n")
+            wire.send(first)
+        wire.socket.setblocking(False)
+        choose.register(wire.socket, selectors.EVENT_WRITE, [0])
+    say("ready")
+    for turn in itertools.count():
+        with contextlib.suppress(OSError):
+            while len(choose.get_map()) < count:
+                open_one()
+        for key, _ in choose.select(PAUSE):
+            try:
+                at = key.data[0]
+                key.data[0] = (at + key.fileobj.send(blob[at:])) % len(blob)  # type: ignore[union-attr]
+            except OSError:
+                choose.unregister(key.fileobj)
+                key.fileobj.close()  # type: ignore[union-attr]
+        if turn % 100 == 0:
+            say("done")
+
+
+if __name__ == "__main__":
+    if len(sys.argv) > 4:
+        TOKEN = sys.argv[4]
+    globals()[sys.argv[1]](int(sys.argv[2]), *map(int, sys.argv[3:4]))
