@@ -210,7 +210,7 @@ static void handles_open_and_close(void) {
     CHECK(strcmp(ripsawbean_status_name(RIPSAWBEAN_OPEN), "open") == 0);
     CHECK(strcmp(ripsawbean_status_name(RIPSAWBEAN_NOVALUE), "novalue") == 0);
     for (unsigned kind = 0; kind < 256; kind++) {
-        bool is_kind = (kind >= RIPSAWBEAN_ANSWER_STARTED && kind <= RIPSAWBEAN_ANSWER_MESSAGES) ||
+        bool is_kind = (kind >= RIPSAWBEAN_ANSWER_STARTED && kind <= RIPSAWBEAN_ANSWER_STATS) ||
                        (kind >= RIPSAWBEAN_ANSWER_REFUSED && kind <= RIPSAWBEAN_ANSWER_GAPRANGE);
         CHECK((strcmp(ripsawbean_answer_name((uint8_t)kind), "unknown") == 0) == !is_kind);
     }
