@@ -94,7 +94,7 @@ const TABLE: [Row; 32] = [
     file("tokens", "a file with a line NAME RIGHTS LO HI TOKEN for each of several tokens"),
     file("tls-cert", "the certificate and those above it, as PEM; needs --tls-key"),
     file("tls-key", "the certificate's key, as PEM"),
-    Row { name: "log-level", kind: Kind::Word("info"), meaning: "error, warn, info or debug" },
+    Row { name: "log-level", kind: Kind::Word("warn"), meaning: "error, warn, info or debug" },
     Row { name: "log-json", kind: Kind::Switch, meaning: "lines of the log are JSON" },
     file("config", "a file with a line NAME = VALUE for each option"),
     Row { name: "help", kind: Kind::Switch, meaning: "shows this, and ends" },
