@@ -37,7 +37,7 @@ fn defaults_are_those_that_operators_know() {
     assert_eq!((options.max_held, options.max_memory, options.max_lag_bytes), (1000, 0, 1 << 30));
     assert_eq!((options.seat_age, options.drain), (seconds(0.0), seconds(0.0)));
     assert_eq!((options.tokens, options.tls, options.host), (None, None, vec![]));
-    assert_eq!((options.log_level, options.log_json), (Level::Info, false));
+    assert_eq!((options.log_level, options.log_json), (Level::Warn, false));
 }
 
 #[test]
