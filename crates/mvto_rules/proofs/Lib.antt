@@ -9,3 +9,4 @@ pub mod Listing
 pub mod Replies
 pub mod AtClosed
 pub mod Writing
+pub mod Committed

@@ -8,3 +8,4 @@ pub mod Accepting
 pub mod Snapshots
 pub mod Closings
 pub mod Collecting
+pub mod Looking

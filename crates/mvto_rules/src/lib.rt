@@ -48,6 +48,7 @@
 //! - `protect`, `release`: O(log p)
 //! - `read_at`: O(log k + log v); `scan_at`: O(log k), and O(log v) for each key that it meets
 //! - `take_versions`, `put_back`, `closed`, `horizon`: O(1)
+//! - `oldest_undecided`, `reached`: O(log n); `version_at`: O(log k + log v), for each undecided version above it too
 //!
 //! A read copies readers that its key shares with others, and goes over all spans once these have doubled. Memory:
 //! `begin`, reads, writes and `protect` take it, but for writes that are too late and reads that are blocked. The others
@@ -60,6 +61,7 @@ mod commands;
 mod cut;
 mod forgetting;
 mod holdings;
+mod looking;
 mod reading;
 mod rules;
 mod sight;

@@ -1,5 +1,5 @@
 -- What a table of transactions says.
-use Rattle.std.specs.Prelude.{Bool, List, Option, if◌then◌else◌, length, ℕ, ◌==◌, ◌≡◌}
+use Rattle.std.specs.Prelude.{Bool, List, None, Option, Some, false, if◌then◌else◌, is_some, length, true, ℕ, ◌==◌, ◌≡◌, ◌≤◌}
 use Rattle.std.specs.BTreeMap.{is_at}
 use Rattle.std.specs.Map.{lookup}
 use Rattle.std.specs.Ordering.{nat_cmp}
@@ -21,3 +21,8 @@ IsSetAt table table' t f = (i : ℕ) → transaction_in table' i ≡ (if t == i 
 -- n is how many timestamps pass the test
 abbrev pub IsCountOf : (ℕ → Bool) → ℕ → Type 0
 IsCountOf test n = (ts : List ℕ) × AreThose test ts × (n ≡ length ts)
+
+-- the greatest timestamp that has a transaction
+abbrev pub IsGreatest : Table → Option ℕ → Type 0
+IsGreatest table None = (t : ℕ) → is_some (transaction_in table t) ≡ false
+IsGreatest table (Some g) = (is_some (transaction_in table g) ≡ true) × ((t : ℕ) → is_some (transaction_in table t) ≡ true → t ≤ g)

@@ -20,7 +20,7 @@
 //!
 //! Costs, where n transactions stand and one of them wrote w keys:
 //!
-//! - `begin`, `decide`, `standing`, `oldest_undecided`: O(log n)
+//! - `begin`, `decide`, `standing`, `oldest_undecided`, `greatest`: O(log n)
 //! - `add_key`, `remove_key`: O(log n + log w), whichever order the keys come in
 //! - `write_set`: O(log n), and the keys that are read, in turn
 //! - `undecided_through`: O(log n), and the timestamps that are read, in turn

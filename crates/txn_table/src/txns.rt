@@ -8,7 +8,7 @@ ghost use Rattle.kept.specs.Lists.{AreThose};
 ghost use Rattle.kept.specs.Table.{IsOldest, is_open, keys_of};
 ghost use Rattle.txn_table.specs.States.{begun, decided, with_key, without_key};
 ghost use Rattle.kept.specs.Reports.{AreOpen};
-ghost use Rattle.txn_table.specs.TransactionIn.{transaction_in, IsCountOf, IsSetAt};
+ghost use Rattle.txn_table.specs.TransactionIn.{transaction_in, IsCountOf, IsGreatest, IsSetAt};
 
 use crate::changes::{add_key_at, decide_at, forget_transactions, forget_undecided, remove_key_at};
 use crate::report::undecided_report;
@@ -131,6 +131,16 @@ impl Txns {
         match self.undecided.first() {
             None => None,
             Some(oldest) => Some(oldest.0),
+        }
+    }
+
+    /// The greatest timestamp that has a transaction.
+    pub fn greatest(&self) -> Option<u64>
+        ensures { IsGreatest self.now result }
+    {
+        match self.table.last_key_value() {
+            None => None,
+            Some((greatest, _)) => Some(greatest.0),
         }
     }
 
