@@ -20,3 +20,11 @@ pub record IsReached (c : closings.Standing) (s : feeding.Standing) (old to hori
   pub least : IsLeastProtection c protection
   pub lowest : IsLeastFloor (place_in s) floor
   pub reached : horizon ≡ max old (or_min protection (or_min floor (min to (closed_in c))))
+
+-- how far a collection can go: it passes neither closed, nor a protection, nor the floor of a feed
+pub record IsLimit (c : closings.Standing) (s : feeding.Standing) (limit : ℕ) : Type 0 where
+  pub protection : Option ℕ
+  pub floor : Option ℕ
+  pub least : IsLeastProtection c protection
+  pub lowest : IsLeastFloor (place_in s) floor
+  pub is : limit ≡ or_min protection (or_min floor (closed_in c))

@@ -2,7 +2,7 @@
 ghost use Rattle.std.specs.Prelude.{◌≡◌, max, min};
 ghost use Rattle.kept.specs.Places.{or_min};
 ghost use Rattle.version_chain.specs.Dead.{IsCollectedIn};
-ghost use Rattle.collector.specs.Reaching.{IsReached};
+ghost use Rattle.collector.specs.Reaching.{IsLimit, IsReached};
 
 use closing::Closing;
 use feed::Feeds;
@@ -28,6 +28,14 @@ pub fn collect(store: &mut Store, closing: &Closing, feeds: &Feeds, old: u64, to
     let horizon = horizon_reached(old, to, closing.closed(), protection, floor);
     let removed = store.drop_dead(horizon);
     Collected { horizon, removed }
+}
+
+/// How far a collection can go now: to closed, and past no protection and no feed's floor.
+pub fn limit(closing: &Closing, feeds: &Feeds) -> u64
+    ensures { IsLimit closing.now feeds.now result }
+{
+    let free = at_most(closing.closed(), feeds.least_floor());
+    at_most(free, closing.least_protection())
 }
 
 /// The horizon that a collection through `to` reaches: no protection and no feed's floor is passed, and

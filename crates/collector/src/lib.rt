@@ -22,12 +22,13 @@
 //!
 //! - `collect`: O(log n) for each version written since the last horizon, up to its own; and for each key of these a
 //!   look through one block, and at the starts of all
+//! - `limit`: O(log n)
 //!
-//! It takes no memory.
+//! Neither takes memory.
 //!
 //! Tests: `layer_tests`, `unit_tests`.
 #![tactic(auto)]
 
 mod collector;
 
-pub use collector::{Collected, collect};
+pub use collector::{Collected, collect, limit};

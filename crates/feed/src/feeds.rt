@@ -1,8 +1,8 @@
 //! All live feeds.
-ghost use Rattle.std.specs.Prelude.{true, ◌≡◌, ◌<◌, ℕ, None, Some, is_some, suc, IfErr, IfOk, OnOk, OnErr, IfSome};
+ghost use Rattle.std.specs.Prelude.{true, ◌≡◌, ◌<◌, ℕ, None, Some, is_some, option_map, suc, IfErr, IfOk, OnOk, OnErr, IfSome};
 ghost use Rattle.std.specs.BTreeSet.{contains};
 ghost use Rattle.std.specs.Map.{keys_of};
-ghost use Rattle.kept.specs.Places.{IsLeastFloor};
+ghost use Rattle.kept.specs.Places.{IsLeastFloor, place_floor};
 ghost use Rattle.kept.specs.Reports.{AreLive};
 ghost use Rattle.feed.specs.Live.{IsOffered, begins_behind, cut_at_max, opened_at};
 ghost use Rattle.feed.specs.Standing.{opened_in, live_in, place_in, seat_in, behind_in, IsPut, AreChanged, IsSentBehind, IsPolledBy, IsUnpolled, IsCountOf};
@@ -219,6 +219,16 @@ impl Feeds {
         match self.floors.first() {
             None => None,
             Some(first) => Some(first.0),
+        }
+    }
+
+    /// Up to where a feed has told all, if it lives: below that it needs no version.
+    pub fn floor(&self, feed: u64) -> Option<u64>
+        ensures { result ≡ option_map place_floor (place_in self.now feed) }
+    {
+        match self.live.get(&feed) {
+            None => None,
+            Some(live) => Some(live.floor()),
         }
     }
 

@@ -23,7 +23,7 @@
 //!
 //! Costs, where f feeds live:
 //!
-//! - `count`, `opened`, `seat`, `behind`: O(1)
+//! - `count`, `opened`, `seat`, `behind`, `floor`: O(1)
 //! - `open`, `cancel`, `least_floor`: O(log f), the first two taken over many
 //! - `offer`: O(log f), a copy of the row, and each feed whose span holds the key, but for those behind
 //! - `poll`: O(log f) and the messages told, and for a feed that is behind the searches of the store that `catch_up` makes
