@@ -4,7 +4,7 @@ use Rattle.std.proofs.lemmas.Bool.{lt-ltb}
 use Rattle.std.specs.Prelude.{is_some, nat_lt, option_map}
 use Rattle.std.proofs.Math.Logic.{∥∥₁_elim, ∥∥₁_map}
 use Rattle.std.proofs.Props.{props}
-use Rattle.spans.specs.Collection.{is_dead, protections_made, version_name}
+use Rattle.spans.specs.Collection.{is_dead, version_name}
 use Rattle.spans.specs.Effects.{After, Effect, effect, effects_of, event}
 use Rattle.feed.specs.Standing.{opened_in}
 use Rattle.spans.specs.Kept.{IsKeptOf, Kept, transaction_with}

@@ -6,3 +6,5 @@ pub mod Histories
 pub mod OpeningReplies
 pub mod Replies
 pub mod Runs
+pub mod Versions
+pub mod Progress

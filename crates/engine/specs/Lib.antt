@@ -4,3 +4,5 @@ pub mod Releasing
 pub mod Served
 pub mod Engine
 pub mod Runs
+pub mod Looking
+pub mod Progress

@@ -37,7 +37,8 @@
 //! - `collect`: O(log n) for each version written since the last horizon, up to its own; and for each key of these a
 //!   look through one block, and at the starts of all
 //! - `poll`: O(log n), and its messages; from the store the searches of `catch_up`
-//! - `stats`, `steps`, `closed`, `behind`: O(log n)
+//! - `stats`, `steps`, `closed`, `behind`, `places`, `horizon`, `floor`: O(log n)
+//! - `version_at`: O(log n + log v log b), for each undecided version above it too
 //! - `report`: O(log n) for each undecided transaction, each protection and each feed
 //!
 //! Memory: begin, get, scan, put, del, readat, scanat, protect, open and poll take it before anything changes. Without it
@@ -61,6 +62,7 @@ mod closings;
 mod collections;
 mod holding;
 mod layers;
+mod looking;
 mod openings;
 mod polls;
 mod releasing;
@@ -70,6 +72,7 @@ mod statistics;
 mod transactions;
 
 use crate::layers::Layers;
+pub use looking::Places;
 use spans::calls::{Cmd, Reply};
 use spans::report::Report;
 use std::alloc::{AllocError, Global};

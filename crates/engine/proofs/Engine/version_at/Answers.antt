@@ -1,0 +1,10 @@
+use Rattle.std.proofs.Common.{◌∙◌}
+use Rattle.spans.specs.Effects.{effects_of}
+use Rattle.spans.proofs.Legal.{legal_allowed}
+use Rattle.engine.specs.Layers.{feeds_of, kept_of}
+use Rattle.engine.proofs.Versions.{told_is}
+use Rattle.engine.proofs.Engine.version_at.Goals as goal
+
+pub returns : goal.returns
+returns c = λ h stands high. c.version_at.ensures (feeds_of c.args.self.now.layers.feeds)
+    ∙ told_is (kept_of c.args.self.now.layers) (effects_of h) (legal_allowed h stands.kept.legal) stands.kept.fits c.args.key.now c.args.t high

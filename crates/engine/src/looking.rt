@@ -1,0 +1,75 @@
+//! What is told without a command: versions of keys, and how far the database has come. It takes no memory.
+ghost use Rattle.std.specs.Prelude.{◌≡◌, ◌≤◌, List};
+ghost use Rattle.spans.specs.declared.calls.events.Event.{Event};
+ghost use Rattle.spans.specs.Collection.{horizon_of};
+ghost use Rattle.spans.specs.Effects.{effects_of};
+ghost use Rattle.engine.specs.Looking.{ArePlaces, feed_floor, value_version};
+ghost use Rattle.engine.specs.Progress.{HavePlaces};
+
+use crate::Engine;
+use crate::layers::Layers;
+use collector::limit;
+use timestamps::key::Key;
+
+/// How far a database has come.
+#[derive(Clone, Copy, Debug)]
+pub struct Places {
+    /// The closed timestamp.
+    pub closed: u64,
+    /// Below it nothing is read.
+    pub horizon: u64,
+    /// How far a collection can go now.
+    pub limit: u64,
+    /// The least timestamp that is undecided, where one is.
+    pub oldest: Option<u64>,
+    /// The greatest timestamp that began or was closed: each that is above it is free.
+    pub reached: u64,
+}
+
+impl Engine {
+    ghost use Rattle.engine.specs.Engine.{StandsFor};
+
+    /// How far it has come.
+    pub fn places(&self) -> Places
+        ensures { (h : List Event) → StandsFor self.now h → ArePlaces (effects_of h) result }
+    {
+        self.layers.places()
+    }
+
+    /// The horizon: below it, versions may be gone.
+    pub fn horizon(&self) -> u64
+        ensures { (h : List Event) → StandsFor self.now h → result ≡ horizon_of (effects_of h) }
+    {
+        self.layers.rules.horizon()
+    }
+
+    /// The floor of a feed, if it lives.
+    pub fn floor(&self, feed: u64) -> Option<u64>
+        ensures { (h : List Event) → StandsFor self.now h → result ≡ feed_floor (effects_of h) feed }
+    {
+        self.layers.feeds.floor(feed)
+    }
+
+    /// The timestamp of the newest committed version of a key at or below `t`, where that has a value. From the horizon
+    /// on it is the history's.
+    pub fn version_at(&self, t: u64, key: &Key) -> Option<u64>
+        ensures { (h : List Event) → StandsFor self.now h → horizon_of (effects_of h) ≤ t → result ≡ value_version (effects_of h) key.now t }
+    {
+        self.layers.rules.version_at(t, key)
+    }
+}
+
+impl Layers {
+    /// How far they have come.
+    pub(crate) fn places(&self) -> Places
+        ensures { HavePlaces self.now result }
+    {
+        Places {
+            closed: self.rules.closed(),
+            horizon: self.rules.horizon(),
+            limit: limit(self.rules.closing(), &self.feeds),
+            oldest: self.rules.oldest_undecided(),
+            reached: self.rules.reached(),
+        }
+    }
+}
