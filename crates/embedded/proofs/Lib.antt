@@ -3,3 +3,4 @@ pub mod Stepping
 pub mod FirstLines
 pub mod TakenLines
 pub mod TakingLines
+pub mod VersionKeys

@@ -32,24 +32,32 @@
 //! - `copy_bytes`: the bytes copied, and all messages
 //! - `write`: the text, where it isn't written; else O(1)
 //! - `copy_text`: the bytes copied
-//! - `state`: the transactions that are undecided, the protections and the feeds, with a search for each, and its text
+//! - `state`, `held_by`: the transactions that are undecided, the protections and the feeds, with a search for each, and
+//!   its text, or those of the seat
+//! - `places`, `floor`: O(log n), where n is all that the database holds
+//! - `versions_at`: its bytes, and for each key a search for its version, and one more for each undecided one above that
 //!
 //! `call` takes memory for the keys and values of its line, by the engine's step, and for the text, which keeps its
 //! room; `call_lines` takes what its calls take. `make` takes it by the engine's step, `write` for the text,
-//! `copy_bytes` for messages, and `state` for its own text. `new`, `answer`, `last` and `copy_text`
-//! take none.
+//! `copy_bytes` for messages, `versions_at` for keys of more than 24 bytes, and `state` and `held_by` for what they tell.
+//! `new`, `answer`, `last`, `copy_text`, `places` and `floor` take none.
 //!
 //! Tests: `embed/test`, `embed/random`, outside the gate.
 #![tactic(auto)]
 
 mod database;
 mod event_record;
+mod held;
 mod message_bytes;
+mod places;
 mod several;
 mod state;
 mod typed;
+mod versions;
 
 pub use database::{CallError, Database};
 pub use event_record::EventRecord;
+pub use held::Held;
 pub use several::{Done, Taken};
 pub use typed::{Answer, NoPosition};
+pub use versions::VersionFault;
