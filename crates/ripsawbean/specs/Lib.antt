@@ -6,3 +6,4 @@ pub mod States
 pub mod SeveralExports
 pub mod TypedExports
 pub mod TypedParts
+pub mod Looks

@@ -3,8 +3,8 @@
 //! A program owns a [`Handle`], all zero bytes at first. `ripsawbean_open` puts a database behind it, and
 //! `ripsawbean_close` frees that again. A call takes the line of a command, and shows the text of its event: all of it
 //! or its beginning, and its whole length. `ripsawbean_calls`, in `several`, makes the calls of several lines at once, and
-//! the calls in `typed` have a command's parts as arguments, in place of a line. The wrappers in `embed` call all of them,
-//! and any program that can call C. A handle of another kind owns the replica of a feed's span: its functions stand in
+//! the calls in `typed` have a command's parts as arguments, in place of a line. `versions`, `places` and `held` tell what is
+//! asked without a call. The wrappers in `embed` call all of them, and any program that can call C. A handle of another kind owns the replica of a feed's span: its functions stand in
 //! `replicas`.
 //!
 //! 1. A handle that is open owns one database and the right to free it; a closed one owns nothing.
@@ -19,22 +19,26 @@
 //! ripsawbean_call   "0 begin\n"      room 64  1        0        (as before)      (as before)
 //! ripsawbean_last                             0                 1 begin, at 10   (as before)
 //! ripsawbean_state                   room 4   0        206      {"ki             (as before)
+//! ripsawbean_places  feed 1                   0                 reached 10 ..    (as before)
 //! ripsawbean_close                                                               none: it is closed
 //! ripsawbean_call   "0 begin 20\n"   room 64  16       0        (as before)      none
 //! ```
 //!
 //! | Number | What it says | By |
 //! |---|---|---|
-//! | 0 | done | open, call, calls, text, last, state |
+//! | 0 | done | open, call, calls, text, last, state, versions_at, places, held_by |
 //! | 1 to 9 | the line's fault by its code; no call was made | call, a note of calls |
 //! | 12 | no memory for the line's key, value or span, or for the database; nothing was done | call, open |
 //! | 13 | no position is left; no call was made | call |
 //! | 12, 13 | the same of the next line; what was taken stands | calls |
+//! | 4, 12 | the next key is none, or found no memory; what was told stands | versions_at |
+//! | 12 | no memory to find what is held; nothing is shown | held_by |
 //! | 14 | no memory for the text; the event stands, and `ripsawbean_text` tries again | call, text, state |
 //! | 14 | no room or no memory for the last text; the event stands, and `ripsawbean_text` shows it | calls and its note |
 //! | 15 | the ring is out of range; nothing was done | open |
-//! | 16 | the handle is closed; nothing was done | call, calls, text, last, state |
+//! | 16 | the handle is closed; nothing was done | all but open, close and version |
 //! | 17 | the handle is open already; nothing was done | open |
+//! | 24 | the timestamp is below the horizon; nothing is told | versions_at |
 //!
 //! A program owes pointers that aren't null, also to no bytes, and slices that don't overlap. Its handle is all zero
 //! bytes or was left by these functions, isn't copied while it is open, and is used by one call at a time.
@@ -47,10 +51,13 @@
 //! - the calls of `typed`: the engine's step, the bytes copied, and all messages of a poll
 //! - `ripsawbean_text`: the bytes copied, and the text where it wasn't written
 //! - `ripsawbean_last`: O(1)
-//! - `ripsawbean_state`: the undecided transactions, the protections and the feeds, with a search for each, and its text
+//! - `ripsawbean_state`, `ripsawbean_held_by`: the undecided transactions, the protections and the feeds, with a search for
+//!   each, and its text, or those of the seat
+//! - `ripsawbean_places`: O(log n), where n is all that the database holds
+//! - `ripsawbean_versions_at`: the bytes of its keys, and for each a search for its version
 //!
-//! Memory is the program's own `malloc`, `realloc` and `free`. All but `ripsawbean_last`, `ripsawbean_close` and
-//! `ripsawbean_abort` may take it.
+//! Memory is the program's own `malloc`, `realloc` and `free`. All but `ripsawbean_last`, `ripsawbean_places`,
+//! `ripsawbean_version`, `ripsawbean_close` and `ripsawbean_abort` may take it.
 //!
 //! Tests: `embed/test`, `embed/random`, outside the gate.
 #![tactic(auto)]
@@ -63,13 +70,17 @@ ghost use Rattle.embedded.specs.declared.database.CallError.TheVariants.{NoMemor
 ghost use Rattle.ripsawbean.specs.Exports.{refusal_of, Opened, Numbered, Called, Asked, Rewritten, Told, ToldOf, number_of};
 
 mod handle;
+mod held;
 mod last;
 mod loose;
+mod places;
 mod replica_handle;
 mod replicas;
 mod several;
 mod state;
 mod typed;
+mod version;
+mod versions;
 
 use crate::handle::Handle;
 use embedded::{CallError, Database};

@@ -302,7 +302,7 @@ fn rows(consumer: &Consumer, out: &mut [u8], length: &mut usize) -> u8
 }
 
 /// A timestamp as a number.
-fn number_or_none(time: Option<u64>) -> u64
+pub(crate) fn number_or_none(time: Option<u64>) -> u64
     ensures { result ≡ number_or_none time }
 {
     time.unwrap_or(NONE)
