@@ -10,3 +10,4 @@ pub mod Replies
 pub mod AtClosed
 pub mod Writing
 pub mod Committed
+pub mod Ending

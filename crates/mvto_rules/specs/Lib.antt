@@ -9,3 +9,4 @@ pub mod Snapshots
 pub mod Closings
 pub mod Collecting
 pub mod Looking
+pub mod Room

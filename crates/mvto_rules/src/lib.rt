@@ -63,6 +63,7 @@ mod forgetting;
 mod holdings;
 mod looking;
 mod reading;
+mod room;
 mod rules;
 mod sight;
 mod snapshots;

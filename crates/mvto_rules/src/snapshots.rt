@@ -112,7 +112,7 @@ fn rows_at(
 }
 
 /// A version's timestamp is never 0.
-fn is_named(newest: Option<&Version>)
+pub(crate) fn is_named(newest: Option<&Version>)
     ensures { IfSome (option_copied newest.entry) (λ v. 1 ≤ v.ts) }
 {
     if let Some(version) = newest {
