@@ -12,3 +12,4 @@ pub mod Searching
 pub mod Building
 pub mod Slotting
 pub mod Reports
+pub mod Fitting

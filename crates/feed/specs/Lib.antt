@@ -9,3 +9,4 @@ pub mod OfferedAll
 pub mod Slots
 pub mod Hulls
 pub mod Reports
+pub mod Room

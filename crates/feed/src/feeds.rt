@@ -6,6 +6,7 @@ ghost use Rattle.kept.specs.Places.{IsLeastFloor, place_floor};
 ghost use Rattle.kept.specs.Reports.{AreLive};
 ghost use Rattle.feed.specs.Live.{IsOffered, begins_behind, cut_at_max, opened_at};
 ghost use Rattle.feed.specs.Standing.{opened_in, live_in, place_in, seat_in, behind_in, IsPut, AreChanged, IsSentBehind, IsPolledBy, IsUnpolled, IsCountOf};
+ghost use Rattle.feed.specs.Room.{IsFeedCount};
 ghost use Rattle.feed.specs.Slots.{IsSourced, slot_of, source_of};
 ghost use Rattle.feed.specs.Ties.{IsFloorMoved, pair_cmp};
 ghost use Rattle.feed.specs.declared.slots.Slot.{Slot};
@@ -14,6 +15,7 @@ use crate::live::LiveFeed;
 use crate::live::telling::Told;
 use crate::poll_error::PollError;
 use crate::report::feed_reports;
+use crate::room::count_left;
 use crate::rounds::{offer_each, send_each_behind};
 use crate::slots::ServedFrom;
 use crate::span_order::SpanOrder;
@@ -196,6 +198,24 @@ impl Feeds {
         relist(&mut self.order, feed, live.is_behind(), behind);
         live.arrive(place, max, behind);
         Ok(Messages::from_vec(messages))
+    }
+
+    /// How many of the next messages of a feed, at most `max`, have at most `bytes` bytes together: `max` where all of
+    /// them do, and 0 where it doesn't live. Nothing is told. A `closed` above the greatest timestamp counts as that.
+    pub fn count_within(
+        &self,
+        store: &Store,
+        feed: u64,
+        closed: u64,
+        max: u64,
+        bytes: u64,
+    ) -> Result<u64, AllocError>
+        ensures { IfOk result (IsFeedCount store.now (cut_at_max closed) max bytes (live_in self.now feed)) }
+    {
+        let Some(live) = self.live.get(&feed) else {
+            return Ok(0);
+        };
+        count_left(self.alloc, live, store, closed.min(MAX), max, bytes)
     }
 
     /// Ends a feed, and answers whether it lived. It takes no memory.

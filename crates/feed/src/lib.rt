@@ -44,6 +44,7 @@ mod live;
 mod place;
 mod poll_error;
 mod report;
+mod room;
 mod rounds;
 mod slots;
 mod span_order;
