@@ -8,3 +8,5 @@ pub mod Replies
 pub mod Runs
 pub mod Versions
 pub mod Progress
+pub mod Ending
+pub mod Counting

@@ -6,3 +6,4 @@ pub mod Engine
 pub mod Runs
 pub mod Looking
 pub mod Progress
+pub mod Room

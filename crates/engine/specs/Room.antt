@@ -1,0 +1,31 @@
+-- How much of a scan or a poll finds room (this project's own). A row has the bytes of its key and its value, and 17 more,
+-- as a message in bytes has.
+use Rattle.std.specs.Prelude.{List, None, Option, Some, filter, if◌then◌else◌, nat_lt, ℕ}
+use Rattle.spans.specs.Collection.{horizon_of}
+use Rattle.spans.specs.Effects.{Effect}
+use Rattle.spans.specs.Feeds.{Feed, feed_of, is_cancelled, next_messages}
+use Rattle.spans.specs.Keys.{in_span}
+use Rattle.spans.specs.Versions.{is_blocked, visible, written_keys}
+use Rattle.spans.specs.declared.span.Span.{Span}
+use Rattle.feed.specs.Room.{count_or}
+use Rattle.mvto_rules.specs.Room.{end_within}
+
+-- the end of the longest beginning of the span of which a scan at t finds room; none where the whole span does, or where
+-- the scan is stopped before. Below the horizon each scan is refused, so nothing ends it
+abbrev pub scan_end : List Effect → ℕ → Span → (rows bytes : ℕ) → Option (List ℕ)
+scan_end p t span rows bytes =
+    if nat_lt t (horizon_of p) then None else end_within (λ x. is_blocked p x t) (λ x. (visible p x t).after) rows bytes (filter (in_span span) (written_keys p))
+
+-- the span up to the key, where there is one
+abbrev pub up_to : Option (List ℕ) → Span → Span
+up_to None span = span
+up_to (Some x) span = record { lo = span.lo; hi = Some x }
+
+-- how many of a feed's next messages find room, and what was asked for where all of them do
+abbrev pub count_of : List Effect → ℕ → (max bytes : ℕ) → Option Feed → ℕ
+count_of p f max bytes None = 0
+count_of p f max bytes (Some feed) = count_or max bytes (next_messages p f feed max)
+
+-- how many messages of the feed, at most max, find room; none of a feed that doesn't live
+abbrev pub poll_count : List Effect → ℕ → (max bytes : ℕ) → ℕ
+poll_count p f max bytes = if is_cancelled p f then 0 else count_of p f max bytes (feed_of p f)
