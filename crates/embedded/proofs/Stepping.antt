@@ -1,9 +1,11 @@
 -- What a database holds after a step of its engine.
-use Rattle.std.proofs.Common.{◌≡◌, ℕ, false, List, [], ◌∷◌, reverse, length, Some, Ok, inr, sym, ap, ◌∙◌, subst, arith}
+use Rattle.std.proofs.Common.{◌≡◌, ℕ, false, true, List, [], ◌∷◌, reverse, length, Some, Ok, inl, inr, refl, sym, ap, ◌∙◌, subst, arith}
 use Rattle.std.proofs.lemmas.List.{reverse-append, length-reverse}
 use Rattle.std.proofs.Math.Logic.{∥∥₁_elim}
 use Rattle.std.proofs.Props.{props}
+use Rattle.std.specs.Prelude.{is_some}
 use Rattle.spans.specs.declared.calls.commands.Cmd.{Cmd}
+use Rattle.spans.specs.declared.calls.commands.Cmd.TheVariants.{Scan, ScanAt}
 use Rattle.spans.specs.declared.calls.events.Event.{Event}
 use Rattle.spans.specs.declared.calls.messages.Message.{Message}
 use Rattle.spans.specs.declared.calls.replies.Reply.{Reply}
@@ -19,7 +21,7 @@ use Rattle.word_lines.specs.Reading.{command_at}
 use Rattle.word_lines.specs.Table.{table}
 use Rattle.embedded.specs.declared.database.Database.{Database}
 use Rattle.embedded.specs.Embedded.{StandsFor, HasStepped, Made, IsUnwritten, last_of}
-use Rattle.embedded.specs.Typed.{is_read}
+use Rattle.embedded.specs.Typed.{IsBulk, is_read, scan_of}
 use Rattle.embedded.proofs.ReadReplies.{is_no_read}
 
 -- an event whose position is the count of those before it leaves no gap
@@ -52,3 +54,14 @@ made h line read stepped new step same spelled found = (
 -- a read is answered with no messages, whatever the engine's history
 pub no_read : (old new : Engine) (seat : ℕ) (cmd : Cmd) (r : Reply) (ms : List Message) → ((h : List Event) (n : ℕ) → engines.StandsFor old h → engines.StandsFor new (event n seat cmd r ∷ h)) → r ≡ Messages ms → is_read cmd ≡ false
 no_read old new seat cmd r ms history is = ∥∥₁_elim old.stands (hlevel props) (λ h. is_no_read (effects_of h.0) (event 0 seat cmd r) ms (history h.0 0 h.1).kept.legal.0 is)
+
+-- a scan reads no one key
+scan_no_read : (cmd : Cmd) → is_some (scan_of cmd) ≡ true → is_read cmd ≡ false
+scan_no_read (Scan ts span) is = refl
+scan_no_read (ScanAt t span) is = refl
+scan_no_read (_) is = cc
+
+-- a read's answer takes no memory to be shown
+pub bulk_no_read : (old new : Engine) (seat : ℕ) (cmd : Cmd) (r : Reply) → ((h : List Event) (n : ℕ) → engines.StandsFor old h → engines.StandsFor new (event n seat cmd r ∷ h)) → IsBulk cmd r → is_read cmd ≡ false
+bulk_no_read old new seat cmd r history (inl (m, ms, is)) = no_read old new seat cmd r (m ∷ ms) history is
+bulk_no_read old new seat cmd r history (inr (rows, is, scans)) = scan_no_read cmd scans

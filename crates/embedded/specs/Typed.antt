@@ -1,6 +1,6 @@
 -- Calls whose command is given in parts, and answers in numbers and bytes (this project's own).
 use Rattle.std.specs.Int.{w32, w64, to_le_bytes}
-use Rattle.std.specs.Prelude.{ℕ, List, [], ◌∷◌, ◌++◌, ◌≡◌, length, Bool, true, false, Option, Some, None, Result, Ok, Err}
+use Rattle.std.specs.Prelude.{ℕ, List, [], ◌∷◌, ◌++◌, ◌≡◌, ◌⊎◌, length, is_some, Bool, true, false, Option, Some, None, Result, Ok, Err}
 use Rattle.std.specs.List.{flat_map}
 use Rattle.spans.specs.declared.calls.commands.Cmd.{Cmd}
 use Rattle.spans.specs.declared.calls.commands.Cmd.TheVariants as command
@@ -11,6 +11,7 @@ use Rattle.spans.specs.declared.calls.replies.Refusal.{Refusal}
 use Rattle.spans.specs.declared.calls.replies.Refusal.TheVariants as refusal
 use Rattle.spans.specs.declared.calls.replies.Reply.{Reply}
 use Rattle.spans.specs.declared.calls.replies.Reply.TheVariants as reply
+use Rattle.spans.specs.declared.span.Span.{Span}
 use Rattle.embedded.specs.Embedded.{HasStepped}
 use Rattle.embedded.specs.declared.database.Database.{Database}
 use Rattle.embedded.specs.declared.event_record.EventRecord.{EventRecord}
@@ -136,24 +137,53 @@ abbrev pub message_bytes : Message → List ℕ
 message_bytes (message.Resolved t) = head 0 t 0 0
 message_bytes (message.Row row) = row_bytes row.ts row.key row.after
 
--- the bytes of an answer: a value, or messages one behind another; no byte of another
-abbrev pub reply_bytes : Reply → List ℕ
-reply_bytes (reply.Found (Some value)) = value
-reply_bytes (reply.Messages messages) = flat_map message_bytes messages
-reply_bytes _ = []
+-- a key with its value in bytes, as a row of a scan's timestamp
+abbrev pub pair_bytes : (at : ℕ) → List ℕ × List ℕ → List ℕ
+pair_bytes at pair = row_bytes at pair.0 (Some pair.1)
+
+-- where a scan ended, in bytes: a message of kind 3 with the high bound of its span as its key, where there is one
+abbrev pub end_bytes : (at : ℕ) → Option (List ℕ) → List ℕ
+end_bytes at None = []
+end_bytes at (Some high) = head 3 at (length high) 0 ++ high
+
+-- the timestamp and the span of a scan
+abbrev pub scan_of : Cmd → Option (ℕ × Span)
+scan_of (command.Scan ts span) = Some (ts, span)
+scan_of (command.ScanAt t span) = Some (t, span)
+scan_of _ = None
+
+-- the rows of a scan, and behind them its end
+abbrev pub rows_bytes : Option (ℕ × Span) → List (List ℕ × List ℕ) → List ℕ
+rows_bytes None rows = []
+rows_bytes (Some scan) rows = flat_map (pair_bytes scan.0) rows ++ end_bytes scan.0 scan.1.hi
+
+-- the bytes of an answer to a command: a value, messages one behind another, or rows; no byte of another
+abbrev pub reply_bytes : Cmd → Reply → List ℕ
+reply_bytes cmd (reply.Found (Some value)) = value
+reply_bytes cmd (reply.Messages messages) = flat_map message_bytes messages
+reply_bytes cmd (reply.Rows rows) = rows_bytes (scan_of cmd) rows
+reply_bytes cmd _ = []
 
 -- the bytes of an event's answer
 abbrev pub bytes_of : Option Event → List ℕ
 bytes_of None = []
-bytes_of (Some e) = reply_bytes e.reply
+bytes_of (Some e) = reply_bytes e.cmd e.reply
 
 -- a reply has at least one message
 abbrev pub AreMessages : Reply → Type 0
 AreMessages r = (m : Message) × (ms : List Message) × (r ≡ reply.Messages (m ∷ ms))
 
--- an event was answered with at least one message, whose bytes take memory
-abbrev pub HasMessages : Option Event → Type 0
-HasMessages last = (e : Event) × (m : Message) × (ms : List Message) × (last ≡ Some e) × (e.reply ≡ reply.Messages (m ∷ ms))
+-- a reply has a scan's rows
+abbrev pub AreRowsOf : Cmd → Reply → Type 0
+AreRowsOf cmd r = (rows : List (List ℕ × List ℕ)) × (r ≡ reply.Rows rows) × (is_some (scan_of cmd) ≡ true)
+
+-- the bytes of an answer take memory: it has at least one message, or a scan's rows
+abbrev pub IsBulk : Cmd → Reply → Type 0
+IsBulk cmd r = AreMessages r ⊎ AreRowsOf cmd r
+
+-- those of an event's
+abbrev pub HasBulk : Option Event → Type 0
+HasBulk last = (e : Event) × (last ≡ Some e) × IsBulk e.cmd e.reply
 
 -- the command reads one key
 abbrev pub is_read : Cmd → Bool

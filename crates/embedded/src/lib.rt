@@ -28,8 +28,9 @@
 //! - `call`: its line, the engine's step, and the text of its event
 //! - `call_lines`: the calls of the lines that are taken, and the bytes of their texts again
 //! - `make`: the engine's step
+//! - `make_within`: a look at what the answer would have, and the engine's step
 //! - `answer`, `last`: O(1)
-//! - `copy_bytes`: the bytes copied, and all messages
+//! - `copy_bytes`: the bytes copied, and all messages or rows
 //! - `write`: the text, where it isn't written; else O(1)
 //! - `copy_text`: the bytes copied
 //! - `state`, `held_by`: the transactions that are undecided, the protections and the feeds, with a search for each, and
@@ -41,10 +42,13 @@
 //! room; `call_lines` takes what its calls take. `make` takes it by the engine's step, `write` for the text,
 //! `copy_bytes` for messages, `versions_at` for keys of more than 24 bytes, and `state` and `held_by` for what they tell.
 //! `new`, `answer`, `last`, `copy_text`, `places` and `floor` take none.
+//! `make_within` also for its look, `copy_bytes` for messages and rows, and `state` for its own text. `new`, `answer`, `last` and `copy_text`
+//! take none.
 //!
 //! Tests: `embed/test`, `embed/random`, outside the gate.
 #![tactic(auto)]
 
+mod bounded;
 mod database;
 mod event_record;
 mod held;
@@ -55,6 +59,7 @@ mod state;
 mod typed;
 mod versions;
 
+pub use bounded::{Bounded, BoundedError};
 pub use database::{CallError, Database};
 pub use event_record::EventRecord;
 pub use held::Held;

@@ -1,12 +1,16 @@
-//! Messages as bytes: a head of 17 bytes, and behind it the key and the value of a row.
+//! Messages as bytes: a head of 17 bytes, and behind it the key and the value of a row. The rows of a scan are such
+//! messages too.
 
-ghost use Rattle.std.specs.Prelude.{◌≡◌, ◌++◌, ◌<◌, length, OnOk, OnErr};
+ghost use Rattle.std.specs.Prelude.{◌≡◌, ◌++◌, ◌<◌, Some, length, OnOk, OnErr};
 ghost use Rattle.std.specs.List.{flat_map};
-ghost use Rattle.embedded.specs.Typed.{head, message_bytes, row_bytes};
+ghost use Rattle.embedded.specs.Typed.{end_bytes, head, message_bytes, pair_bytes, row_bytes};
 
+use spans::bound::Bound;
 use spans::calls::Message;
 use std::alloc::AllocError;
+use timestamps::key::Key;
 use timestamps::row::Row;
+use timestamps::value::Value;
 
 /// A resolved timestamp.
 const RESOLVED: u8 = 0;
@@ -14,6 +18,9 @@ const RESOLVED: u8 = 0;
 const VALUE: u8 = 1;
 /// A row of a delete.
 const DELETE: u8 = 2;
+
+/// Where a scan ended.
+const END: u8 = 3;
 
 /// Puts messages at the end, one behind another.
 pub(crate) fn put_messages(out: &mut Vec<u8>, messages: &[Message]) -> Result<(), AllocError>
@@ -39,19 +46,47 @@ fn put_row(out: &mut Vec<u8>, row: &Row) -> Result<(), AllocError>
     ensures { OnOk result (out.new.items ≡ out.old.items ++ row_bytes row.now.ts row.now.key row.now.after) }
 {
     let at = row.ts.get();
-    let key = row.key.bytes();
     match &row.after {
-        Some(value) => {
-            let value = value.bytes();
-            put_head(out, VALUE, at, key.len() as u32, value.len() as u32)?;
-            out.extend_from_slice(key)?;
-            out.extend_from_slice(value)
-        }
+        Some(value) => put_pair(out, at, &row.key, value),
         None => {
+            let key = row.key.bytes();
             put_head(out, DELETE, at, key.len() as u32, 0)?;
             out.extend_from_slice(key)
         }
     }
+}
+
+/// Puts the rows of a scan, as rows of its timestamp.
+pub(crate) fn put_rows(out: &mut Vec<u8>, at: u64, rows: &[(Key, Value)]) -> Result<(), AllocError>
+    ensures { OnOk result (out.new.items ≡ out.old.items ++ flat_map (pair_bytes at) rows.now) }
+{
+    for (key, value) in rows {
+        put_pair(out, at, key, value)?;
+    }
+    Ok(())
+}
+
+/// Puts a key with its value, as a row.
+fn put_pair(out: &mut Vec<u8>, at: u64, key: &Key, value: &Value) -> Result<(), AllocError>
+    ensures { OnOk result (out.new.items ≡ out.old.items ++ row_bytes at key.now (Some value.now)) }
+{
+    let key = key.bytes();
+    let value = value.bytes();
+    put_head(out, VALUE, at, key.len() as u32, value.len() as u32)?;
+    out.extend_from_slice(key)?;
+    out.extend_from_slice(value)
+}
+
+/// Puts the end of a scan, where its span has one.
+pub(crate) fn put_end(out: &mut Vec<u8>, at: u64, high: &Option<Bound>) -> Result<(), AllocError>
+    ensures { OnOk result (out.new.items ≡ out.old.items ++ end_bytes at high.now) }
+{
+    let Some(high) = high else {
+        return Ok(());
+    };
+    let high = high.bytes();
+    put_head(out, END, at, high.len() as u32, 0)?;
+    out.extend_from_slice(high)
 }
 
 /// Puts the head of a message, whose row has so many bytes of a key and of a value.

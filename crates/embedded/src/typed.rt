@@ -5,20 +5,25 @@
 //! make 0 Put { 10, "a", "1" }               4                 none
 //! make 0 Get { 10, "a" }                    3, 1              1
 //! make 0 Poll { feed 1, max 2 }             8, 2              two messages: a head of 17 bytes, and a row's key and value
+//! make 0 Scan { 10, from "a" below "c" }    9, 1              a row as such a message, and one that ends at "c"
 //! write, copy_text                                            the event's text, as a line's call shows it
 //! ```
 
-ghost use Rattle.std.specs.Prelude.{◌≡◌, ◌<◌, List, false, OnOk, IfOk, OnErr};
+ghost use Rattle.std.specs.Prelude.{◌≡◌, ◌<◌, ◌++◌, List, false, is_some, true, OnOk, IfOk, OnErr};
+ghost use Rattle.std.specs.List.{flat_map};
 ghost use Rattle.spans.specs.declared.calls.events.Event.{Event};
 ghost use Rattle.json_lines.specs.Writing.{Copied};
 ghost use Rattle.embedded.specs.Embedded.{StandsFor, last_of};
-ghost use Rattle.embedded.specs.Typed.{MadeBy, AreMessages, HasMessages, is_read, numbers, refusal_numbers, reply_numbers, answer_of, reply_bytes, bytes_of};
+ghost use Rattle.embedded.specs.Typed.{MadeBy, HasBulk, IsBulk, is_read, numbers, refusal_numbers, reply_numbers, answer_of, end_bytes, pair_bytes, reply_bytes, rows_bytes, bytes_of, scan_of};
 
 use crate::database::Database;
-use crate::message_bytes::put_messages;
+use crate::message_bytes::{put_end, put_messages, put_rows};
 use json_lines::buffer::copy_front;
 use spans::calls::{Cmd, Event, Refusal, Reply};
+use spans::span::Span;
 use std::alloc::{AllocError, Global};
+use timestamps::key::Key;
+use timestamps::value::Value;
 
 /// No position is left: the next one would be 18446744073709551615. No call was made.
 #[derive(Clone, Copy, Debug)]
@@ -57,7 +62,7 @@ impl Database {
         ensures made { (h : List Event) → StandsFor self.old h → MadeBy h seat cmd self.old result self.new }
         ensures same { OnErr result (self.new ≡ self.old) }
         // So the bytes of a read's answer take no memory.
-        ensures reads { OnOk result (HasMessages (last_of self.new) → is_read cmd ≡ false) }
+        ensures reads { OnOk result (HasBulk (last_of self.new) → is_read cmd ≡ false) }
     {
         let position = self.engine.steps();
         if position == u64::MAX {
@@ -83,16 +88,17 @@ impl Database {
         }
     }
 
-    /// Copies the bytes of the last event's answer as far as there is room, and tells their whole length: a value, or
-    /// messages. Of another answer there are none. Messages take memory, and where there is none nothing is copied.
+    /// Copies the bytes of the last event's answer as far as there is room, and tells their whole length: a value,
+    /// messages, or rows and the end of their scan. Of another answer there are none. Messages and rows take memory, and
+    /// where there is none nothing is copied.
     pub fn copy_bytes(&self, out: &mut [u8]) -> Result<usize, AllocError>
         ensures ok { IfOk result (λ length. Copied (bytes_of (last_of self.now)) out.old out.new length) }
         ensures err { OnErr result (out.new ≡ out.old) }
-        ensures memory { OnErr result (HasMessages (last_of self.now)) }
+        ensures memory { OnErr result (HasBulk (last_of self.now)) }
     {
         match &self.last {
             None => Ok(copy_front(b"", out)),
-            Some(event) => copy_reply(self.alloc, &event.reply, out),
+            Some(event) => copy_reply(self.alloc, &event.cmd, &event.reply, out),
         }
     }
 }
@@ -148,10 +154,10 @@ fn refusal_numbers(refusal: Refusal) -> Answer
 }
 
 /// Copies the bytes of a reply, as [`Database::copy_bytes`] does.
-fn copy_reply(alloc: Global, reply: &Reply, out: &mut [u8]) -> Result<usize, AllocError>
-    ensures ok { IfOk result (λ length. Copied (reply_bytes reply.now) out.old out.new length) }
+fn copy_reply(alloc: Global, cmd: &Cmd, reply: &Reply, out: &mut [u8]) -> Result<usize, AllocError>
+    ensures ok { IfOk result (λ length. Copied (reply_bytes cmd.now reply.now) out.old out.new length) }
     ensures err { OnErr result (out.new ≡ out.old) }
-    ensures memory { OnErr result (AreMessages reply.now) }
+    ensures memory { OnErr result (IsBulk cmd.now reply.now) }
 {
     match reply {
         Reply::Found(Some(value)) => Ok(copy_front(value.bytes(), out)),
@@ -160,6 +166,41 @@ fn copy_reply(alloc: Global, reply: &Reply, out: &mut [u8]) -> Result<usize, All
             put_messages(&mut bytes, messages.as_slice())?;
             Ok(copy_front(bytes.as_slice(), out))
         }
+        Reply::Rows(rows) => copy_rows(alloc, cmd, rows.as_slice(), out),
         _ => Ok(copy_front(b"", out)),
     }
+}
+
+/// Copies the rows of a scan, and its end.
+fn copy_rows(
+    alloc: Global,
+    cmd: &Cmd,
+    rows: &[(Key, Value)],
+    out: &mut [u8],
+) -> Result<usize, AllocError>
+    ensures ok { IfOk result (λ length. Copied (rows_bytes (scan_of cmd.now) rows.now) out.old out.new length) }
+    ensures err { OnErr result (out.new ≡ out.old) }
+    ensures memory { OnErr result (is_some (scan_of cmd.now) ≡ true) }
+{
+    match cmd {
+        Cmd::Scan { ts, span } => copy_scan(alloc, *ts, span, rows, out),
+        Cmd::ScanAt { t, span } => copy_scan(alloc, *t, span, rows, out),
+        _ => Ok(copy_front(b"", out)),
+    }
+}
+
+fn copy_scan(
+    alloc: Global,
+    at: u64,
+    span: &Span,
+    rows: &[(Key, Value)],
+    out: &mut [u8],
+) -> Result<usize, AllocError>
+    ensures ok { IfOk result (λ length. Copied (flat_map (pair_bytes at) rows.now ++ end_bytes at span.now.hi) out.old out.new length) }
+    ensures err { OnErr result (out.new ≡ out.old) }
+{
+    let mut bytes = Vec::new(alloc);
+    put_rows(&mut bytes, at, rows)?;
+    put_end(&mut bytes, at, &span.hi)?;
+    Ok(copy_front(bytes.as_slice(), out))
 }

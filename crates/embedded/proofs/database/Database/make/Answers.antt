@@ -1,8 +1,8 @@
-use Rattle.std.proofs.Common.{◌≡◌, ◌∷◌, Some, refl, sym, ap, ◌∙◌}
+use Rattle.std.proofs.Common.{◌≡◌, ◌∷◌, Some, refl, sym, subst, ◌∙◌}
 use Rattle.spans.specs.declared.calls.events.Event.{Event}
-use Rattle.spans.specs.declared.calls.replies.Reply.TheVariants.{Messages}
 use Rattle.spans.specs.Effects.{event}
-use Rattle.embedded.proofs.Stepping.{stands_next, no_read}
+use Rattle.embedded.specs.Typed.{IsBulk}
+use Rattle.embedded.proofs.Stepping.{stands_next, bulk_no_read}
 use Rattle.embedded.proofs.database.Database.make.Goals as goal
 
 pub returns-clause-made : goal.returns-clause-made
@@ -19,9 +19,8 @@ returns-clause-made c h held =
     }
 
 pub returns-clause-reads : goal.returns-clause-reads
-returns-clause-reads c = λ (e, m, ms, last, is).
+returns-clause-reads c = λ (e, last, bulk).
     let kept : Event = event c.steps-position.result c.args.seat c.args.cmd c.step-reply.result in
     let both : Some kept ≡ Some e = sym c.keep.ensures.last ∙ last in
     let same : kept ≡ e = cc in
-    let reply : c.step-reply.result ≡ Messages (m ∷ ms) = ap (λ (x : Event). x.reply) same ∙ is in
-    no_read c.args.self.now.engine c.step-reply.new.self c.args.seat c.args.cmd c.step-reply.result (m ∷ ms) c.step-reply.ensures.history reply
+    bulk_no_read c.args.self.now.engine c.step-reply.new.self c.args.seat c.args.cmd c.step-reply.result c.step-reply.ensures.history (subst (λ (x : Event). IsBulk x.cmd x.reply) (sym same) bulk)

@@ -1,0 +1,143 @@
+//! Calls whose answer is to find room. A look tells how far it would go, and the ordinary call is made, of a shorter span
+//! or of fewer messages.
+//!
+//! ```text
+//! what is asked                                          the keys are        the event that is made
+//! Scan { 10, all keys, 2 rows, 99 bytes }                "a" "b" "c"         scan 10 - c      so the next one begins at c
+//! Scan { 10, from "c", 2 rows, 99 bytes }                                    scan 10 c -      no bound: it has come to the end
+//! Poll { feed 1, 9 messages, 40 bytes }                  3 of 20 bytes left  poll 1 2
+//! ```
+
+ghost use Rattle.std.specs.Prelude.{◌≡◌, ◌<◌, List, false, IfOk, IfErr, OnOk, OnErr};
+ghost use Rattle.std.specs.Option.{option_copied};
+ghost use Rattle.spans.specs.Effects.{effects_of};
+ghost use Rattle.spans.specs.declared.calls.events.Event.{Event};
+ghost use Rattle.engine.specs.Room.{poll_count, up_to};
+ghost use Rattle.embedded.specs.Bounded.{MadeWithin, command_within, span_within};
+ghost use Rattle.embedded.specs.Embedded.{StandsFor};
+ghost use Rattle.embedded.specs.declared.bounded.BoundedError.TheVariants.{NoMemory};
+
+use crate::database::Database;
+use crate::typed::NoPosition;
+use spans::bound::Bound;
+use spans::calls::Cmd;
+use spans::span::Span;
+use std::alloc::AllocError;
+use timestamps::key::Key;
+
+/// A command whose answer is to find room.
+#[derive(Drop)]
+pub enum Bounded {
+    /// A scan in a transaction, in so many rows and bytes.
+    Scan {
+        ts: u64,
+        span: Span,
+        rows: u64,
+        bytes: u64,
+    },
+    /// A scan at a closed timestamp.
+    ScanAt {
+        t: u64,
+        span: Span,
+        rows: u64,
+        bytes: u64,
+    },
+    /// A poll, in so many bytes.
+    Poll {
+        feed: u64,
+        max: u64,
+        bytes: u64,
+    },
+}
+
+/// Why no call was made.
+#[derive(Clone, Copy, Debug)]
+pub enum BoundedError {
+    /// The look found no memory.
+    NoMemory,
+    /// No position is left: the next one would be 18446744073709551615.
+    NoPosition,
+}
+
+impl Database {
+    /// Makes the call of a seat's command, 0 to 63, as far as its answer finds room. The event is that of an ordinary scan
+    /// or poll. After an error all is as it was, the last text too.
+    pub fn make_within(&mut self, seat: u8, bounded: Bounded) -> Result<(), BoundedError>
+        requires seat { seat < 64 }
+        ensures made { (h : List Event) → StandsFor self.old h → MadeWithin h seat bounded self.old result self.new }
+        ensures same { OnErr result (self.new ≡ self.old) }
+    {
+        let Ok(cmd) = self.command_within(bounded) else {
+            return Err(BoundedError::NoMemory);
+        };
+        match self.make(seat, cmd) {
+            Ok(()) => Ok(()),
+            Err(NoPosition) => Err(BoundedError::NoPosition),
+        }
+    }
+
+    /// The command that is made.
+    fn command_within(&self, bounded: Bounded) -> Result<Cmd, AllocError>
+        ensures { (h : List Event) → StandsFor self.now h → IfOk result (λ cmd. cmd ≡ command_within h bounded) }
+    {
+        match bounded {
+            Bounded::Scan {
+                ts,
+                span,
+                rows,
+                bytes,
+            } => {
+                let span = self.span_within(ts, span, rows, bytes)?;
+                Ok(Cmd::Scan { ts, span })
+            }
+            Bounded::ScanAt {
+                t,
+                span,
+                rows,
+                bytes,
+            } => {
+                let span = self.span_within(t, span, rows, bytes)?;
+                Ok(Cmd::ScanAt { t, span })
+            }
+            Bounded::Poll { feed, max, bytes } => {
+                let max = self.engine.poll_count(feed, max, bytes)?;
+                Ok(Cmd::Poll { feed, max })
+            }
+        }
+    }
+
+    /// The longest beginning of a span of which a scan finds room.
+    fn span_within(&self, ts: u64, span: Span, rows: u64, bytes: u64) -> Result<Span, AllocError>
+        ensures { (h : List Event) → StandsFor self.now h → IfOk result (λ s. s ≡ span_within h ts span rows bytes) }
+    {
+        let end = bound_at(self.engine.scan_end(ts, &span, rows, bytes))?;
+        Ok(up_to(span, end))
+    }
+}
+
+/// The bound at which a key begins, where there is one.
+fn bound_at(key: Option<&Key>) -> Result<Option<Bound>, AllocError>
+    ensures { IfOk result (λ bound. bound ≡ option_copied key.entry) }
+{
+    match key {
+        None => Ok(None),
+        Some(key) => {
+            let bound = Bound::of_key(key)?;
+            Ok(Some(bound))
+        }
+    }
+}
+
+/// The span up to a bound, where there is one.
+fn up_to(span: Span, end: Option<Bound>) -> Span
+    ensures { result ≡ up_to end span }
+{
+    match end {
+        None => span,
+        Some(hi) => {
+            let mut span = span;
+            span.hi = Some(hi);
+            span
+        }
+    }
+}
