@@ -39,11 +39,9 @@
 //! - `versions_at`: its bytes, and for each key a search for its version, and one more for each undecided one above that
 //!
 //! `call` takes memory for the keys and values of its line, by the engine's step, and for the text, which keeps its
-//! room; `call_lines` takes what its calls take. `make` takes it by the engine's step, `write` for the text,
-//! `copy_bytes` for messages, `versions_at` for keys of more than 24 bytes, and `state` and `held_by` for what they tell.
-//! `new`, `answer`, `last`, `copy_text`, `places` and `floor` take none.
-//! `make_within` also for its look, `copy_bytes` for messages and rows, and `state` for its own text. `new`, `answer`, `last` and `copy_text`
-//! take none.
+//! room; `call_lines` takes what its calls take. `make` takes it by the engine's step, and `make_within` also for its
+//! look; `write` for the text, `copy_bytes` for messages and rows, `versions_at` for keys of more than 24 bytes, and
+//! `state` and `held_by` for what they tell. `new`, `answer`, `last`, `copy_text`, `places` and `floor` take none.
 //!
 //! Tests: `embed/test`, `embed/random`, outside the gate.
 #![tactic(auto)]
