@@ -6,14 +6,14 @@ use Rattle.std.proofs.lemmas.List.{append-nil, length-map, length-take-le, lengt
 use Rattle.std.proofs.lemmas.List.Concat.{flat_map-append}
 use borrow.Rule.Slice.PartMut.{put_mid}
 use Rattle.spans.specs.declared.calls.events.Event.{Event}
-use Rattle.embedded.specs.Embedded.{StandsFor, Called}
-use Rattle.embedded.specs.Several.{AreSteps, EndsBy, HaveBeenCalled, IsStep, IsTaken, Step, first_line}
+use Rattle.embedded.specs.Embedded.{StandsFor}
+use Rattle.embedded.specs.Several.{AreSteps, EndsBy, HaveBeenCalled, IsStep, IsTaken, IsUncalled, Step, first_line}
 use Rattle.embedded.specs.declared.database.Database.{Database}
 use Rattle.embedded.specs.declared.database.CallError.{CallError}
 use Rattle.embedded.specs.declared.database.CallError.TheVariants.{Fault, NoMemory, Spent, Unwritten}
 use Rattle.embedded.specs.declared.several.Done.{Done}
 use Rattle.embedded.specs.declared.several.Taken.{Taken}
-use Rattle.embedded.proofs.TakenLines.{none_shown, shown_fits, shown_whole}
+use Rattle.embedded.proofs.TakenLines.{step_fits, step_missing, step_stands, step_whole}
 
 -- the texts that were shown, one behind another
 abbrev pub texts : List Step → List ℕ
@@ -29,9 +29,9 @@ NoneMissing [] = Unit {0}
 NoneMissing (s ∷ steps) = ¬ (s.note.status ≡ 14) × NoneMissing steps
 
 -- so many lines were taken by these steps
-pub record HaveTaken (h : List Event) (lines : List ℕ) (old : Database) (out : List ℕ) (notes : List Done) (steps : List Step) (taken : Taken) (out' : List ℕ) (notes' : List Done) (new : Database) : Type 0 where
+pub record HaveTaken (most : ℕ) (h : List Event) (lines : List ℕ) (old : Database) (out : List ℕ) (notes : List Done) (steps : List Step) (taken : Taken) (out' : List ℕ) (notes' : List Done) (new : Database) : Type 0 where
   pub after : List Event
-  pub called : AreSteps (length out) h old lines steps (drop taken.bytes lines) after new
+  pub called : AreSteps (length out) most h old lines steps (drop taken.bytes lines) after new
   pub stands : StandsFor new after
   pub fits : length (texts steps) ≤ length out
   pub count : taken.lines ≡ length steps
@@ -40,17 +40,17 @@ pub record HaveTaken (h : List Event) (lines : List ℕ) (old : Database) (out :
   pub noted : notes' ≡ map note_of steps ++ drop (length steps) notes
 
 -- steps go on by one at the end
-steps_more : (room : ℕ) (h : List Event) (d : Database) (bytes : List ℕ) (steps : List Step) (left : List ℕ) (h' : List Event) (d' : Database) (s : Step) (h2 : List Event) (d2 : Database)
-    → AreSteps room h d bytes steps left h' d' → 0 < length left → s.line ≡ first_line left → IsStep (room - length (texts steps)) h' d' s h2 d2
-    → AreSteps room h d bytes (steps ++ s ∷ []) (drop (length s.line) left) h2 d2
-steps_more room h d bytes [] left h' d' s h2 d2 are some line step =
+steps_more : (room most : ℕ) (h : List Event) (d : Database) (bytes : List ℕ) (steps : List Step) (left : List ℕ) (h' : List Event) (d' : Database) (s : Step) (h2 : List Event) (d2 : Database)
+    → AreSteps room most h d bytes steps left h' d' → 0 < length left → s.line ≡ first_line left → IsStep (room - length (texts steps)) most h' d' s h2 d2
+    → AreSteps room most h d bytes (steps ++ s ∷ []) (drop (length s.line) left) h2 d2
+steps_more room most h d bytes [] left h' d' s h2 d2 are some line step =
     let whole : room - 0 ≡ room = omega arith in
-    let at_room : IsStep room h' d' s h2 d2 = subst (λ (n : ℕ). IsStep n h' d' s h2 d2) whole step in
-    let at_history : IsStep room h d' s h2 d2 = subst (λ (g : List Event). IsStep room g d' s h2 d2) are.1 at_room in
-    (omega (arith, some, ap length are.0), h2, d2, line ∙ ap first_line are.0, subst (λ (e : Database). IsStep room h e s h2 d2) are.2 at_history, (ap (drop (length s.line)) are.0, refl, refl))
-steps_more room h d bytes (x ∷ steps) left h' d' s h2 d2 are some line step =
+    let at_room : IsStep room most h' d' s h2 d2 = subst (λ (n : ℕ). IsStep n most h' d' s h2 d2) whole step in
+    let at_history : IsStep room most h d' s h2 d2 = subst (λ (g : List Event). IsStep room most g d' s h2 d2) are.1 at_room in
+    (omega (arith, some, ap length are.0), h2, d2, line ∙ ap first_line are.0, subst (λ (e : Database). IsStep room most h e s h2 d2) are.2 at_history, (ap (drop (length s.line)) are.0, refl, refl))
+steps_more room most h d bytes (x ∷ steps) left h' d' s h2 d2 are some line step =
     let less : room - length (x.shown ++ texts steps) ≡ room - length x.shown - length (texts steps) = omega (arith, length-append x.shown (texts steps)) in
-    (are.0, are.1, are.2, are.3, are.4, steps_more (room - length x.shown) are.1 are.2 (drop (length x.line) bytes) steps left h' d' s h2 d2 are.5 some line (subst (λ (n : ℕ). IsStep n h' d' s h2 d2) less step))
+    (are.0, are.1, are.2, are.3, are.4, steps_more (room - length x.shown) most are.1 are.2 (drop (length x.line) bytes) steps left h' d' s h2 d2 are.5 some line (subst (λ (n : ℕ). IsStep n most h' d' s h2 d2) less step))
 
 -- a text stands behind the texts
 written_more : (out out' before shown part : List ℕ) (n : ℕ) → out' ≡ before ++ drop (length before) out → n ≡ length before → part ≡ shown ++ drop (length shown) (drop n out') → take n out' ++ part ≡ (before ++ shown) ++ drop (length (before ++ shown)) out
@@ -70,16 +70,16 @@ texts_more : (steps : List Step) (s : Step) → texts (steps ++ s ∷ []) ≡ te
 texts_more steps s = flat_map-append (λ (t : Step). t.shown) steps (s ∷ []) ∙ ap (λ (l : List ℕ). texts steps ++ l) (append-nil s.shown)
 
 -- one line more was taken
-pub taken_more : (h : List Event) (lines : List ℕ) (old : Database) (out : List ℕ) (notes : List Done) (steps : List Step) (taken : Taken) (out' : List ℕ) (notes' : List Done) (d d' : Database) (line part : List ℕ) (s : Step) (h' : List Event) (size : ℕ)
-    → (g : HaveTaken h lines old out notes steps taken out' notes' d)
+pub taken_more : (most : ℕ) (h : List Event) (lines : List ℕ) (old : Database) (out : List ℕ) (notes : List Done) (steps : List Step) (taken : Taken) (out' : List ℕ) (notes' : List Done) (d d' : Database) (line part : List ℕ) (s : Step) (h' : List Event) (size : ℕ)
+    → (g : HaveTaken most h lines old out notes steps taken out' notes' d)
     → line ≡ first_line (drop taken.bytes lines) → taken.bytes < length lines → taken.lines < length notes
-    → s.line ≡ line → IsStep (length (drop taken.length out')) g.after d s h' d' → part ≡ s.shown ++ drop (length s.shown) (drop taken.length out')
+    → s.line ≡ line → IsStep (length (drop taken.length out')) most g.after d s h' d' → part ≡ s.shown ++ drop (length s.shown) (drop taken.length out')
     → size ≡ taken.length + length s.shown
-    → HaveTaken h lines old out notes (steps ++ s ∷ []) (record { lines = taken.lines + 1; bytes = taken.bytes + length line; length = size }) (take taken.length out' ++ part) (set notes' taken.lines s.note) d'
-taken_more h lines old out notes steps taken out' notes' d d' line part s h' size g first some low is step written more =
+    → HaveTaken most h lines old out notes (steps ++ s ∷ []) (record { lines = taken.lines + 1; bytes = taken.bytes + length line; length = size }) (take taken.length out' ++ part) (set notes' taken.lines s.note) d'
+taken_more most h lines old out notes steps taken out' notes' d d' line part s h' size g first some low is step written more =
     let same_size : length out' ≡ length out = omega (arith, ap length g.shown, length-append (texts steps) (drop (length (texts steps)) out), length-drop (length (texts steps)) out, g.fits) in
     let room : length (drop taken.length out') ≡ length out - length (texts steps) = omega (arith, length-drop taken.length out', same_size, g.size) in
-    let fit : length s.shown ≤ length (drop taken.length out') = shown_fits (length (drop taken.length out')) d' step.outcome s step.noted in
+    let fit : length s.shown ≤ length (drop taken.length out') = step_fits (length (drop taken.length out')) most g.after d s h' d' step in
     let all : texts (steps ++ s ∷ []) ≡ texts steps ++ s.shown = texts_more steps s in
     let all_size : length (texts (steps ++ s ∷ [])) ≡ length (texts steps) + length s.shown = ap length all ∙ length-append (texts steps) s.shown in
     let count : taken.lines + 1 ≡ length (steps ++ s ∷ []) = omega (arith, g.count, length_push steps s) in
@@ -89,8 +89,8 @@ taken_more h lines old out notes steps taken out' notes' d d' line part s h' siz
     let noted : set notes' taken.lines s.note ≡ (map note_of steps ++ s.note ∷ []) ++ drop (taken.lines + 1) notes = noted_more notes notes' (map note_of steps) s.note taken.lines (g.noted ∙ ap (λ (k : ℕ). map note_of steps ++ drop k notes) (sym g.count)) (omega (arith, g.count, length-map steps note_of)) low in
     record {
       after = h';
-      called = subst (λ (bytes : List ℕ). AreSteps (length out) h old lines (steps ++ s ∷ []) bytes h' d') behind (steps_more (length out) h old lines steps (drop taken.bytes lines) g.after d s h' d' g.called left (is ∙ first) (subst (λ (n : ℕ). IsStep n g.after d s h' d') room step));
-      stands = step.stands;
+      called = subst (λ (bytes : List ℕ). AreSteps (length out) most h old lines (steps ++ s ∷ []) bytes h' d') behind (steps_more (length out) most h old lines steps (drop taken.bytes lines) g.after d s h' d' g.called left (is ∙ first) (subst (λ (n : ℕ). IsStep n most g.after d s h' d') room step));
+      stands = step_stands (length (drop taken.length out')) most g.after d s h' d' g.stands step;
       fits = omega (arith, all_size, fit, room, g.fits);
       count = count;
       size = omega (arith, more, all_size, g.size);
@@ -123,10 +123,10 @@ one_last (x ∷ steps) t none [] behind s is missing = let same : x ≡ s = cc i
 one_last (x ∷ steps) t none (b ∷ before) behind s is missing = let rest : steps ++ t ∷ [] ≡ before ++ s ∷ behind = cc in one_last steps t none.1 before behind s rest missing
 
 -- what was taken by steps that end so are the calls of the lines
-pub calls_of : (h : List Event) (lines : List ℕ) (old : Database) (out : List ℕ) (notes : List Done) (steps : List Step) (taken : Taken) (out' : List ℕ) (notes' : List Done) (new : Database) (result : Result (Unit {0}) CallError)
-    → (g : HaveTaken h lines old out notes steps taken out' notes' new) → taken.bytes ≤ length lines → EndsBy g.after new (drop taken.bytes lines) steps (length notes) result → LastMissing steps result
-    → HaveBeenCalled h lines old out out' notes notes' taken result new
-calls_of h lines old out notes steps taken out' notes' new result g within ends last =
+pub calls_of : (most : ℕ) (h : List Event) (lines : List ℕ) (old : Database) (out : List ℕ) (notes : List Done) (steps : List Step) (taken : Taken) (out' : List ℕ) (notes' : List Done) (new : Database) (result : Result (Unit {0}) CallError)
+    → (g : HaveTaken most h lines old out notes steps taken out' notes' new) → taken.bytes ≤ length lines → EndsBy g.after new (drop taken.bytes lines) steps (length notes) result → LastMissing steps result
+    → HaveBeenCalled most h lines old out out' notes notes' taken result new
+calls_of most h lines old out notes steps taken out' notes' new result g within ends last =
     let bytes : taken.bytes ≡ length lines - length (drop taken.bytes lines) = omega (arith, length-drop taken.bytes lines, within) in
     record { steps = steps; left = drop taken.bytes lines; after = g.after; called = g.called; stands = g.stands; ends = ends; whole = last; counted = (λ i. record { lines = g.count i; bytes = bytes i; length = g.size i }); shown = g.shown; noted = g.noted }
 
@@ -143,76 +143,76 @@ pub room_left : (a : ℕ) (xs ys room : List ℕ) (note : Done) → length ys �
 room_left a xs ys room note kept within shown (inl missing) = absurd (shown missing)
 room_left a xs ys room note kept within shown (inr fits) = omega (arith, ap length (put_end a xs ys), length-append (take a xs) ys, length-take-le a xs within, kept, fits)
 
-line_taken : (h : List Event) (lines : List ℕ) (old : Database) (out : List ℕ) (notes : List Done) (steps : List Step) (taken : Taken) (out' : List ℕ) (notes' : List Done) (d d' : Database) (line part rest room : List ℕ) (note : Done) (size : ℕ)
-    → (g : HaveTaken h lines old out notes steps taken out' notes' d)
+line_taken : (most : ℕ) (h : List Event) (lines : List ℕ) (old : Database) (out : List ℕ) (notes : List Done) (steps : List Step) (taken : Taken) (out' : List ℕ) (notes' : List Done) (d d' : Database) (line part rest room : List ℕ) (note : Done) (size : ℕ)
+    → (g : HaveTaken most h lines old out notes steps taken out' notes' d)
     → rest ≡ drop taken.bytes lines → line ≡ first_line rest → room ≡ drop taken.length out' → taken.bytes < length lines → taken.lines < length notes
-    → (t : IsTaken g.after line d room part (Ok note) d') → size ≡ taken.length + length t.0.shown
-    → HaveTaken h lines old out notes (steps ++ t.0 ∷ []) (record { lines = taken.lines + 1; bytes = taken.bytes + length line; length = size }) (put_mid taken.length (length out' - taken.length) out' part) (set notes' taken.lines note) d'
-line_taken h lines old out notes steps taken out' notes' d d' line part rest room note size g rest_is first room_is some low t more =
+    → (t : IsTaken most g.after line d room part (Ok note) d') → size ≡ taken.length + length t.0.shown
+    → HaveTaken most h lines old out notes (steps ++ t.0 ∷ []) (record { lines = taken.lines + 1; bytes = taken.bytes + length line; length = size }) (put_mid taken.length (length out' - taken.length) out' part) (set notes' taken.lines note) d'
+line_taken most h lines old out notes steps taken out' notes' d d' line part rest room note size g rest_is first room_is some low t more =
     let next : Taken = record { lines = taken.lines + 1; bytes = taken.bytes + length line; length = size } in
-    let step : IsStep (length (drop taken.length out')) g.after d t.0 t.1 d' = subst (λ (l : List ℕ). IsStep (length l) g.after d t.0 t.1 d') room_is t.4 in
+    let step : IsStep (length (drop taken.length out')) most g.after d t.0 t.1 d' = subst (λ (l : List ℕ). IsStep (length l) most g.after d t.0 t.1 d') room_is t.4 in
     let written : part ≡ t.0.shown ++ drop (length t.0.shown) (drop taken.length out') = t.5 ∙ ap (λ (l : List ℕ). t.0.shown ++ drop (length t.0.shown) l) room_is in
-    let went : HaveTaken h lines old out notes (steps ++ t.0 ∷ []) next (take taken.length out' ++ part) (set notes' taken.lines t.0.note) d' = taken_more h lines old out notes steps taken out' notes' d d' line part t.0 t.1 size g (first ∙ ap first_line rest_is) some low t.2 step written more in
-    let noted : HaveTaken h lines old out notes (steps ++ t.0 ∷ []) next (take taken.length out' ++ part) (set notes' taken.lines note) d' = subst (λ (n : Done). HaveTaken h lines old out notes (steps ++ t.0 ∷ []) next (take taken.length out' ++ part) (set notes' taken.lines n) d') t.3 went in
-    subst (λ (o : List ℕ). HaveTaken h lines old out notes (steps ++ t.0 ∷ []) next o (set notes' taken.lines note) d') (sym (put_end taken.length out' part)) noted
+    let went : HaveTaken most h lines old out notes (steps ++ t.0 ∷ []) next (take taken.length out' ++ part) (set notes' taken.lines t.0.note) d' = taken_more most h lines old out notes steps taken out' notes' d d' line part t.0 t.1 size g (first ∙ ap first_line rest_is) some low t.2 step written more in
+    let noted : HaveTaken most h lines old out notes (steps ++ t.0 ∷ []) next (take taken.length out' ++ part) (set notes' taken.lines note) d' = subst (λ (n : Done). HaveTaken most h lines old out notes (steps ++ t.0 ∷ []) next (take taken.length out' ++ part) (set notes' taken.lines n) d') t.3 went in
+    subst (λ (o : List ℕ). HaveTaken most h lines old out notes (steps ++ t.0 ∷ []) next o (set notes' taken.lines note) d') (sym (put_end taken.length out' part)) noted
 
 -- a line whose text isn't missing was taken
-pub goes_on : (h : List Event) (lines : List ℕ) (old : Database) (out : List ℕ) (notes : List Done) (steps : List Step) (taken : Taken) (out' : List ℕ) (notes' : List Done) (d d' : Database) (line part rest room : List ℕ) (note : Done)
-    → (g : HaveTaken h lines old out notes steps taken out' notes' d) → NoneMissing steps
+pub goes_on : (most : ℕ) (h : List Event) (lines : List ℕ) (old : Database) (out : List ℕ) (notes : List Done) (steps : List Step) (taken : Taken) (out' : List ℕ) (notes' : List Done) (d d' : Database) (line part rest room : List ℕ) (note : Done)
+    → (g : HaveTaken most h lines old out notes steps taken out' notes' d) → NoneMissing steps
     → rest ≡ drop taken.bytes lines → line ≡ first_line rest → room ≡ drop taken.length out' → taken.bytes < length lines → taken.lines < length notes
-    → IsTaken g.after line d room part (Ok note) d' → ¬ (note.status ≡ 14)
-    → (steps' : List Step) × HaveTaken h lines old out notes steps' (record { lines = taken.lines + 1; bytes = taken.bytes + length line; length = taken.length + note.length }) (put_mid taken.length (length out' - taken.length) out' part) (set notes' taken.lines note) d' × NoneMissing steps'
-goes_on h lines old out notes steps taken out' notes' d d' line part rest room note g none rest_is first room_is some low t shown =
+    → IsTaken most g.after line d room part (Ok note) d' → ¬ (note.status ≡ 14)
+    → (steps' : List Step) × HaveTaken most h lines old out notes steps' (record { lines = taken.lines + 1; bytes = taken.bytes + length line; length = taken.length + note.length }) (put_mid taken.length (length out' - taken.length) out' part) (set notes' taken.lines note) d' × NoneMissing steps'
+goes_on most h lines old out notes steps taken out' notes' d d' line part rest room note g none rest_is first room_is some low t shown =
     let there : ¬ (t.0.note.status ≡ 14) = λ missing. shown (sym (ap (λ (n : Done). n.status) t.3) ∙ missing) in
-    let whole : length t.0.shown ≡ note.length = shown_whole (length room) d' t.4.outcome t.0 t.4.noted there ∙ ap (λ (n : Done). n.length) t.3 in
-    (steps ++ t.0 ∷ [], line_taken h lines old out notes steps taken out' notes' d d' line part rest room note (taken.length + note.length) g rest_is first room_is some low t (omega (arith, whole)), none_more steps t.0 none there)
+    let whole : length t.0.shown ≡ note.length = step_whole (length room) most g.after d t.0 t.1 d' t.4 there ∙ ap (λ (n : Done). n.length) t.3 in
+    (steps ++ t.0 ∷ [], line_taken most h lines old out notes steps taken out' notes' d d' line part rest room note (taken.length + note.length) g rest_is first room_is some low t (omega (arith, whole)), none_more steps t.0 none there)
 
 -- a line whose text is missing was taken, as the last one
-pub ends_missing : (h : List Event) (lines : List ℕ) (old : Database) (out : List ℕ) (notes : List Done) (steps : List Step) (taken : Taken) (out' : List ℕ) (notes' : List Done) (d d' : Database) (line part rest room : List ℕ) (note : Done)
-    → (g : HaveTaken h lines old out notes steps taken out' notes' d) → NoneMissing steps
+pub ends_missing : (most : ℕ) (h : List Event) (lines : List ℕ) (old : Database) (out : List ℕ) (notes : List Done) (steps : List Step) (taken : Taken) (out' : List ℕ) (notes' : List Done) (d d' : Database) (line part rest room : List ℕ) (note : Done)
+    → (g : HaveTaken most h lines old out notes steps taken out' notes' d) → NoneMissing steps
     → rest ≡ drop taken.bytes lines → line ≡ first_line rest → room ≡ drop taken.length out' → taken.bytes < length lines → taken.lines < length notes
-    → IsTaken g.after line d room part (Ok note) d' → note.status ≡ 14 → taken.bytes + length line ≤ length lines
-    → HaveBeenCalled h lines old out (put_mid taken.length (length out' - taken.length) out' part) notes (set notes' taken.lines note) (record { lines = taken.lines + 1; bytes = taken.bytes + length line; length = taken.length }) (Err Unwritten) d'
-ends_missing h lines old out notes steps taken out' notes' d d' line part rest room note g none rest_is first room_is some low t missing within =
+    → IsTaken most g.after line d room part (Ok note) d' → note.status ≡ 14 → taken.bytes + length line ≤ length lines
+    → HaveBeenCalled most h lines old out (put_mid taken.length (length out' - taken.length) out' part) notes (set notes' taken.lines note) (record { lines = taken.lines + 1; bytes = taken.bytes + length line; length = taken.length }) (Err Unwritten) d'
+ends_missing most h lines old out notes steps taken out' notes' d d' line part rest room note g none rest_is first room_is some low t missing within =
     let so : t.0.note.status ≡ 14 = ap (λ (n : Done). n.status) t.3 ∙ missing in
-    let nothing : length t.0.shown ≡ 0 = none_shown (length room) d' t.4.outcome t.0 t.4.noted so in
-    let went = line_taken h lines old out notes steps taken out' notes' d d' line part rest room note taken.length g rest_is first room_is some low t (omega (arith, nothing)) in
-    calls_of h lines old out notes (steps ++ t.0 ∷ []) (record { lines = taken.lines + 1; bytes = taken.bytes + length line; length = taken.length }) (put_mid taken.length (length out' - taken.length) out' part) (set notes' taken.lines note) d' (Err Unwritten) went within (steps, t.0, refl, so) (one_last steps t.0 none)
+    let nothing : length t.0.shown ≡ 0 = step_missing (length room) most g.after d t.0 t.1 d' t.4 so in
+    let went = line_taken most h lines old out notes steps taken out' notes' d d' line part rest room note taken.length g rest_is first room_is some low t (omega (arith, nothing)) in
+    calls_of most h lines old out notes (steps ++ t.0 ∷ []) (record { lines = taken.lines + 1; bytes = taken.bytes + length line; length = taken.length }) (put_mid taken.length (length out' - taken.length) out' part) (set notes' taken.lines note) d' (Err Unwritten) went within (steps, t.0, refl, so) (one_last steps t.0 none)
 
 -- no line behind them was taken
-ends_before : (h : List Event) (lines : List ℕ) (old : Database) (out : List ℕ) (notes : List Done) (steps : List Step) (taken : Taken) (out' : List ℕ) (notes' : List Done) (d d' : Database) (part room : List ℕ) (error : CallError)
-    → (g : HaveTaken h lines old out notes steps taken out' notes' d) → NoneMissing steps → room ≡ drop taken.length out' → taken.bytes ≤ length lines
+ends_before : (most : ℕ) (h : List Event) (lines : List ℕ) (old : Database) (out : List ℕ) (notes : List Done) (steps : List Step) (taken : Taken) (out' : List ℕ) (notes' : List Done) (d d' : Database) (part room : List ℕ) (error : CallError)
+    → (g : HaveTaken most h lines old out notes steps taken out' notes' d) → NoneMissing steps → room ≡ drop taken.length out' → taken.bytes ≤ length lines
     → EndsBy g.after d (drop taken.bytes lines) steps (length notes) (Err error) → part ≡ room → d' ≡ d
-    → HaveBeenCalled h lines old out (put_mid taken.length (length out' - taken.length) out' part) notes notes' taken (Err error) d'
-ends_before h lines old out notes steps taken out' notes' d d' part room error g none room_is within ends part_is same =
-    let there : HaveBeenCalled h lines old out out' notes notes' taken (Err error) d = calls_of h lines old out notes steps taken out' notes' d (Err error) g within ends (none_last steps (Err error) none) in
+    → HaveBeenCalled most h lines old out (put_mid taken.length (length out' - taken.length) out' part) notes notes' taken (Err error) d'
+ends_before most h lines old out notes steps taken out' notes' d d' part room error g none room_is within ends part_is same =
+    let there : HaveBeenCalled most h lines old out out' notes notes' taken (Err error) d = calls_of most h lines old out notes steps taken out' notes' d (Err error) g within ends (none_last steps (Err error) none) in
     let kept : out' ≡ put_mid taken.length (length out' - taken.length) out' part = sym (put_end taken.length out' part ∙ (ap (λ (l : List ℕ). take taken.length out' ++ l) (part_is ∙ room_is) ∙ take-append-drop taken.length out')) in
-    subst (λ (o : List ℕ). HaveBeenCalled h lines old out o notes notes' taken (Err error) d') kept (subst (λ (e : Database). HaveBeenCalled h lines old out out' notes notes' taken (Err error) e) (sym same) there)
+    subst (λ (o : List ℕ). HaveBeenCalled most h lines old out o notes notes' taken (Err error) d') kept (subst (λ (e : Database). HaveBeenCalled most h lines old out out' notes notes' taken (Err error) e) (sym same) there)
 
-pub ends_refused : (h : List Event) (lines : List ℕ) (old : Database) (out : List ℕ) (notes : List Done) (steps : List Step) (taken : Taken) (out' : List ℕ) (notes' : List Done) (d d' : Database) (line part rest room : List ℕ) (error : CallError)
-    → (g : HaveTaken h lines old out notes steps taken out' notes' d) → NoneMissing steps
+pub ends_refused : (most : ℕ) (h : List Event) (lines : List ℕ) (old : Database) (out : List ℕ) (notes : List Done) (steps : List Step) (taken : Taken) (out' : List ℕ) (notes' : List Done) (d d' : Database) (line part rest room : List ℕ) (error : CallError)
+    → (g : HaveTaken most h lines old out notes steps taken out' notes' d) → NoneMissing steps
     → rest ≡ drop taken.bytes lines → line ≡ first_line rest → room ≡ drop taken.length out' → taken.bytes ≤ length lines → taken.lines < length notes
-    → IsTaken g.after line d room part (Err error) d'
-    → HaveBeenCalled h lines old out (put_mid taken.length (length out' - taken.length) out' part) notes notes' taken (Err error) d'
-ends_refused h lines old out notes steps taken out' notes' d d' line part rest room NoMemory g none rest_is first room_is within low t =
-    ends_before h lines old out notes steps taken out' notes' d d' part room NoMemory g none room_is within (omega (arith, g.count, low), subst (λ (l : List ℕ). Called g.after l d (Err NoMemory) d) (first ∙ ap first_line rest_is) t.2) t.0 t.1
-ends_refused h lines old out notes steps taken out' notes' d d' line part rest room Spent g none rest_is first room_is within low t =
-    ends_before h lines old out notes steps taken out' notes' d d' part room Spent g none room_is within (omega (arith, g.count, low), subst (λ (l : List ℕ). Called g.after l d (Err Spent) d) (first ∙ ap first_line rest_is) t.2) t.0 t.1
-ends_refused h lines old out notes steps taken out' notes' d d' line part rest room (Fault f) g none rest_is first room_is within low t = absurd t
-ends_refused h lines old out notes steps taken out' notes' d d' line part rest room Unwritten g none rest_is first room_is within low t = absurd t
+    → IsTaken most g.after line d room part (Err error) d'
+    → HaveBeenCalled most h lines old out (put_mid taken.length (length out' - taken.length) out' part) notes notes' taken (Err error) d'
+ends_refused most h lines old out notes steps taken out' notes' d d' line part rest room NoMemory g none rest_is first room_is within low t =
+    ends_before most h lines old out notes steps taken out' notes' d d' part room NoMemory g none room_is within (omega (arith, g.count, low), subst (λ (l : List ℕ). IsUncalled g.after l d NoMemory) (first ∙ ap first_line rest_is) t.2) t.0 t.1
+ends_refused most h lines old out notes steps taken out' notes' d d' line part rest room Spent g none rest_is first room_is within low t =
+    ends_before most h lines old out notes steps taken out' notes' d d' part room Spent g none room_is within (omega (arith, g.count, low), subst (λ (l : List ℕ). IsUncalled g.after l d Spent) (first ∙ ap first_line rest_is) t.2) t.0 t.1
+ends_refused most h lines old out notes steps taken out' notes' d d' line part rest room (Fault f) g none rest_is first room_is within low t = absurd t
+ends_refused most h lines old out notes steps taken out' notes' d d' line part rest room Unwritten g none rest_is first room_is within low t = absurd t
 
 -- all bytes were taken
-pub ends_all : (h : List Event) (lines : List ℕ) (old : Database) (out : List ℕ) (notes : List Done) (steps : List Step) (taken : Taken) (out' : List ℕ) (notes' : List Done) (d : Database)
-    → HaveTaken h lines old out notes steps taken out' notes' d → NoneMissing steps → taken.bytes ≤ length lines → length lines ≤ taken.bytes
-    → HaveBeenCalled h lines old out out' notes notes' taken (Ok tt) d
-ends_all h lines old out notes steps taken out' notes' d g none within all =
-    calls_of h lines old out notes steps taken out' notes' d (Ok tt) g within (inl (drop_all taken.bytes lines all)) (none_last steps (Ok tt) none)
+pub ends_all : (most : ℕ) (h : List Event) (lines : List ℕ) (old : Database) (out : List ℕ) (notes : List Done) (steps : List Step) (taken : Taken) (out' : List ℕ) (notes' : List Done) (d : Database)
+    → HaveTaken most h lines old out notes steps taken out' notes' d → NoneMissing steps → taken.bytes ≤ length lines → length lines ≤ taken.bytes
+    → HaveBeenCalled most h lines old out out' notes notes' taken (Ok tt) d
+ends_all most h lines old out notes steps taken out' notes' d g none within all =
+    calls_of most h lines old out notes steps taken out' notes' d (Ok tt) g within (inl (drop_all taken.bytes lines all)) (none_last steps (Ok tt) none)
 
 -- or no note has room
-pub ends_full : (h : List Event) (lines : List ℕ) (old : Database) (out : List ℕ) (notes : List Done) (steps : List Step) (taken : Taken) (out' : List ℕ) (notes' : List Done) (d : Database)
-    → HaveTaken h lines old out notes steps taken out' notes' d → NoneMissing steps → taken.bytes ≤ length lines → length notes' ≡ length notes → length notes ≤ taken.lines
-    → HaveBeenCalled h lines old out out' notes notes' taken (Ok tt) d
-ends_full h lines old out notes steps taken out' notes' d g none within same full =
+pub ends_full : (most : ℕ) (h : List Event) (lines : List ℕ) (old : Database) (out : List ℕ) (notes : List Done) (steps : List Step) (taken : Taken) (out' : List ℕ) (notes' : List Done) (d : Database)
+    → HaveTaken most h lines old out notes steps taken out' notes' d → NoneMissing steps → taken.bytes ≤ length lines → length notes' ≡ length notes → length notes ≤ taken.lines
+    → HaveBeenCalled most h lines old out out' notes notes' taken (Ok tt) d
+ends_full most h lines old out notes steps taken out' notes' d g none within same full =
     let noted : length (map note_of steps) + length (drop (length steps) notes) ≡ length notes = sym (length-append (map note_of steps) (drop (length steps) notes)) ∙ (sym (ap length g.noted) ∙ same) in
     let all : length steps ≡ length notes = omega (arith, noted, length-map steps note_of, length-drop (length steps) notes, g.count, full) in
-    calls_of h lines old out notes steps taken out' notes' d (Ok tt) g within (inr all) (none_last steps (Ok tt) none)
+    calls_of most h lines old out notes steps taken out' notes' d (Ok tt) g within (inr all) (none_last steps (Ok tt) none)

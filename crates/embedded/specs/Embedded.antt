@@ -67,6 +67,20 @@ Called h line old (Err (Fault f)) new = (new ≡ old) × (command_at Two table 6
 Called h line old (Err NoMemory) new = (new ≡ old) × WantsMemory (verb_at Two table 64 line)
 Called h line old (Err Spent) new = (new ≡ old) × (length h ≡ 18446744073709551615) × ((x : ℕ × Cmd) × (command_at Two table 64 line ≡ Ok x))
 
+-- why no command is read from a line
+abbrev pub IsReadError : List ℕ → CallError → Type 0
+IsReadError line (Fault f) = command_at Two table 64 line ≡ Err f
+IsReadError line NoMemory = WantsMemory (verb_at Two table 64 line)
+IsReadError line Spent = ⊥
+IsReadError line Unwritten = ⊥
+
+-- it is no such error
+abbrev pub IsNoReadError : CallError → Type 0
+IsNoReadError (Fault f) = ⊥
+IsNoReadError NoMemory = ⊥
+IsNoReadError Spent = Unit {0}
+IsNoReadError Unwritten = Unit {0}
+
 -- the database holds an event of a seat's command after h, and has none of its text
 pub record HasStepped (h : List Event) (by : ℕ) (cmd : Cmd) (new : Database) : Type 0 where
   pub event : Event

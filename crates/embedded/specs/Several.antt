@@ -1,12 +1,20 @@
 -- The calls of several lines, one after another (this project's own).
-use Rattle.std.specs.Prelude.{ℕ, List, [], ◌∷◌, ◌++◌, ◌==◌, ◌≡◌, ◌≤◌, ◌<◌, ◌-◌, ◌⊎◌, length, map, drop, if◌then◌else◌, Result, Ok, Err}
+use Rattle.std.specs.Prelude.{ℕ, List, [], ◌∷◌, ◌++◌, ◌==◌, ◌≡◌, ◌≤◌, ◌<◌, ◌-◌, ◌⊎◌, ◌&&◌, Bool, true, false, not, is_some, nat_lt, length, map, drop, if◌then◌else◌, Result, Ok, Err}
 use Rattle.std.specs.List.{flat_map}
 use Rattle.spans.specs.declared.calls.events.Event.{Event}
+use Rattle.spans.specs.Effects.{Effect, effects_of}
+use Rattle.spans.specs.Kept.{place_of}
+use Rattle.spans.specs.declared.calls.commands.Cmd.{Cmd}
+use Rattle.spans.specs.declared.calls.commands.Cmd.TheVariants as command
+use Rattle.engine.specs.Room.{poll_count, scan_end}
+use Rattle.text_format.specs.declared.Format.TheVariants.{Two}
 use Rattle.word_lines.specs.Faults.{code_of}
+use Rattle.word_lines.specs.Reading.{command_at}
+use Rattle.word_lines.specs.Table.{table}
 use Rattle.embedded.specs.Embedded.{StandsFor, Called, last_of, text_of}
 use Rattle.embedded.specs.declared.database.Database.{Database}
 use Rattle.embedded.specs.declared.database.CallError.{CallError}
-use Rattle.embedded.specs.declared.database.CallError.TheVariants.{Fault, Unwritten}
+use Rattle.embedded.specs.declared.database.CallError.TheVariants.{Fault, NoMemory, Unwritten}
 use Rattle.embedded.specs.declared.several.Done.{Done}
 use Rattle.embedded.specs.declared.several.Taken.{Taken}
 
@@ -14,6 +22,17 @@ use Rattle.embedded.specs.declared.several.Taken.{Taken}
 unfoldable pub first_line : List ℕ → List ℕ
 first_line [] = []
 first_line (b ∷ bytes) = if b == 10 then b ∷ [] else b ∷ first_line bytes
+
+-- what a look tells of a command after p: its answer would have more than so many bytes of rows or messages
+abbrev pub is_long : List Effect → (most : ℕ) → Cmd → Bool
+is_long p most (command.Scan t span) = is_some (scan_end p t span 18446744073709551615 most)
+is_long p most (command.ScanAt t span) = is_some (scan_end p t span 18446744073709551615 most)
+is_long p most (command.Poll f max) = is_some (place_of p f) && nat_lt (poll_count p f max most) max
+is_long p most _ = false
+
+-- more than is let through: 18446744073709551615 lets all through
+abbrev pub is_too_long : List Effect → (most : ℕ) → Cmd → Bool
+is_too_long p most cmd = not (most == 18446744073709551615) && is_long p most cmd
 
 -- a history goes on by an event, where a call was made that ended so
 abbrev pub GoesOn : List Event → Result (Unit {0}) CallError → List Event → Type 0
@@ -37,21 +56,60 @@ IsNoted room d (Err Unwritten) s = (s.note ≡ record { length = 0; status = 14 
 IsNoted room d (Err _) s = ⊥
 
 -- one line's call, from h to h', where there is room for so much of its text
-pub record IsStep (room : ℕ) (h : List Event) (d : Database) (s : Step) (h' : List Event) (d' : Database) : Type 0 where
+pub record IsCall (room : ℕ) (h : List Event) (d : Database) (s : Step) (h' : List Event) (d' : Database) : Type 0 where
   pub outcome : Result (Unit {0}) CallError
   pub called : Called h s.line d outcome d'
   pub noted : IsNoted room d' outcome s
   pub stands : StandsFor d' h'
   pub grown : GoesOn h outcome h'
 
+-- a line's command, where it has one, has no answer that is too long
+abbrev pub IsLetThrough : (most : ℕ) → List Event → (line : List ℕ) → Type 0
+IsLetThrough most h line = (x : ℕ × Cmd) → command_at Two table 64 line ≡ Ok x → is_too_long (effects_of h) most x.1 ≡ false
+
+-- a line whose answer would be too long makes no call, and is noted so
+pub record IsPassedOver (most : ℕ) (h : List Event) (d : Database) (s : Step) (h' : List Event) (d' : Database) : Type 0 where
+  pub read : ℕ × Cmd
+  pub is : command_at Two table 64 s.line ≡ Ok read
+  pub long : is_too_long (effects_of h) most read.1 ≡ true
+  pub note : s.note ≡ record { length = 0; status = 25 }
+  pub shown : s.shown ≡ []
+  pub database : d' ≡ d
+  pub history : h' ≡ h
+
+-- a line that was taken makes its call, or is passed over
+abbrev pub IsStep : (room most : ℕ) → List Event → Database → Step → List Event → Database → Type 0
+IsStep room most h d s h' d' = (IsCall room h d s h' d' × IsLetThrough most h s.line) ⊎ IsPassedOver most h d s h' d'
+
+-- the command is a poll
+abbrev pub IsPollCmd : Cmd → Type 0
+IsPollCmd cmd = (f : ℕ) × (max : ℕ) × (cmd ≡ command.Poll f max)
+
+-- a line can't be called: as by itself, or where it is a poll's, and the look at its messages finds no memory
+abbrev pub IsPollLine : List ℕ → Type 0
+IsPollLine line = (x : ℕ × Cmd) × (command_at Two table 64 line ≡ Ok x) × IsPollCmd x.1
+
+abbrev pub IsUncalled : List Event → List ℕ → Database → CallError → Type 0
+IsUncalled h line d NoMemory = Called h line d (Err NoMemory) d ⊎ IsPollLine line
+IsUncalled h line d error = Called h line d (Err error) d
+
 -- a line was taken by a step, whose text stands at the front of the room; or it can't be called, and all is as it was
-abbrev pub IsTaken : List Event → List ℕ → (old : Database) (out out' : List ℕ) → Result Done CallError → Database → Type 0
-IsTaken h line old out out' (Ok note) new =
-    (s : Step) × (h' : List Event) × (s.line ≡ line) × (s.note ≡ note) × IsStep (length out) h old s h' new
+abbrev pub IsTaken : (most : ℕ) → List Event → List ℕ → (old : Database) (out out' : List ℕ) → Result Done CallError → Database → Type 0
+IsTaken most h line old out out' (Ok note) new =
+    (s : Step) × (h' : List Event) × (s.line ≡ line) × (s.note ≡ note) × IsStep (length out) most h old s h' new
     × (out' ≡ s.shown ++ drop (length s.shown) out)
-IsTaken h line old out out' (Err (Fault f)) new = ⊥
-IsTaken h line old out out' (Err Unwritten) new = ⊥
-IsTaken h line old out out' (Err error) new = (out' ≡ out) × (new ≡ old) × Called h line old (Err error) old
+IsTaken most h line old out out' (Err (Fault f)) new = ⊥
+IsTaken most h line old out out' (Err Unwritten) new = ⊥
+IsTaken most h line old out out' (Err error) new = (out' ≡ out) × (new ≡ old) × IsUncalled h line old error
+
+-- the same of a line that makes its call
+abbrev pub IsTakenBy : List Event → List ℕ → (old : Database) (out out' : List ℕ) → Result Done CallError → Database → Type 0
+IsTakenBy h line old out out' (Ok note) new =
+    (s : Step) × (h' : List Event) × (s.line ≡ line) × (s.note ≡ note) × IsCall (length out) h old s h' new
+    × (out' ≡ s.shown ++ drop (length s.shown) out)
+IsTakenBy h line old out out' (Err (Fault f)) new = ⊥
+IsTakenBy h line old out out' (Err Unwritten) new = ⊥
+IsTakenBy h line old out out' (Err error) new = (out' ≡ out) × (new ≡ old) × Called h line old (Err error) old
 
 -- a text stands at the front of the room, where there is room for it; else none does
 abbrev pub IsShown : (text out out' : List ℕ) → Done → Type 0
@@ -60,25 +118,25 @@ IsShown text out out' note =
     ⊎ ((length out < length text) × (note ≡ record { length = length text; status = 14 }) × (out' ≡ out))
 
 -- the lines' calls, one after another: where bytes are left, the first line of them is taken
-abbrev pub AreSteps : (room : ℕ) → List Event → Database → List ℕ → List Step → List ℕ → List Event → Database → Type 0
-AreSteps room h d bytes [] left h' d' = (left ≡ bytes) × (h' ≡ h) × (d' ≡ d)
-AreSteps room h d bytes (s ∷ steps) left h' d' =
-    (0 < length bytes) × (h1 : List Event) × (d1 : Database) × (s.line ≡ first_line bytes) × IsStep room h d s h1 d1
-    × AreSteps (room - length s.shown) h1 d1 (drop (length s.line) bytes) steps left h' d'
+abbrev pub AreSteps : (room most : ℕ) → List Event → Database → List ℕ → List Step → List ℕ → List Event → Database → Type 0
+AreSteps room most h d bytes [] left h' d' = (left ≡ bytes) × (h' ≡ h) × (d' ≡ d)
+AreSteps room most h d bytes (s ∷ steps) left h' d' =
+    (0 < length bytes) × (h1 : List Event) × (d1 : Database) × (s.line ≡ first_line bytes) × IsStep room most h d s h1 d1
+    × AreSteps (room - length s.shown) most h1 d1 (drop (length s.line) bytes) steps left h' d'
 
 -- why no further line was taken: none is left, or no room for its note; or the last one's text wasn't shown; or the next one's note has room, and it can't be called
 abbrev pub EndsBy : List Event → Database → (left : List ℕ) → (steps : List Step) → (room : ℕ) → Result (Unit {0}) CallError → Type 0
 EndsBy h d left steps room (Ok _) = (left ≡ []) ⊎ (length steps ≡ room)
 EndsBy h d left steps room (Err Unwritten) = (before : List Step) × (s : Step) × (steps ≡ before ++ s ∷ []) × (s.note.status ≡ 14)
 EndsBy h d left steps room (Err (Fault f)) = ⊥
-EndsBy h d left steps room (Err error) = (length steps < room) × Called h (first_line left) d (Err error) d
+EndsBy h d left steps room (Err error) = (length steps < room) × IsUncalled h (first_line left) d error
 
 -- the calls of several lines on a database that holds h: what was noted and shown, how far they were taken, and why no further
-pub record HaveBeenCalled (h : List Event) (lines : List ℕ) (old : Database) (out out' : List ℕ) (notes notes' : List Done) (taken : Taken) (result : Result (Unit {0}) CallError) (new : Database) : Type 0 where
+pub record HaveBeenCalled (most : ℕ) (h : List Event) (lines : List ℕ) (old : Database) (out out' : List ℕ) (notes notes' : List Done) (taken : Taken) (result : Result (Unit {0}) CallError) (new : Database) : Type 0 where
   pub steps : List Step
   pub left : List ℕ
   pub after : List Event
-  pub called : AreSteps (length out) h old lines steps left after new
+  pub called : AreSteps (length out) most h old lines steps left after new
   pub stands : StandsFor new after
   pub ends : EndsBy after new left steps (length notes) result
   -- only the last text may be missing, and then that is told

@@ -1,18 +1,20 @@
 //! The database, with the last event that was made.
 
-ghost use Rattle.std.specs.Prelude.{◌≡◌, ◌≤◌, List, ◌∷◌, [], Some, IfErr, OnOk, OnErr};
+ghost use Rattle.std.specs.Prelude.{◌≡◌, ◌<◌, ◌≤◌, List, ◌∷◌, [], Ok, Some, IfErr, IfOk, OnOk, OnErr};
 ghost use Rattle.spans.specs.declared.calls.events.Event.{Event};
 ghost use Rattle.text_format.specs.declared.Format.TheVariants.{Two};
+ghost use Rattle.word_lines.specs.Commands.{command_line};
+ghost use Rattle.word_lines.specs.Reading.{command_at};
 ghost use Rattle.word_lines.specs.Memory.{WantsMemory, verb_at};
 ghost use Rattle.word_lines.specs.Table.{table};
 ghost use Rattle.embedded.specs.declared.database.CallError.TheVariants.{NoMemory};
-ghost use Rattle.embedded.specs.Embedded.{StandsFor, HasLast, IsWritten, IsUnwritten, Called, last_of, kept_text};
+ghost use Rattle.embedded.specs.Embedded.{StandsFor, HasLast, IsNoReadError, IsReadError, IsWritten, IsUnwritten, Called, last_of, kept_text};
 ghost use Rattle.json_lines.specs.Writing.{Copied};
 
 use crate::typed::NoPosition;
 use engine::Engine;
 use json_lines::buffer::copy_front;
-use spans::calls::Event;
+use spans::calls::{Cmd, Event};
 use spans::limits::MAX_SEATS;
 use std::alloc::{AllocError, Global};
 use text_format::Format;
@@ -76,11 +78,34 @@ impl Database {
         // Memory is wanted only for the name of a command with a key, a value or a span.
         ensures memory { IfErr result (λ e. e ≡ NoMemory → WantsMemory (verb_at Two table 64 line.now)) }
     {
-        let (seat, cmd) = match read_command(self.alloc, line, MAX_SEATS, Format::Two) {
-            Ok(read) => read,
-            Err(ReadError::Fault(fault)) => return Err(CallError::Fault(fault)),
-            Err(ReadError::NoMemory) => return Err(CallError::NoMemory),
-        };
+        match self.read(line) {
+            Ok((seat, cmd)) => self.call_command(line, seat, cmd),
+            Err(error) => Err(error),
+        }
+    }
+
+    /// The seat and the command of a line.
+    pub(crate) fn read(&self, line: &[u8]) -> Result<(u8, Cmd), CallError>
+        ensures read { IfOk result (λ x. command_at Two table 64 line.now ≡ Ok (x.0, x.1)) }
+        ensures spelled { IfOk result (λ x. (line.now ≡ command_line x.0 x.1) × (x.0 < 64)) }
+        ensures fault { IfErr result (IsReadError line.now) }
+    {
+        match read_command(self.alloc, line, MAX_SEATS, Format::Two) {
+            Ok(read) => Ok(read),
+            Err(ReadError::Fault(fault)) => Err(CallError::Fault(fault)),
+            Err(ReadError::NoMemory) => Err(CallError::NoMemory),
+        }
+    }
+
+    /// Makes the call of a line whose seat and command these are.
+    pub(crate) fn call_command(&mut self, line: &[u8], seat: u8, cmd: Cmd) -> Result<(), CallError>
+        requires seat { seat < 64 }
+        requires read { command_at Two table 64 line.now ≡ Ok (seat, cmd) }
+        requires spelled { line.now ≡ command_line seat cmd }
+        ensures called { (h : List Event) → StandsFor self.old h → Called h line.now self.old result self.new }
+        ensures made { IfErr result IsNoReadError }
+    {
+        let _line = line;
         match self.make(seat, cmd) {
             Ok(()) => {}
             Err(NoPosition) => return Err(CallError::Spent),

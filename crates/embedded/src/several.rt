@@ -6,18 +6,31 @@
 //! 0 begin 10\n                  0, 24 bytes            0 0 begin 10 => started\n
 //! 0 put 10 a\n                  1 wordcount, 0 bytes   (the line is faulty, and the next one is taken)
 //! 0 put 10 a 1\n                0, 26 bytes            1 0 put 10 a 1 => written\n
+//! 0 scan 10 - -\n               25, 0 bytes            (more than 18 bytes of rows, where 18 are let through)
 //! ```
 
-ghost use Rattle.std.specs.Prelude.{◌≡◌, ◌≤◌, ◌⊎◌, List, length, IfOk};
+ghost use Rattle.std.specs.Prelude.{◌≡◌, ◌<◌, ◌≤◌, ◌⊎◌, List, Ok, false, length, IfErr, IfOk, OnErr};
+ghost use Rattle.spans.specs.Effects.{effects_of};
+ghost use Rattle.spans.specs.declared.calls.commands.Cmd.TheVariants.{Poll, Scan};
 ghost use Rattle.spans.specs.declared.calls.events.Event.{Event};
 ghost use Rattle.embedded.specs.Embedded.{StandsFor, kept_text};
-ghost use Rattle.embedded.specs.Several.{HaveBeenCalled, IsTaken, IsShown, first_line};
+ghost use Rattle.text_format.specs.declared.Format.TheVariants.{Two};
+ghost use Rattle.word_lines.specs.Commands.{command_line};
+ghost use Rattle.word_lines.specs.Reading.{command_at};
+ghost use Rattle.word_lines.specs.Table.{table};
+ghost use Rattle.embedded.specs.Several.{HaveBeenCalled, IsPollCmd, IsTaken, IsTakenBy, IsShown, first_line, is_long, is_too_long};
 
 use crate::database::{CallError, Database};
 use memchr::memchr;
+use spans::calls::Cmd;
+use spans::span::Span;
+use std::alloc::AllocError;
 
 /// The status of a line whose call was made, and whose text isn't shown.
 const UNSHOWN: u8 = 14;
+
+/// The status of a line whose answer would be too long.
+const TOO_LONG: u8 = 25;
 
 /// What became of one line of several.
 #[repr(C)]
@@ -26,7 +39,7 @@ pub struct Done {
     /// How many bytes its event's text has, 0 where no call was made or the text found no memory.
     pub length: usize,
     /// 0 where its call was made and its text shown; 1 to 9 its fault by its code; 14 where its call was made and its
-    /// text not shown.
+    /// text not shown; 25 where its answer would be too long, and no call was made.
     pub status: u8,
 }
 
@@ -45,7 +58,8 @@ pub struct Taken {
 impl Database {
     /// Makes the calls of lines, one after another, shows their texts one behind another, and notes each line.
     ///
-    /// A faulty line is noted, and the next one taken. No further line is taken where none is left, where there is no
+    /// A faulty line is noted, and the next one taken; so is a scan or a poll whose answer would have more than `most`
+    /// bytes of rows or messages, where `most` is not the greatest number. No further line is taken where none is left, where there is no
     /// room for a note, behind a call whose text found no room or no memory (`Unwritten`: [`Database::write`] and
     /// [`Database::copy_text`] show it), and before a line that finds no memory or no position.
     pub fn call_lines(
@@ -53,8 +67,9 @@ impl Database {
         lines: &[u8],
         out: &mut [u8],
         notes: &mut [Done],
+        most: u64,
     ) -> (Taken, Result<(), CallError>)
-        ensures { (h : List Event) → StandsFor self.old h → HaveBeenCalled h lines.now self.old out.old out.new notes.old notes.new result.0 result.1 self.new }
+        ensures { (h : List Event) → StandsFor self.old h → HaveBeenCalled most h lines.now self.old out.old out.new notes.old notes.new result.0 result.1 self.new }
     {
         let mut taken = Taken {
             lines: 0,
@@ -63,7 +78,7 @@ impl Database {
         };
         while taken.lines < notes.len() && taken.bytes < lines.len() {
             let line = first_line(&lines[taken.bytes..]);
-            let done = match self.take_line(line, &mut out[taken.length..]) {
+            let done = match self.take_line(line, &mut out[taken.length..], most) {
                 Ok(done) => done,
                 Err(error) => return (taken, Err(error)),
             };
@@ -80,22 +95,100 @@ impl Database {
 
     /// Makes the call of one line, shows its text, and tells what is noted of it. A line that finds no memory or no
     /// position isn't taken, and all is as it was.
-    fn take_line(&mut self, line: &[u8], out: &mut [u8]) -> Result<Done, CallError>
-        ensures taken { (h : List Event) → StandsFor self.old h → IsTaken h line.now self.old out.old out.new result self.new }
+    fn take_line(&mut self, line: &[u8], out: &mut [u8], most: u64) -> Result<Done, CallError>
+        ensures taken { (h : List Event) → StandsFor self.old h → IsTaken most h line.now self.old out.old out.new result self.new }
         ensures room { IfOk result (λ done. (done.status ≡ 14) ⊎ (done.length ≤ length out.old)) }
     {
-        match self.call(line) {
-            Ok(()) => Ok(self.show(out)),
+        match self.read(line) {
+            Ok((seat, cmd)) => self.take_command(line, seat, cmd, out, most),
             Err(CallError::Fault(fault)) => Ok(Done {
                 length: 0,
                 status: fault.code(),
             }),
+            Err(error) => Err(error),
+        }
+    }
+
+    /// The same of a line whose command was read.
+    fn take_command(
+        &mut self,
+        line: &[u8],
+        seat: u8,
+        cmd: Cmd,
+        out: &mut [u8],
+        most: u64,
+    ) -> Result<Done, CallError>
+        requires seat { seat < 64 }
+        requires read { command_at Two table 64 line.now ≡ Ok (seat, cmd) }
+        requires spelled { line.now ≡ command_line seat cmd }
+        ensures taken { (h : List Event) → StandsFor self.old h → IsTaken most h line.now self.old out.old out.new result self.new }
+        ensures room { IfOk result (λ done. (done.status ≡ 14) ⊎ (done.length ≤ length out.old)) }
+    {
+        match self.is_too_long(&cmd, most) {
+            Err(_) => Err(CallError::NoMemory),
+            Ok(true) => Ok(Done {
+                length: 0,
+                status: TOO_LONG,
+            }),
+            Ok(false) => self.take_call(line, seat, cmd, out),
+        }
+    }
+
+    /// The same of one whose answer isn't too long.
+    fn take_call(
+        &mut self,
+        line: &[u8],
+        seat: u8,
+        cmd: Cmd,
+        out: &mut [u8],
+    ) -> Result<Done, CallError>
+        requires seat { seat < 64 }
+        requires read { command_at Two table 64 line.now ≡ Ok (seat, cmd) }
+        requires spelled { line.now ≡ command_line seat cmd }
+        ensures taken { (h : List Event) → StandsFor self.old h → IsTakenBy h line.now self.old out.old out.new result self.new }
+        ensures room { IfOk result (λ done. (done.status ≡ 14) ⊎ (done.length ≤ length out.old)) }
+    {
+        match self.call_command(line, seat, cmd) {
+            Ok(()) => Ok(self.show(out)),
             Err(CallError::Unwritten) => Ok(Done {
                 length: 0,
                 status: UNSHOWN,
             }),
             Err(error) => Err(error),
         }
+    }
+
+    /// Whether the answer to a command would have more than `most` bytes of rows or messages, unless that is the greatest
+    /// number. Only a look at messages takes memory.
+    fn is_too_long(&self, cmd: &Cmd, most: u64) -> Result<bool, AllocError>
+        ensures long { (h : List Event) → StandsFor self.now h → IfOk result (λ long. is_too_long (effects_of h) most cmd.now ≡ long) }
+        ensures memory { OnErr result (IsPollCmd cmd.now) }
+    {
+        if most == u64::MAX {
+            return Ok(false);
+        }
+        match cmd {
+            Cmd::Scan { ts, span } => Ok(self.is_scan_long(*ts, span, most)),
+            Cmd::ScanAt { t, span } => Ok(self.is_scan_long(*t, span, most)),
+            Cmd::Poll { feed, max } => self.is_poll_long(*feed, *max, most),
+            _ => Ok(false),
+        }
+    }
+
+    fn is_scan_long(&self, ts: u64, span: &Span, most: u64) -> bool
+        ensures { (h : List Event) → StandsFor self.now h → result ≡ is_long (effects_of h) most (Scan ts span.now) }
+    {
+        self.engine.scan_end(ts, span, u64::MAX, most).is_some()
+    }
+
+    fn is_poll_long(&self, feed: u64, max: u64, most: u64) -> Result<bool, AllocError>
+        ensures { (h : List Event) → StandsFor self.now h → IfOk result (λ long. long ≡ is_long (effects_of h) most (Poll feed max)) }
+    {
+        let Some(_) = self.engine.behind(feed) else {
+            return Ok(false);
+        };
+        let count = self.engine.poll_count(feed, max, most)?;
+        Ok(count < max)
     }
 
     /// Shows the last event's text where there is room for all of it, and tells what is noted of its line.

@@ -9,7 +9,7 @@ abbrev pub invariant-loop-taken : goal.invariant-loop-taken
 invariant-loop-taken l = record {
   bytes : l.taken.bytes ≤ length l.lines;
   room : l.taken.length ≤ length l.out;
-  going : (h : List Event) → StandsFor l.initial.self h → (steps : List Step) × HaveTaken h l.lines l.initial.self l.initial.out l.initial.notes steps l.taken l.out l.notes l.self × NoneMissing steps;
+  going : (h : List Event) → StandsFor l.initial.self h → (steps : List Step) × HaveTaken l.most h l.lines l.initial.self l.initial.out l.initial.notes steps l.taken l.out l.notes l.self × NoneMissing steps;
 }
 
 abbrev pub decreases-loop-taken : goal.decreases-loop-taken
