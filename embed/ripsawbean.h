@@ -100,7 +100,10 @@ enum {
     RIPSAWBEAN_OUTSIDESPAN = 20,  // a row whose key lies outside the span
     RIPSAWBEAN_RESOLVEDBACK = 21, // a resolved timestamp at or below the last one, or below the last row
     RIPSAWBEAN_NOFEED = 22,       // the line's command opens no feed, or opens it above RIPSAWBEAN_MAX_TIMESTAMP
-    RIPSAWBEAN_NOVALUE = 23       // the key has no value
+    RIPSAWBEAN_NOVALUE = 23,      // the key has no value
+
+    // By a note of ripsawbean_calls alone.
+    RIPSAWBEAN_ANSWERTOOLONG = 25 // the answer would have more bytes than are let through: no call was made
 };
 
 // Opens a closed handle on a new and empty database, of which each feed keeps up to `ring` rows at hand. No answer
@@ -174,9 +177,9 @@ enum {
     RIPSAWBEAN_ANSWER_ABORTED = 6,
     RIPSAWBEAN_ANSWER_CLOSED = 7,   // number: the closed timestamp
     RIPSAWBEAN_ANSWER_MESSAGES = 8, // number: how many
+    RIPSAWBEAN_ANSWER_ROWS = 9,     // number: how many
 
     // By a line alone, as ripsawbean_last tells them: no typed call has them.
-    RIPSAWBEAN_ANSWER_ROWS = 9,       // number: how many
     RIPSAWBEAN_ANSWER_PROTECTED = 10, // number: the protection's
     RIPSAWBEAN_ANSWER_RELEASED = 11,
     RIPSAWBEAN_ANSWER_COLLECTED = 12, // number: the horizon; other: how many versions were dropped
@@ -245,13 +248,52 @@ uint8_t ripsawbean_read_at(ripsawbean *db, uint8_t seat, uint64_t timestamp, con
 uint8_t ripsawbean_poll(ripsawbean *db, uint8_t seat, uint64_t feed, uint64_t most, uint8_t *out, size_t room, size_t *length,
                         ripsawbean_answer *answer);
 
-// Shows the bytes of the last event's answer again, any number of times, also where a line made its call: a value, or
-// messages. It makes no call.
+// Shows the bytes of the last event's answer again, any number of times, also where a line made its call: a value,
+// messages, or the rows of a scan and its end. It makes no call.
 //
 //     RIPSAWBEAN_OK         *length is their whole length, 0 where there are none; out as for a value
-//     RIPSAWBEAN_UNWRITTEN  there is no memory for messages; *length is 0 and out is as it was. They may be asked for again
+//     RIPSAWBEAN_UNWRITTEN  there is no memory for messages or rows; *length is 0 and out is as it was. They may be asked
+//                           for again
 //     RIPSAWBEAN_CLOSED     *length is 0 and out is as it was
 uint8_t ripsawbean_bytes(ripsawbean *db, uint8_t *out, size_t room, size_t *length);
+
+// ---- ANSWERS WITH A BOUND. A row, or a message, has the bytes of its key and its value, and 17 more.
+//
+//     ripsawbean_scan(&db, 0, 10, low, low_length, low, 0, 0, 1000, sizeof out, out, sizeof out, &length, &answer);
+//     // rows are read by ripsawbean_read_message; where a message of kind RIPSAWBEAN_MESSAGE_END stands behind them, its
+//     // key is the low bound of the next scan
+
+#define RIPSAWBEAN_MAX_ROW 65809 // bytes of a row of the greatest size: with less room a scan may end at its first key
+
+// Reads the keys of a span in a transaction, or at a closed timestamp (the commands "scan" and "scanat"), as far as their
+// rows find room: at most `rows` rows, of at most `bytes` bytes together. The event is the scan of that beginning of the
+// span. `low` of no bytes is no low bound; where has_high is 0 there is no high one, and `high` isn't looked at.
+//
+// Rows are shown as messages of kind RIPSAWBEAN_MESSAGE_ROW whose timestamp is the scan's. Behind them stands a message of
+// kind RIPSAWBEAN_MESSAGE_END whose key, of up to 257 bytes, is the high bound of the event's span, unless that has none.
+// Where it isn't the caller's own bound, rows are left: the next scan goes on there.
+//
+//     RIPSAWBEAN_OK         the call was made, and answer says what came of it. *length is the whole length of the rows and
+//                           their end; out as for a value. ripsawbean_bytes shows them again
+//     RIPSAWBEAN_UNWRITTEN  the call was made, and answer says so; its rows found no memory. *length is 0 and out is as it was.
+//                           ripsawbean_bytes tries again
+//     RIPSAWBEAN_KEYLENGTH  a bound has more than 257 bytes, or the high one has none; the seat is tested before
+//     RIPSAWBEAN_NOMEMORY   there was no memory for a bound
+//     RIPSAWBEAN_SESSION, RIPSAWBEAN_SPENT, RIPSAWBEAN_CLOSED
+//
+// After all but the first two no call was made, and answer is all 0; *length is 0 and out is as it was.
+uint8_t ripsawbean_scan(ripsawbean *db, uint8_t seat, uint64_t timestamp, const uint8_t *low, size_t low_length, const uint8_t *high,
+                        size_t high_length, uint8_t has_high, uint64_t rows, uint64_t bytes, uint8_t *out, size_t room, size_t *length,
+                        ripsawbean_answer *answer);
+uint8_t ripsawbean_scan_at(ripsawbean *db, uint8_t seat, uint64_t timestamp, const uint8_t *low, size_t low_length, const uint8_t *high,
+                           size_t high_length, uint8_t has_high, uint64_t rows, uint64_t bytes, uint8_t *out, size_t room, size_t *length,
+                           ripsawbean_answer *answer);
+
+// As ripsawbean_poll, but that the messages have at most `bytes` bytes together. The event is the poll of so many as find
+// room, and of `most` where all do. RIPSAWBEAN_NOMEMORY: there was no memory for the messages that were looked at, and no
+// call was made.
+uint8_t ripsawbean_poll_within(ripsawbean *db, uint8_t seat, uint64_t feed, uint64_t most, uint64_t bytes, uint8_t *out, size_t room,
+                               size_t *length, ripsawbean_answer *answer);
 
 // The last event in numbers, so that whoever made its call by a line needn't read its text.
 typedef struct {
@@ -295,9 +337,9 @@ uint8_t ripsawbean_last(ripsawbean *db, ripsawbean_record *record);
 // A message, read where it stands.
 typedef struct {
     uint8_t kind;              // RIPSAWBEAN_MESSAGE_..
-    uint64_t timestamp;        // resolved, or of the row's transaction
-    const uint8_t *key;        // of a row
-    size_t key_length;         // 1 to 256, or 0 where there is none
+    uint64_t timestamp;        // resolved, or of the row's transaction, or of the scan
+    const uint8_t *key;        // of a row, or a scan's end
+    size_t key_length;         // 1 to 256, of an end up to 257, or 0 where there is none
     const uint8_t *value;      // of a row that is no delete
     size_t value_length;       // 0 to 65536
 } ripsawbean_message;
@@ -306,6 +348,7 @@ enum {
     RIPSAWBEAN_MESSAGE_RESOLVED = 0,
     RIPSAWBEAN_MESSAGE_ROW = 1,
     RIPSAWBEAN_MESSAGE_DELETE = 2,
+    RIPSAWBEAN_MESSAGE_END = 3,   // where a scan ended: its key is that bound
     RIPSAWBEAN_MESSAGE_HEAD = 17 // bytes before the key
 };
 
@@ -336,13 +379,14 @@ static inline size_t ripsawbean_read_message(const uint8_t *bytes, size_t length
 //     ripsawbean_done notes[2];
 //     ripsawbean_taken taken;
 //     const char *lines = "0 begin 10\n0 begin\n";
-//     ripsawbean_calls(&db, (const uint8_t *)lines, strlen(lines), out, sizeof out, notes, 2, &taken);   // RIPSAWBEAN_OK
+//     ripsawbean_calls(&db, (const uint8_t *)lines, strlen(lines), out, sizeof out, notes, 2, UINT64_MAX, &taken);   // RIPSAWBEAN_OK
 //     // taken: 2 lines, 19 bytes, 24 bytes of texts; notes: {24, RIPSAWBEAN_OK}, {0, RIPSAWBEAN_WORDCOUNT}
 
 // What became of one line.
 typedef struct {
     size_t length;  // of its event's text; 0 where no call was made, or the text found no memory
-    uint8_t status; // RIPSAWBEAN_OK, its fault, or RIPSAWBEAN_UNWRITTEN where its call was made and its text isn't shown
+    uint8_t status; // RIPSAWBEAN_OK, its fault, RIPSAWBEAN_UNWRITTEN where its call was made and its text isn't shown, or
+                    // RIPSAWBEAN_ANSWERTOOLONG
 } ripsawbean_done;
 
 // How far the lines were taken.
@@ -353,7 +397,8 @@ typedef struct {
 } ripsawbean_taken;
 
 // Makes the calls of lines, one after another, each up to its newline, and shows their texts, one behind another. A
-// faulty line makes no call, and the next one is taken; it ends nothing. The texts stand in the first taken->length
+// faulty line makes no call, and the next one is taken; it ends nothing. So does a scan or a poll whose answer would have
+// more than `most` bytes of rows or messages, as they are counted above; UINT64_MAX lets all through. The texts stand in the first taken->length
 // bytes of out, whole; the rest of out is as it was, and so are the notes behind the first taken->lines.
 //
 //     RIPSAWBEAN_OK         all lines were taken, or there is no room for a further note
@@ -361,13 +406,14 @@ typedef struct {
 //                           note has this status, and the text's length where it found no room. ripsawbean_text shows
 //                           it. Do not make that call again; go on behind it
 //     RIPSAWBEAN_NOMEMORY, RIPSAWBEAN_SPENT
-//                           the next line, which was not taken, can't be called, as by ripsawbean_call
+//                           the next line, which was not taken, can't be called, as by ripsawbean_call, or there was no
+//                           memory for the look at a poll's messages
 //     RIPSAWBEAN_CLOSED     taken is all 0, and out and notes are as they were
 //
 // Nothing is lost at any of them: each line before the first byte that was not taken is done, and no line behind the
 // next one was looked at. lines, out, notes and *taken share no byte.
 uint8_t ripsawbean_calls(ripsawbean *db, const uint8_t *lines, size_t lines_length, uint8_t *out, size_t room, ripsawbean_done *notes,
-                         size_t notes_length, ripsawbean_taken *taken);
+                         size_t notes_length, uint64_t most, ripsawbean_taken *taken);
 
 // ---- A REPLICA: the rows of one feed's span, kept by its messages. It stands beside a database, which may be another
 // process's: nothing but lines goes in. What is said above of the handle, of pointers, threads and memory holds of it
@@ -427,7 +473,7 @@ static inline const char *ripsawbean_status_name(uint8_t status) {
     static const char *const names[] = {
         "ok",          "wordcount", "unknowncommand", "number", "keylength", "valuelength", "session", "nonewline", "linetoolong",
         "badbyte",     "reply",     "follow",         "nomemory", "spent",   "unwritten",   "ring",    "closed",    "open",
-        "nomessage",   "notafter",  "outsidespan",    "resolvedback", "nofeed", "novalue",
+        "nomessage",   "notafter",  "outsidespan",    "resolvedback", "nofeed", "novalue",     "unknown", "answertoolong",
     };
     return status < sizeof names / sizeof *names ? names[status] : "unknown";
 }

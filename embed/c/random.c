@@ -279,7 +279,7 @@ static void ask_bytes(database *db) {
     counts.bytes++;
     if (status == RIPSAWBEAN_UNWRITTEN) {
         CHECK(was_refused && length == 0 && is_sand(out, 0, room));
-        CHECK(has_name(words_of(db->last), "messages"));
+        CHECK(has_name(words_of(db->last), "messages") || has_name(words_of(db->last), "rows"));
         counts.unwritten++;
         return;
     }
@@ -398,7 +398,7 @@ static void call_all(database *db, const char *all, size_t all_length) {
         ripsawbean_done *told = notes_of(places);
         ripsawbean_taken taken = {12345, 12345, 12345};
         may_refuse();
-        uint8_t status = ripsawbean_calls(&db->handle, at, left, out, room, told, places, &taken);
+        uint8_t status = ripsawbean_calls(&db->handle, at, left, out, room, told, places, UINT64_MAX, &taken);
         bool was_refused = refuse_none();
         CHECK(memcmp(at, all + from, left) == 0);
         CHECK(taken.lines <= places && taken.bytes <= left && taken.length <= room);
@@ -483,7 +483,7 @@ static void use_closed(database *db) {
         CHECK(is_answer(&answer, 0, 0, 0));
         break;
     default:
-        CHECK(ripsawbean_calls(&db->handle, (const uint8_t *)"0 stats\n", below(9), out, room, told, below(3), &taken) == RIPSAWBEAN_CLOSED);
+        CHECK(ripsawbean_calls(&db->handle, (const uint8_t *)"0 stats\n", below(9), out, room, told, below(3), below(9), &taken) == RIPSAWBEAN_CLOSED);
         CHECK(taken.lines == 0 && taken.bytes == 0 && taken.length == 0 && are_untouched(told, 0, 2));
         length = 0;
     }

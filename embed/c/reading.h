@@ -1,5 +1,5 @@
 // What an event's text says of its answer, read by itself, for tests to compare with what the calls without lines tell:
-// the answer in numbers, and the bytes of a value or of messages.
+// the answer in numbers, and the bytes of a value, of messages or of a scan's rows.
 #ifndef READING_H
 #define READING_H
 
@@ -89,13 +89,41 @@ static inline size_t message_of(const char *line, uint8_t *out) {
     return at + key_length + value_length;
 }
 
+// ---- rows
+
+// The bytes of a row, or of an end where there is no value, whose words stand there.
+static inline size_t row_of(uint8_t kind, uint64_t timestamp, const char *key_word, const char *value_word, uint8_t *out) {
+    static uint8_t key[300], value[70000];
+    size_t key_length = unspell(key_word, key), value_length = value_word == NULL ? 0 : unspell(value_word, value);
+    size_t at = put_head(kind, timestamp, key_length, value_length, out);
+    memcpy(out + at, key, key_length);
+    memcpy(out + at + key_length, value, value_length);
+    return at + key_length + value_length;
+}
+
+// The bytes of the rows of a scan's text, and of its end.
+static inline size_t rows_of(const char *text, uint8_t *out) {
+    const char *word = text;
+    for (int i = 0; i < 3; i++) word = strchr(word, ' ') + 1; // behind the position, the seat and the name
+    uint64_t timestamp = strtoull(word, NULL, 10);
+    for (int i = 0; i < 2; i++) word = strchr(word, ' ') + 1; // the high bound
+    size_t length = 0;
+    for (const char *line = strchr(text, '\n') + 1; *line != '\0'; line = strchr(line, '\n') + 1) {
+        const char *key = line + strlen("row ");
+        length += row_of(1, timestamp, key, strchr(key, ' ') + 1, out + length);
+    }
+    if (word[0] == '-' && word[1] == ' ') return length;
+    return length + row_of(3, timestamp, word, NULL, out + length);
+}
+
 // ---- answers
 
-// The bytes of the answer of a text: a value, or messages.
+// The bytes of the answer of a text: a value, messages, or rows.
 static inline size_t answer_bytes(const char *text, uint8_t *out) {
     const char *words = words_of(text);
     size_t length = 0;
     if (has_name(words, "value")) return unspell(words + strlen("value "), out);
+    if (has_name(words, "rows")) return rows_of(text, out);
     if (!has_name(words, "messages")) return 0;
     for (const char *line = strchr(text, '\n') + 1; *line != '\0'; line = strchr(line, '\n') + 1) length += message_of(line, out + length);
     return length;

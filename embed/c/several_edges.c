@@ -50,7 +50,7 @@ static size_t call_from(ripsawbean *db, size_t first, size_t from, size_t room, 
     uint8_t *at = line_of(all + from, all_length - from), *out = out_of(room), expected = RIPSAWBEAN_OK;
     ripsawbean_done *told = notes_of(places);
     ripsawbean_taken taken = {1, 2, 3};
-    uint8_t status = ripsawbean_calls(db, at, all_length - from, out, room, told, places, &taken);
+    uint8_t status = ripsawbean_calls(db, at, all_length - from, out, room, told, places, UINT64_MAX, &taken);
     size_t line = first, bytes = 0, shown = 0;
     CHECK(memcmp(at, all + from, all_length - from) == 0);
     for (; line < FEW && line - first < places && expected == RIPSAWBEAN_OK; line++) {
@@ -109,7 +109,7 @@ static void the_rest_of_the_buffer(void) {
     size_t room = strlen(script[0].text) + 25;
     uint8_t *out = out_of(room);
     ripsawbean_done *told = notes_of(9);
-    CHECK(ripsawbean_calls(&db, line_of(all, all_length), all_length, out, room, told, 9, &taken) == RIPSAWBEAN_UNWRITTEN);
+    CHECK(ripsawbean_calls(&db, line_of(all, all_length), all_length, out, room, told, 9, UINT64_MAX, &taken) == RIPSAWBEAN_UNWRITTEN);
     CHECK(are(&taken, 3, 25, 24) && told[2].length == 26 && told[2].status == RIPSAWBEAN_UNWRITTEN);
     CHECK(memcmp(out, script[0].text, 24) == 0 && is_sand(out, 24, room) && are_untouched(told, 3, 9));
     ripsawbean_close(&db);
@@ -131,16 +131,16 @@ static void long_lines(void) {
     CHECK(ripsawbean_open(&db, 4) == RIPSAWBEAN_OK);
     ripsawbean_done *told = notes_of(4);
     uint8_t *out = out_of(3);
-    CHECK(ripsawbean_calls(&db, line_of(text, length), length, out, 3, told, 4, &taken) == RIPSAWBEAN_OK);
+    CHECK(ripsawbean_calls(&db, line_of(text, length), length, out, 3, told, 4, UINT64_MAX, &taken) == RIPSAWBEAN_OK);
     CHECK(are(&taken, 4, length, 0) && is_sand(out, 0, 3));
     static const uint8_t faults[] = {RIPSAWBEAN_WORDCOUNT, RIPSAWBEAN_LINETOOLONG, RIPSAWBEAN_WORDCOUNT, RIPSAWBEAN_WORDCOUNT};
     for (int i = 0; i < 4; i++) CHECK(told[i].status == faults[i] && told[i].length == 0);
     see_text(&db, "");
     // No line, and many lines.
-    CHECK(ripsawbean_calls(&db, line_of("", 0), 0, out, 3, told, 4, &taken) == RIPSAWBEAN_OK && are(&taken, 0, 0, 0));
+    CHECK(ripsawbean_calls(&db, line_of("", 0), 0, out, 3, told, 4, UINT64_MAX, &taken) == RIPSAWBEAN_OK && are(&taken, 0, 0, 0));
     memset(text, '\n', 4096);
     told = notes_of(4096);
-    CHECK(ripsawbean_calls(&db, line_of(text, 4096), 4096, out, 3, told, 4096, &taken) == RIPSAWBEAN_OK && are(&taken, 4096, 4096, 0));
+    CHECK(ripsawbean_calls(&db, line_of(text, 4096), 4096, out, 3, told, 4096, UINT64_MAX, &taken) == RIPSAWBEAN_OK && are(&taken, 4096, 4096, 0));
     for (size_t i = 0; i < 4096; i++) CHECK(told[i].status == RIPSAWBEAN_WORDCOUNT && told[i].length == 0);
     ripsawbean_close(&db);
 }
@@ -153,7 +153,7 @@ static void see_closed(void) {
             ripsawbean_taken taken = {1, 2, 3};
             uint8_t *out = out_of(9);
             ripsawbean_done *told = notes_of(3);
-            CHECK(ripsawbean_calls(&db, line_of(all, length), length, out, 9, told, 3, &taken) == RIPSAWBEAN_CLOSED);
+            CHECK(ripsawbean_calls(&db, line_of(all, length), length, out, 9, told, 3, UINT64_MAX, &taken) == RIPSAWBEAN_CLOSED);
             CHECK(are(&taken, 0, 0, 0) && is_sand(out, 0, 9) && are_untouched(told, 0, 3) && !db.is_open);
         }
         CHECK(ripsawbean_open(&db, 1) == RIPSAWBEAN_OK);
@@ -201,7 +201,7 @@ static bool plays_with_refusals(unsigned long before, size_t room) {
         ripsawbean_done *told = notes_of(REFUSED);
         ripsawbean_taken taken = {1, 2, 3};
         refuse_after(left);
-        uint8_t status = ripsawbean_calls(&db, line_of(text + from, length - from), length - from, out, room, told, REFUSED, &taken);
+        uint8_t status = ripsawbean_calls(&db, line_of(text + from, length - from), length - from, out, room, told, REFUSED, UINT64_MAX, &taken);
         bool was_refused = refuse_none();
         any = any || was_refused;
         CHECK(is_sand(out, taken.length, room) && are_untouched(told, taken.lines, REFUSED));

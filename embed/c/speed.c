@@ -81,7 +81,7 @@ static double several(long count) {
         for (; i <= count && made < 1000; i++, made += 4)
             length += (size_t)sprintf(lines + length, "0 begin %ld\n0 put %ld k%ld v%ld\n0 get %ld k%ld\n0 commit %ld\n", i, i,
                                       i * 7 % KEYS, i, i, i * 7 % KEYS, i);
-        uint8_t status = ripsawbean_calls(&db, (const uint8_t *)lines, length, texts, sizeof texts, notes, 1000, &taken);
+        uint8_t status = ripsawbean_calls(&db, (const uint8_t *)lines, length, texts, sizeof texts, notes, 1000, UINT64_MAX, &taken);
         if (status != RIPSAWBEAN_OK || taken.lines != made) exit(1);
     }
     double took = now() - from;

@@ -306,6 +306,75 @@ class TypedCalls(unittest.TestCase):
         self.assertEqual(db.poll(feed, 100, seat=3).messages, [])
         self.assertEqual(db.poll(feed, 100).messages, [])
 
+    def test_scans_that_find_room(self):
+        db = self.db
+        db.begin(10)
+        for key, value in ((b"a", b"12345"), (b"c", b"1234567890"), (b"d d", b"1")):
+            db.put(10, key, value)
+        db.delete(10, b"b")
+        rows = [(b"a", b"12345"), (b"c", b"1234567890"), (b"d d", b"1")]
+        for asked, told, end, text in (
+            ({}, 3, None, "- -"),
+            ({"bytes": 72}, 3, None, "- -"),
+            ({"bytes": 71}, 2, b"d d", "- d%20d"),
+            ({"bytes": 22}, 0, b"a", "- a"),
+            ({"rows": 0}, 0, b"a", "- a"),
+            ({"rows": 1}, 1, b"c", "- c"),
+            ({"high": b"c", "rows": 1}, 1, b"c", "- c"),
+            ({"high": b"x"}, 3, b"x", "- x"),
+        ):
+            answer = db.scan_within(10, **asked)
+            self.assertEqual((answer.rows, answer.end, answer.number), (rows[:told], end, told), asked)
+            self.assertEqual(answer.answer, "rows %d" % told)
+            self.assertEqual(db.text().text.split("\n")[0].split(" ", 1)[1], "0 scan 10 %s => rows %d" % (text, told))
+            self.assertEqual((db.text().rows, db.data()), (answer.rows, answer.data))
+        self.assertEqual(db.scan_within(10, b"d d", rows=1).rows, rows[2:])
+        self.assertEqual((db.scan_within(10, b"a", b"").rows, db.scan_within(10, b"a", b"").end), ([], b"\0"))
+        self.assertEqual(db.scan_within(11).answer, "notxn")
+        self.assertEqual((db.scan_at_within(10).answer, db.scan_at_within(10).rows, db.scan_at_within(10).end), ("notclosed 0", [], None))
+        db.commit(10)
+        db.close_to(10)
+        answer = db.scan_at_within(10, bytes=23)
+        self.assertEqual((answer.rows, answer.end), (rows[:1], b"c"))
+        for faulty in ({"low": b"x" * 258}, {"high": b"x" * 258}):
+            with self.assertRaises(ripsawbean.KeyLength):
+                db.scan_within(10, **faulty)
+        for faulty in ({"rows": 1 << 64}, {"bytes": -1}, {"seat": 256}):
+            with self.assertRaises(LineFault):
+                db.scan_within(10, **faulty)
+
+    def test_a_span_in_pieces(self):
+        db = self.db
+        rows = [(b"%03d" % i, b"v" * (i % 7)) for i in range(100)]
+        db.begin(1)
+        for key, value in rows:
+            db.put(1, key, value)
+        for most in (26, 27, 60, 500, 10000):
+            told, low = [], None
+            while True:
+                answer = db.scan_within(1, low, bytes=most)
+                told += answer.rows
+                low = answer.end
+                if low is None:
+                    break
+            self.assertEqual(told, rows)
+
+    def test_polls_that_find_room(self):
+        db = self.db
+        db.begin(10)
+        for i in range(40):
+            db.put(10, b"%02d" % i, b"1")
+        db.commit(10)
+        db.close_to(10)
+        feed = db.make("open", None, None, 0).number
+        self.assertEqual(db.poll_within(feed, 100, 19).messages, [])
+        self.assertEqual(len(db.poll_within(feed, 100, 20 * 33 + 19).messages), 33)
+        self.assertEqual(str(db.text()).split("\n")[0], "45 0 poll 1 33 => messages 33")
+        self.assertEqual(len(db.poll_within(feed, 5, 1 << 40).messages), 5)
+        self.assertEqual(db.poll_within(feed, 9, 57).messages, [Row(b"38", b"1", 10), Row(b"39", b"1", 10), Resolved(10)])
+        with self.assertRaises(LineFault):
+            db.poll_within(feed, 9, 1 << 64)
+
     def test_faulty_parts_make_no_call(self):
         db = self.db
         db.begin(10)
@@ -358,6 +427,17 @@ class ManyLines(unittest.TestCase):
         for lines in ("", "0 stats\n"):
             with self.assertRaises(ripsawbean.Closed):
                 self.db.calls(lines)
+
+    def test_an_answer_that_is_too_long(self):
+        db = self.db
+        db.begin(10)
+        db.put(10, b"a", b"12345")
+        lines = "0 scan 10 - -\n0 get 10 a\n"
+        self.assertEqual(list(map(type, db.calls(lines, 22))), [ripsawbean.AnswerTooLong, str])
+        self.assertEqual(list(map(type, db.calls(lines, 23))), [str, str])
+        self.assertEqual(list(map(type, db.calls(lines))), [str, str])
+        with self.assertRaises(LineFault):
+            db.calls(lines, -1)
 
     def test_each_line_tells_what_it_tells_alone(self):
         lines = ["0 begin 1\n"]

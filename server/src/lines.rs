@@ -137,6 +137,7 @@ fn take(core: &mut Core, session: &mut Session, line: &[u8], out: &mut Vec<u8>) 
         Err(CallError::Line(fault)) => tell(core, session, fault.code(), fault.name(), out),
         Err(CallError::NoMemory) => tell(core, session, 12, "nomemory", out),
         Err(CallError::Spent) => tell(core, session, 13, "spent", out),
+        Err(CallError::AnswerTooLong) => tell(core, session, 25, "answertoolong", out),
         Err(CallError::Unwritten) => return Err(Lost),
     }
     Ok(())

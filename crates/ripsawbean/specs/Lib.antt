@@ -7,3 +7,5 @@ pub mod SeveralExports
 pub mod TypedExports
 pub mod TypedParts
 pub mod Looks
+pub mod BoundedExports
+pub mod BoundedParts

@@ -10,10 +10,10 @@ use Rattle.embedded.specs.declared.several.Taken.{Taken}
 use Rattle.ripsawbean.specs.Exports.{outcome_number}
 
 -- the lines were called on the handle's database, by an outcome that has the number; a closed handle stays closed
-abbrev pub Called : List ℕ → Option Database → (out out' : List ℕ) → (notes notes' : List Done) → Taken → ℕ → Option Database → Type 0
-Called lines (Some old) out out' notes notes' taken number (Some new) =
+abbrev pub Called : List ℕ → (most : ℕ) → Option Database → (out out' : List ℕ) → (notes notes' : List Done) → Taken → ℕ → Option Database → Type 0
+Called lines most (Some old) out out' notes notes' taken number (Some new) =
     (result : Result (Unit {0}) CallError) × (number ≡ outcome_number result)
-    × ((h : List Event) → StandsFor old h → HaveBeenCalled h lines old out out' notes notes' taken result new)
-Called lines (Some old) out out' notes notes' taken number None = ⊥
-Called lines None out out' notes notes' taken number new =
+    × ((h : List Event) → StandsFor old h → HaveBeenCalled most h lines old out out' notes notes' taken result new)
+Called lines most (Some old) out out' notes notes' taken number None = ⊥
+Called lines most None out out' notes notes' taken number new =
     (number ≡ 16) × (new ≡ None) × (out' ≡ out) × (notes' ≡ notes) × (taken ≡ record { lines = 0; bytes = 0; length = 0 })

@@ -4,7 +4,7 @@ use Rattle.spans.specs.declared.calls.commands.Cmd.{Cmd}
 use Rattle.spans.specs.declared.calls.events.Event.{Event}
 use Rattle.json_lines.specs.Writing.{Copied}
 use Rattle.embedded.specs.Embedded.{StandsFor, HasStepped, last_of}
-use Rattle.embedded.specs.Typed.{HasMessages, answer_of, bytes_of, numbers}
+use Rattle.embedded.specs.Typed.{HasBulk, answer_of, bytes_of, numbers}
 use Rattle.embedded.specs.declared.database.Database.{Database}
 use Rattle.embedded.specs.declared.typed.Answer.{Answer}
 
@@ -44,12 +44,12 @@ MadeOn None wants seat cmd old number new =
     ⊎ ((number ≡ 12) × (new ≡ old) × wants)
     ⊎ ((number ≡ 13) × (new ≡ old) × IsSpent old)
 
--- the same of a call whose answer has messages: where their bytes find no memory the call was made all the same
+-- the same of a call whose answer has messages or rows: where their bytes find no memory the call was made all the same
 abbrev pub PolledOn : (fault : Option ℕ) (seat : ℕ) (cmd : Cmd) (old : Database) (number : ℕ) (new : Database) → Type 0
 PolledOn (Some n) seat cmd old number new = (number ≡ n) × (new ≡ old)
 PolledOn None seat cmd old number new =
     ((number ≡ 0) × Steps seat cmd old new)
-    ⊎ ((number ≡ 14) × Steps seat cmd old new × HasMessages (last_of new))
+    ⊎ ((number ≡ 14) × Steps seat cmd old new × HasBulk (last_of new))
     ⊎ ((number ≡ 13) × (new ≡ old) × IsSpent old)
 
 -- what is said of an open handle's database; a closed handle stays closed
@@ -90,7 +90,7 @@ ShownBytes zero (Some new) before after length = Copied (bytes_of (last_of new))
 ShownBytes zero None before after length = ⊥
 ShownBytes (suc n) new before after length = (length ≡ 0) × (after ≡ before)
 
--- bytes are asked for again: only those of messages find no memory
+-- bytes are asked for again: only those of messages and rows find no memory
 abbrev pub AskedBytes : Option Database → ℕ → Type 0
-AskedBytes (Some d) number = (number ≡ 0) ⊎ ((number ≡ 14) × HasMessages (last_of d))
+AskedBytes (Some d) number = (number ≡ 0) ⊎ ((number ≡ 14) × HasBulk (last_of d))
 AskedBytes None number = number ≡ 16

@@ -5,6 +5,9 @@
 //! or its beginning, and its whole length. `ripsawbean_calls`, in `several`, makes the calls of several lines at once, and
 //! the calls in `typed` have a command's parts as arguments, in place of a line. `versions`, `places` and `held` tell what is
 //! asked without a call. The wrappers in `embed` call all of them, and any program that can call C. A handle of another kind owns the replica of a feed's span: its functions stand in
+//! the calls in `typed` have a command's parts as arguments, in place of a line, as do those in `bounded`, whose answers
+//! are to find room. The wrappers in `embed` call all of them,
+//! and any program that can call C. A handle of another kind owns the replica of a feed's span: its functions stand in
 //! `replicas`.
 //!
 //! 1. A handle that is open owns one database and the right to free it; a closed one owns nothing.
@@ -28,6 +31,7 @@
 //! |---|---|---|
 //! | 0 | done | open, call, calls, text, last, state, versions_at, places, held_by |
 //! | 1 to 9 | the line's fault by its code; no call was made | call, a note of calls |
+//! | 25 | the line's answer would be too long; no call was made | a note of calls |
 //! | 12 | no memory for the line's key, value or span, or for the database; nothing was done | call, open |
 //! | 13 | no position is left; no call was made | call |
 //! | 12, 13 | the same of the next line; what was taken stands | calls |
@@ -49,6 +53,7 @@
 //! - `ripsawbean_call`: its line, the engine's step, and the text of its event
 //! - `ripsawbean_calls`: the calls of the lines that are taken, and the bytes of their texts again
 //! - the calls of `typed`: the engine's step, the bytes copied, and all messages of a poll
+//! - the calls of `bounded`: the same, and a look at what is told before
 //! - `ripsawbean_text`: the bytes copied, and the text where it wasn't written
 //! - `ripsawbean_last`: O(1)
 //! - `ripsawbean_state`, `ripsawbean_held_by`: the undecided transactions, the protections and the feeds, with a search for
@@ -69,6 +74,7 @@ ghost use Rattle.word_lines.specs.Table.{table};
 ghost use Rattle.embedded.specs.declared.database.CallError.TheVariants.{NoMemory};
 ghost use Rattle.ripsawbean.specs.Exports.{refusal_of, Opened, Numbered, Called, Asked, Rewritten, Told, ToldOf, number_of};
 
+mod bounded;
 mod handle;
 mod held;
 mod last;

@@ -12,7 +12,8 @@ use std::alloc::Global;
 /// notes in `notes` what became of each line: its status, and how many bytes its text has. `taken` tells how many lines
 /// were taken, how many bytes they have, and how many bytes of texts stand in `out`.
 ///
-/// A faulty line ends nothing: its note has its fault's code. 0: all lines were taken, or `notes` is full. At any other
+/// A faulty line ends nothing: its note has its fault's code. Nor does a scan or a poll whose answer would have more than
+/// `most` bytes of rows or messages, where `most` isn't the greatest number: it makes no call, and its note has 25. 0: all lines were taken, or `notes` is full. At any other
 /// number what was taken stands, and no line behind the next one was looked at. 14: the last line's call was made, and
 /// its text found no room or no memory; `ripsawbean_text` shows it. 12, 13: the next line finds no memory, no position.
 /// 16: the handle is closed.
@@ -23,9 +24,10 @@ pub extern "C" fn ripsawbean_calls(
     lines: &[u8],
     out: &mut [u8],
     notes: &mut [Done],
+    most: u64,
     taken: &mut Taken,
 ) -> u8
-    ensures { Called lines.now handle.old.database out.old out.new notes.old notes.new taken.new result handle.new.database }
+    ensures { Called lines.now most handle.old.database out.old out.new notes.old notes.new taken.new result handle.new.database }
 {
     match handle.take(alloc) {
         None => {
@@ -38,7 +40,7 @@ pub extern "C" fn ripsawbean_calls(
         }
         Some(database) => {
             let mut database = database;
-            let number = calls(&mut database, lines, out, notes, taken);
+            let number = calls(&mut database, lines, out, notes, most, taken);
             handle.put(database);
             number
         }
@@ -51,11 +53,12 @@ fn calls(
     lines: &[u8],
     out: &mut [u8],
     notes: &mut [Done],
+    most: u64,
     taken: &mut Taken,
 ) -> u8
-    ensures { Called lines.now (Some database.old) out.old out.new notes.old notes.new taken.new result (Some database.new) }
+    ensures { Called lines.now most (Some database.old) out.old out.new notes.old notes.new taken.new result (Some database.new) }
 {
-    let (told, result) = database.call_lines(lines, out, notes);
+    let (told, result) = database.call_lines(lines, out, notes, most);
     *taken = told;
     match result {
         Ok(()) => 0,

@@ -18,13 +18,13 @@
 //! | 6 | the seat is not 0 to 63; no call was made. It is tested first, then the key, then the value | all but bytes |
 //! | 12 | no memory for a key or a value of more than 24 bytes; no call was made | get, put, delete, read_at |
 //! | 13 | no position is left; no call was made | all but bytes |
-//! | 14 | the call was made and its answer told; its messages found no memory: `ripsawbean_bytes` tries again | poll, bytes |
+//! | 14 | the call was made and its answer told; its messages or rows found no memory: `ripsawbean_bytes` tries again | poll, bytes |
 //! | 16 | the handle is closed; nothing was done. It is tested before all else | all |
 
 ghost use Rattle.std.specs.Prelude.{◌≡◌, ◌⊎◌, Some, false, IfOk};
 ghost use Rattle.spans.specs.declared.calls.commands.Cmd.TheVariants.{Begin, Get, Put, Del, Commit, Abort, Close, ReadAt, Poll};
 ghost use Rattle.embedded.specs.Embedded.{last_of};
-ghost use Rattle.embedded.specs.Typed.{HasMessages, is_read, numbers};
+ghost use Rattle.embedded.specs.Typed.{HasBulk, is_read, numbers};
 ghost use Rattle.ripsawbean.specs.TypedExports.{◌or◌, key_fault, value_fault, IsLong, OfHandle, MadeAlone, MadeAtKey, MadeWithValue, MadePoll, Answered, ShownBytes, AskedBytes, is_made};
 ghost use Rattle.ripsawbean.specs.TypedParts.{IsOf, MadeOf, ShownOf, number_of};
 
@@ -38,7 +38,7 @@ use timestamps::value::{MAX_VALUE_BYTES, Value, ValueError};
 
 /// Why parts make no command.
 #[derive(Clone, Copy)]
-enum Unfit {
+pub(crate) enum Unfit {
     KeyLength,
     ValueLength,
     NoMemory,
@@ -227,7 +227,8 @@ pub extern "C" fn ripsawbean_poll(
     show(alloc, handle, seat, cmd, out, length, answer)
 }
 
-/// Shows the bytes of the last event's answer again, as often as they are asked for: a value, or messages. No call is made.
+/// Shows the bytes of the last event's answer again, as often as they are asked for: a value, messages, or rows. No call
+/// is made.
 #[unsafe(no_mangle)]
 pub extern "C" fn ripsawbean_bytes(
     alloc: Global,
@@ -376,7 +377,7 @@ fn show(
 /// The call of a command on a database, or why there is none, by its number.
 fn call(database: &mut Database, seat: u8, cmd: Result<Cmd, Unfit>, answer: &mut Answer) -> u8
     ensures made { MadeOf seat cmd database.old result database.new }
-    ensures reads { result ≡ 0 → HasMessages (last_of database.new) → IfOk cmd (λ c. is_read c ≡ false) }
+    ensures reads { result ≡ 0 → HasBulk (last_of database.new) → IfOk cmd (λ c. is_read c ≡ false) }
     ensures answer { Answered result (Some database.new) answer.new }
 {
     *answer = no_answer();
@@ -417,7 +418,7 @@ fn call_shown(
 }
 
 /// The bytes of the last event's answer, with the number that tells of them.
-fn bytes(database: &Database, out: &mut [u8], length: &mut usize) -> u8
+pub(crate) fn bytes(database: &Database, out: &mut [u8], length: &mut usize) -> u8
     ensures asked { AskedBytes (Some database.now) result }
     ensures bytes { ShownBytes result (Some database.now) out.old out.new length.new }
 {
@@ -433,7 +434,7 @@ fn bytes(database: &Database, out: &mut [u8], length: &mut usize) -> u8
     }
 }
 
-fn no_answer() -> Answer
+pub(crate) fn no_answer() -> Answer
     ensures { result ≡ numbers 0 0 0 }
 {
     Answer {
@@ -443,7 +444,7 @@ fn no_answer() -> Answer
     }
 }
 
-fn number(unfit: Unfit) -> u8
+pub(crate) fn number(unfit: Unfit) -> u8
     ensures number { result ≡ number_of unfit }
     ensures unmade { is_made result ≡ false }
 {

@@ -24,8 +24,8 @@ that the program uses too.
 
 from .database import Database
 from .errors import (
-    AlreadyOpen, BadByte, Closed, Error, KeyLength, LineFault, LineTooLong, NoFeed, NoMemory, NoMessage, NoNewline, NotAfter, NotTaken,
-    Number, OutsideSpan, Refused, ResolvedBack, RingRange, Session, Spent, UnknownCommand, Unwritten, ValueLength, WordCount,
+    AlreadyOpen, AnswerTooLong, BadByte, Closed, Error, KeyLength, LineFault, LineTooLong, NoFeed, NoMemory, NoMessage, NoNewline, NotAfter,
+    NotTaken, Number, OutsideSpan, Refused, ResolvedBack, RingRange, Session, Spent, UnknownCommand, Unwritten, ValueLength, WordCount,
 )
 from .events import Answer, Event, Message, Record, Resolved, Row, messages_of, spell, unspell
 from .replica import Replica
@@ -33,6 +33,6 @@ from .replica import Replica
 __all__ = [
     "Database", "Answer", "Event", "Record", "Replica", "Row", "Resolved", "messages_of", "spell", "unspell",
     "Error", "LineFault", "WordCount", "UnknownCommand", "Number", "KeyLength", "ValueLength", "Session", "NoNewline",
-    "LineTooLong", "BadByte", "NoMemory", "Spent", "Unwritten", "RingRange", "Closed", "AlreadyOpen", "Refused",
+    "LineTooLong", "BadByte", "NoMemory", "Spent", "Unwritten", "AnswerTooLong", "RingRange", "Closed", "AlreadyOpen", "Refused",
     "NotTaken", "NoMessage", "NotAfter", "OutsideSpan", "ResolvedBack", "NoFeed",
 ]

@@ -11,11 +11,14 @@ from .handles import BYTES, NONE, ROOM, SIZE, TIME, Opened, functions
 # The functions, with what each takes behind the handle.
 _seat, _answer = ctypes.c_uint8, [ctypes.c_void_p]
 _timed, _keyed = [_seat, TIME], [_seat, TIME, *BYTES]
+_scanned = [*_timed, *BYTES, *BYTES, ctypes.c_uint8, TIME, TIME, *ROOM, *_answer]
 _database = functions(
     "ripsawbean_", open=[ctypes.c_uint32], call=BYTES + ROOM, text=ROOM, state=ROOM, close=[],
     begin=_timed + _answer, get=_keyed + ROOM + _answer, put=_keyed + BYTES + _answer, delete=_keyed + _answer,
     commit=_timed + _answer, abort=_timed + _answer, close_to=_timed + _answer, read_at=_keyed + ROOM + _answer,
-    poll=[*_timed, TIME, *ROOM, *_answer], bytes=ROOM, last=[ctypes.c_void_p], calls=[*BYTES, ctypes.c_void_p, SIZE, ctypes.c_void_p, SIZE, ctypes.c_void_p],
+    poll=[*_timed, TIME, *ROOM, *_answer], bytes=ROOM, last=[ctypes.c_void_p],
+    calls=[*BYTES, ctypes.c_void_p, SIZE, ctypes.c_void_p, SIZE, TIME, ctypes.c_void_p],
+    scan=_scanned, scan_at=_scanned, poll_within=[*_timed, TIME, TIME, *ROOM, *_answer],
 )
 _ANSWER, _TAKEN, _DONE = struct.Struct("@BQQ"), struct.Struct("@NNN"), struct.Struct("@NB0N")
 _RECORD = struct.Struct("@QQQQBBB0Q")
@@ -115,31 +118,72 @@ class Database(Opened):
             _database.poll(self._at, seat, feed, max, self._out_at, self._room, self._length_at, self._answer_at)
             return self._shown_answer()
 
+    def poll_within(self, feed: int, max: int, bytes: int, seat: int = 0) -> Answer:
+        """Polls as `poll` does, but messages of at most so many bytes together. A message has those of its key and its value, and 17 more."""
+        if feed >> 64 or max >> 64 or bytes >> 64 or seat >> 8:
+            raise _out_of_range(seat)
+        with self._turn:
+            _database.poll_within(self._at, seat, feed, max, bytes, self._out_at, self._room, self._length_at, self._answer_at)
+            return self._shown_answer()
+
+    def scan_within(
+        self, timestamp: int, low: Optional[bytes] = None, high: Optional[bytes] = None, rows: int = NONE, bytes: int = NONE, seat: int = 0
+    ) -> Answer:
+        """Reads the keys of a span in a transaction, as far as their rows find room: the answer's `rows`, and its `end`.
+
+        A row has the bytes of its key and its value, and 17 more. Where `end` isn't `high`, the next scan goes on there.
+        """
+        return self._scan(_database.scan, timestamp, low, high, rows, bytes, seat)
+
+    def scan_at_within(
+        self, timestamp: int, low: Optional[bytes] = None, high: Optional[bytes] = None, rows: int = NONE, bytes: int = NONE, seat: int = 0
+    ) -> Answer:
+        """The same at a closed timestamp, of what was committed there."""
+        return self._scan(_database.scan_at, timestamp, low, high, rows, bytes, seat)
+
+    def _scan(
+        self, scan: Callable[..., None], timestamp: int, low: Optional[bytes], high: Optional[bytes], rows: int, bytes: int, seat: int
+    ) -> Answer:
+        if timestamp >> 64 or rows >> 64 or bytes >> 64 or seat >> 8:
+            raise _out_of_range(seat)
+        if high == b"":
+            low = high = b"\0"  # no key is below no bytes, as none is from a zero byte on and below it
+        first, last = part_of(low or b""), part_of(high or b"")
+        with self._turn:
+            scan(
+                self._at, seat, timestamp, first, len(first), last, len(last), high is not None, rows, bytes,
+                self._out_at, self._room, self._length_at, self._answer_at,
+            )
+            return self._shown_answer()
+
     def data(self) -> bytes:
-        """The bytes of the last event's answer once more, a value or messages, also where a line made its call. It makes no call."""
+        """The bytes of the last event's answer once more, a value, messages or rows, also where a line made its call. It makes no call."""
         with self._turn:
             return self._show(_database.bytes)
 
-    def calls(self, lines: Union[str, bytes]) -> List[Union[str, Error]]:
+    def calls(self, lines: Union[str, bytes], most: int = NONE) -> List[Union[str, Error]]:
         """Makes the calls of many lines, each with its newline: a list of their events' texts, or of the errors that `call` raises.
 
         A faulty line makes no call, and the next one is taken. NoMemory and Spent end the list before the lines behind
-        theirs, which weren't looked at, and so does Unwritten, whose call was made: `text` asks for its text.
+        theirs, which weren't looked at, and so does Unwritten, whose call was made: `text` asks for its text. A scan or a poll
+        whose answer would have more than `most` bytes of rows or messages makes no call either: AnswerTooLong.
         """
+        if most >> 64:
+            raise _out_of_range(0)
         left = bytes_of(lines)
         told: List[Union[str, Error]] = []
         with self._turn:
             self._make_notes(left.count(b"\n") + 1, len(left))
             while True:
-                left = self._call_lines(left, told)
+                left = self._call_lines(left, told, most)
                 if not left:
                     return told
 
-    def _call_lines(self, lines: bytes, told: List[Union[str, Error]]) -> bytes:
+    def _call_lines(self, lines: bytes, told: List[Union[str, Error]], most: int) -> bytes:
         """Calls lines as far as there is room for their texts: those that are left to call."""
         notes = self._notes
         status = _database.calls(
-            self._at, lines, len(lines), self._out_at, self._room, notes, len(notes) // _DONE.size, self._taken
+            self._at, lines, len(lines), self._out_at, self._room, notes, len(notes) // _DONE.size, most, self._taken
         )
         if status == Closed.status:
             raise Closed("the library returned %d" % status)

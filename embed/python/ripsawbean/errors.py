@@ -146,6 +146,12 @@ class NoValue(Error):
     status = 23
 
 
+class AnswerTooLong(Error):
+    """The answer would have more bytes than `Database.calls` lets through. No call was made."""
+
+    status = 25
+
+
 class Refused(Error):
     """The call was made, and its answer is a refusal. `answer` has its words, and `event` what the call returned."""
 
@@ -160,6 +166,7 @@ ERRORS = {
     for kind in (
         WordCount, UnknownCommand, Number, KeyLength, ValueLength, Session, NoNewline, LineTooLong, BadByte, NoMemory, Spent,
         Unwritten, RingRange, Closed, AlreadyOpen, NoMessage, NotAfter, OutsideSpan, ResolvedBack, NoFeed, NoValue,
+        AnswerTooLong,
     )
 }
 

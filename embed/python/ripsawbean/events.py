@@ -2,7 +2,7 @@
 
 import base64
 import struct
-from typing import List, NamedTuple, Optional, Tuple, Union
+from typing import Iterator, List, NamedTuple, Optional, Tuple, Union
 
 # ---- words: bytes as lines spell them
 
@@ -134,7 +134,7 @@ _NAMES.update(enumerate(
     "belowclosed tsused tsrange blocked notxn notowner ended toolate notclosed belowhorizon noprotection nofeed feedcancelled nomemory "
     "gaprange".split(), 32,
 ))
-_NUMBERED = frozenset((5, 7, 8, 32, 35, 40, 41))
+_NUMBERED = frozenset((5, 7, 8, 9, 32, 35, 40, 41))
 
 
 class Record(NamedTuple):
@@ -165,7 +165,7 @@ class Answer(NamedTuple):
     kind: int
     number: int  # a timestamp, a count
     aborted: int  # by a closing
-    data: bytes = b""  # a value, or messages
+    data: bytes = b""  # a value, messages, or rows
 
     @property
     def answer(self) -> str:
@@ -192,6 +192,17 @@ class Answer(NamedTuple):
         """The messages that a poll told, in their order."""
         return messages_of(self.data) if self.kind == 8 else []
 
+    @property
+    def rows(self) -> List[Tuple[bytes, bytes]]:
+        """The rows of a scan, keys rising."""
+        return [(key, value) for kind, key, value in _parts_of(self.data) if kind == 1] if self.kind == 9 else []
+
+    @property
+    def end(self) -> Optional[bytes]:
+        """Where a scan ended: the high bound of its event's span, or None where that has none."""
+        ends = [key for kind, key, _ in _parts_of(self.data) if kind == 3] if self.kind == 9 else []
+        return ends[0] if ends else None
+
 
 _HEAD = struct.Struct("<BQII")
 
@@ -210,6 +221,16 @@ def messages_of(data: bytes) -> List[Message]:
         else:
             told.append(Resolved(timestamp))
     return told
+
+
+def _parts_of(data: bytes) -> Iterator[Tuple[int, bytes, bytes]]:
+    """The kinds, the keys and the values of messages."""
+    at = 0
+    while at < len(data):
+        kind, _, key_length, value_length = _HEAD.unpack_from(data, at)
+        value = at + 17 + key_length
+        yield kind, data[at + 17 : value], data[value : value + value_length]
+        at = value + value_length
 
 
 def rows_of(lines: List[str]) -> List[Tuple[bytes, bytes]]:

@@ -48,6 +48,8 @@ pub enum CallError {
     /// **The call was made**, and there was no memory for its text, or for the bytes of its answer.
     /// [`crate::Database::text`] and [`crate::Database::bytes`] ask for them again.
     Unwritten,
+    /// The answer would have more bytes than [`crate::Database::calls_within`] lets through. No call was made.
+    AnswerTooLong,
 }
 
 /// Why a command was refused, with the timestamp that stands in its way. The call was made, and its event changed
@@ -237,6 +239,7 @@ impl CallError {
             (12, _) => CallError::NoMemory,
             (13, _) => CallError::Spent,
             (14, _) => CallError::Unwritten,
+            (25, _) => CallError::AnswerTooLong,
             _ => unreachable!("a call on an open handle returned {status}"),
         }
     }
@@ -321,6 +324,7 @@ impl fmt::Display for CallError {
             CallError::NoMemory => f.write_str("no memory for the line; no call was made"),
             CallError::Spent => f.write_str("no position is left; no call was made"),
             CallError::Unwritten => f.write_str("the call was made; no memory for its text"),
+            CallError::AnswerTooLong => f.write_str("the answer would be too long; no call was made"),
         }
     }
 }

@@ -59,5 +59,5 @@ pub use event::{Event, Message, Row};
 pub use record::{CommandKind, Outcome, Record};
 pub use replica::Replica;
 pub use several::Calls;
-pub use typed::{Closed, Told};
+pub use typed::{Closed, Room, Rows, Told};
 pub use word::{unspell, Spelled};

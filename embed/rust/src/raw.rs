@@ -1,5 +1,7 @@
 //! The functions of `ripsawbean.h`, and open handles that make them safe. All unsafe code of the crate is here.
 
+use crate::command::Span;
+use crate::typed::Room;
 use std::ptr;
 
 /// A handle as C has it: all zero where it is closed.
@@ -116,6 +118,49 @@ extern "C" {
         length: *mut usize,
         answer: *mut Answer,
     ) -> u8;
+    fn ripsawbean_scan(
+        db: *mut Handle,
+        seat: u8,
+        timestamp: u64,
+        low: *const u8,
+        low_length: usize,
+        high: *const u8,
+        high_length: usize,
+        has_high: u8,
+        rows: u64,
+        bytes: u64,
+        out: *mut u8,
+        room: usize,
+        length: *mut usize,
+        answer: *mut Answer,
+    ) -> u8;
+    fn ripsawbean_scan_at(
+        db: *mut Handle,
+        seat: u8,
+        timestamp: u64,
+        low: *const u8,
+        low_length: usize,
+        high: *const u8,
+        high_length: usize,
+        has_high: u8,
+        rows: u64,
+        bytes: u64,
+        out: *mut u8,
+        room: usize,
+        length: *mut usize,
+        answer: *mut Answer,
+    ) -> u8;
+    fn ripsawbean_poll_within(
+        db: *mut Handle,
+        seat: u8,
+        feed: u64,
+        most: u64,
+        bytes: u64,
+        out: *mut u8,
+        room: usize,
+        length: *mut usize,
+        answer: *mut Answer,
+    ) -> u8;
     fn ripsawbean_bytes(db: *mut Handle, out: *mut u8, room: usize, length: *mut usize) -> u8;
     fn ripsawbean_calls(
         db: *mut Handle,
@@ -125,6 +170,7 @@ extern "C" {
         room: usize,
         notes: *mut Done,
         notes_length: usize,
+        most: u64,
         taken: *mut Taken,
     ) -> u8;
     fn ripsawbean_replica_open(replica: *mut Handle, line: *const u8, line_length: usize) -> u8;
@@ -276,6 +322,87 @@ impl Open {
         done(status, (answer, length))
     }
 
+    /// Scans a span in a transaction as far as its rows find room, and shows them in `out`: their whole length.
+    pub(crate) fn scan(
+        &mut self,
+        seat: u8,
+        timestamp: u64,
+        span: Span<'_>,
+        room: Room,
+        out: &mut [u8],
+    ) -> Result<(Answer, usize), Status> {
+        let (mut answer, mut length) = (Answer::default(), 0);
+        let (low, high) = (span.lo, span.hi.unwrap_or_default());
+        let status = unsafe {
+            ripsawbean_scan(
+                &mut self.handle,
+                seat,
+                timestamp,
+                low.as_ptr(),
+                low.len(),
+                high.as_ptr(),
+                high.len(),
+                u8::from(span.hi.is_some()),
+                room.rows,
+                room.bytes,
+                out.as_mut_ptr(),
+                out.len(),
+                &mut length,
+                &mut answer,
+            )
+        };
+        done(status, (answer, length))
+    }
+
+    /// The same at a closed timestamp.
+    pub(crate) fn scan_at(
+        &mut self,
+        seat: u8,
+        timestamp: u64,
+        span: Span<'_>,
+        room: Room,
+        out: &mut [u8],
+    ) -> Result<(Answer, usize), Status> {
+        let (mut answer, mut length) = (Answer::default(), 0);
+        let (low, high) = (span.lo, span.hi.unwrap_or_default());
+        let status = unsafe {
+            ripsawbean_scan_at(
+                &mut self.handle,
+                seat,
+                timestamp,
+                low.as_ptr(),
+                low.len(),
+                high.as_ptr(),
+                high.len(),
+                u8::from(span.hi.is_some()),
+                room.rows,
+                room.bytes,
+                out.as_mut_ptr(),
+                out.len(),
+                &mut length,
+                &mut answer,
+            )
+        };
+        done(status, (answer, length))
+    }
+
+    /// Polls a feed as far as its messages find room in `bytes`, and shows them in `out`: their whole length.
+    pub(crate) fn poll_within(
+        &mut self,
+        seat: u8,
+        feed: u64,
+        most: u64,
+        bytes: u64,
+        out: &mut [u8],
+    ) -> Result<(Answer, usize), Status> {
+        let (mut answer, mut length) = (Answer::default(), 0);
+        let (handle, out_at, room) = (&mut self.handle, out.as_mut_ptr(), out.len());
+        let status = unsafe {
+            ripsawbean_poll_within(handle, seat, feed, most, bytes, out_at, room, &mut length, &mut answer)
+        };
+        done(status, (answer, length))
+    }
+
     /// Shows the bytes of the last event's answer in `out`: their whole length.
     pub(crate) fn bytes(&mut self, out: &mut [u8]) -> Result<usize, Status> {
         let mut length = 0;
@@ -284,12 +411,12 @@ impl Open {
     }
 
     /// Makes the calls of lines, and shows their texts in `out`: how far they were taken, and the status, 0 too.
-    pub(crate) fn calls(&mut self, lines: &[u8], out: &mut [u8], notes: &mut [Done]) -> (Taken, Status) {
+    pub(crate) fn calls(&mut self, lines: &[u8], out: &mut [u8], notes: &mut [Done], most: u64) -> (Taken, Status) {
         let mut taken = Taken::default();
         let (handle, out_at, room) = (&mut self.handle, out.as_mut_ptr(), out.len());
         let (notes_at, places) = (notes.as_mut_ptr(), notes.len());
         let status = unsafe {
-            ripsawbean_calls(handle, lines.as_ptr(), lines.len(), out_at, room, notes_at, places, &mut taken)
+            ripsawbean_calls(handle, lines.as_ptr(), lines.len(), out_at, room, notes_at, places, most, &mut taken)
         };
         (taken, status)
     }

@@ -24,6 +24,13 @@ impl Database {
     /// );
     /// ```
     pub fn calls(&mut self, lines: impl AsRef<[u8]>) -> Calls<'_> {
+        self.calls_within(lines, u64::MAX)
+    }
+
+    /// The same, but that a scan or a poll whose answer would have more than `most` bytes of rows or messages makes no
+    /// call: its result is [`CallError::AnswerTooLong`], and the next line is taken. A row or a message has the bytes of
+    /// its key and its value, and 17 more. [`u64::MAX`] lets all through.
+    pub fn calls_within(&mut self, lines: impl AsRef<[u8]>, most: u64) -> Calls<'_> {
         let lines = lines.as_ref();
         let count = lines.iter().filter(|&&byte| byte == b'\n').count() + 1;
         let (mut texts, mut taken, mut end) = (0, 0, None);
@@ -35,7 +42,7 @@ impl Database {
         while taken < lines.len() && end.is_none() {
             let first = self.notes.len();
             self.notes.resize(count.max(first + 1), Done::default());
-            let (now, status) = self.open.calls(&lines[taken..], &mut self.out[texts..], &mut self.notes[first..]);
+            let (now, status) = self.open.calls(&lines[taken..], &mut self.out[texts..], &mut self.notes[first..], most);
             self.notes.truncate(first + now.lines);
             taken += now.bytes;
             texts += now.length;

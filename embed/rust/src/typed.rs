@@ -1,9 +1,19 @@
 //! Calls whose command is given in parts: no line is spelled, and no text is read.
 
+use crate::command::Span;
 use crate::database::{unwritten, Database};
 use crate::error::{CallError, CommandError, Refusal, Unwritten};
 use crate::event::{Message, Row};
 use crate::raw::{Answer, Status};
+
+/// How much of an answer finds room.
+#[derive(Clone, Copy, Debug, PartialEq, Eq)]
+pub struct Room {
+    /// How many rows.
+    pub rows: u64,
+    /// How many bytes they have together: a row has those of its key and its value, and 17 more.
+    pub bytes: u64,
+}
 
 /// What a closing did.
 #[derive(Clone, Copy, Debug, PartialEq, Eq)]
@@ -87,8 +97,50 @@ impl Database {
         Ok(Told::of(self.shown_bytes(length)?))
     }
 
-    /// The bytes of the last event's answer once more, also where a line made its call: a value, or messages, which
-    /// [`Told::of`] reads. Of another answer there are none. It makes no call.
+    /// The same, but that the messages have at most so many bytes together. A message has the bytes of its key and its
+    /// value, and 17 more, so one of the greatest size has 65809. Where the first finds no room none is told.
+    pub fn poll_within(&mut self, seat: u8, feed: u64, max: u64, bytes: u64) -> Result<Told<'_>, CommandError> {
+        let polled = self.open.poll_within(seat, feed, max, bytes, &mut self.out);
+        let (_, length) = shown(polled)?;
+        Ok(Told::of(self.shown_bytes(length)?))
+    }
+
+    /// Reads the keys of a span in a transaction, as far as their rows find room. [`Rows::end`] says where that ends: where
+    /// it isn't the end of the span, the next scan goes on there. The event is the scan of so much of the span.
+    ///
+    /// ```
+    /// use ripsawbean::{Database, Room, Span};
+    ///
+    /// # fn main() -> Result<(), Box<dyn std::error::Error>> {
+    /// let mut db = Database::open(1024)?;
+    /// db.begin(0, 10)?;
+    /// for key in [b"a", b"b", b"c"] {
+    ///     db.put(0, 10, key, b"1")?;
+    /// }
+    /// let rows = db.scan_within(0, 10, Span::ALL, Room { rows: 2, bytes: 1000 })?;
+    /// assert_eq!(rows.end(), Some(b"c".as_slice()));
+    /// assert_eq!(rows.collect::<Vec<_>>(), [(b"a".as_slice(), b"1".as_slice()), (b"b", b"1")]);
+    /// let rows = db.scan_within(0, 10, Span { lo: b"c", hi: None }, Room { rows: 2, bytes: 1000 })?;
+    /// assert_eq!(rows.end(), None);
+    /// assert_eq!(rows.count(), 1);
+    /// # Ok(())
+    /// # }
+    /// ```
+    pub fn scan_within(&mut self, seat: u8, ts: u64, span: Span<'_>, room: Room) -> Result<Rows<'_>, CommandError> {
+        let scanned = self.open.scan(seat, ts, some_bound(span), room, &mut self.out);
+        let (_, length) = shown(scanned)?;
+        Ok(Rows::of(self.shown_bytes(length)?))
+    }
+
+    /// The same at a closed timestamp, of what was committed there.
+    pub fn scan_at_within(&mut self, seat: u8, t: u64, span: Span<'_>, room: Room) -> Result<Rows<'_>, CommandError> {
+        let scanned = self.open.scan_at(seat, t, some_bound(span), room, &mut self.out);
+        let (_, length) = shown(scanned)?;
+        Ok(Rows::of(self.shown_bytes(length)?))
+    }
+
+    /// The bytes of the last event's answer once more, also where a line made its call: a value, messages, which
+    /// [`Told::of`] reads, or rows, which [`Rows::of`] reads. Of another answer there are none. It makes no call.
     pub fn bytes(&mut self) -> Result<&[u8], Unwritten> {
         let length = self.open.bytes(&mut self.out).map_err(unwritten)?;
         self.shown_bytes(length)
@@ -161,6 +213,67 @@ impl Iterator for Told<'_> {
         };
         self.bytes = rest;
         Some(message)
+    }
+}
+
+/// The rows of a scan, keys rising, read from bytes one after another: each key with its value.
+#[derive(Clone, Debug)]
+pub struct Rows<'a> {
+    bytes: &'a [u8],
+}
+
+impl<'a> Rows<'a> {
+    /// The rows of bytes, as [`Database::bytes`] has them after a scan. They end where no whole row stands.
+    pub fn of(bytes: &'a [u8]) -> Rows<'a> {
+        Rows { bytes }
+    }
+
+    /// Where the scan ended: the high bound of its event's span, if that has one. It goes over the rows that are left.
+    pub fn end(&self) -> Option<&'a [u8]> {
+        let mut left = self.bytes;
+        while let Some((kind, key, _, rest)) = part_of(left) {
+            if kind == END {
+                return Some(key);
+            }
+            left = rest;
+        }
+        None
+    }
+}
+
+impl<'a> Iterator for Rows<'a> {
+    type Item = (&'a [u8], &'a [u8]);
+
+    fn next(&mut self) -> Option<(&'a [u8], &'a [u8])> {
+        let (kind, key, value, rest) = part_of(self.bytes)?;
+        if kind != ROW {
+            return None;
+        }
+        self.bytes = rest;
+        Some((key, value))
+    }
+}
+
+/// The kinds of a scan's messages: a row, and where the scan ended.
+const ROW: u8 = 1;
+const END: u8 = 3;
+
+/// The first message of bytes: its kind, its key, its value and what stands behind it.
+fn part_of(bytes: &[u8]) -> Option<(u8, &[u8], &[u8], &[u8])> {
+    let (&kind, rest) = bytes.split_first()?;
+    let (_, rest) = rest.split_first_chunk::<8>()?;
+    let (key_length, rest) = rest.split_first_chunk()?;
+    let (value_length, rest) = rest.split_first_chunk()?;
+    let (key, rest) = rest.split_at_checked(size_of(*key_length)?)?;
+    let (value, rest) = rest.split_at_checked(size_of(*value_length)?)?;
+    Some((kind, key, value, rest))
+}
+
+/// The same span, with bounds that have bytes: no key is below no bytes, as none is from a zero byte on and below it.
+fn some_bound(span: Span<'_>) -> Span<'_> {
+    match span.hi {
+        Some(b"") => Span { lo: b"\0", hi: Some(b"\0") },
+        _ => span,
     }
 }
 

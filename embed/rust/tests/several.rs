@@ -57,3 +57,18 @@ fn texts_that_outgrow_the_buffer() {
         scans.split_inclusive('\n').map(|line| other.call(line).map(|event| event.text().to_string())).collect();
     assert_eq!(told(&mut one, scans.as_bytes()), texts);
 }
+
+#[test]
+fn an_answer_that_is_too_long() {
+    let mut db = open();
+    db.begin(0, 10).expect("a call");
+    db.put(0, 10, b"a", b"12345").expect("a call");
+    let lines = "0 scan 10 - -\n0 get 10 a\n";
+    let scan = "2 0 scan 10 - - => rows 1\nrow a 12345\n";
+    let told: Vec<_> = db.calls_within(lines, 23).map(|result| result.map(|event| event.text().to_string())).collect();
+    assert_eq!(told, [Ok(scan.to_string()), Ok("3 0 get 10 a => value 12345\n".to_string())]);
+    let calls = db.calls_within(lines, 22);
+    assert_eq!(calls.taken(), lines.len());
+    let told: Vec<_> = calls.map(|result| result.map(|event| event.text().to_string())).collect();
+    assert_eq!(told, [Err(CallError::AnswerTooLong), Ok("4 0 get 10 a => value 12345\n".to_string())]);
+}

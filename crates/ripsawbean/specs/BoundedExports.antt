@@ -1,0 +1,52 @@
+-- What the calls whose answer is to find room tell the program (this project's own).
+use Rattle.std.specs.Prelude.{ℕ, zero, suc, List, [], ◌∷◌, ◌≡◌, ◌⊎◌, nat_le, ◌&&◌, if◌then◌else◌, length, Option, Some, None}
+use Rattle.spans.specs.declared.calls.events.Event.{Event}
+use Rattle.spans.specs.declared.span.Span.{Span}
+use Rattle.embedded.specs.Bounded.{command_within}
+use Rattle.embedded.specs.Embedded.{StandsFor, HasStepped, last_of}
+use Rattle.embedded.specs.Typed.{HasBulk}
+use Rattle.embedded.specs.declared.bounded.Bounded.{Bounded}
+use Rattle.embedded.specs.declared.database.Database.{Database}
+use Rattle.ripsawbean.specs.TypedExports.{◌or◌, IsSpent, OfHandle, seat_fault}
+
+-- no bytes are no low bound
+abbrev pub low_of : List ℕ → Option (List ℕ)
+low_of [] = None
+low_of (b ∷ bytes) = Some (b ∷ bytes)
+
+-- bytes are a high bound where the program says that there is one
+abbrev pub high_of : ℕ → List ℕ → Option (List ℕ)
+high_of zero high = None
+high_of (suc n) high = Some high
+
+-- the span from the low bytes to the high ones
+abbrev pub span_of : (low : List ℕ) (has_high : ℕ) (high : List ℕ) → Span
+span_of low has_high high = record { lo = low_of low; hi = high_of has_high high }
+
+-- a bound has 1 to 257 bytes
+abbrev pub bound_fault : Option (List ℕ) → Option ℕ
+bound_fault None = None
+bound_fault (Some bytes) = if nat_le 1 (length bytes) && nat_le (length bytes) 257 then None else Some 4
+
+abbrev pub span_fault : (low : List ℕ) (has_high : ℕ) (high : List ℕ) → Option ℕ
+span_fault low has_high high = bound_fault (low_of low) or bound_fault (high_of has_high high)
+
+-- the call of a seat's command was made, as far as its answer finds room
+abbrev pub StepsWithin : ℕ → Bounded → Database → Database → Type 0
+StepsWithin seat cmd old new = (h : List Event) → StandsFor old h → HasStepped h seat (command_within h cmd) new
+
+-- one call was made on a database, or none: parts with a fault make none
+abbrev pub BoundedOn : (fault : Option ℕ) (seat : ℕ) (cmd : Bounded) (old : Database) (number : ℕ) (new : Database) → Type 0
+BoundedOn (Some n) seat cmd old number new = (number ≡ n) × (new ≡ old)
+BoundedOn None seat cmd old number new =
+    ((number ≡ 0) × StepsWithin seat cmd old new)
+    ⊎ ((number ≡ 14) × StepsWithin seat cmd old new × HasBulk (last_of new))
+    ⊎ ((number ≡ 12) × (new ≡ old))
+    ⊎ ((number ≡ 13) × (new ≡ old) × IsSpent old)
+
+-- the same of a handle: of a scan, whose span may have a fault, and of a poll
+abbrev pub MadeScan : (seat : ℕ) (low : List ℕ) (has_high : ℕ) (high : List ℕ) (cmd : Bounded) (old : Option Database) (number : ℕ) (new : Option Database) → Type 0
+MadeScan seat low has_high high cmd old number new = OfHandle (BoundedOn (seat_fault seat or span_fault low has_high high) seat cmd) old number new
+
+abbrev pub MadePollWithin : (seat : ℕ) (cmd : Bounded) (old : Option Database) (number : ℕ) (new : Option Database) → Type 0
+MadePollWithin seat cmd old number new = OfHandle (BoundedOn (seat_fault seat) seat cmd) old number new
