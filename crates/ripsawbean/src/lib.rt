@@ -3,11 +3,9 @@
 //! A program owns a [`Handle`], all zero bytes at first. `ripsawbean_open` puts a database behind it, and
 //! `ripsawbean_close` frees that again. A call takes the line of a command, and shows the text of its event: all of it
 //! or its beginning, and its whole length. `ripsawbean_calls`, in `several`, makes the calls of several lines at once, and
-//! the calls in `typed` have a command's parts as arguments, in place of a line. `versions`, `places` and `held` tell what is
-//! asked without a call. The wrappers in `embed` call all of them, and any program that can call C. A handle of another kind owns the replica of a feed's span: its functions stand in
 //! the calls in `typed` have a command's parts as arguments, in place of a line, as do those in `bounded`, whose answers
-//! are to find room. The wrappers in `embed` call all of them,
-//! and any program that can call C. A handle of another kind owns the replica of a feed's span: its functions stand in
+//! are to find room. `versions`, `places` and `held` tell what is asked without a call. The wrappers in `embed` call all of
+//! them, and any program that can call C. A handle of another kind owns the replica of a feed's span: its functions stand in
 //! `replicas`.
 //!
 //! 1. A handle that is open owns one database and the right to free it; a closed one owns nothing.
@@ -31,7 +29,6 @@
 //! |---|---|---|
 //! | 0 | done | open, call, calls, text, last, state, versions_at, places, held_by |
 //! | 1 to 9 | the line's fault by its code; no call was made | call, a note of calls |
-//! | 25 | the line's answer would be too long; no call was made | a note of calls |
 //! | 12 | no memory for the line's key, value or span, or for the database; nothing was done | call, open |
 //! | 13 | no position is left; no call was made | call |
 //! | 12, 13 | the same of the next line; what was taken stands | calls |
@@ -43,6 +40,7 @@
 //! | 16 | the handle is closed; nothing was done | all but open, close and version |
 //! | 17 | the handle is open already; nothing was done | open |
 //! | 24 | the timestamp is below the horizon; nothing is told | versions_at |
+//! | 25 | the line's answer would be too long; no call was made | a note of calls |
 //!
 //! A program owes pointers that aren't null, also to no bytes, and slices that don't overlap. Its handle is all zero
 //! bytes or was left by these functions, isn't copied while it is open, and is used by one call at a time.
