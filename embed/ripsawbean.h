@@ -54,6 +54,7 @@ typedef struct {
 
 #define RIPSAWBEAN_MAX_RING 65536                        // rows that a feed keeps at hand; 1 is the least, 1024 serves most
 #define RIPSAWBEAN_MAX_TIMESTAMP UINT64_C(9223372036854775807) // above it a command is answered "tsrange", with RIPSAWBEAN_OK
+#define RIPSAWBEAN_NONE UINT64_MAX                       // where there is no timestamp to tell
 
 // What a line may have. A line that has more is told as a fault.
 #define RIPSAWBEAN_SEATS 64                              // a line begins with a seat, 0 to 63
@@ -102,9 +103,15 @@ enum {
     RIPSAWBEAN_NOFEED = 22,       // the line's command opens no feed, or opens it above RIPSAWBEAN_MAX_TIMESTAMP
     RIPSAWBEAN_NOVALUE = 23,      // the key has no value
 
+    // By ripsawbean_versions_at alone.
+    RIPSAWBEAN_BELOWHORIZON = 24, // the timestamp is below the horizon, so versions may be gone
+
     // By a note of ripsawbean_calls alone.
     RIPSAWBEAN_ANSWERTOOLONG = 25 // the answer would have more bytes than are let through: no call was made
 };
+
+// The version of the library: 65536 times the first of its three numbers, 256 times the second, and the third.
+uint32_t ripsawbean_version(void);
 
 // Opens a closed handle on a new and empty database, of which each feed keeps up to `ring` rows at hand. No answer
 // depends on the ring; a feed that has more to tell looks the rest up.
@@ -415,6 +422,54 @@ typedef struct {
 uint8_t ripsawbean_calls(ripsawbean *db, const uint8_t *lines, size_t lines_length, uint8_t *out, size_t room, ripsawbean_done *notes,
                          size_t notes_length, uint64_t most, ripsawbean_taken *taken);
 
+// ---- LOOKS: what the database tells without a call. Each leaves the last event and its text as they are.
+
+// How far the database, and one of its feeds, have come.
+typedef struct {
+    uint64_t closed;  // the closed timestamp
+    uint64_t horizon; // below it nothing is read
+    uint64_t limit;   // how far a collection can go now
+    uint64_t oldest;  // the least undecided timestamp; RIPSAWBEAN_NONE where none is undecided
+    uint64_t reached; // the greatest timestamp that began or was closed: each that is above it is free
+    uint64_t floor;   // through where the feed has told all; RIPSAWBEAN_NONE where it doesn't live
+} ripsawbean_standing;
+
+// Tells how far the database, and the feed of this number, have come. It takes no memory. RIPSAWBEAN_OK, or *standing is
+// all 0: RIPSAWBEAN_CLOSED.
+uint8_t ripsawbean_places(ripsawbean *db, uint64_t feed, ripsawbean_standing *standing);
+
+// Tells the version of each key: the timestamp of its newest committed version at or below `timestamp`, which is that of
+// the transaction that wrote it, and 0 where the key has no value there. Keys stand one behind another, each behind its
+// length in two bytes, the lowest first. No more keys are told than there is room for.
+//
+//     RIPSAWBEAN_OK            *count is how many keys were told: all, or as many as there is room for
+//     RIPSAWBEAN_KEYLENGTH     the next key has no byte or more than 256, or the keys end within it; the *count keys before it
+//                              were told
+//     RIPSAWBEAN_NOMEMORY      the next key has more than 24 bytes and found no memory; the *count keys before it were told
+//     RIPSAWBEAN_BELOWHORIZON, RIPSAWBEAN_CLOSED
+//                              *count is 0
+//
+// The versions behind the first *count are as they were. keys, versions and *count share no byte.
+uint8_t ripsawbean_versions_at(ripsawbean *db, uint64_t timestamp, const uint8_t *keys, size_t keys_length, uint64_t *versions,
+                               size_t room, size_t *count);
+
+// One thing that is held.
+typedef struct {
+    uint64_t number; // the timestamp of a transaction; the number of a feed or a protection
+    uint64_t at;     // how many keys a transaction wrote; a feed's floor; a protection's timestamp
+    uint8_t kind;    // RIPSAWBEAN_HELD_..
+} ripsawbean_held;
+
+enum { RIPSAWBEAN_HELD_TRANSACTION = 1, RIPSAWBEAN_HELD_FEED = 2, RIPSAWBEAN_HELD_PROTECTION = 3 };
+
+// Shows what a seat holds: its undecided transactions, timestamps rising; its feeds, numbers rising; and all protections,
+// which are of no seat, numbers rising. A seat that holds nothing is shown the protections alone.
+//
+//     RIPSAWBEAN_OK        *count is how many there are, and out begins with as many as there is room for
+//     RIPSAWBEAN_NOMEMORY, RIPSAWBEAN_CLOSED
+//                          *count is 0 and out is as it was
+uint8_t ripsawbean_held_by(ripsawbean *db, uint8_t seat, ripsawbean_held *out, size_t room, size_t *count);
+
 // ---- A REPLICA: the rows of one feed's span, kept by its messages. It stands beside a database, which may be another
 // process's: nothing but lines goes in. What is said above of the handle, of pointers, threads and memory holds of it
 // too.
@@ -426,8 +481,6 @@ typedef struct {
 
 // A closed handle.
 #define RIPSAWBEAN_REPLICA_INITIALIZER {NULL, false}
-
-#define RIPSAWBEAN_NONE UINT64_MAX // where there is no timestamp to tell
 
 // Opens a closed handle on an empty replica of the feed that a line opens, as "0 openinitial - - 10\n": the line of the
 // call that opened the feed will do. A replica of an initial feed is told its rows. One of another feed has none of the
@@ -473,7 +526,7 @@ static inline const char *ripsawbean_status_name(uint8_t status) {
     static const char *const names[] = {
         "ok",          "wordcount", "unknowncommand", "number", "keylength", "valuelength", "session", "nonewline", "linetoolong",
         "badbyte",     "reply",     "follow",         "nomemory", "spent",   "unwritten",   "ring",    "closed",    "open",
-        "nomessage",   "notafter",  "outsidespan",    "resolvedback", "nofeed", "novalue",     "unknown", "answertoolong",
+        "nomessage",   "notafter",  "outsidespan",    "resolvedback", "nofeed", "novalue", "belowhorizon", "answertoolong",
     };
     return status < sizeof names / sizeof *names ? names[status] : "unknown";
 }

@@ -95,6 +95,22 @@ class Refusals(unittest.TestCase):
             before += 1
         self.assertEqual(seen, {"no call", "no bytes", "an answer"})
 
+    def test_each_growth_of_looks(self):
+        with Database() as db:
+            key, before, kinds, was_refused = b"k" * 30, 0, set(), True
+            for line in ("0 begin 1", "0 put 1 %s 1" % key.decode(), "0 commit 1", "0 open - - 1"):
+                db.call(line + "\n")
+            told, was_refused = self.refusing(0, lambda: db.versions_at(1, [b"a", key]))
+            self.assertEqual((type(told), was_refused), (ripsawbean.NoMemory, True))
+            self.assertEqual(db.versions_at(1, [b"a", key]), [None, 1])
+            while was_refused:
+                told, was_refused = self.refusing(before, lambda: db.held_by(0))
+                if not isinstance(told, ripsawbean.NoMemory):
+                    self.assertEqual(told, [ripsawbean.Held("feed", 1, 1)])
+                kinds.add(type(told))
+                before += 1
+            self.assertEqual(kinds, {ripsawbean.NoMemory, list})
+
     def test_each_growth_of_lines_at_once(self):
         before, any_refused = 0, True
         while any_refused:

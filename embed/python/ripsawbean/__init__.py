@@ -24,15 +24,17 @@ that the program uses too.
 
 from .database import Database
 from .errors import (
-    AlreadyOpen, AnswerTooLong, BadByte, Closed, Error, KeyLength, LineFault, LineTooLong, NoFeed, NoMemory, NoMessage, NoNewline, NotAfter,
+    AlreadyOpen, AnswerTooLong, BadByte, BelowHorizon, Closed, Error, KeyLength, LineFault, LineTooLong, NoFeed, NoMemory, NoMessage,
+    NoNewline, NotAfter,
     NotTaken, Number, OutsideSpan, Refused, ResolvedBack, RingRange, Session, Spent, UnknownCommand, Unwritten, ValueLength, WordCount,
 )
 from .events import Answer, Event, Message, Record, Resolved, Row, messages_of, spell, unspell
+from .looks import Held, Places, version
 from .replica import Replica
 
 __all__ = [
-    "Database", "Answer", "Event", "Record", "Replica", "Row", "Resolved", "messages_of", "spell", "unspell",
+    "Database", "Answer", "Event", "Held", "Places", "Record", "Replica", "Row", "Resolved", "messages_of", "spell", "unspell", "version",
     "Error", "LineFault", "WordCount", "UnknownCommand", "Number", "KeyLength", "ValueLength", "Session", "NoNewline",
     "LineTooLong", "BadByte", "NoMemory", "Spent", "Unwritten", "AnswerTooLong", "RingRange", "Closed", "AlreadyOpen", "Refused",
-    "NotTaken", "NoMessage", "NotAfter", "OutsideSpan", "ResolvedBack", "NoFeed",
+    "NotTaken", "NoMessage", "NotAfter", "OutsideSpan", "ResolvedBack", "NoFeed", "BelowHorizon",
 ]

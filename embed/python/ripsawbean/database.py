@@ -2,11 +2,12 @@
 
 import ctypes
 import struct
-from typing import Callable, Iterator, List, Optional, Union
+from typing import Callable, Iterable, Iterator, List, Optional, Union
 
 from .errors import Closed, Error, LineFault, Number, Refused, RingRange, Session, Unwritten, error_of
 from .events import COMMANDS, Answer, Event, Message, Record, bytes_of, part_of, word_of
 from .handles import BYTES, NONE, ROOM, SIZE, TIME, Opened, functions
+from .looks import HELD, NUMBER, STANDING, Held, Places, held_of, places_of, with_lengths
 
 # The functions, with what each takes behind the handle.
 _seat, _answer = ctypes.c_uint8, [ctypes.c_void_p]
@@ -19,6 +20,7 @@ _database = functions(
     poll=[*_timed, TIME, *ROOM, *_answer], bytes=ROOM, last=[ctypes.c_void_p],
     calls=[*BYTES, ctypes.c_void_p, SIZE, ctypes.c_void_p, SIZE, TIME, ctypes.c_void_p],
     scan=_scanned, scan_at=_scanned, poll_within=[*_timed, TIME, TIME, *ROOM, *_answer],
+    places=[TIME, ctypes.c_void_p], versions_at=[TIME, *BYTES, *ROOM], held_by=[_seat, *ROOM],
 )
 _ANSWER, _TAKEN, _DONE = struct.Struct("@BQQ"), struct.Struct("@NNN"), struct.Struct("@NB0N")
 _RECORD = struct.Struct("@QQQQBBB0Q")
@@ -250,6 +252,42 @@ class Database(Opened):
         """What an operator may ask of the database now, as lines of JSON. It makes no call."""
         with self._turn:
             return self._show(_database.state).decode("ascii")
+
+    def places(self, feed: int = 0) -> Places:
+        """How far the database, and the feed of this number, have come. Its floor is None where no such feed lives. It makes no call."""
+        if feed >> 64:
+            raise _out_of_range(0)
+        standing = ctypes.create_string_buffer(STANDING.size)
+        with self._turn:
+            _database.places(self._at, feed, standing)
+        return places_of(standing)
+
+    def versions_at(self, timestamp: int, keys: Iterable[bytes]) -> List[Optional[int]]:
+        """The version of each key at a timestamp: that of the transaction whose committed value it has there, else None. It makes no call.
+
+        It raises BelowHorizon where versions may be gone, and KeyLength where a key has no byte or more than 256.
+        """
+        if timestamp >> 64:
+            raise _out_of_range(0)
+        parts = [part_of(key) for key in keys]
+        spelled = with_lengths(parts)
+        versions = ctypes.create_string_buffer(NUMBER.size * len(parts))
+        with self._turn:
+            _database.versions_at(self._at, timestamp, spelled, len(spelled), versions, len(parts), self._length_at)
+        return [version or None for version, in NUMBER.iter_unpack(versions)] if parts else []
+
+    def held_by(self, seat: int) -> List[Held]:
+        """What a seat holds: its undecided transactions, its feeds, and all protections, which are of no seat. It makes no call."""
+        if seat >> 8:
+            raise _out_of_range(seat)
+        room = 64
+        with self._turn:
+            while True:
+                out = ctypes.create_string_buffer(HELD.size * room)
+                _database.held_by(self._at, seat, out, room, self._length_at)
+                if self._length.value <= room:
+                    return held_of(out.raw[: HELD.size * self._length.value])
+                room = self._length.value
 
     def messages(self, feed: int, max: int, seat: int = 0) -> Iterator[Message]:
         """The messages of a feed, up to where none is due, by polls of at most `max` each.

@@ -146,6 +146,12 @@ class NoValue(Error):
     status = 23
 
 
+class BelowHorizon(Error, ValueError):
+    """The timestamp is below the horizon, so versions may be gone."""
+
+    status = 24
+
+
 class AnswerTooLong(Error):
     """The answer would have more bytes than `Database.calls` lets through. No call was made."""
 
@@ -166,7 +172,7 @@ ERRORS = {
     for kind in (
         WordCount, UnknownCommand, Number, KeyLength, ValueLength, Session, NoNewline, LineTooLong, BadByte, NoMemory, Spent,
         Unwritten, RingRange, Closed, AlreadyOpen, NoMessage, NotAfter, OutsideSpan, ResolvedBack, NoFeed, NoValue,
-        AnswerTooLong,
+        BelowHorizon, AnswerTooLong,
     )
 }
 

@@ -101,6 +101,21 @@ pub enum CommandError {
 #[derive(Clone, Copy, Debug, PartialEq, Eq, Hash)]
 pub struct Unwritten;
 
+/// There was no memory for what was asked for. It may be asked for again.
+#[derive(Clone, Copy, Debug, PartialEq, Eq, Hash)]
+pub struct NoMemory;
+
+/// Why no further versions of keys were told.
+#[derive(Clone, Copy, Debug, PartialEq, Eq, Hash)]
+pub enum VersionError {
+    /// The timestamp is below the horizon, so versions may be gone. None was told.
+    BelowHorizon,
+    /// A key has no byte, or more than 256.
+    KeyLength,
+    /// There was no memory for a key, or for the versions.
+    NoMemory,
+}
+
 /// Why a poll told nothing.
 #[derive(Clone, Debug, PartialEq, Eq, Hash)]
 pub enum PollError {
@@ -184,6 +199,24 @@ impl fmt::Display for TakeError {
 
 impl Error for ReplicaError {}
 impl Error for TakeError {}
+
+impl NoMemory {
+    pub(crate) fn of(status: u8) -> NoMemory {
+        assert_eq!(status, 12, "an open database returned {status}");
+        NoMemory
+    }
+}
+
+impl VersionError {
+    pub(crate) fn of(status: u8) -> VersionError {
+        match status {
+            4 => VersionError::KeyLength,
+            12 => VersionError::NoMemory,
+            24 => VersionError::BelowHorizon,
+            _ => unreachable!("asking for versions returned {status}"),
+        }
+    }
+}
 
 impl OpenError {
     pub(crate) fn of(status: u8) -> OpenError {
@@ -335,6 +368,22 @@ impl fmt::Display for Unwritten {
     }
 }
 
+impl fmt::Display for NoMemory {
+    fn fmt(&self, f: &mut fmt::Formatter<'_>) -> fmt::Result {
+        f.write_str("no memory for what was asked for")
+    }
+}
+
+impl fmt::Display for VersionError {
+    fn fmt(&self, f: &mut fmt::Formatter<'_>) -> fmt::Result {
+        f.write_str(match self {
+            VersionError::BelowHorizon => "the timestamp is below the horizon",
+            VersionError::KeyLength => "a key has no byte, or more than 256",
+            VersionError::NoMemory => "no memory for a key, or for the versions",
+        })
+    }
+}
+
 impl fmt::Display for PollError {
     fn fmt(&self, f: &mut fmt::Formatter<'_>) -> fmt::Result {
         match self {
@@ -344,10 +393,12 @@ impl fmt::Display for PollError {
     }
 }
 
+impl Error for NoMemory {}
 impl Error for OpenError {}
 impl Error for LineFault {}
 impl Error for Unwritten {}
 impl Error for Refusal {}
+impl Error for VersionError {}
 
 impl Error for CallError {
     fn source(&self) -> Option<&(dyn Error + 'static)> {

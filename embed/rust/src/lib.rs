@@ -42,6 +42,7 @@ mod command;
 mod database;
 mod error;
 mod event;
+mod looks;
 #[allow(unsafe_code)]
 mod raw;
 mod record;
@@ -53,9 +54,11 @@ mod word;
 pub use command::{Command, Span};
 pub use database::{Database, Messages};
 pub use error::{
-    CallError, CommandError, LineFault, OpenError, PollError, Refusal, ReplicaError, TakeError, Unwritten,
+    CallError, CommandError, LineFault, NoMemory, OpenError, PollError, Refusal, ReplicaError, TakeError, Unwritten,
+    VersionError,
 };
 pub use event::{Event, Message, Row};
+pub use looks::{version, Held, Places};
 pub use record::{CommandKind, Outcome, Record};
 pub use replica::Replica;
 pub use several::Calls;

@@ -50,7 +50,39 @@ pub(crate) struct Taken {
     pub(crate) length: usize,
 }
 
+/// How far a database and one of its feeds have come, as C has it.
+#[repr(C)]
+#[derive(Clone, Copy, Default)]
+pub(crate) struct Standing {
+    pub(crate) closed: u64,
+    pub(crate) horizon: u64,
+    pub(crate) limit: u64,
+    oldest: u64,
+    pub(crate) reached: u64,
+    floor: u64,
+}
+
+impl Standing {
+    pub(crate) fn oldest(&self) -> Option<u64> {
+        time_of(self.oldest)
+    }
+
+    pub(crate) fn floor(&self) -> Option<u64> {
+        time_of(self.floor)
+    }
+}
+
+/// One thing that a seat holds, as C has it.
+#[repr(C)]
+#[derive(Clone, Copy, Default)]
+pub(crate) struct HeldRecord {
+    pub(crate) number: u64,
+    pub(crate) at: u64,
+    pub(crate) kind: u8,
+}
+
 extern "C" {
+    fn ripsawbean_version() -> u32;
     fn ripsawbean_open(db: *mut Handle, ring: u32) -> u8;
     fn ripsawbean_call(
         db: *mut Handle,
@@ -173,6 +205,17 @@ extern "C" {
         most: u64,
         taken: *mut Taken,
     ) -> u8;
+    fn ripsawbean_places(db: *mut Handle, feed: u64, standing: *mut Standing) -> u8;
+    fn ripsawbean_versions_at(
+        db: *mut Handle,
+        timestamp: u64,
+        keys: *const u8,
+        keys_length: usize,
+        versions: *mut u64,
+        room: usize,
+        count: *mut usize,
+    ) -> u8;
+    fn ripsawbean_held_by(db: *mut Handle, seat: u8, out: *mut HeldRecord, room: usize, count: *mut usize) -> u8;
     fn ripsawbean_replica_open(replica: *mut Handle, line: *const u8, line_length: usize) -> u8;
     fn ripsawbean_replica_take(replica: *mut Handle, line: *const u8, line_length: usize) -> u8;
     fn ripsawbean_replica_ready(replica: *mut Handle, line: *const u8, line_length: usize, at: *mut u64) -> u8;
@@ -191,6 +234,12 @@ extern "C" {
 
 /// The status of a function that didn't return 0.
 pub(crate) type Status = u8;
+
+/// The version of the library, a byte for each of its numbers.
+pub(crate) fn version() -> u32 {
+    // SAFETY: the function takes nothing, and reads nothing.
+    unsafe { ripsawbean_version() }
+}
 
 /// An open handle.
 pub(crate) struct Open {
@@ -419,6 +468,31 @@ impl Open {
             ripsawbean_calls(handle, lines.as_ptr(), lines.len(), out_at, room, notes_at, places, most, &mut taken)
         };
         (taken, status)
+    }
+
+    /// How far the database and the feed of this number have come.
+    pub(crate) fn places(&mut self, feed: u64) -> Standing {
+        let mut standing = Standing::default();
+        let status = unsafe { ripsawbean_places(&mut self.handle, feed, &mut standing) };
+        assert_eq!(status, 0, "an open database returned {status}");
+        standing
+    }
+
+    /// Tells the versions of keys, each behind its length: how many were told, and the status, 0 too.
+    pub(crate) fn versions_at(&mut self, timestamp: u64, keys: &[u8], versions: &mut [u64]) -> (usize, Status) {
+        let mut count = 0;
+        let (handle, versions_at, room) = (&mut self.handle, versions.as_mut_ptr(), versions.len());
+        let status = unsafe {
+            ripsawbean_versions_at(handle, timestamp, keys.as_ptr(), keys.len(), versions_at, room, &mut count)
+        };
+        (count, status)
+    }
+
+    /// Shows what a seat holds in `out`: how many there are.
+    pub(crate) fn held_by(&mut self, seat: u8, out: &mut [HeldRecord]) -> Result<usize, Status> {
+        let mut count = 0;
+        let status = unsafe { ripsawbean_held_by(&mut self.handle, seat, out.as_mut_ptr(), out.len(), &mut count) };
+        done(status, count)
     }
 }
 

@@ -1,6 +1,8 @@
 //! The wrapper where the library finds no memory, over a library whose growths can be refused: `embed/test` runs this.
 
-use ripsawbean::{CallError, CommandError, Database, Message, OpenError, Refusal, Told, Unwritten};
+use ripsawbean::{
+    CallError, CommandError, Database, Held, Message, NoMemory, OpenError, Refusal, Told, Unwritten, VersionError,
+};
 
 extern "C" {
     fn refuse_after_growths(before: std::ffi::c_ulong);
@@ -80,6 +82,37 @@ fn each_growth_is_refused_in_turn() {
     assert!(without_call > 0 && without_text > 0 && answered > 0, "{without_call} {without_text} {answered}");
     typed_calls();
     lines_at_once(&lines);
+    looks();
+}
+
+/// What is told without a call, with each growth refused in turn.
+fn looks() {
+    let mut db = Database::open(1024).expect("it opens");
+    let key = [b'k'; 30];
+    db.begin(0, 1).expect("a call");
+    db.put(0, 1, &key, b"1").expect("a call");
+    db.commit(0, 1).expect("a call");
+    db.call("0 open - - 1\n").expect("a call");
+    let (mut versions, mut without) = (Vec::new(), 0);
+    refuse_after(0);
+    assert_eq!(db.versions_at(1, &[b"a", &key], &mut versions), Err(VersionError::NoMemory));
+    assert!(refuse_none());
+    assert_eq!(versions, [None]);
+    assert_eq!(db.versions_at(1, &[b"a", &key], &mut versions), Ok(()));
+    assert_eq!(versions, [None, Some(1)]);
+    for before in 0.. {
+        refuse_after(before);
+        let told = db.held_by(0);
+        let any = refuse_none();
+        match told {
+            Err(NoMemory) => without += 1,
+            Ok(held) => assert_eq!(held, [Held::Feed { number: 1, floor: 1 }]),
+        }
+        if !any {
+            break;
+        }
+    }
+    assert!(without > 0);
 }
 
 /// Makes a call until it is made, with its growth behind `before` others refused at first. Whether one was.
