@@ -28,7 +28,7 @@ const PROTECTION: u8 = 3;
 /// One thing that is held. `embed/ripsawbean.h` names the kinds.
 #[repr(C)]
 #[derive(Clone, Copy, Debug)]
-pub struct Held {
+pub struct HeldRecord {
     /// The timestamp of a transaction, or the number of a feed or a protection.
     pub number: u64,
     /// How many keys a transaction wrote; a feed's floor; a protection's timestamp.
@@ -39,7 +39,7 @@ pub struct Held {
 
 impl Database {
     /// The undecided transactions and the live feeds of a seat, and all protections, in the report's order.
-    pub fn held_by(&self, seat: u8) -> Result<Vec<Held>, AllocError>
+    pub fn held_by(&self, seat: u8) -> Result<Vec<HeldRecord>, AllocError>
         ensures { (h : List Event) → StandsFor self.now h → IfOk result (λ held. AreHeldBy h seat held.items) }
     {
         let report = self.engine.report()?;
@@ -48,7 +48,7 @@ impl Database {
 }
 
 /// What a report tells of a seat.
-fn held_in(alloc: Global, report: &Report, seat: u8) -> Result<Vec<Held>, AllocError>
+fn held_in(alloc: Global, report: &Report, seat: u8) -> Result<Vec<HeldRecord>, AllocError>
     ensures { IfOk result (λ held. held.items ≡ held_in report.now seat) }
 {
     let mut held = held_transactions(alloc, &report.transactions, seat)?;
@@ -64,11 +64,11 @@ fn held_transactions(
     alloc: Global,
     transactions: &[TransactionReport],
     seat: u8,
-) -> Result<Vec<Held>, AllocError>
+) -> Result<Vec<HeldRecord>, AllocError>
     ensures { IfOk result (λ held. held.items ≡ map held_transaction (filter (λ (n : TransactionReport). n.seat == seat) transactions.now)) }
 {
     let own = transactions.iter().filter(|n| n.seat == seat);
-    own.map(|n| Held {
+    own.map(|n| HeldRecord {
         number: n.timestamp,
         at: n.keys,
         kind: TRANSACTION,
@@ -77,11 +77,11 @@ fn held_transactions(
 }
 
 /// Those of a seat.
-fn held_feeds(alloc: Global, feeds: &[FeedReport], seat: u8) -> Result<Vec<Held>, AllocError>
+fn held_feeds(alloc: Global, feeds: &[FeedReport], seat: u8) -> Result<Vec<HeldRecord>, AllocError>
     ensures { IfOk result (λ held. held.items ≡ map held_feed (filter (λ (n : FeedReport). n.seat == seat) feeds.now)) }
 {
     let own = feeds.iter().filter(|n| n.seat == seat);
-    own.map(|n| Held {
+    own.map(|n| HeldRecord {
         number: n.number,
         at: n.floor,
         kind: FEED,
@@ -93,11 +93,11 @@ fn held_feeds(alloc: Global, feeds: &[FeedReport], seat: u8) -> Result<Vec<Held>
 fn held_protections(
     alloc: Global,
     protections: &[ProtectionReport],
-) -> Result<Vec<Held>, AllocError>
+) -> Result<Vec<HeldRecord>, AllocError>
     ensures { IfOk result (λ held. held.items ≡ map held_protection protections.now) }
 {
     let all = protections.iter();
-    all.map(|n| Held {
+    all.map(|n| HeldRecord {
         number: n.number,
         at: n.timestamp,
         kind: PROTECTION,

@@ -60,7 +60,7 @@ mod versions;
 pub use bounded::{Bounded, BoundedError};
 pub use database::{CallError, Database};
 pub use event_record::EventRecord;
-pub use held::Held;
+pub use held::HeldRecord;
 pub use several::{Done, Taken};
 pub use typed::{Answer, NoPosition};
 pub use versions::VersionFault;

@@ -2,15 +2,15 @@
 use super::script::{Asked, Words, put_number};
 use super::versions::change;
 use closing::Closing;
-use collector::collect;
+use collector::{collect, limit};
 use feed::Feeds;
 use spans::kind::Kind;
 use spans::span::Span;
 use std::alloc::Global;
 use version_chain::Store;
 
-/// Versions that are written and committed, hard closings, protections, feeds from a cursor, and collections: their
-/// horizons, and how many versions each dropped.
+/// Versions that are written and committed, hard closings, protections, feeds from a cursor, how far a collection can go
+/// (`limit`), the floors of feeds (`floor`), and collections: their horizons, and how many versions each dropped.
 pub(super) const SCRIPT: &str = "put 10 a 1=
 put 20 a 2=
 put 30 a 3=
@@ -22,11 +22,16 @@ commit 30 a=
 commit 40 a=
 commit 40 b=
 drop 50=0 0
+limit=0
 hard 40=40
+limit=40
 keep 15=1
 open 25=1
+floor 1=25
+limit=15
 drop 50=15 0
 end 1=
+limit=25
 drop 17=17 0
 keep 18=2
 drop 50=18 0
@@ -67,6 +72,8 @@ impl Asked for Held {
             Some(b'e') => self.closing.release(words.number()).then_some(()),
             Some(b'o') => open(alloc, self, &mut words, out),
             Some(b's') => self.feeds.cancel(words.number()).then_some(()),
+            Some(b'l') => put_number(alloc, out, limit(&self.closing, &self.feeds)),
+            Some(b'f') => put_number(alloc, out, self.feeds.floor(words.number())?),
             Some(letter) => change(alloc, &mut self.store, *letter, &mut words),
             None => None,
         }

@@ -10,8 +10,9 @@ use timestamps::value::Value;
 /// Scripts, each of rules whose transactions are of seat 0. `marks` counts the spans that have readers, and `readers` has
 /// those of a key. `transactions` are those that are not forgotten. `forget` closes and `hard` closes hard, each with where
 /// closed then stands and how many it aborted. `look` and `over` read at a closed timestamp, `keep` protects one, `end` ends
-/// a protection, and `jump` raises the horizon.
-pub(super) const SCRIPTS: [&str; 9] = [
+/// a protection, and `jump` raises the horizon. `newest` tells a key's version at a timestamp, `waits` the oldest undecided
+/// transaction, and `young` the greatest timestamp that began or was closed.
+pub(super) const SCRIPTS: [&str; 10] = [
     // an own read leaves no mark
     "begin 10=started
 begin 20=started
@@ -197,6 +198,42 @@ hard 30=closed 30 1
 over 30 - -=rows a1
 transactions=
 ",
+    // the version of a key is committed and a value, whatever is undecided above it. A timestamp that began is used, also
+    // where its transaction was aborted
+    "young=0
+waits=-
+begin 10=started
+put 10 a 1=written
+newest 50 a=-
+waits=10
+commit 10=committed 1
+newest 10 a=10
+newest 9 a=-
+begin 30=started
+begin 20=started
+put 20 a 2=written
+put 30 a 3=written
+newest 50 a=10
+waits=20
+young=30
+commit 30=committed 1
+newest 50 a=30
+newest 29 a=10
+begin 40=started
+del 40 a=written
+newest 50 a=30
+commit 40=committed 1
+newest 50 a=-
+newest 39 a=30
+newest 50 b=-
+abort 20=aborted
+waits=-
+young=40
+forget 35=closed 35 0
+young=40
+forget 60=closed 60 0
+young=60
+",
     // a delete has no row
     "begin 10=started
 begin 20=started
@@ -220,6 +257,12 @@ impl Asked for Rules {
             Some(b'u') => put_number(alloc, out, self.undecided_count()),
             Some(b'v') => put_number(alloc, out, self.version_count()),
             Some(b't') => put_transactions(alloc, self, out),
+            Some(b'n') => {
+                let t = words.number();
+                put_or_none(alloc, out, self.version_at(t, &words.key(alloc)?))
+            }
+            Some(b'w') => put_or_none(alloc, out, self.oldest_undecided()),
+            Some(b'y') => put_number(alloc, out, self.reached()),
             Some(b'j') => {
                 let versions = self.take_versions();
                 self.put_back(versions, words.number());
@@ -282,6 +325,14 @@ fn put_transactions(alloc: Global, rules: &Rules, out: &mut Vec<u8>) -> Option<(
         }
     }
     Some(())
+}
+
+/// Writes a number; `-` where there is none.
+fn put_or_none(alloc: Global, out: &mut Vec<u8>, number: Option<u64>) -> Option<()> {
+    match number {
+        None => out.push(b'-').ok(),
+        Some(number) => put_number(alloc, out, number),
+    }
 }
 
 fn put_reply(alloc: Global, out: &mut Vec<u8>, reply: &Reply) -> Option<()> {
