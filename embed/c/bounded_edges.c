@@ -321,6 +321,6 @@ int main(void) {
     a_closed_handle();
     ripsawbean_close(&db);
     long_polls();
-    printf("checks %lu\n", checks);
+    printf("bounded_edges: %lu checks\n", checks);
     return 0;
 }
