@@ -33,6 +33,8 @@
 // MEMORY comes from the program's malloc, realloc and free, which are of one allocator, and align a block to each power
 // of two up to 16 that divides its size. Want of memory is a status or an answer, never an end of the program: see
 // RIPSAWBEAN_NOMEMORY. ripsawbean_close gives all of it back.
+//
+// THE PROCESSOR is one of x86-64-v2, with SSE4.2 and POPCNT, as those since 2009 are. No function tests it.
 #ifndef RIPSAWBEAN_H
 #define RIPSAWBEAN_H
 
@@ -51,6 +53,11 @@ typedef struct {
 
 // A closed handle.
 #define RIPSAWBEAN_INITIALIZER {NULL, false}
+
+// The version of this page, 0.1.0: major, minor and patch have a byte each. The ABI is the number in the shared library's
+// name and in the version of its symbols. It rises where a function or a struct changes or goes.
+#define RIPSAWBEAN_VERSION 0x000100
+#define RIPSAWBEAN_ABI 0
 
 #define RIPSAWBEAN_MAX_RING 65536                        // rows that a feed keeps at hand; 1 is the least, 1024 serves most
 #define RIPSAWBEAN_MAX_TIMESTAMP UINT64_C(9223372036854775807) // above it a command is answered "tsrange", with RIPSAWBEAN_OK

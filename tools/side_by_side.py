@@ -13,9 +13,9 @@ crate gets a second job, or up to four, where no crate waits for a processor. Me
 
 A run that is broken off loses no crate that was proved. Rooms stand in the folder of git, where the next run goes on
 with the program. Without git they stand in a temporary folder and go when the run ends. The program is run once on no
-input, with the words that are given. Lines on standard error say how many crates and about how many minutes are left,
-and which processor seconds each proof took. The order goes by those of an earlier run, which stand in `proof-seconds`
-beside this script.
+input, with the words that are given. Beside a program or archive `origin.py` notes of which sources it is. Lines on
+standard error say how many crates and about how many minutes are left, and which processor seconds each proof took. The
+order goes by those of an earlier run, which stand in `proof-seconds` beside this script.
 """
 
 import contextlib
@@ -31,8 +31,14 @@ import time
 from concurrent.futures import FIRST_COMPLETED, ThreadPoolExecutor, wait
 from dataclasses import dataclass
 
+sys.path.insert(0, os.path.dirname(os.path.abspath(__file__)))
+sys.dont_write_bytecode = True
+import origin  # noqa: E402
+
 TOP = os.path.dirname(os.path.dirname(os.path.abspath(__file__)))
 PARTS = ("src", "specs", "proofs")
+# What a note of a built file says which sources it is of.
+SOURCES = ["crates", "crates.txt"]
 MOST_JOBS = 4
 # Runs a command below the priority of others. Where the system groups processes by session, the group has it too.
 LOWER = """
@@ -442,12 +448,15 @@ def main(words):
                 return 0
             signal.signal(signal.SIGTERM, build.end)
             signal.signal(signal.SIGINT, build.end)
-            begun = time.time()
+            begun, sources = time.time(), origin.committed(TOP, SOURCES)
             if not build.run():
                 return 1
-            # What is edited meanwhile counts as newer.
+            # What is edited meanwhile counts as newer, and what is committed meanwhile as another's.
+            is_of_one = sources == origin.committed(TOP, SOURCES)
             for it in made_of(TOP, words[0]):
                 os.utime(it, (begun, begun))
+                if os.path.isfile(it):
+                    origin.write(it, sources if is_of_one else None)
             return 0
 
 

@@ -13,6 +13,7 @@ import unittest
 HERE = os.path.dirname(os.path.abspath(__file__))
 sys.dont_write_bytecode = True
 sys.path.insert(0, HERE)
+import origin  # noqa: E402
 import side_by_side  # noqa: E402
 from side_by_side import Crate, Start  # noqa: E402
 
@@ -99,13 +100,18 @@ class Builds(unittest.TestCase):
         os.makedirs(os.path.join(self.room.name, "bin"))
         self.write("../bin/rt", PLAYER)
         os.chmod(os.path.join(self.room.name, "bin", "rt"), 0o755)
-        for script in ("side_by_side.py", "library.py"):
+        for script in ("side_by_side.py", "library.py", "origin.py"):
             with open(os.path.join(HERE, script), encoding="utf-8") as it:
                 self.write("tools/" + script, it.read())
         self.write("crates.txt", "".join("%s: %s\n" % (name, " ".join(deps)) for name, deps in DEPS.items()))
         for name in DEPS:
             self.write("crates/%s/src/%s.rt" % (name, "main" if name == "top" else "lib"), "as %s\n" % name)
         subprocess.run(["git", "-C", self.top, "init", "-q"], check=True)
+
+    def commit(self):
+        git = ["git", "-C", self.top, "-c", "user.name=a", "-c", "user.email=a@b"]
+        subprocess.run([*git, "add", "crates.txt", "crates/*.rt"], check=True)
+        subprocess.run([*git, "commit", "-q", "-m", "sources"], check=True)
 
     def tearDown(self):
         self.room.cleanup()
@@ -260,6 +266,31 @@ class Builds(unittest.TestCase):
         self.assertEqual([it.returncode for it in both], [0, 0])
         with open(os.path.join(self.top, "crates/left/out/rlib/made"), encoding="utf-8") as it:
             self.assertEqual(it.read(), "as left, anew\n")
+
+    def test_what_is_made_is_noted_with_the_sources_that_it_is_of(self):
+        self.write(".gitignore", "out/\n")
+        made = os.path.join(self.top, "crates/top/out/top")
+        self.commit()
+        self.build()
+        self.assertEqual(origin.fault(self.top, made, ["crates", "crates.txt"]), "")
+        self.write("crates/left/src/lib.rt", "as left, anew\n")
+        self.build()
+        self.assertIsNone(origin.read(made))
+        self.commit()
+        self.assertEqual((self.build()[2], origin.fault(self.top, made, ["crates", "crates.txt"])), ([], ""))
+
+    def test_what_is_committed_during_a_build_is_not_noted(self):
+        self.write(".gitignore", "out/\n")
+        self.write("crates/left/src/lib.rt", "brief\n")
+        self.commit()
+        open(self.notes, "w").close()
+        ran = self.started()
+        while not any(it.startswith("left begins") for it in self.noted()):
+            time.sleep(0.05)
+        self.write("crates/top/src/main.rt", "as top, anew\n")
+        self.commit()
+        ran.communicate(timeout=50)
+        self.assertEqual((ran.returncode, origin.read(os.path.join(self.top, "crates/top/out/top"))), (0, None))
 
     def test_a_run_that_is_broken_off_loses_nothing(self):
         self.write("crates/left/src/lib.rt", "slow\n")

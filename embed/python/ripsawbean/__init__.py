@@ -16,7 +16,7 @@
 
 It stands on ctypes and the shared library, and needs no package. `embed/build` makes the library, and docs/EMBEDDING.md says the
 rest. The library is looked for where the environment variable RIPSAWBEAN_LIBRARY says, then in this folder and beside
-it, then in `embed/out`.
+it, then in `embed/out`, then where the system has its libraries. One of another version is refused.
 
 Several threads may use one database: its calls take turns. During a call other threads of Python run. A signal handler uses no database
 that the program uses too.
@@ -29,6 +29,7 @@ from .errors import (
     NotTaken, Number, OutsideSpan, Refused, ResolvedBack, RingRange, Session, Spent, UnknownCommand, Unwritten, ValueLength, WordCount,
 )
 from .events import Answer, Event, Message, Record, Resolved, Row, messages_of, spell, unspell
+from .handles import VERSION as __version__
 from .looks import Held, Places, version
 from .replica import Replica
 

@@ -10,6 +10,11 @@ from typing import Any, Callable, List, Optional, Type, TypeVar
 from .errors import Error, NoMemory, error_of
 
 
+VERSION = "0.1.0"
+# What the system's loader finds: the number is that of the library's ABI.
+INSTALLED = "libripsawbean.so.0"
+
+
 class Handle(ctypes.Structure):
     _fields_ = [("at", ctypes.c_void_p), ("is_open", ctypes.c_bool)]
 
@@ -23,7 +28,28 @@ def _find() -> str:
         path = os.path.join(folder, "libripsawbean.so")
         if os.path.exists(path):
             return path
-    raise OSError("libripsawbean.so is not there: run embed/build, or name it in RIPSAWBEAN_LIBRARY")
+    return INSTALLED
+
+
+def _load() -> ctypes.CDLL:
+    try:
+        library = ctypes.CDLL(_find())
+    except OSError as error:
+        how = "run embed/build, install libripsawbean0, or name the library in RIPSAWBEAN_LIBRARY"
+        raise OSError("%s: %s" % (error, how)) from None
+    _refuse_another(library)
+    return library
+
+
+def _refuse_another(library: ctypes.CDLL) -> None:
+    """Refuses a library of another version than this module, because they may not agree on what a call takes."""
+    if not hasattr(library, "ripsawbean_version"):  # one that can't tell it
+        return
+    library.ripsawbean_version.restype = ctypes.c_uint32
+    told = library.ripsawbean_version()
+    version = "%d.%d.%d" % (told >> 16, told >> 8 & 255, told & 255)
+    if version != VERSION:
+        raise OSError("%s is of version %s, and this module of %s" % (library._name, version, VERSION))
 
 
 def _check(status: Optional[int], *_: object) -> None:
@@ -42,7 +68,7 @@ def functions(prefix: str, **arguments: List[Any]) -> types.SimpleNamespace:
     return types.SimpleNamespace(**{name: getattr(LIBRARY, prefix + name) for name in arguments})
 
 
-LIBRARY = ctypes.CDLL(_find())
+LIBRARY = _load()
 SIZE, TIME = ctypes.c_size_t, ctypes.c_uint64
 BYTES, ROOM, TIME_AT = [ctypes.c_char_p, SIZE], [ctypes.c_void_p, SIZE, ctypes.POINTER(SIZE)], ctypes.POINTER(TIME)
 NONE = (1 << 64) - 1
