@@ -35,6 +35,12 @@ use std::time::{Duration, Instant};
 use tokio::io::{AsyncRead, AsyncWrite};
 use tokio::sync::{mpsc, OwnedSemaphorePermit};
 
+/// The number of what the server and its clients agree on, which each answer tells. It rises where a client of the one
+/// before would break.
+const PROTOCOL: &str = "1";
+/// The answer to a connection for which there is no room.
+pub const FULL: &[u8] =
+    b"HTTP/1.1 503 Service Unavailable\r\nRipsawbean-Protocol: 1\r\nContent-Length: 0\r\nConnection: close\r\n\r\n";
 /// Bytes that hyper keeps of one connection in either direction.
 const BUFFER: usize = 1 << 16;
 /// How much of a body that nobody wants is read away, and for how long.
@@ -207,6 +213,7 @@ impl Response {
                 headers.insert(name, value);
             }
         }
+        headers.insert("ripsawbean-protocol", HeaderValue::from_static(PROTOCOL));
         headers.insert("x-content-type-options", HeaderValue::from_static("nosniff"));
         headers.insert("cross-origin-resource-policy", HeaderValue::from_static("same-origin"));
         response

@@ -42,7 +42,6 @@ const BACKLOG: u32 = 1024; // connections that the kernel keeps until they are t
 const SEND_BUFFER: usize = 1 << 18; // bytes that the kernel may hold for one reader
 const END: Duration = Duration::from_secs(1); // how long connections have to end
 const PAUSE: Duration = Duration::from_millis(100); // after a connection that couldn't be taken
-const FULL: &[u8] = b"HTTP/1.1 503 Service Unavailable\r\nContent-Length: 0\r\nConnection: close\r\n\r\n";
 
 /// Why the server doesn't serve.
 #[derive(Debug)]
@@ -258,7 +257,7 @@ fn take(server: &Arc<Server>, mut stream: TcpStream, peer: SocketAddr, acceptor:
             // It is told if it can be told at once.
             (None, _) => {
                 server.log.warn("connections_full", &[("peer", peer.to_string().into())]);
-                drop(timeout(END, stream.write_all(FULL)).await);
+                drop(timeout(END, stream.write_all(http::FULL)).await);
             }
         }
     });

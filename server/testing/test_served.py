@@ -366,6 +366,28 @@ class Guard(unittest.IsolatedAsyncioTestCase):
                     reply = await client.get("/metrics", headers={"Authorization": header})
                     self.assertEqual(reply.status, status, header)
 
+    async def test_each_answer_tells_the_protocol(self):
+        async with served("--max-connections", "8") as client:
+            answers = [await client.get(path) for path in ("/", "/feed", "/metrics", "/healthz", "/nothing", "/session")]
+            answers += [await client.get("/", headers={"Host": "evil.example"}), await client.delete("/call")]
+            answers.append((await client.ws_connect("/session"))._response)
+            answers.append(await client.post("/call", data="nothing\n"))
+            told = {(it.status, it.headers.get("Ripsawbean-Protocol")) for it in answers}
+            self.assertEqual(told, {(status, "1") for status in (101, 200, 400, 403, 404, 405)})
+
+    async def test_one_connection_too_many_is_told_the_protocol(self):
+        async with served("--max-connections", "8") as client:
+            held, heads = [], []
+            for _ in range(9):
+                reader, writer = await asyncio.open_connection("127.0.0.1", client.port)
+                writer.write(b"GET /feed HTTP/1.1\r\nHost: 127.0.0.1:%d\r\n\r\n" % client.port)
+                held.append(writer)
+                heads.append((await asyncio.wait_for(reader.readuntil(b"\r\n\r\n"), LONGEST)).lower())
+            self.assertEqual([it[9:12] for it in heads], 8 * [b"200"] + [b"503"])
+            self.assertTrue(all(b"\r\nripsawbean-protocol: 1\r\n" in it for it in heads), heads)
+            for writer in held:
+                writer.close()
+
     async def test_bodies_and_messages_have_limits(self):
         async with served("--max-message", "1000") as client:
             self.assertEqual(await refusal(await client.post("/call", data="x" * 1001)), (413, "toolong"))
