@@ -284,20 +284,68 @@ def kit_version(house):
 
 @rule
 def program_version(house):
-    """`mvfeed --version` tells the version of the Rust wrapper, and the kit that is installed."""
+    """`mvfeed --version` tells the kit that is installed."""
     path = "crates/command_line/src/version.rt"
     if path not in house.paths:
         return
-    told, wrapper = re.search(r'"([\d.]+)\nproved with ([^"\n]*)"', house.text(path)), "embed/rust/Cargo.toml"
+    told = PROGRAMS.search(house.text(path))
     if not told:
         yield path, 1, "it tells no version and kit"
-        return
-    number = line_at(house.text(path), told.start())
-    version = re.search(r'^version = "(.*)"', house.text(wrapper), re.M)
-    if not version or version[1] != told[1]:
-        yield path, number, "it tells %s, and %s has %s" % (told[1], wrapper, version and version[1])
-    if told[2] != house.version():
-        yield path, number + 1, "it tells %s, and the kit is %s" % (told[2], house.version())
+    elif told[2] != house.version():
+        number = line_at(house.text(path), told.start(2))
+        yield path, number, "it tells %s, and the kit is %s" % (told[2], house.version())
+
+
+# The version that the program tells, and the kit.
+PROGRAMS = re.compile(r'"([\d.]+)\nproved with ([^"\n]*)"')
+# Where else the version stands. In C it is a number with a byte for each part.
+VERSIONS = {
+    "embed/rust/Cargo.toml": r'^version = "(.*)"',
+    "server/Cargo.toml": r'^version = "(.*)"',
+    "embed/ripsawbean.h": r"^#define RIPSAWBEAN_VERSION (0x\w{6})$",
+    "embed/python/ripsawbean/handles.py": r'^VERSION = "(.*)"',
+    "clients/python/pyproject.toml": r'^version = "(.*)"',
+    "clients/javascript/package.json": r'^  "version": "(.*)"',
+    "CHANGELOG.md": r"^## (\d+\.\d+\.\d+)\b",
+}
+# Where the number of the library's ABI stands beside ripsawbean.h, in a pattern of each place.
+ABIS = {
+    "embed/python/ripsawbean/handles.py": r'^INSTALLED = "libripsawbean\.so\.(\d+)"',
+    "embed/test": r"@@RIPSAWBEAN_(\d+)\b",
+    "packaging/debian/control.in": r"^Package: libripsawbean(\d+)$",
+}
+
+
+@rule
+def versions(house):
+    """The product's version is that of the program wherever it stands, and the library's ABI that of ripsawbean.h.
+    Debian's list of symbols has the functions of ripsawbean.h."""
+    program, header = "crates/command_line/src/version.rt", "embed/ripsawbean.h"
+    told = PROGRAMS.search(house.text(program)) if program in house.paths else None
+    for path, pattern in VERSIONS.items() if told else ():
+        own = "0x%02x%02x%02x" % tuple(map(int, told[1].split("."))) if path == header else told[1]
+        yield from differing(house, path, pattern, own)
+    abi = re.search(r"^#define RIPSAWBEAN_ABI (\d+)$", house.text(header), re.M) if header in house.paths else None
+    for path, pattern in ABIS.items() if abi else ():
+        yield from differing(house, path, pattern, abi[1])
+    symbols = "packaging/debian/libripsawbean%s.symbols" % abi[1] if abi else ""
+    if symbols in house.paths:
+        functions = re.findall(r"^(?!static)\w[\w ]*?[ *](ripsawbean_\w+)\(", house.text(header), re.M)
+        listed = re.findall(r"^ (ripsawbean_\w+)@RIPSAWBEAN_%s " % abi[1], house.text(symbols), re.M)
+        for name in sorted(set(functions) ^ set(listed)):
+            yield symbols, 1, "%s stands here or in %s alone" % (name, header)
+    elif abi and "packaging/debian/control.in" in house.paths:
+        yield "packaging/debian/control.in", 1, "there is no %s" % symbols
+
+
+def differing(house, path, pattern, own):
+    """The breach of a file whose pattern finds nothing, or another text than this."""
+    if path in house.paths:
+        found = re.search(pattern, house.text(path), re.M)
+        if not found:
+            yield path, 1, "it has no %s" % own
+        elif found[1] != own:
+            yield path, line_at(house.text(path), found.start()), "it has %s in place of %s" % (found[1], own)
 
 
 @rule

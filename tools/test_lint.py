@@ -29,6 +29,15 @@ SOUND = {
     "crates/low/specs/Ones.antt": "-- what one is\n",
     "crates/command_line/src/version.rt": '//! Which.\n\nconst VERSION: &str = "0.1.0\nproved with %s";\n' % KIT,
     "embed/rust/Cargo.toml": '[package]\nversion = "0.1.0"\n',
+    "CHANGELOG.md": "# What has changed\n\n## 0.1.0\n\n## 0.0.9\n",
+    "clients/javascript/package.json": '{\n  "version": "0.1.0"\n}\n',
+    "embed/python/ripsawbean/handles.py": 'VERSION = "0.1.0"\nINSTALLED = "libripsawbean.so.3"\n',
+    "embed/ripsawbean.h": "#define RIPSAWBEAN_VERSION 0x000100\n#define RIPSAWBEAN_ABI 3\n"
+    "uint8_t ripsawbean_open(ripsawbean *db);\nconst char *ripsawbean_name(void);\n"
+    "static inline int ripsawbean_read(void) {\n    return ripsawbean_open(0);\n}\n",
+    "packaging/debian/control.in": "Package: ripsawbean\n\nPackage: libripsawbean3\n",
+    "packaging/debian/libripsawbean3.symbols": "libripsawbean.so.3 libripsawbean3 #MINVER#\n"
+    " ripsawbean_name@RIPSAWBEAN_3 0.1.0\n ripsawbean_open@RIPSAWBEAN_3 0.1.0\n",
     "tools/run": "#!/bin/sh\n# Runs it.\n",
     "crates/kept/src/lib.rt": "//! Kept.\n\npub fn one() {}\npub fn two() {}\nfn three() {}\n",
     "web/README.md": "# Web\n\nA tour of two\nsteps.\n\n- **`module/make`**, 2 lines\n",
@@ -110,9 +119,20 @@ PLANTED = {
     "kit_version": [("README.md", "kit-1a", "kit-1b"), ("README.md", KIT, "")],
     "program_version": [
         ("crates/command_line/src/version.rt", "kit-1a", "kit-1b"),
-        ("crates/command_line/src/version.rt", "0.1.0", "0.1.1"),
         ("crates/command_line/src/version.rt", "proved", "built"),
+    ],
+    "versions": [
         ("embed/rust/Cargo.toml", "0.1.0", "0.2.0"),
+        ("CHANGELOG.md", "0.1.0", "0.2.0"),
+        ("CHANGELOG.md", "## 0.1.0\n", ""),
+        ("clients/javascript/package.json", "0.1.0", "0.1.1"),
+        ("embed/python/ripsawbean/handles.py", "0.1.0", "0.1.1"),
+        ("embed/python/ripsawbean/handles.py", "so.3", "so.4"),
+        ("embed/ripsawbean.h", "0x000100", "0x000101"),
+        ("embed/ripsawbean.h", "0x000100", "VERSION"),
+        ("embed/ripsawbean.h", "_name(", "_named("),
+        ("packaging/debian/control.in", "libripsawbean3", "libripsawbean4"),
+        ("packaging/debian/libripsawbean3.symbols", " ripsawbean_open@RIPSAWBEAN_3", " ripsawbean_open@RIPSAWBEAN_4"),
     ],
     "heads": [
         (LIB, "//! Low.\n", ""),
@@ -152,6 +172,13 @@ class Rules(unittest.TestCase):
             for path, old, new in plants:
                 with self.subTest(rule=rule, path=path, old=old):
                     self.assertEqual(set(breaches(planted(path, old, new))), {rule})
+
+    def test_a_version_of_the_program_is_that_of_all_places(self):
+        changed = planted("crates/command_line/src/version.rt", "0.1.0", "0.1.1")
+        self.assertEqual(breaches(changed), 5 * ["versions"])
+
+    def test_an_abi_of_the_header_is_that_of_all_places(self):
+        self.assertEqual(breaches(planted("embed/ripsawbean.h", "ABI 3", "ABI 4")), 3 * ["versions"])
 
     def test_an_edit_of_two_pairs_is_read_in_its_order(self):
         both = "file: src/lib.rt\nold:     1\nnew:     2\nold:     2\nnew:     3\n"
