@@ -1,0 +1,258 @@
+/**
+ * A client of a Ripsawbean server, for Node 20 and browsers, by `fetch` alone.
+ *
+ *     import { connect } from "ripsawbean-client";
+ *     const db = connect("http://127.0.0.1:7077");
+ *     await db.put("apple", "3");
+ *     await db.get("apple");                                   // "3", or null where it is absent
+ *     await db.transact(async (tx) => {                        // runs anew where another transaction was faster
+ *       tx.put("apple", String(Number((await tx.get("apple")) ?? 0) - 1));
+ *     });
+ *     for await (const { key, value } of db.scan("price/", "price0")) console.log(key, value);
+ *     for await (const message of db.feed("price/", "price0")) console.log(message);
+ *
+ * Keys and values are strings, or Uint8Arrays for any bytes. A string is given back where the bytes are UTF-8, else a
+ * Uint8Array. Timestamps and versions are strings of digits. Whatever is refused is thrown as a RipsawbeanError, so null
+ * means absent and nothing else.
+ *
+ * 1. A request is for one database: the first answer pins the identity, which every later request names.
+ * 2. A write has a key, so the server makes it once however often it is sent.
+ */
+
+import { AGAIN, Answer, PAGE, Pauses, sleep } from "./answers.js";
+import { ConditionFailed, Gone, Lost, OutcomeUnknown, refused, Unreachable } from "./errors.js";
+import { consume, Feed } from "./feeds.js";
+import { behind, bytesOf, del, get, pathOf, percent, put, resultOf, rowOf, textOf, unchanged, versionIs } from "./values.js";
+
+export * from "./errors.js";
+export { del, exists, get, put, scan, unchanged, valueIs, versionIs } from "./values.js";
+
+const NOT_SENT = ["ECONNREFUSED", "ENOTFOUND", "EAI_AGAIN", "UND_ERR_CONNECT_TIMEOUT"];
+
+export class Client {
+  constructor(url, { token, timeout = 20_000, identity = null, fetch = globalThis.fetch } = {}) {
+    const { protocol, username, search, hash, href } = new URL(url);
+    if (!/^https?:$/.test(protocol) || username || search || hash) throw new TypeError(`${url} is no http://HOST:PORT or https://HOST:PORT`);
+    Object.assign(this, { url: href.replace(/\/$/, ""), timeout, identity, _fetch: fetch });
+    this._token = token ? { Authorization: `Bearer ${token}` } : {};
+  }
+
+  async get(key, options) {
+    return (await this.row(key, options)).value;
+  }
+
+  async row(key, { at } = {}) {
+    return (await this._read(key, at)).row;
+  }
+
+  async put(key, value, { if: condition } = {}) {
+    return (await this.txn([put(key, value)], condition && [condition])).timestamp;
+  }
+
+  async delete(key, { if: condition } = {}) {
+    return (await this.txn([del(key)], condition && [condition])).timestamp;
+  }
+
+  async txn(then, conditions, otherwise) {
+    const body = JSON.stringify({ ...(conditions?.length && { if: conditions }), then, ...(otherwise && { else: otherwise }) });
+    const headers = { "Idempotency-Key": keyOfWrite(), "Content-Type": "application/json" };
+    const told = (await this._call("POST", "/transact", body, headers)).json();
+    return { timestamp: told.timestamp, branch: told.branch, written: told.written, results: told.results.map(resultOf) };
+  }
+
+  async transact(work) {
+    const pauses = new Pauses(this.timeout);
+    for (;;) {
+      const transaction = new Transaction(this);
+      let last, told, isDone = false;
+      try {
+        told = await work(transaction);
+        isDone = true;
+      } catch (why) {
+        if (!(why instanceof Gone)) throw why; // its snapshot is collected
+        last = why;
+      }
+      try {
+        if (isDone) return await transaction._commit(), told;
+      } catch (why) {
+        if (!(why instanceof Gone || why instanceof ConditionFailed)) throw why;
+        last = why;
+      }
+      const pause = pauses.next();
+      if (pause === undefined) throw last;
+      await sleep(pause);
+    }
+  }
+
+  async page(lo, hi, { at, limit = PAGE, hold } = {}) {
+    return pageOf(await this._call("GET", pathOf("/rows", lo, hi, { at, limit, hold })));
+  }
+
+  async *scan(lo, hi, { at, page = PAGE } = {}) {
+    for (let start = lo; ; ) {
+      const found = await this.page(start, hi, { at, limit: page });
+      yield* found.rows;
+      if (found.next === null) return;
+      [start, at] = [found.next, found.timestamp];
+    }
+  }
+
+  feed(lo, hi, options) {
+    return new Feed(this, lo, hi, options).messages();
+  }
+
+  consume(name, options) {
+    return consume(this, name, options);
+  }
+
+  // ---- what is sent, and what an answer means
+
+  _headers(identity) {
+    return { ...this._token, ...(identity && { "Ripsawbean-Identity": identity }) };
+  }
+
+  _pin(answer) {
+    this.identity ??= answer.headers.get("Ripsawbean-Identity");
+  }
+
+  /** An answer, asked for again while it is lost or the server is busy, until the time is over. */
+  async _call(method, path, body, headers) {
+    const pauses = new Pauses(this.timeout);
+    let wasSent = false;
+    for (;;) {
+      let least = 0, busy, lost;
+      try {
+        const answer = await this._once(method, path, body, headers, Math.max(pauses.left(), 1));
+        if (!AGAIN.includes(answer.status)) return this._pin(answer), answer;
+        least = 1000 * (Number(answer.headers.get("Retry-After")) || 0);
+        if ([502, 504].includes(answer.status)) throw new Lost(`the proxy answers ${answer.status}`);
+        busy = refused(answer.status, answer.text());
+      } catch (why) {
+        if (!(why instanceof Lost)) throw why;
+        lost = why;
+        wasSent ||= why.wasSent;
+      }
+      const pause = pauses.next(least);
+      if (pause === undefined && busy) throw busy;
+      if (pause === undefined) {
+        const kind = wasSent && method !== "GET" ? OutcomeUnknown : Unreachable;
+        throw new kind(0, { error: "unreachable", why: lost.message }, { cause: lost.cause });
+      }
+      await sleep(pause);
+    }
+  }
+
+  /** One try. The answer may have a status of AGAIN, and what else is refused is thrown. */
+  async _once(method, path, body, headers = {}, timeout = this.timeout) {
+    const answer = await this._send(method, path, body, { ...this._headers(this.identity), ...headers }, timeout);
+    if (answer.status === 200 || AGAIN.includes(answer.status)) return answer;
+    const error = refused(answer.status, answer.text());
+    if (answer.status === 404 && error.error === "none") return answer;
+    if (error instanceof ConditionFailed) error.found = (error.members.found ?? []).filter((one) => "key" in one).map(rowOf);
+    throw error;
+  }
+
+  async _send(method, path, body, headers, timeout) {
+    const response = await this._open(path, { method, body, headers, signal: AbortSignal.timeout(timeout) });
+    try {
+      return new Answer(response, new Uint8Array(await response.arrayBuffer()));
+    } catch (why) {
+      throw new Lost(why);
+    }
+  }
+
+  async _open(path, options) {
+    try {
+      return await this._fetch.call(globalThis, this.url + path, { cache: "no-store", redirect: "manual", ...options });
+    } catch (why) {
+      throw new Lost(why, !NOT_SENT.includes(why.cause?.code));
+    }
+  }
+
+  // ---- reads
+
+  /** A row, and the timestamp at which it was read. */
+  async _read(key, at) {
+    if (["%2E", "%2E%2E"].includes(percent(key))) return this._readDots(key, at); // no URL can have these two in its path
+    const answer = await this._call("GET", pathOf(`/key/${percent(key)}`, null, null, { at }));
+    const name = textOf(bytesOf(key));
+    if (answer.status === 404) return { at: answer.json().timestamp, row: { key: name, value: null, version: null } };
+    return { at: answer.number("Ripsawbean-Timestamp"), row: { key: name, value: textOf(answer.body), version: answer.number("ETag") } };
+  }
+
+  async _readDots(key, at) {
+    if (at === undefined) {
+      const { timestamp, results } = await this.txn([get(key)]);
+      return { at: timestamp, row: results[0] };
+    }
+    const { rows } = await this.page(key, behind(key), { at, limit: 1 });
+    return { at, row: rows[0] ?? { key: textOf(bytesOf(key)), value: null, version: null } };
+  }
+
+  /** One try of a page of the database that a place names. */
+  async _pageOnce(lo, hi, place, limit, hold) {
+    const path = pathOf("/rows", lo, hi, { at: place.timestamp, limit, hold });
+    const answer = await this._once("GET", path, undefined, { "Ripsawbean-Identity": place.identity });
+    if (answer.status !== 200) throw new Lost(`the server answers ${answer.status}`);
+    return pageOf(answer);
+  }
+}
+
+function pageOf(answer) {
+  const { timestamp, rows, next } = answer.json();
+  const found = rows.map(rowOf);
+  return { timestamp, rows: found, next: next === null ? null : behind(found.at(-1).key) };
+}
+
+function keyOfWrite() {
+  // randomUUID isn't there in a page that came without TLS.
+  return Array.from(globalThis.crypto.getRandomValues(new Uint8Array(16)), (byte) => byte.toString(16).padStart(2, "0")).join("");
+}
+
+/** Reads of one snapshot, and writes that are kept until the end. They commit where nothing that was read has changed. */
+export class Transaction {
+  constructor(client) {
+    Object.assign(this, { _client: client, _at: undefined, _seen: new Map(), _spans: [], _writes: new Map() });
+  }
+
+  put(key, value) {
+    this._writes.set(percent(key), { step: put(key, value), row: { key: textOf(bytesOf(key)), value: textOf(bytesOf(value)), version: null } });
+  }
+
+  delete(key) {
+    this._writes.set(percent(key), { step: del(key), row: { key: textOf(bytesOf(key)), value: null, version: null } });
+  }
+
+  async get(key) {
+    const id = percent(key);
+    if (this._writes.has(id)) return this._writes.get(id).row.value;
+    if (!this._seen.has(id)) {
+      const { at, row } = await this._client._read(key, this._at);
+      this._at ??= at;
+      this._seen.set(id, row);
+    }
+    return this._seen.get(id).value;
+  }
+
+  async scan(lo, hi) {
+    const found = new Map();
+    let page = { next: lo };
+    do {
+      page = await this._client.page(page.next, hi, { at: this._at });
+      this._at = page.timestamp;
+      for (const row of page.rows) found.set(percent(row.key), row);
+    } while (page.next !== null);
+    this._spans.push(unchanged(lo, hi, this._at));
+    const isInside = (id) => id >= percent(lo ?? "") && (!hi?.length || id < percent(hi));
+    for (const [id, { row }] of this._writes) if (isInside(id)) found.set(id, row);
+    return [...found].sort(([a], [b]) => (a < b ? -1 : 1)).map(([, row]) => row).filter((row) => row.value !== null);
+  }
+
+  async _commit() {
+    if (!this._writes.size) return; // a snapshot's reads alone are right as they are
+    const conditions = [...[...this._seen.values()].map((row) => versionIs(row.key, row.version)), ...this._spans];
+    await this._client.txn([...this._writes.values()].map((one) => one.step), conditions);
+  }
+}
+
+export const connect = (url = "http://127.0.0.1:7077", options) => new Client(url, options);
