@@ -1,0 +1,3 @@
+module ripsawbean
+
+go 1.19
