@@ -97,7 +97,7 @@ class Story:
 
     def offer(self, cache: Cache, line: str) -> None:
         """Has the cache take a message that no feed tells."""
-        (message,) = Event("\n" + line + "\n").messages
+        (message,) = Event("poll => messages 1\n" + line + "\n").messages
         try:
             cache.take(message)
             print("cache: taken:", line)

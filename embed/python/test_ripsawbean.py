@@ -227,7 +227,8 @@ class TypedCalls(unittest.TestCase):
             with self.assertRaises(LineFault):
                 self.db.call("0 begin\n")
             self.assertEqual(self.db.last(), Record(*record))
-        self.db.get(30, b"a")
+        with self.assertRaises(Refused):
+            self.db.get(30, b"a")
         self.assertEqual((self.db.last().name, self.db.last().is_refusal), ("notxn", True))
         self.db.close()
         with self.assertRaises(Closed):
@@ -235,7 +236,8 @@ class TypedCalls(unittest.TestCase):
 
     def answers(self, answer, kind, text, value=None, number=0):
         """What a call told, and the text of its event."""
-        self.assertEqual((answer.kind, answer.value, answer.number, answer.is_refusal), (kind, value, number, kind >= 32))
+        found = None if answer.is_refusal else answer.value
+        self.assertEqual((answer.kind, found, answer.number, answer.is_refusal), (kind, value, number, kind >= 32))
         event = self.db.text()
         self.assertEqual(str(event), text)
         self.assertEqual((event.answer, event.is_refusal), (answer.answer, answer.is_refusal))
@@ -258,27 +260,45 @@ class TypedCalls(unittest.TestCase):
         self.answers(db.read_at(30, b"a b"), 3, "11 0 readat 30 a%20b => value %FF-\n", b"\xff-", 2)
         self.answers(db.read_at(9, b"a b"), 2, "12 0 readat 9 a%20b => none\n")
 
+    def refused(self, read, *told):
+        """A read raises what it was answered, so that nobody takes it for an absent key."""
+        with self.assertRaises(Refused) as raised:
+            read()
+        self.answers(raised.exception.event, *told)
+        for answer in (raised.exception.event, self.db.text()):
+            with self.assertRaises(Refused) as again:
+                answer.value
+            self.assertEqual(again.exception.answer, answer.answer)
+
+    def test_what_is_refused_has_no_rows_and_no_messages(self):
+        for event in (self.db.make("scan", 10, None, None), self.db.make("scanat", 1, None, None)):
+            with self.assertRaises(Refused):
+                event.rows
+        for answer in (self.db.poll(1, 9), self.db.text()):
+            with self.assertRaises(Refused):
+                answer.messages
+
     def test_each_refusal(self):
         db = self.db
         db.begin(10)
         self.answers(db.begin(10), 33, "1 0 begin 10 => tsused\n")
         self.answers(db.begin((1 << 64) - 1), 34, "2 0 begin 18446744073709551615 => tsrange\n")
-        self.answers(db.get(10, b"a", seat=1), 37, "3 1 get 10 a => notowner\n")
+        self.refused(lambda: db.get(10, b"a", seat=1), 37, "3 1 get 10 a => notowner\n")
         self.answers(db.commit(11), 36, "4 0 commit 11 => notxn\n")
         db.put(10, b"a", b"1")
         db.begin(20)
-        self.answers(db.get(20, b"a"), 35, "7 0 get 20 a => blocked 10\n", None, 10)
+        self.refused(lambda: db.get(20, b"a"), 35, "7 0 get 20 a => blocked 10\n", None, 10)
         db.commit(10)
         self.answers(db.put(10, b"a", b"2"), 38, "9 0 put 10 a 2 => ended\n")
         db.get(20, b"a")
         db.begin(15)
         self.answers(db.delete(15, b"a"), 39, "12 0 del 15 a => toolate\n")
-        self.answers(db.read_at(20, b"a"), 40, "13 0 readat 20 a => notclosed 0\n", None, 0)
+        self.refused(lambda: db.read_at(20, b"a"), 40, "13 0 readat 20 a => notclosed 0\n", None, 0)
         db.abort(20)
         db.close_to(30)
         self.answers(db.begin(30), 32, "16 0 begin 30 => belowclosed 30\n", None, 30)
         db.make("collect", 25)
-        self.answers(db.read_at(24, b"a"), 41, "18 0 readat 24 a => belowhorizon 25\n", None, 25)
+        self.refused(lambda: db.read_at(24, b"a"), 41, "18 0 readat 24 a => belowhorizon 25\n", None, 25)
         self.answers(db.poll(1, 9), 43, "19 0 poll 1 9 => nofeed\n")
         db.make("open", None, None, 30)
         db.make("cancel", 1)
@@ -304,7 +324,7 @@ class TypedCalls(unittest.TestCase):
         self.assertEqual(messages_of(db.data()), all)
         self.assertEqual(db.text().messages, all)
         self.assertEqual(db.poll(feed, 100, seat=3).messages, [])
-        self.assertEqual(db.poll(feed, 100).messages, [])
+        self.assertEqual(db.poll(feed, 100).answer, "notowner")
 
     def test_scans_that_find_room(self):
         db = self.db

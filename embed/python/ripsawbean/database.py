@@ -66,11 +66,14 @@ class Database(Opened):
         return self.call(" ".join([str(seat), command, *map(word_of, arguments)]) + "\n")
 
     def begin(self, timestamp: int, seat: int = 0) -> Answer:
-        """Begins a transaction. This and what follows are the calls of `make` without a text: an Answer, which may be a refusal."""
+        """Begins a transaction. This and what follows are the calls of `make` without a text: an Answer, which may be a refusal.
+
+        A read that is refused raises Refused, so that nobody takes it for an absent key.
+        """
         return self._timed(_database.begin, timestamp, seat)
 
     def get(self, timestamp: int, key: bytes, seat: int = 0) -> Answer:
-        """Reads a key in a transaction: the answer's `value`."""
+        """Reads a key in a transaction: the answer's `value`, which is None where there is none."""
         return self._read(_database.get, timestamp, key, seat)
 
     def put(self, timestamp: int, key: bytes, value: bytes, seat: int = 0) -> Answer:
@@ -229,7 +232,10 @@ class Database(Opened):
             raise _out_of_range(seat)
         with self._turn:
             call(self._at, seat, timestamp, key, len(key), self._out_at, self._room, self._length_at, self._answer_at)
-            return self._shown_answer()
+            answer = self._shown_answer()
+        if answer.is_refusal:
+            raise Refused(answer)
+        return answer
 
     def _shown_answer(self) -> Answer:
         """The answer with its bytes, which are asked for again where they found too little room."""

@@ -4,6 +4,8 @@ import base64
 import struct
 from typing import Iterator, List, NamedTuple, Optional, Tuple, Union
 
+from .errors import Refused
+
 # ---- words: bytes as lines spell them
 
 _HEX = "0123456789ABCDEF"
@@ -107,19 +109,24 @@ class Event:
 
     @property
     def value(self) -> Optional[bytes]:
-        """The value that `get` or `readat` found, or None."""
-        words = self.answer.split(" ")
+        """The value that `get` or `readat` found, or None where there was none. A refusal raises Refused."""
+        words = self._not_refused().answer.split(" ")
         return unspell(words[1]) if words[0] == "value" else None
 
     @property
     def rows(self) -> List[Tuple[bytes, bytes]]:
-        """The rows of a scan, keys rising."""
-        return rows_of(self.text.split("\n")[1:-1])
+        """The rows of a scan, keys rising. A refusal raises Refused."""
+        return rows_of(self._not_refused().text.split("\n")[1:-1])
 
     @property
     def messages(self) -> List[Message]:
-        """The messages that a poll told, in their order."""
-        return [_message_of(line) for line in self.text.split("\n")[1:-1] if line.startswith("{")]
+        """The messages that a poll told, in their order. A refusal raises Refused."""
+        return [_message_of(line) for line in self._not_refused().text.split("\n")[1:-1] if line.startswith("{")]
+
+    def _not_refused(self) -> "Event":
+        if self.is_refusal:
+            raise Refused(self)
+        return self
 
 
 # The names of answers' kinds, as texts have them. Those from 32 on are refusals.
@@ -184,13 +191,18 @@ class Answer(NamedTuple):
 
     @property
     def value(self) -> Optional[bytes]:
-        """The value that `get` or `read_at` found, or None."""
-        return self.data if self.kind == 3 else None
+        """The value that `get` or `read_at` found, or None where there was none. A refusal raises Refused."""
+        return self.data if self._not_refused().kind == 3 else None
 
     @property
     def messages(self) -> List[Message]:
-        """The messages that a poll told, in their order."""
-        return messages_of(self.data) if self.kind == 8 else []
+        """The messages that a poll told, in their order. A refusal raises Refused."""
+        return messages_of(self.data) if self._not_refused().kind == 8 else []
+
+    def _not_refused(self) -> "Answer":
+        if self.is_refusal:
+            raise Refused(self)
+        return self
 
     @property
     def rows(self) -> List[Tuple[bytes, bytes]]:
