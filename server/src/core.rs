@@ -16,7 +16,7 @@ use crate::ledger::{Ledger, Reason};
 use crate::lines::Limits;
 use crate::log::Log;
 use crate::options::Options;
-use crate::outcome::Outcome;
+use crate::outcome::{floor_after, Outcome, Words};
 use crate::seats::{Owner, Seats, Session};
 use crate::transcript::Transcript;
 use ripsawbean::{CallError, Command, Database, Event, OpenError, Refusal};
@@ -53,6 +53,14 @@ enum Wanted<'a> {
     Messages(&'a mut Vec<u8>),
 }
 
+/// What became of an event's text.
+struct Kept {
+    /// The floor that it tells.
+    floor: Option<u64>,
+    /// Whether what is wanted of it was told.
+    is_told: bool,
+}
+
 impl Core {
     /// A new and empty database. Who starts the server draws its identity.
     pub fn new(options: &Options, identity: String, log: Arc<Log>) -> Result<Core, OpenError> {
@@ -75,17 +83,18 @@ impl Core {
     /// Makes the call of a session's line, which has its newline and no seat, and puts the event's text behind `out`.
     /// After an error no call was made, but for `Unwritten`: the call was made, and its text is lost.
     pub fn call(&mut self, session: &mut Session, line: &[u8], out: &mut Vec<u8>) -> Result<Outcome, CallError> {
-        let owner = Owner::Seat(session.seat);
         let mut wanted = Wanted::Text(out);
         self.line.clear();
         // Writing to a vector can't fail.
         let _ = write!(self.line, "{} ", session.seat);
         self.line.extend_from_slice(line);
-        let outcome = match self.database.call(&self.line) {
-            Ok(event) => enter(&mut self.transcript, &mut self.ledger, &mut self.seats, owner, event, &mut wanted),
-            Err(CallError::Unwritten) => self.enter_again(owner, &mut wanted),
-            Err(error) => Err(error),
-        }?;
+        let kept = match self.database.call(&self.line) {
+            Ok(event) => keep(&mut self.transcript, event, &mut wanted),
+            Err(CallError::Unwritten) => self.keep_again(&mut wanted),
+            Err(error) => return Err(error),
+        };
+        let words = Words::Line(line.strip_suffix(b"\n").unwrap_or(line));
+        let outcome = self.note(Owner::Seat(session.seat), words, kept)?;
         if let Outcome::Started { ts } = outcome {
             session.last = Some(ts);
         }
@@ -160,27 +169,38 @@ impl Core {
     }
 
     fn make(&mut self, owner: Owner, command: Command<'_>, mut wanted: Wanted<'_>) -> Result<Outcome, CallError> {
-        match self.database.make(owner.seat(), command) {
-            Ok(event) => enter(&mut self.transcript, &mut self.ledger, &mut self.seats, owner, event, &mut wanted),
-            Err(CallError::Unwritten) => self.enter_again(owner, &mut wanted),
-            Err(CallError::NoMemory) => Ok(Outcome::Refused(Refusal::NoMemory)),
-            Err(error) => Err(error),
-        }
+        let kept = match self.database.make(owner.seat(), command) {
+            Ok(event) => keep(&mut self.transcript, event, &mut wanted),
+            Err(CallError::Unwritten) => self.keep_again(&mut wanted),
+            Err(CallError::NoMemory) => return Ok(Outcome::Refused(Refusal::NoMemory)),
+            Err(error) => return Err(error),
+        };
+        self.note(owner, Words::Command(command), kept)
     }
 
     /// The last call was made, and there was no memory for its text.
-    fn enter_again(&mut self, owner: Owner, wanted: &mut Wanted<'_>) -> Result<Outcome, CallError> {
+    fn keep_again(&mut self, wanted: &mut Wanted<'_>) -> Kept {
         for give in [Core::give_spare, Core::give_transcript] {
             give(self);
             if let Ok(Some(event)) = self.database.text() {
-                return enter(&mut self.transcript, &mut self.ledger, &mut self.seats, owner, event, wanted);
+                return keep(&mut self.transcript, event, wanted);
             }
         }
-        // Only rows and messages are longer than what was given back, so the ledger misses a feed's floor at most.
-        self.ledger.calls += 1;
         self.transcript.begin_at(self.transcript.next() + 1);
         self.shout("an event's text found no memory: the transcript begins behind it");
-        Err(CallError::Unwritten)
+        Kept { floor: None, is_told: false }
+    }
+
+    /// Notes the last event in the ledger, also where its text is lost: it then misses a feed's floor at most.
+    fn note(&mut self, owner: Owner, words: Words<'_>, kept: Kept) -> Result<Outcome, CallError> {
+        let record = self.database.last().expect("a call was made");
+        let outcome = Outcome::of(&record, words, kept.floor);
+        self.ledger.note(&mut self.seats, owner, &outcome);
+        if kept.is_told {
+            Ok(outcome)
+        } else {
+            Err(CallError::Unwritten)
+        }
     }
 
     fn give_spare(&mut self) {
@@ -204,24 +224,18 @@ impl Core {
     }
 }
 
-/// Notes an event in the ledger and the transcript, and tells what is wanted of its text.
-fn enter(
-    transcript: &mut Transcript,
-    ledger: &mut Ledger,
-    seats: &mut Seats,
-    owner: Owner,
-    event: Event<'_>,
-    wanted: &mut Wanted<'_>,
-) -> Result<Outcome, CallError> {
-    let outcome = Outcome::of(event);
-    transcript.add(event.text());
-    ledger.note(seats, owner, &outcome);
-    let (out, text) = match wanted {
-        Wanted::Nothing => return Ok(outcome),
-        Wanted::Text(out) => (out, event.text()),
-        Wanted::Messages(out) => (out, event.text().split_once('\n').map_or("", |(_, lines)| lines)),
+/// Adds an event to the transcript, and tells what is wanted of its text.
+fn keep(transcript: &mut Transcript, event: Event<'_>, wanted: &mut Wanted<'_>) -> Kept {
+    let (text, floor) = (event.text(), floor_after(event.text()));
+    transcript.add(text);
+    let (out, told) = match wanted {
+        Wanted::Nothing => return Kept { floor, is_told: true },
+        Wanted::Text(out) => (out, text),
+        Wanted::Messages(out) => (out, text.split_once('\n').map_or("", |(_, lines)| lines)),
     };
-    out.try_reserve(text.len()).map_err(|_| CallError::Unwritten)?;
-    out.extend_from_slice(text.as_bytes());
-    Ok(outcome)
+    let is_told = out.try_reserve(told.len()).is_ok();
+    if is_told {
+        out.extend_from_slice(told.as_bytes());
+    }
+    Kept { floor, is_told }
 }

@@ -1,6 +1,4 @@
-//! What an event did, as a value. `core` makes it of each event, and `ledger` follows it.
-//!
-//! This module alone reads the words of an event.
+//! What an event did, as a value. `core` makes it of each event's record, and `ledger` follows it.
 //!
 //! ```text
 //! 0 0 begin 7 => started            Started { ts: 7 }
@@ -8,8 +6,10 @@
 //! 2 63 close 9 => closed 9 0        Closed { at: 9, aborted: 0 }
 //! 3 0 get 12 a => blocked 11        Refused(Blocked(11))
 //! ```
+//!
+//! A record has all of it but a feed's floor, which `floor_after` reads from the messages that were told.
 
-use ripsawbean::{Event, Refusal};
+use ripsawbean::{Closed, Command, Outcome as Answer, Record, Refusal};
 use std::fmt;
 
 /// What one event did.
@@ -70,30 +70,49 @@ pub enum Outcome {
     Refused(Refusal),
 }
 
+/// The words of a command, without seat and newline.
+#[derive(Clone, Copy, Debug)]
+pub enum Words<'a> {
+    Line(&'a [u8]),
+    Command(Command<'a>),
+}
+
+impl Words<'_> {
+    fn text(self) -> String {
+        match self {
+            Words::Line(line) => String::from_utf8_lossy(line).into_owned(),
+            Words::Command(command) => command.to_string(),
+        }
+    }
+
+    fn bytes(self) -> u64 {
+        let bytes = match self {
+            Words::Line(line) => line.len(),
+            Words::Command(_) => self.text().len(),
+        };
+        bytes as u64
+    }
+}
+
 impl Outcome {
-    /// What an event did.
-    pub fn of(event: Event<'_>) -> Outcome {
-        let words = Words::of(event.text());
-        match words.answer(0) {
-            "written" => Outcome::Written { ts: words.argument(1), bytes: words.command.len() as u64 },
-            "started" => Outcome::Started { ts: words.argument(1) },
-            "committed" => Outcome::Committed { ts: words.argument(1), rows: words.number(1) },
-            "aborted" => Outcome::Aborted { ts: words.argument(1) },
-            "toolate" => Outcome::TooLate { ts: words.argument(1) },
-            "closed" => Outcome::Closed { at: words.number(1), aborted: words.number(2) },
-            "opened" => {
-                Outcome::Opened { feed: words.number(1), cursor: words.argument(3), command: words.command.to_string() }
-            }
-            "messages" => Outcome::Messages {
-                feed: words.argument(1),
-                count: words.number(1),
-                floor: words.number(1).checked_sub(1).map(|_| floor_after(event.text())),
-            },
-            "cancelled" => Outcome::Cancelled { feed: words.argument(1) },
-            "protected" => Outcome::Protected { id: words.number(1), at: words.argument(1) },
-            "released" => Outcome::Released { id: words.argument(1) },
-            "collected" => Outcome::Collected { horizon: words.number(1), versions: words.number(2) },
-            name => words.refusal(name).map_or(Outcome::Nothing, Outcome::Refused),
+    /// What the event of this record did, whose command has these words. `floor` is that of `floor_after`.
+    pub fn of(record: &Record, words: Words<'_>, floor: Option<u64>) -> Outcome {
+        let at = record.at;
+        match record.outcome {
+            Answer::None | Answer::Value(_) | Answer::Rows(_) | Answer::Stats { .. } => Outcome::Nothing,
+            Answer::Written => Outcome::Written { ts: at, bytes: words.bytes() },
+            Answer::Started => Outcome::Started { ts: at },
+            Answer::Committed(rows) => Outcome::Committed { ts: at, rows },
+            Answer::Aborted => Outcome::Aborted { ts: at },
+            Answer::Closed(Closed { at, aborted }) => Outcome::Closed { at, aborted },
+            Answer::Opened(feed) => Outcome::Opened { feed, cursor: at, command: words.text() },
+            Answer::Messages(count) => Outcome::Messages { feed: at, count, floor },
+            Answer::Cancelled => Outcome::Cancelled { feed: at },
+            Answer::Protected(id) => Outcome::Protected { id, at },
+            Answer::Released => Outcome::Released { id: at },
+            Answer::Collected { horizon, removed } => Outcome::Collected { horizon, versions: removed },
+            Answer::Refused(Refusal::TooLate) => Outcome::TooLate { ts: at },
+            Answer::Refused(refusal) => Outcome::Refused(refusal),
         }
     }
 }
@@ -120,65 +139,12 @@ impl fmt::Display for Outcome {
     }
 }
 
-/// The words of an event's first line.
-struct Words<'a> {
-    /// The command with its arguments, behind position and seat.
-    command: &'a str,
-    answer: &'a str,
-}
-
-impl<'a> Words<'a> {
-    fn of(text: &'a str) -> Words<'a> {
-        let line = text.split_once('\n').map_or(text, |(line, _)| line);
-        // A key may be spelled as the arrow is, so the answer stands behind the last one.
-        let (before, answer) = line.rsplit_once(" => ").unwrap_or((line, ""));
-        Words { command: before.splitn(3, ' ').nth(2).unwrap_or(""), answer }
-    }
-
-    fn answer(&self, at: usize) -> &'a str {
-        self.answer.split(' ').nth(at).unwrap_or("")
-    }
-
-    fn number(&self, at: usize) -> u64 {
-        number_in(self.answer(at))
-    }
-
-    fn argument(&self, at: usize) -> u64 {
-        number_in(self.command.split(' ').nth(at).unwrap_or(""))
-    }
-
-    fn refusal(&self, name: &str) -> Option<Refusal> {
-        Some(match name {
-            "belowclosed" => Refusal::BelowClosed(self.number(1)),
-            "blocked" => Refusal::Blocked(self.number(1)),
-            "notclosed" => Refusal::NotClosed(self.number(1)),
-            "belowhorizon" => Refusal::BelowHorizon(self.number(1)),
-            "tsused" => Refusal::TsUsed,
-            "tsrange" => Refusal::TsRange,
-            "notxn" => Refusal::NoTxn,
-            "notowner" => Refusal::NotOwner,
-            "ended" => Refusal::Ended,
-            "noprotection" => Refusal::NoProtection,
-            "nofeed" => Refusal::NoFeed,
-            "feedcancelled" => Refusal::FeedCancelled,
-            "nomemory" => Refusal::NoMemory,
-            "gaprange" => Refusal::GapRange,
-            _ => return None,
-        })
-    }
-}
-
-/// The library writes a decimal number of 64 bits wherever one is looked for here.
-fn number_in(word: &str) -> u64 {
-    word.parse().expect("an event has a number here")
-}
-
-/// The floor of a feed after the messages of an event, of which there is one at least: T after `resolved` T, T - 1
-/// after a row of T.
-fn floor_after(text: &str) -> u64 {
-    let last = text.trim_end_matches('\n').rsplit_once('\n').map_or("", |(_, line)| line);
-    let timestamp = number_in(last.rsplit('"').nth(1).unwrap_or(""));
-    timestamp - u64::from(!last.starts_with("{\"resolved\""))
+/// The floor of a feed after the messages that an event's text tells: T after `resolved` T, T - 1 after a row of T. `None`
+/// where it tells none. This alone is read from a text, because no record says it.
+pub fn floor_after(text: &str) -> Option<u64> {
+    let (_, last) = text.trim_end_matches('\n').rsplit_once('\n')?;
+    let timestamp: u64 = last.strip_prefix('{')?.rsplit('"').nth(1)?.parse().ok()?;
+    timestamp.checked_sub(u64::from(!last.starts_with("{\"resolved\"")))
 }
 
 /// The name of a refusal: the first word of its answer.
@@ -212,7 +178,11 @@ mod tests {
         let mut database = Database::open(16).expect("it opens");
         let mut last = None;
         for line in lines {
-            last = Some(Outcome::of(database.call(format!("{line}\n")).expect("a call")));
+            let event = database.call(format!("{line}\n")).expect("a call");
+            let floor = floor_after(event.text());
+            let (_, words) = line.split_once(' ').expect("a seat");
+            let record = database.last().expect("a call was made");
+            last = Some(Outcome::of(&record, Words::Line(words.as_bytes()), floor));
         }
         last.expect("there is a line")
     }
@@ -253,6 +223,24 @@ mod tests {
         assert_eq!(polled(&["0 close 9", "0 poll 1 9"]), Outcome::Messages { feed: 1, count: 3, floor: Some(9) });
         assert_eq!(polled(&["0 close 9", "0 poll 1 2"]), Outcome::Messages { feed: 1, count: 2, floor: Some(6) });
         assert_eq!(polled(&["1 cancel 1"]), Outcome::Cancelled { feed: 1 });
+    }
+
+    #[test]
+    fn a_text_without_messages_tells_no_floor() {
+        for text in ["", "0 0 stats => stats 0 0 0 0 0\n", "1 0 scan 7 - - => rows 1\nrow {\"7\" \"9\"\n"] {
+            assert_eq!(floor_after(text), None, "{text}");
+        }
+        assert_eq!(floor_after("1 0 poll 1 9 => messages 1\n{\"resolved\":\"9\"}\n"), Some(9));
+    }
+
+    #[test]
+    fn words_of_a_line_and_of_a_command_are_the_same() {
+        let command = Command::Put { ts: 7, key: b"a b", value: b"1" };
+        let words = [Words::Line(b"put 7 a%20b 1"), Words::Command(command)];
+        assert_eq!(
+            words.map(|words| (words.text(), words.bytes())),
+            [("put 7 a%20b 1".to_string(), 13), ("put 7 a%20b 1".to_string(), 13)]
+        );
     }
 
     #[test]
