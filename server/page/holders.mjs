@@ -81,7 +81,7 @@ function consumerItem({ name, stored, held, generation, feed, protection, lag },
   const isLate = !held || follows?.waits;
   return {
     kind: "consumer", name, says, at: stored, lag: behind(lag), isLate, isHeld: held, rank: isLate ? IS_LATE : OTHER,
-    whole: [`generation ${generation}`, follows && spanOf(boundsOf(follows.opened))].filter(Boolean).join(", "),
+    whole: [`generation ${generation}`, follows && wholeSpan(follows)].filter(Boolean).join(", "),
     numbers: { feed, protection },
   };
 }
@@ -91,7 +91,7 @@ function feedItem({ number, opened, streamed, seat, floor, lag, told, waits }) {
   const [kind, rank] = streamed ? ["stream", STREAM] : ["feed", OTHER];
   return {
     kind, name: `feed ${number}`, says, at: floor, lag: behind(lag), isLate: waits, isHeld: true, rank,
-    whole: `${spanOf(boundsOf(opened))}, ${told.toLocaleString("en")} told`, numbers: { feed: number },
+    whole: `${wholeSpan({ opened })}, ${told.toLocaleString("en")} told`, numbers: { feed: number },
   };
 }
 
@@ -102,17 +102,24 @@ function protectionItem({ number, timestamp, seat, lag }) {
   };
 }
 
+const OTHERS = "keys that your token isn't for"; // the server leaves their bounds out
+
 const behind = (lag) => (lag === 0 ? "up to date" : `${lag.toLocaleString("en")} ${lag === 1 ? "row" : "rows"} behind`);
 
-function boundsOf(opened) {
+function wholeSpan({ opened }) {
+  if (opened === null) return OTHERS;
   const [, lo, hi] = opened.split(" ");
-  return { lo: bytesOf(lo), hi: bytesOf(hi) };
+  return spanOf({ lo: bytesOf(lo), hi: bytesOf(hi) });
 }
 
 function spanAndRoom({ opened, waits }) {
+  return `, ${shortSpan(opened)}${waits ? ", its reader has no room" : ""}`;
+}
+
+function shortSpan(opened) {
+  if (opened === null) return OTHERS;
   const [, lo, hi] = opened.split(" ").map((it) => (it === "-" ? "" : short(it, LONGEST)));
-  const span = lo || hi ? `${lo} … ${hi}`.trim() : "every key";
-  return `, ${span}${waits ? ", its reader has no room" : ""}`;
+  return lo || hi ? `${lo} … ${hi}`.trim() : "every key";
 }
 
 // ---- what is drawn

@@ -91,10 +91,11 @@ const OWN_CALLS = /^(close|collect|poll|protect|release|open\w*|cancel)$/;
 /** Whether an event is of a call that the server makes by itself. */
 export const isOwn = ({ seat, command }) => seat === OWN && OWN_CALLS.test(command);
 
-// What stands, though its events may be kept no longer.
+// What stands, though its events may be kept no longer. A feed of keys that the token isn't for has no place in a picture.
 function standing({ transaction, protection, feed }) {
+  const seen = feed.filter(({ opened }) => opened !== null);
   return {
     transactions: transaction, protections: protection,
-    feeds: feed.map(({ number, seat, opened, floor }) => ({ number, seat: seat ?? OWN, opened, floor })),
+    feeds: seen.map(({ number, seat, opened, floor }) => ({ number, seat: seat ?? OWN, opened, floor })),
   };
 }

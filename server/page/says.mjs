@@ -19,6 +19,8 @@ const FAULTS = {
   replytoolong: "The answers to this message are longer than --max-reply. This line made no call.",
   full: "The server's memory has reached --max-memory, so a put makes no call. Delete, or collect first.",
   toomany: "The session holds as many transactions, protections or feeds as it may. End some first.",
+  noright: "Your token has no right to this, or isn't for these keys.",
+  draining: "The server is about to end, so no transaction begins any more.",
 };
 
 const REFUSED = {

@@ -53,6 +53,7 @@ async def in_quiet():
             await quiet.words(tab)
             await quiet.lists(tab)
             await quiet.new_numbers(tab)
+            await quiet.left_out(tab)
             no_complaints(tab)
 
 

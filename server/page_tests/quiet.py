@@ -16,6 +16,17 @@ AGES = """Promise.all([import('/page/metrics.mjs'), import('/page/vitals.mjs')])
     vitals.draw(list, live);
     return ["oldest", "closing"].map((it) => list.querySelector(`[data-key=${it}] b`).textContent);
 })"""
+LEFT_OUT = """import('/page/holders.mjs').then(({ Holders }) => {
+    const server = { identity: "a", sessions: 1, closed: "9", horizon: "0", limit: "9", holder: "closed", oldest: null };
+    const feed = { number: "1", opened: null, consumer: null, streamed: true, seat: null, floor: "9", told: 1, lag: 0 };
+    const consumer = { name: "c", stored: "9", held: true, generation: "1", feed: "2", protection: "1", lag: 0 };
+    const parts = Object.fromEntries(["seats", "held", "holders", "holders-more", "holders-folded"].map((name) =>
+        [name, document.createElement(name === "holders-more" ? "details" : "ol")]));
+    parts["holders-more"].append(document.createElement("summary"));
+    new Holders((name) => parts[name]).draw({ server, transaction: [], protection: [], consumer: [consumer],
+        feed: [feed, { ...feed, number: "2", consumer: "c" }] });
+    return [...parts.holders.querySelectorAll(".says")].map((it) => it.textContent);
+})"""
 NEW_FAULTS = {"full", "toomany"}  # of a server that limits what is held
 
 
@@ -114,6 +125,12 @@ async def new_numbers(tab):
     told = "ripsawbean_oldest_transaction_seconds 12.3\nripsawbean_closing_delay_seconds 8\n"
     expect("ages are read from the numbers", await tab.value(AGES % json.dumps(told)) == ["12", "8.0"])
     expect("or from who holds what", await tab.value(AGES % "''") == ["3.0", "3.0"])
+
+
+async def left_out(tab):
+    """A token for some keys is told of feeds of others without their bounds."""
+    told = await tab.value(LEFT_OUT)
+    expect("bounds that are left out have words", len(told) == 2 and all("your token isn't for" in it for it in told))
 
 
 async def edges(tab, width):

@@ -18,6 +18,7 @@
 use crate::options::Options;
 use crate::refusal::Refusal;
 use crate::tokens::{Fault, Tokens};
+use ripsawbean::unspell;
 use std::net::IpAddr;
 
 const LOOPBACK_NAMES: [&str; 3] = ["127.0.0.1", "localhost", "[::1]"];
@@ -31,6 +32,8 @@ pub enum Right {
     Read,
     Write,
     Operate,
+    /// One of the three, whichever.
+    Any,
     /// Also who shows no token.
     Nobody,
 }
@@ -41,6 +44,7 @@ impl Right {
             Right::Read => "read",
             Right::Write => "write",
             Right::Operate => "operate",
+            Right::Any => "do anything",
             Right::Nobody => "nobody",
         }
     }
@@ -66,6 +70,13 @@ impl Keys {
             (Some(_), None) => false,
         };
         lo >= self.lo.as_slice() && ends_within
+    }
+
+    /// The same of bounds that are spelled as in a line, or `None` where they spell no bytes.
+    pub fn covers_spelled(&self, lo: &[u8], hi: &[u8]) -> Option<bool> {
+        let bytes = |word| unspell(std::str::from_utf8(word).ok()?);
+        let hi = bytes(hi)?;
+        Some(self.covers(&bytes(lo)?, Some(hi.as_slice()).filter(|hi| !hi.is_empty())))
     }
 
     /// Whether it has every key.
@@ -101,7 +112,10 @@ impl Who {
     }
 
     pub fn may(&self, right: Right) -> bool {
-        self.rights.contains(&right)
+        match right {
+            Right::Any => !self.rights.is_empty(),
+            _ => self.rights.contains(&right),
+        }
     }
 
     pub fn keys(&self) -> &Keys {
@@ -304,6 +318,14 @@ mod tests {
     }
 
     #[test]
+    fn any_of_the_rights_is_one() {
+        for right in [Right::Read, Right::Write, Right::Operate] {
+            assert!(Who::of("one", &[right]).may(Right::Any));
+        }
+        assert!(!Who::of("none", &[]).may(Right::Any));
+    }
+
+    #[test]
     fn everyone_may_ask_whether_it_lives() {
         assert!(gate_with_token().check(&Head::default(), Right::Nobody).is_ok());
     }
@@ -315,6 +337,8 @@ mod tests {
         assert!(keys.covers(b"b", Some(b"d")) && keys.covers(b"c", Some(b"c")) && !keys.is_all());
         assert!(!keys.covers(b"", Some(b"c")) && !keys.covers(b"c", None) && !keys.covers(b"c", Some(b"d\0")));
         assert!(Keys::default().covers(b"", None) && Keys::default().is_all());
+        assert_eq!([keys.covers_spelled(b"b", b"c%20"), keys.covers_spelled(b"b", b"-")], [Some(true), Some(false)]);
+        assert_eq!([keys.covers_spelled(b"b", b"%2"), keys.covers_spelled(b"\xff", b"c")], [None, None]);
     }
 
     #[test]

@@ -185,9 +185,11 @@ fn prepared(core: &Core, session: &mut Session, line: &[u8]) -> Prepared {
     }
 }
 
-/// Who may only read writes nothing, and what changes the database for others is an operator's.
+/// Who may only read writes nothing, who may only write reads nothing, and what changes the database for others is an
+/// operator's. `cancel` and `release` ask further where they end what is another's.
 fn check_right(session: &Session, command: &[u8]) -> Result<(), Fault> {
     let right = match command {
+        b"begin" | b"commit" | b"abort" | b"cancel" | b"release" => Right::Any,
         b"put" | b"del" | b"close" => Right::Write,
         b"closehard" | b"collect" => Right::Operate,
         _ => Right::Read,
@@ -202,13 +204,11 @@ fn check_keys(session: &Session, command: &[u8], rest: &[u8]) -> Result<(), Faul
         return Ok(());
     }
     let words: Vec<&[u8]> = rest.split(|&byte| byte == b' ').collect();
-    let bytes = |at: usize| words.get(at).and_then(|word| unspell(std::str::from_utf8(word).ok()?));
-    let is_within = |at: usize| match (bytes(at), bytes(at + 1)) {
-        (Some(lo), Some(hi)) => keys.covers(&lo, Some(hi.as_slice()).filter(|hi| !hi.is_empty())),
-        _ => true,
-    };
+    let word = |at: usize| words.get(at).copied().unwrap_or(b"");
+    let is_within = |at: usize| keys.covers_spelled(word(at), word(at + 1)).unwrap_or(true);
+    let key = || unspell(std::str::from_utf8(word(1)).ok()?);
     let is_allowed = match command {
-        b"get" | b"put" | b"del" | b"readat" => bytes(1).is_none_or(|key| keys.holds(&key)),
+        b"get" | b"put" | b"del" | b"readat" => key().is_none_or(|key| keys.holds(&key)),
         b"scan" | b"scanat" => is_within(1),
         b"open" | b"openinitial" | b"openevery" | b"openinitialevery" => is_within(0),
         _ => true,

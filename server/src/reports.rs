@@ -10,9 +10,11 @@
 //!
 //! 1. The lock is held for a few milliseconds at a time, however much there is to tell.
 //! 2. A transcript is whole from its first event to below `Ripsawbean-Next`, or its connection is cut.
+//! 3. Who may see some keys alone is told of no others: no transcript, no state, and no bounds of a wider feed.
 
 use crate::consumers::lines_of_all;
 use crate::core::Core;
+use crate::gate::Keys;
 use crate::http::{Request, Response, Sender};
 use crate::json::{self, Object};
 use crate::ledger::{Feed, Holder, Protection, Transaction};
@@ -41,7 +43,7 @@ pub async fn holders(server: &Arc<Server>, request: Request) -> Result<Response,
     arguments(&request.path, &request.query, &[])?;
     let mut text = String::new();
     for each in [sessions, transactions, protections, feeds] {
-        text.push_str(&server.door.run(|core| each(core)));
+        text.push_str(&server.door.run(|core| each(core, request.who.keys())));
         tokio::task::yield_now().await;
     }
     text.push_str(&lines_of_all(&server.door).await);
@@ -69,7 +71,6 @@ pub async fn transcript(server: &Arc<Server>, request: Request) -> Result<Respon
         .with("ripsawbean-next", next.to_string()))
 }
 
-/// Who may see some keys alone may not see what has others in it.
 fn check_keys(request: &Request) -> Result<(), Refusal> {
     if request.who.keys().is_all() {
         return Ok(());
@@ -102,7 +103,7 @@ fn fault_of(core: &Core) -> Option<&'static str> {
     core.closing.has_failed().then_some("closing has failed, and no stream is told more: look at the log")
 }
 
-fn sessions(core: &Core) -> String {
+fn sessions(core: &Core, _: &Keys) -> String {
     let now = Instant::now();
     let lines = core.seats.all().map(|(seat, taken)| session(seat, taken, now));
     std::iter::once(server_line(core)).chain(lines).collect()
@@ -145,7 +146,7 @@ fn session(seat: u8, taken: &Taken, now: Instant) -> String {
         .line()
 }
 
-fn transactions(core: &Core) -> String {
+fn transactions(core: &Core, _: &Keys) -> String {
     let now = Instant::now();
     core.ledger.undecided.iter().take(MOST_LINES).map(|(ts, one)| transaction(*ts, one, now)).collect()
 }
@@ -159,7 +160,7 @@ fn transaction(timestamp: u64, one: &Transaction, now: Instant) -> String {
         .line()
 }
 
-fn protections(core: &Core) -> String {
+fn protections(core: &Core, _: &Keys) -> String {
     core.ledger.lowest_protections().take(MOST_LINES).map(|(number, one)| protection(core, number, one)).collect()
 }
 
@@ -174,15 +175,15 @@ fn protection(core: &Core, number: u64, one: &Protection) -> String {
         .line()
 }
 
-fn feeds(core: &Core) -> String {
-    core.ledger.lowest_feeds().take(MOST_LINES).map(|(number, one)| feed(core, number, one)).collect()
+fn feeds(core: &Core, keys: &Keys) -> String {
+    core.ledger.lowest_feeds().take(MOST_LINES).map(|(number, one)| feed(core, number, one, keys)).collect()
 }
 
-fn feed(core: &Core, number: u64, one: &Feed) -> String {
+fn feed(core: &Core, number: u64, one: &Feed, keys: &Keys) -> String {
     Object::new()
         .text("kind", "feed")
         .digits("number", number)
-        .text("opened", one.opened.as_str())
+        .text("opened", Some(one.opened.as_str()).filter(|words| is_within(keys, words)))
         .text("consumer", one.consumer.as_deref())
         .flag("streamed", one.owner == Owner::Server)
         .count("seat", seat_of(one.owner))
@@ -191,6 +192,12 @@ fn feed(core: &Core, number: u64, one: &Feed) -> String {
         .count("lag", core.ledger.rows.above(one.floor).rows)
         .flag("waits", one.waits)
         .line()
+}
+
+/// Whether the command that opened a feed names none but these keys. The bounds of others are keys too.
+fn is_within(keys: &Keys, opened: &str) -> bool {
+    let words: Vec<&[u8]> = opened.as_bytes().split(|&byte| byte == b' ').collect();
+    keys.is_all() || matches!(words[..], [_, lo, hi, ..] if keys.covers_spelled(lo, hi) == Some(true))
 }
 
 /// The seat of a session; what is the server's has none.
@@ -206,6 +213,8 @@ mod tests {
     use super::*;
     use crate::testing::{core, put, say, session, tidy, IDENTITY};
     use serde_json::Value;
+
+    const ALL: Keys = Keys { lo: Vec::new(), hi: None };
 
     fn objects(lines: &str) -> Vec<Value> {
         lines.lines().map(|line| serde_json::from_str(line).expect("JSON")).collect()
@@ -237,15 +246,31 @@ mod tests {
         let told = |lines: &str, member: &str| -> Vec<String> {
             objects(lines).iter().map(|line| line[member].as_str().unwrap_or_default().to_string()).collect()
         };
-        assert_eq!(told(&feeds(&core), "floor"), ["1", "2"]);
-        assert_eq!(told(&protections(&core), "timestamp"), ["0", "2"]);
-        assert_eq!(told(&transactions(&core), "timestamp"), ["3", "4"]);
-        let first = feeds(&core).lines().next().map(str::to_string);
+        assert_eq!(told(&feeds(&core, &ALL), "floor"), ["1", "2"]);
+        assert_eq!(told(&protections(&core, &ALL), "timestamp"), ["0", "2"]);
+        assert_eq!(told(&transactions(&core, &ALL), "timestamp"), ["3", "4"]);
+        let first = feeds(&core, &ALL).lines().next().map(str::to_string);
         let expected = "{\"kind\":\"feed\",\"number\":\"2\",\"opened\":\"open - - 1\",\"consumer\":null,\
                         \"streamed\":false,\"seat\":0,\"floor\":\"1\",\"told\":0,\"lag\":1,\"waits\":false}";
         assert_eq!(first.as_deref(), Some(expected));
-        assert_eq!(objects(&protections(&core))[0]["seat"], 0);
-        assert_eq!(objects(&sessions(&core))[1]["peer"], "127.0.0.1:1");
+        assert_eq!(objects(&protections(&core, &ALL))[0]["seat"], 0);
+        assert_eq!(objects(&sessions(&core, &ALL))[1]["peer"], "127.0.0.1:1");
+    }
+
+    #[test]
+    fn bounds_of_a_feed_are_told_to_those_who_may_see_its_keys() {
+        let mut core = core(&[]);
+        let mut one = session(&mut core);
+        say(&mut core, &mut one, "open b c 0\nopeninitialevery b%00 bz 0 3\nopen b - 0\nopen a c 0\nopen - - 0\n");
+        let opened = |keys: &Keys| -> Vec<Option<String>> {
+            objects(&feeds(&core, keys)).iter().map(|line| line["opened"].as_str().map(str::to_string)).collect()
+        };
+        let some = |words: &[&str]| words.iter().map(|words| Some(words.to_string())).collect::<Vec<_>>();
+        let own = some(&["open b c 0", "openinitialevery b%00 bz 0 3"]);
+        assert_eq!(opened(&Keys { lo: b"b".to_vec(), hi: Some(b"c".to_vec()) }), [own, vec![None; 3]].concat());
+        let above = Keys { lo: b"b".to_vec(), hi: None };
+        assert_eq!(opened(&above)[2..], [some(&["open b - 0"]), vec![None; 2]].concat());
+        assert!(opened(&ALL).iter().all(Option::is_some));
     }
 
     #[test]
@@ -253,8 +278,8 @@ mod tests {
         let mut core = core(&["--max-held", "5000"]);
         let mut one = session(&mut core);
         say(&mut core, &mut one, &"begin\nprotect 0\n".repeat(1100));
-        assert_eq!(transactions(&core).lines().count(), 1000);
-        assert_eq!(protections(&core).lines().count(), 1000);
+        assert_eq!(transactions(&core, &ALL).lines().count(), 1000);
+        assert_eq!(protections(&core, &ALL).lines().count(), 1000);
     }
 
     #[test]

@@ -99,8 +99,8 @@ impl Place {
         use Method::{Delete, Get, Head, Post};
         match self {
             // What a session's lines may do is asked of each line.
-            Place::Session => &[(Get, Right::Read)],
-            Place::Call => &[(Post, Right::Read)],
+            Place::Session => &[(Get, Right::Any)],
+            Place::Call => &[(Post, Right::Any)],
             Place::Seat => &[(Delete, Right::Operate)],
             Place::Feed => &[(Get, Right::Read)],
             Place::Consumer => &[(Get, Right::Read), (Head, Right::Read), (Post, Right::Write), (Delete, Right::Write)],
@@ -181,6 +181,7 @@ mod tests {
     #[test]
     fn rights_by_method() {
         assert_eq!(right_of(Method::Get, "/consumer/a"), Right::Read);
+        assert_eq!([right_of(Method::Get, "/session"), right_of(Method::Post, "/call")], [Right::Any; 2]);
         assert_eq!(right_of(Method::Post, "/consumer/a"), Right::Write);
         assert_eq!(right_of(Method::Delete, "/consumer/a"), Right::Write);
         assert_eq!(right_of(Method::Delete, "/session/5"), Right::Operate);

@@ -4,6 +4,7 @@ Each function is a test. It gets a room, and how heavy the load is to be.
 """
 
 import contextlib
+import json
 import os
 import re
 import signal
@@ -17,7 +18,8 @@ from attack_wire import refused_start
 from handmade import Refused, Session, Wire, bearer
 from machine import Room, Server, wait_for
 
-READ, WRITE, OPERATE, PART = ("%s-0123456789abcdef" % name for name in ("read", "write", "operate", "part"))
+READ, WRITE, OPERATE, PART, SENSOR = ("%s-0123456789abcdef" % name for name in (
+    "read", "write", "operate", "part", "sensor"))
 
 
 def shown(token: str) -> dict[str, str]:
@@ -33,11 +35,12 @@ def status_of(server: Server, path: str, token: str) -> int:
 
 @contextlib.contextmanager
 def with_tokens(room: Room) -> Iterator[tuple[Server, str]]:
-    """A server with four tokens, and their file."""
+    """A server with five tokens, and their file."""
     path = room.file("tokens")
     with open(path, "w") as file:
         file.write("reader read - - %s\nwriter read,write - - %s\n" % (READ, WRITE))
         file.write("operator read,write,operate - - %s\npart read,write b c %s\n" % (OPERATE, PART))
+        file.write("sensor write b c %s\n" % SENSOR)
     os.chmod(path, 0o600)
     yield started(room, "--tokens", path, token=OPERATE), path
 
@@ -91,7 +94,51 @@ def test_spans_of_tokens(room: Room, scale: Scale) -> str:
             assert "secret" not in told, path
         rows = server.ask("POST", "/call", b"begin\nscan . - -\n")[1]
         assert re.findall(r"row (\S+)", rows) == ["a", "b/1", "b/2"], rows
-    return "four tokens"
+    return "two tokens"
+
+
+def opened(server: Server, token: str) -> list[str | None]:
+    lines = map(json.loads, server.ask("GET", "/holders", None, shown(token))[1].splitlines())
+    return sorted((one["opened"] for one in lines if one["kind"] == "feed"), key=str)
+
+
+def test_bounds_that_a_token_is_not_for(room: Room, scale: Scale) -> str:
+    """Bounds of feeds are keys: a token of a span is told of no others' bounds, in no report."""
+    with with_tokens(room) as (server, _):
+        session = Session(server.port, OPERATE)
+        session.call("open a/secret a/secreu 0\nopen b/1 b/2 0\n")
+        with contextlib.closing(Wire(server.port)) as wide, contextlib.closing(Wire(server.port)) as own:
+            wide.ask("GET", "/feed?lo=b&hi=z/secret", bearer(OPERATE))
+            own.ask("GET", "/feed?lo=b&hi=c", bearer(PART))
+            wide.until(b"\r\n\r\n"), own.until(b"\r\n\r\n")
+            every = ["open a/secret a/secreu 0", "open b/1 b/2 0", "openinitial b c 0", "openinitial b z/secret 0"]
+            assert opened(server, OPERATE) == opened(server, READ) == every, opened(server, READ)
+            found = opened(server, PART)
+            assert found == [None, None, "open b/1 b/2 0", "openinitial b c 0"], found
+            for path in ("/holders", "/metrics", "/consumer", "/consumer/nobody"):
+                assert "secret" not in server.ask("GET", path, None, shown(PART))[1], path
+            assert server.ask("GET", "/holders", None, shown(SENSOR))[0] == 403
+    return "of two feeds"
+
+
+def test_a_token_that_only_writes(room: Room, scale: Scale) -> str:
+    """It puts and deletes within its span, by a call and by a session, and is told nothing that stands there."""
+    with with_tokens(room) as (server, _):
+        server.ask("POST", "/call", b"begin\nput . b/1 secret\ncommit .\n")
+        told = server.ask("POST", "/call", b"begin\nput . b/2 x\ndel . b/3\ncommit .\n", shown(SENSOR))[1]
+        assert "=> committed 2" in told, told
+        session = Session(server.port, SENSOR)
+        assert "=> committed 1" in session.call("begin\nput . b/4 x\ncommit .\n")
+        session.call("begin\n")
+        for line in ("get . b/1", "scan . b c", "readat 1 b/1", "scanat 1 b c", "openinitial b c 0", "poll 1 9",
+                     "protect 0", "stats", "closehard 9", "collect 0", "put . a x", "put . c x"):
+            told = session.call(line + "\n")
+            assert told.endswith(" 69 noright\n"), (line, told)
+        for path in ("/feed?lo=b&hi=c", "/holders", "/state", "/metrics", "/transcript", "/consumer", "/"):
+            assert status_of(server, path, SENSOR) == 403, path
+        rows = server.ask("POST", "/call", b"begin\nscan . - -\n")[1]
+        assert re.findall(r"row (\S+)", rows) == ["b/1", "b/2", "b/4"], rows
+    return "by a call and by a session"
 
 
 def test_tokens_read_anew(room: Room, scale: Scale) -> str:

@@ -169,8 +169,35 @@ fn lines_want_rights() {
     };
     let all = |lines: [u8; 10]| lines.map(|line| line == 1).to_vec();
     assert_eq!(told(&[Right::Read]), all([1, 1, 0, 0, 1, 0, 0, 0, 0, 1]));
+    assert_eq!(told(&[Right::Write]), all([1, 0, 1, 1, 1, 0, 0, 0, 0, 0]));
     assert_eq!(told(&[Right::Read, Right::Write]), all([1, 1, 1, 1, 1, 0, 0, 0, 0, 1]));
     assert_eq!(told(&[Right::Read, Right::Write, Right::Operate]), all([1; 10]));
+    assert_eq!(told(&[Right::Operate]), all([1, 0, 0, 0, 1, 1, 1, 1, 1, 0]));
+}
+
+#[test]
+fn who_may_only_write_is_told_nothing_that_stands() {
+    let mut core = core(&[]);
+    let mut one = core.seats.take("127.0.0.1:1".into(), Who::of("sensor", &[Right::Write]), 0).expect("a seat");
+    assert_eq!(answers(&mut core, &mut one, "begin\nput . a 1\ndel . b\ncommit .\nclose 1\n").len(), 5);
+    for line in [
+        "get 1 a",
+        "scan 1 - -",
+        "readat 1 a",
+        "scanat 1 - -",
+        "protect 1",
+        "stats",
+        "poll 1 1",
+        "open - - 1",
+        "openinitial - - 1",
+        "openevery - - 1 1",
+        "openinitialevery - - 1 1",
+        "",
+        "nothing",
+    ] {
+        assert!(answers(&mut core, &mut one, &format!("{line}\n"))[0].ends_with(" 69 noright"), "{line}");
+    }
+    assert_eq!(core.ledger.refusals.get("noright"), Some(&13));
 }
 
 #[test]
