@@ -27,7 +27,7 @@ const REFUSED = {
   tsrange: "Timestamps end at 9223372036854775807, and those of transactions begin at 1.",
   belowclosed: "Nothing begins at or below closed: choose a greater timestamp.",
   tsused: "A transaction of this timestamp began before: choose another.",
-  ended: "The transaction is decided for good: begin again with a greater timestamp.",
+  ended: "The transaction is decided for good, perhaps because it waited too long: begin again above.",
   notxn: "No transaction of this timestamp began: begin it first.",
   notowner: "Another session began or opened it: only that one can go on with it.",
   blocked: "The newest version is another transaction's, which is undecided: try again once it has ended, or abort.",

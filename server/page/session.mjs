@@ -3,6 +3,7 @@
 import { textOf } from "./live.mjs";
 
 const SEATS = 64;
+const IDLE = 5; // seconds of silence after which the server aborts what is undecided: nobody is to wait for a page
 
 export class Session {
   #socket = null;
@@ -37,7 +38,8 @@ export class Session {
   }
 
   #open() {
-    const socket = new WebSocket(`${location.protocol === "https:" ? "wss" : "ws"}://${location.host}/session`);
+    const scheme = location.protocol === "https:" ? "wss" : "ws";
+    const socket = new WebSocket(`${scheme}://${location.host}/session?idle=${IDLE}`);
     socket.onmessage = (message) => this.#waiting.shift()?.resolve(message.data);
     socket.onclose = () => this.#ended(socket);
     return new Promise((resolve, reject) => {

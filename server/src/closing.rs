@@ -2,9 +2,10 @@
 //!
 //! ```text
 //! --close-every after one was decided     close as far as transactions are decided
-//! each second                             abort transactions that are too old, by their own seat; let go of what
-//!                                         lags too far; collect what was closed some seconds ago, where the horizon
-//!                                         moves by it; end sessions that are silent; wake the streams
+//! each second                             abort transactions that are too old, or whose sessions are silent, by their
+//!                                         own seats; let go of what lags too far; collect what was closed some
+//!                                         seconds ago, where the horizon moves by it; end silent sessions; wake the
+//!                                         streams
 //! ```
 //!
 //! `door` settles after each piece of work, and so closes at once where nothing speaks against it. While streams have
@@ -150,9 +151,7 @@ impl Core {
     fn abort_old(&mut self, until: Instant) -> Turn {
         while let Some((since, ts)) = self.ledger.eldest().filter(|(since, _)| since.elapsed() > self.closing.max_age) {
             let Some(transaction) = self.ledger.undecided.get(&ts) else { break };
-            let seat = transaction.seat;
-            self.log.warn("old_transaction", &[("timestamp", ts.into()), ("seat", seat.into())]);
-            self.demand(Owner::Seat(seat), Command::Abort { ts }, &Outcome::Aborted { ts });
+            self.abort("old_transaction", transaction.seat, ts);
             if self.ledger.eldest() == Some((since, ts)) {
                 break; // for want of memory: again in a second
             }
@@ -161,6 +160,24 @@ impl Core {
             }
         }
         Turn::Done
+    }
+
+    fn abort_idle(&mut self, until: Instant) -> Turn {
+        while let Some((seat, ts)) = self.seats.idle() {
+            self.abort("idle_transaction", seat, ts);
+            if self.ledger.undecided.contains_key(&ts) {
+                break; // for want of memory: again in a second
+            }
+            if Instant::now() >= until {
+                return Turn::More;
+            }
+        }
+        Turn::Done
+    }
+
+    fn abort(&mut self, why: &'static str, seat: u8, ts: u64) {
+        self.log.warn(why, &[("timestamp", ts.into()), ("seat", seat.into())]);
+        self.demand(Owner::Seat(seat), Command::Abort { ts }, &Outcome::Aborted { ts });
     }
 
     fn let_go_names(&mut self, _until: Instant) -> Turn {
@@ -268,9 +285,10 @@ impl Core {
 type Step = fn(&mut Core, Instant) -> Turn;
 
 /// What is done each second, one after another.
-pub const STEPS: [Step; 7] = [
+pub const STEPS: [Step; 8] = [
     Core::close_again,
     Core::abort_old,
+    Core::abort_idle,
     Core::let_go_names,
     Core::let_go_feeds,
     Core::let_go_protections,

@@ -18,7 +18,7 @@ use crate::refusal::Refusal;
 pub const GREATEST: u64 = i64::MAX as u64;
 
 /// The names whose values are numbers, on every path.
-const NUMBERS: [&str; 5] = ["from", "gap", "stored", "generation", "since"];
+const NUMBERS: [&str; 6] = ["from", "gap", "stored", "generation", "since", "idle"];
 
 #[derive(Debug, Clone, PartialEq, Eq)]
 enum Value {

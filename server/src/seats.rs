@@ -9,7 +9,7 @@
 
 use crate::gate::Who;
 use std::collections::{BTreeSet, VecDeque};
-use std::time::Instant;
+use std::time::{Duration, Instant};
 use tokio::sync::watch;
 
 /// How many seats the database has.
@@ -71,6 +71,8 @@ pub struct Taken {
     pub since: Instant,
     /// When its last message came.
     pub heard: Instant,
+    /// How long it may be silent before its undecided transactions are aborted, where it has said so.
+    pub idle: Option<Duration>,
     /// The address of its client.
     pub peer: String,
     pub begun: BTreeSet<u64>,
@@ -110,6 +112,7 @@ impl Seats {
         self.taken[usize::from(seat)] = Some(Taken {
             since: now,
             heard: now,
+            idle: None,
             peer,
             begun: BTreeSet::new(),
             feeds: BTreeSet::new(),
@@ -140,6 +143,12 @@ impl Seats {
         if let Some(taken) = self.taken_mut(seat) {
             taken.heard = Instant::now();
         }
+    }
+
+    /// An undecided transaction of a session that has been silent for as long as it may, with its seat.
+    pub fn idle(&self) -> Option<(u8, u64)> {
+        let silent = |taken: &Taken| taken.idle.is_some_and(|most| taken.heard.elapsed() > most);
+        self.all().filter(|(_, taken)| silent(taken)).find_map(|(seat, taken)| Some((seat, *taken.begun.first()?)))
     }
 
     /// The session of an owner, where it is one.

@@ -42,6 +42,14 @@ impl Seated {
         let session = server.door.run(|core| core.seats.take(peer, who, kept)).ok_or_else(Refusal::no_seats)?;
         Ok(Seated { server: server.clone(), session })
     }
+
+    fn aborts_after(&self, idle: Option<Duration>) {
+        self.server.door.run(|core| {
+            if let Some(taken) = core.seats.taken_mut(self.session.seat) {
+                taken.idle = idle;
+            }
+        });
+    }
 }
 
 impl Drop for Seated {
@@ -101,12 +109,13 @@ async fn answer(seated: &mut Seated, lines: &mut Lines) -> Result<(), Refusal> {
 
 /// `GET /session`: a WebSocket.
 pub async fn session(server: &Arc<Server>, mut request: Request) -> Result<Response, Refusal> {
-    arguments(&request.path, &request.query, &[])?;
+    let idle = idle_in(&request)?;
     let lists = ["upgrade", "connection", "sec-websocket-version", "sec-websocket-key"].map(|name| request.list(name));
     let [upgrade, connection, version, key] = &lists;
     let accept = ws::accept(&Asked { upgrade, connection, version, key })?;
     let connection = request.connection.clone();
     let seated = Seated::take(server, request.who.clone(), &connection)?;
+    seated.aborts_after(idle);
     let busy = connection.asks();
     let upgraded = request.upgraded();
     let opened = [
@@ -123,6 +132,14 @@ pub async fn session(server: &Arc<Server>, mut request: Request) -> Result<Respo
     };
     server.spawn(task);
     Ok(Response::switching(accept))
+}
+
+/// How long the session may be silent before its undecided transactions are aborted, where it says so.
+fn idle_in(request: &Request) -> Result<Option<Duration>, Refusal> {
+    match arguments(&request.path, &request.query, &["idle"])?.number("idle") {
+        Some(0) => Err(Refusal::new(400, "number", "idle has to be a second at least")),
+        seconds => Ok(seconds.map(Duration::from_secs)),
+    }
 }
 
 /// `DELETE /session/SEAT`: an operator ends a session.

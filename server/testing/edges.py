@@ -323,6 +323,31 @@ def test_old_transactions_are_aborted(room, server):
     assert b"old" not in rows_at(server, server.closed())
 
 
+def test_transactions_of_a_silent_session_are_aborted(room, server):
+    """With `idle` closing waits for a session that goes on, and no longer for one that is silent."""
+    async def work(client):
+        for query in ("idle=0", "idle=1.5", "idle=", "idle=1&idle=2", "max-idle=1"):
+            try:
+                await client.ws_connect(server.url + "/session?" + query)
+                raise AssertionError("a session with %s" % query)
+            except aiohttp.WSServerHandshakeError as refused:
+                assert refused.status == 400, query
+        server.kill()
+        patient = room.start(Server(room.path, "--max-age", "600"))
+        async with client.ws_connect(patient.url + "/session?idle=3") as silent, \
+                client.ws_connect(patient.url + "/session?idle=3") as one, client.ws_connect(patient.url + "/session") as other:
+            first, second, third = [(await asked(each, "begin\n")).data.split(" ")[3] for each in (silent, one, other)]
+            for at in range(10):
+                assert "=> written\n" in (await asked(one, "put . idle/%d x\n" % at)).data
+                await asyncio.sleep(0.5)
+            assert [each["timestamp"] for each in patient.holders("transaction")] == [second, third]
+            assert patient.closed() == int(first)
+            assert "=> ended\n" in (await asked(silent, "commit .\n")).data
+            assert "=> committed 10\n" in (await asked(one, "commit .\n")).data
+            assert "=> committed 0\n" in (await asked(other, "commit .\n")).data
+    talk(work)
+
+
 def test_places_that_lead_nowhere(room, server):
     """A place of another database, above closed, or without its identity is refused by name, not served in silence."""
     put(server, 10)

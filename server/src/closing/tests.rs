@@ -152,6 +152,26 @@ fn an_old_transaction_is_aborted_by_its_own_seat_and_a_younger_one_stays() {
 }
 
 #[test]
+fn transactions_of_a_session_that_is_silent_for_as_long_as_it_may_are_aborted() {
+    let mut core = core(&[]);
+    let (mut one, mut two) = (session(&mut core), session(&mut core));
+    for seat in [one.seat, two.seat] {
+        core.seats.taken_mut(seat).expect("it is taken").idle = Some(Duration::from_millis(200));
+    }
+    answers(&mut core, &mut one, "begin 5\nbegin 6\n");
+    answers(&mut core, &mut two, "begin 7\n");
+    std::thread::sleep(Duration::from_millis(250));
+    core.seats.hears(two.seat);
+    // A turn that is over already aborts one.
+    assert_eq!(core.abort_idle(Instant::now()), Turn::More);
+    assert_eq!(core.ledger.undecided.keys().copied().collect::<Vec<_>>(), [6, 7]);
+    tidy(&mut core);
+    assert_eq!(answers(&mut core, &mut one, "commit 5\ncommit 6\n"), ["ended", "ended"]);
+    assert_eq!(answers(&mut core, &mut two, "commit 7\n"), ["committed 0"]);
+    assert_eq!((core.shouts, core.seats.count()), (0, 2));
+}
+
+#[test]
 fn the_horizon_moves_once_what_held_it_is_gone_though_nothing_more_is_closed() {
     let mut core = core(&["--history", "0"]);
     let mut one = session(&mut core);
