@@ -10,11 +10,11 @@
 //!    is a new history.
 
 use crate::closing::Closing;
-use crate::consumers::Consumers;
 use crate::door::Turn;
 use crate::ledger::{Ledger, Reason};
 use crate::lines::Limits;
 use crate::log::Log;
+use crate::names::Names;
 use crate::options::Options;
 use crate::outcome::{floor_after, Outcome, Words};
 use crate::seats::{Owner, Seats, Session};
@@ -33,7 +33,7 @@ pub struct Core {
     pub ledger: Ledger,
     pub seats: Seats,
     pub transcript: Transcript,
-    pub consumers: Consumers,
+    pub names: Names,
     pub closing: Closing,
     pub limits: Limits,
     /// Answers that were not the ones that had to come.
@@ -70,7 +70,7 @@ impl Core {
             ledger: Ledger::default(),
             seats: Seats::default(),
             transcript: Transcript::new(options.keep, options.keep_bytes),
-            consumers: Consumers::new(options.max_consumers),
+            names: Names::new(options.max_consumers),
             closing: Closing::new(options),
             limits: Limits::of(options),
             shouts: 0,

@@ -1,6 +1,6 @@
 //! How many rows, and bytes of their lines, were closed above a timestamp: what it costs to hold the horizon there.
 //!
-//! `ledger` tells it of each commit and closing; `closing`, `consumers`, `reports` and `metrics` ask it. It costs the
+//! `ledger` tells it of each commit and closing; `closing`, `names`, `reports` and `metrics` ask it. It costs the
 //! same whatever a reader's span is, because versions of all keys are kept above the horizon.
 //!
 //! 1. `total` is what was committed at or below closed.

@@ -16,10 +16,10 @@
 //! streams       each feed that is followed is polled once closed has moved, and its messages are pushed
 //! ```
 //!
-//! Beside them: `door` (the lock, and turns), `seats` (the 64 seats), `consumers` (names that hold the horizon while
-//! they are down), `lag` (rows closed above a timestamp), `transcript` (the events kept), `reports`, `metrics`,
-//! `connections` (how many, and which are silent or stuck), `ws`, `query`, `refusal`, `options`, `tokens`, `tls`,
-//! `notify`, `log`, `page`.
+//! Beside them: `door` (the lock, and turns), `seats` (the 64 seats), `consumers` and `names` (what consumers have
+//! stored, held while they are down), `lag` (rows closed above a timestamp), `transcript` (the events kept), `reports`,
+//! `metrics`, `connections` (how many, and which are silent or stuck), `ws`, `query`, `refusal`, `options`, `tokens`,
+//! `tls`, `notify`, `log`, `page`.
 //!
 //! Three rules hold everywhere. All calls are made under one lock, which no one holds over an await. The database alone
 //! decides: the ledger only follows its answers, and where an answer isn't as the ledger foretells, the server says so
@@ -44,6 +44,7 @@ mod lines;
 mod log;
 mod memory;
 mod metrics;
+mod names;
 mod notify;
 mod options;
 mod outcome;

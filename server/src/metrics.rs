@@ -9,10 +9,11 @@
 //! 1. A family that stands here keeps its name, its kind and its meaning, because alarms are made of them.
 //! 2. A number that the kernel doesn't tell is left out.
 
-use crate::consumers::{told_of_all, Told};
+use crate::consumers::told_of_all;
 use crate::core::Core;
 use crate::histogram::Histogram;
 use crate::http::{Request, Response};
+use crate::names::Told;
 use crate::process;
 use crate::query::arguments;
 use crate::refusal::Refusal;

@@ -11,13 +11,13 @@
 //! 1. What is refused opens no feed, or cancels it before the answer.
 //! 2. `open` counts the streams from their feed's opening to their end.
 
-use crate::consumers::{name_in, not_closed};
 use crate::core::Core;
 use crate::form::Form;
 use crate::gate::Right;
 use crate::http::{Request, Response};
 use crate::json::Object;
 use crate::ledger::{Name, Reason};
+use crate::names::{name_in, not_closed};
 use crate::outcome::{name_of, Outcome};
 use crate::query::{arguments, Arguments};
 use crate::refusal::Refusal;
@@ -154,7 +154,7 @@ fn open(
     given: &Arguments,
     name: Option<&Name>,
 ) -> Result<(Place, Opened), Refusal> {
-    name.map_or(Ok(()), |name| core.consumers.check_room(name))?;
+    name.map_or(Ok(()), |name| core.names.check_room(name))?;
     core.check_identity(given, given.has("from"))?;
     if given.number("from") > Some(core.ledger.closed) {
         return Err(not_closed(core.ledger.closed));
