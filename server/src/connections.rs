@@ -1,25 +1,30 @@
 //! How many connections, and which of them are cut.
 //!
 //! `serving` asks for a place for each connection, and wraps its stream; `http` says when a request has passed the gate
-//! and when it is answered. Between requests, and before the first one, a connection is silent. It is cut where it is
-//! silent for too long, and earlier where another one needs its place. A busy one is cut where its reader takes nothing
-//! for `--patience`, and where it sends on while a feed is streamed to it. See `watched`.
+//! and when it is answered. Between requests, before the first one, and while it waits for its client, a connection is
+//! silent. It is cut where it is silent for too long, and earlier where another one needs its place. A busy one is cut
+//! where its reader takes nothing for `--patience`, and where it sends on while a feed is streamed to it. See `watched`.
 //!
 //! ```text
 //! come             silent, for 10 s at most
 //! asks             busy, as long as a `Busy` is there
+//! waits            silent, though busy: its body comes slowly
+//! answers          silent, though busy: its client takes the answer
 //! Busy is dropped  silent, for 60 s at most
 //! ```
 //!
 //! 1. At most `most` have a place, each from `come` until it is cut, or until its last `Arc` is dropped.
-//! 2. A busy connection is never cut to make room.
+//! 2. One that is worked for, streams a feed or has a session is never cut to make room. See `silences` for the others.
 //! 3. To make room, to become busy and to become silent cost O(log n).
 
+mod silences;
 mod watched;
 
 use parking_lot::Mutex;
-use std::collections::{BTreeMap, BTreeSet, HashMap};
-use std::net::SocketAddr;
+pub use silences::network_of;
+use silences::Silences;
+use std::collections::{BTreeSet, HashMap};
+use std::net::{IpAddr, SocketAddr};
 use std::sync::atomic::{AtomicBool, AtomicU64, Ordering};
 use std::sync::{Arc, Weak};
 use std::time::{Duration, Instant};
@@ -40,17 +45,17 @@ pub struct Connections {
 
 #[derive(Default)]
 struct Table {
-    /// The number of the next connection, and of the next silence.
-    next: u64,
+    /// The number of the last connection.
+    last: u64,
     open: HashMap<u64, Entry>,
-    /// Silences by their number, so the one that is silent for longest first: whose each is.
-    silent: BTreeMap<u64, u64>,
+    silent: Silences,
     /// When each silence has lasted too long: the connection's number.
     until: BTreeSet<(Instant, u64)>,
 }
 
 struct Entry {
     connection: Weak<Connection>,
+    network: IpAddr,
     /// Requests that are not answered yet.
     busy: usize,
     silence: Option<(u64, Instant)>,
@@ -67,7 +72,8 @@ impl Connections {
         let mut table = self.table.lock();
         let oldest = if table.open.len() >= self.most { table.take_oldest() } else { None };
         let connection = (table.open.len() < self.most).then(|| {
-            let number = table.draw();
+            table.last += 1;
+            let number = table.last;
             let connection = Arc::new(Connection::new(self.clone(), number, peer));
             table.add(number, &connection);
             connection
@@ -104,29 +110,24 @@ fn cut_all(connections: impl IntoIterator<Item = Weak<Connection>>) {
 }
 
 impl Table {
-    fn draw(&mut self) -> u64 {
-        self.next += 1;
-        self.next
-    }
-
     fn add(&mut self, number: u64, connection: &Arc<Connection>) {
-        let entry = Entry { connection: Arc::downgrade(connection), busy: 0, silence: None };
+        let network = network_of(connection.peer.ip());
+        let entry = Entry { connection: Arc::downgrade(connection), network, busy: 0, silence: None };
         self.open.insert(number, entry);
         self.rests(number, HEAD);
     }
 
     fn rests(&mut self, number: u64, most: Duration) {
-        let silence = (self.draw(), Instant::now() + most);
-        if let Some(entry) = self.open.get_mut(&number) {
-            entry.silence = Some(silence);
-            self.silent.insert(silence.0, number);
-            self.until.insert((silence.1, number));
-        }
+        let Some(entry) = self.open.get_mut(&number).filter(|entry| entry.silence.is_none()) else { return };
+        let until = Instant::now() + most;
+        entry.silence = Some((self.silent.add(entry.network, number), until));
+        self.until.insert((until, number));
     }
 
     fn speaks(&mut self, number: u64) {
-        let Some((silence, until)) = self.open.get_mut(&number).and_then(|entry| entry.silence.take()) else { return };
-        self.silent.remove(&silence);
+        let Some(entry) = self.open.get_mut(&number) else { return };
+        let Some((silence, until)) = entry.silence.take() else { return };
+        self.silent.remove(entry.network, silence);
         self.until.remove(&(until, number));
     }
 
@@ -136,15 +137,27 @@ impl Table {
     }
 
     fn take_oldest(&mut self) -> Option<Weak<Connection>> {
-        let (_, number) = self.silent.first_key_value()?;
-        self.goes(*number)
+        let number = self.silent.first()?;
+        self.goes(number)
     }
 
     fn take_over(&mut self, now: Instant) -> Vec<Weak<Connection>> {
-        let mut over = Vec::new();
-        while let Some((_, number)) = self.until.first().copied().filter(|(until, _)| *until < now) {
-            over.extend(self.goes(number));
+        let (mut over, mut later) = (Vec::new(), Vec::new());
+        while let Some((until, number)) = self.until.pop_first() {
+            if until >= now {
+                self.until.insert((until, number));
+                break;
+            }
+            match self.open.get_mut(&number) {
+                // Who waits for it has a limit of its own.
+                Some(Entry { busy: 1.., silence: Some((_, until)), .. }) => {
+                    *until = now + REST;
+                    later.push((*until, number));
+                }
+                _ => over.extend(self.goes(number)),
+            }
         }
+        self.until.extend(later);
         over
     }
 }
@@ -166,9 +179,12 @@ impl std::fmt::Debug for Connection {
     }
 }
 
-/// As long as one is there, its connection has a request that isn't answered yet, so it isn't silent.
+/// As long as one is there, its connection has a request that isn't answered yet.
 #[derive(Debug)]
 pub struct Busy(Arc<Connection>);
+
+/// As long as it is there, a connection waits for its client, and may have to make room.
+pub struct Waits(Arc<Connection>);
 
 impl Connection {
     fn new(all: Arc<Connections>, number: u64, peer: SocketAddr) -> Connection {
@@ -184,6 +200,12 @@ impl Connection {
             entry.busy += 1;
         }
         Busy(self.clone())
+    }
+
+    /// It waits for a body that comes slowly.
+    pub fn waits(self: &Arc<Connection>) -> Waits {
+        self.all.table.lock().rests(self.number, REST);
+        Waits(self.clone())
     }
 
     /// Its reader may be slow until the request is answered: it isn't cut as one that takes nothing. Streams of feeds
@@ -228,6 +250,15 @@ impl Drop for Connection {
     }
 }
 
+impl Busy {
+    /// The answer is there, and only its client is waited for, unless a feed is streamed.
+    pub fn answers(&self) {
+        if !self.0.is_exempt() {
+            self.0.all.table.lock().rests(self.0.number, REST);
+        }
+    }
+}
+
 impl Drop for Busy {
     fn drop(&mut self) {
         let mut table = self.0.all.table.lock();
@@ -237,6 +268,12 @@ impl Drop for Busy {
             self.0.is_exempt.store(false, Ordering::Release);
             table.rests(self.0.number, REST);
         }
+    }
+}
+
+impl Drop for Waits {
+    fn drop(&mut self) {
+        self.0.all.table.lock().speaks(self.0.number);
     }
 }
 

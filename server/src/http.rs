@@ -8,11 +8,12 @@
 //! let (response, sender) = Response::stream(..)              a body that comes piece by piece
 //! ```
 //!
-//! 1. A body has a limit of bytes and of time. What is too long is read away for a while, so that its client, which
-//!    still sends, gets to read the answer.
+//! 1. A body has a limit of bytes and of time, and so have all together that aren't whole (`bodies`). What is too long
+//!    is read away for a while, so that its client, which still sends, gets to read the answer.
 //! 2. A piece is handed over once the one before was taken, so at most two wait beside what the socket holds.
 //! 3. A connection that serves a request is busy until its answer was handed to the socket, but for `BUFFER` bytes.
 
+use crate::bodies::{Bodies, Held, FREE};
 use crate::connections::{Busy, Connection};
 use crate::gate::{Head, Who};
 use crate::refusal::Refusal;
@@ -43,6 +44,8 @@ pub const FULL: &[u8] =
     b"HTTP/1.1 503 Service Unavailable\r\nRipsawbean-Protocol: 1\r\nContent-Length: 0\r\nConnection: close\r\n\r\n";
 /// Bytes that hyper keeps of one connection in either direction.
 const BUFFER: usize = 1 << 16;
+/// The status of a connection that becomes a WebSocket.
+const SWITCHING: u16 = 101;
 /// How much of a body that nobody wants is read away, and for how long.
 const LINGER_BYTES: usize = 64 << 20;
 const LINGER: Duration = Duration::from_secs(2);
@@ -82,6 +85,7 @@ pub struct Request {
     pub query: String,
     pub who: Who,
     pub connection: Arc<Connection>,
+    bodies: Arc<Bodies>,
     inner: hyper::Request<hyper::Body>,
 }
 
@@ -99,13 +103,25 @@ impl Request {
     /// The body, of so many bytes at most, that comes within this time.
     pub async fn body(mut self, most: usize, within: Duration) -> Result<Vec<u8>, Refusal> {
         let end = Instant::now() + within;
-        let read = tokio::time::timeout_at(end.into(), whole(self.inner.body_mut(), most)).await;
+        let held = self.bodies.begin(self.connection.peer.ip());
+        let read = {
+            let reading = whole(self.inner.body_mut(), most, held);
+            tokio::pin!(reading);
+            match at_once(reading.as_mut()).await {
+                Some(read) => Ok(read),
+                None => {
+                    let _waits = self.connection.waits();
+                    tokio::time::timeout_at(end.into(), reading).await
+                }
+            }
+        };
         let refusal = match read {
             Ok(Ok(data)) => return Ok(data),
             Ok(Err(refusal)) => refusal,
             Err(_) => return Err(Refusal::slow()),
         };
         // Whoever still sends would see its connection reset, and not the answer.
+        let _waits = self.connection.waits();
         let _ = tokio::time::timeout_at(end.into(), drain(self.inner.body_mut())).await;
         Err(refusal)
     }
@@ -117,17 +133,27 @@ impl Request {
     }
 }
 
-async fn whole(body: &mut hyper::Body, most: usize) -> Result<Vec<u8>, Refusal> {
+/// What comes of it where it waits for nothing but what the connection has read already.
+async fn at_once<T>(work: Pin<&mut impl Future<Output = T>>) -> Option<T> {
+    tokio::select! {
+        biased;
+        done = work => Some(done),
+        () = tokio::task::yield_now() => None,
+    }
+}
+
+async fn whole(body: &mut hyper::Body, most: usize, mut held: Held) -> Result<Vec<u8>, Refusal> {
     let told = usize::try_from(body.size_hint().lower()).unwrap_or(usize::MAX);
     if told > most {
         return Err(Refusal::too_long());
     }
-    let mut data = Vec::with_capacity(told);
+    let mut data = Vec::with_capacity(told.min(FREE));
     while let Some(piece) = body.data().await {
         let piece = piece.map_err(|_| Refusal::new(400, "http", "the body is cut"))?;
         if data.len() + piece.len() > most {
             return Err(Refusal::too_long());
         }
+        held.grow(data.len() + piece.len())?;
         data.extend_from_slice(&piece);
     }
     Ok(data)
@@ -179,7 +205,7 @@ impl Response {
             ("connection", "Upgrade".to_string()),
             ("sec-websocket-accept", accept),
         ];
-        Response { status: 101, headers, body: Body::new(Content::Whole(Bytes::new())) }
+        Response { status: SWITCHING, headers, body: Body::new(Content::Whole(Bytes::new())) }
     }
 
     /// A refusal's answer: its line, as application/json.
@@ -362,9 +388,12 @@ async fn answer(
     let busy = connection.asks();
     let (path, query) = (inner.uri().path().to_string(), inner.uri().query().unwrap_or("").to_string());
     let method = method_of(&inner);
-    let request = Request { method, path, query, who, connection, inner };
+    let request = Request { method, path, query, who, connection, bodies: server.bodies.clone(), inner };
     let answered = routes::handle(&server, request).await;
     let response = answered.unwrap_or_else(|refusal| Response::refused(&refusal));
+    if response.status != SWITCHING {
+        busy.answers();
+    }
     Ok(response.into_inner(Some(busy)))
 }
 
@@ -389,16 +418,4 @@ fn method_of(inner: &hyper::Request<hyper::Body>) -> Method {
 }
 
 #[cfg(test)]
-mod tests {
-    use super::*;
-
-    #[tokio::test]
-    async fn a_long_body_is_there_until_its_last_piece_is_taken() {
-        let mut body = Response::whole("text/plain", vec![7; 2 * BUFFER + 3]).body;
-        for (length, is_last) in [(BUFFER, false), (BUFFER, false), (3, true)] {
-            let piece = body.data().await.expect("a piece").expect("it isn't cut");
-            assert_eq!((piece.len(), body.is_end_stream()), (length, is_last));
-        }
-        assert!(body.data().await.is_none());
-    }
-}
+mod tests;

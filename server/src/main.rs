@@ -18,7 +18,7 @@
 //!
 //! Beside them: `door` (the lock, and turns), `seats` (the 64 seats), `consumers` and `names` (what consumers have
 //! stored, held while they are down), `lag` (rows closed above a timestamp), `transcript` (the events kept), `reports`,
-//! `metrics`, `connections` (how many, and which are silent or stuck), `ws`, `query`, `refusal`, `options`, `tokens`,
+//! `metrics`, `connections` (how many, and which are silent or stuck), `bodies` (their bytes), `ws`, `query`, `refusal`, `options`, `tokens`,
 //! `tls`, `notify`, `log`, `page`.
 //!
 //! Three rules hold everywhere. All calls are made under one lock, which no one holds over an await. The database alone
@@ -26,6 +26,7 @@
 //! aloud. An event is in the transcript and in the ledger before the lock is given back.
 #![forbid(unsafe_code)]
 
+mod bodies;
 mod closing;
 mod connections;
 mod consumers;

@@ -4,6 +4,7 @@
 //! Each handler is `async fn(&Arc<Server>, Request) -> Result<Response, Refusal>`. server/README.md says what each takes
 //! and gives.
 
+use crate::bodies::Bodies;
 use crate::connections::Connections;
 use crate::door::Door;
 use crate::gate::{Gate, Right};
@@ -24,6 +25,7 @@ pub struct Server {
     pub gate: Gate,
     pub log: Arc<Log>,
     pub connections: Arc<Connections>,
+    pub bodies: Arc<Bodies>,
     pub streams: streams::Streams,
     pub metrics: metrics::Metrics,
     pub tasks: Tasks,

@@ -6,6 +6,7 @@
 //! 1. What is accepted is served within the limits of `connections`, or answered 503 and closed.
 //! 2. The work on the database never stops in silence: a panic in it ends the process.
 
+use crate::bodies::Bodies;
 use crate::closing;
 use crate::connections::Connections;
 use crate::core::Core;
@@ -119,6 +120,7 @@ fn put_together(options: Options, address: SocketAddr, log: Arc<Log>) -> Result<
         door: Door::new(core),
         gate: Gate::new(&options, address.port()).map_err(Failure::Tokens)?,
         connections: Connections::new(options.max_connections, options.patience),
+        bodies: Bodies::new(options.max_message),
         streams: Streams::default(),
         metrics: Metrics::default(),
         tasks: Tasks::default(),

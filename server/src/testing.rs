@@ -1,5 +1,6 @@
 //! What tests share: a core without sockets, and numbers that are drawn.
 
+use crate::bodies::Bodies;
 use crate::closing;
 use crate::connections::Connections;
 use crate::core::Core;
@@ -70,6 +71,7 @@ pub fn server(words: &[&str]) -> Arc<Server> {
         gate: Gate::new(&options, options.port).expect("a gate"),
         log: Arc::new(Log::to(Level::Error, false, Box::new(said))),
         connections: Connections::new(options.max_connections, options.patience),
+        bodies: Bodies::new(options.max_message),
         streams: Streams::default(),
         metrics: Metrics::default(),
         tasks: Tasks::default(),

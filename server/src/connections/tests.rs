@@ -53,6 +53,40 @@ fn busy_ones_keep_their_places() {
 }
 
 #[test]
+fn who_waits_for_its_client_makes_room_and_has_a_limit_of_its_own() {
+    let all = Connections::new(2, PATIENCE);
+    let (first, second) = (come(&all), come(&all));
+    let busy = (first.asks(), second.asks());
+    // The body of the first comes slowly.
+    let waits = first.waits();
+    all.tidy_at(Instant::now() + 3 * REST);
+    assert!(!first.is_cut());
+    drop(waits);
+    assert!(all.come(peer()).is_none());
+    // The answer of the second is there.
+    busy.1.answers();
+    all.tidy_at(Instant::now() + 3 * REST);
+    assert!(!second.is_cut());
+    let third = come(&all);
+    assert!(second.is_cut() && !first.is_cut());
+    drop(busy.1);
+    let _busy = third.asks();
+    // A feed is streamed to the first.
+    first.exempt();
+    busy.0.answers();
+    assert!(all.come(peer()).is_none() && all.open() == 2);
+}
+
+#[test]
+fn whoever_opens_many_makes_room_for_others() {
+    let all = Connections::new(3, PATIENCE);
+    let other = all.come(([192, 0, 2, 8], 1).into()).expect("there is room");
+    let (first, second) = (come(&all), come(&all));
+    let third = come(&all);
+    assert_eq!([&other, &first, &second, &third].map(|one| one.is_cut()), [false, true, false, false]);
+}
+
+#[test]
 fn a_place_is_free_once_its_connection_is_gone() {
     let all = Connections::new(2, PATIENCE);
     let (first, second) = (come(&all), come(&all));

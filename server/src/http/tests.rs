@@ -1,0 +1,187 @@
+//! Requests as bytes: what is well-formed is answered whatever pieces it comes in, and what isn't is refused.
+
+use super::*;
+use crate::testing::{server, Dice};
+use tokio::io::{duplex, AsyncReadExt, AsyncWriteExt};
+
+const MOST: usize = 2000;
+const OWN: &str = "Host: localhost:7077\r\n";
+/// Lines that make no call, and the faults that answer them.
+const LINES: [(&str, &str); 4] =
+    [("nothing", "2 unknowncommand"), ("", "1 wordcount"), ("put 1 a", "1 wordcount"), ("\u{e9}", "9 badbyte")];
+
+/// What a connection is told that sends these pieces, and then nothing more.
+async fn told(server: &Arc<Server>, pieces: &[&[u8]]) -> Vec<u8> {
+    let connection = server.connections.come(([127, 0, 0, 1], 1).into()).expect("a place");
+    let (ours, client) = duplex(1 << 16);
+    let serving = tokio::spawn(serve(connection.watch(ours), server.clone(), connection));
+    let (mut answers, mut asks) = tokio::io::split(client);
+    let sending = async {
+        for piece in pieces {
+            if asks.write_all(piece).await.is_err() {
+                return;
+            }
+            tokio::task::yield_now().await;
+        }
+        let _ = asks.shutdown().await;
+    };
+    let mut told = Vec::new();
+    let (_, read) = tokio::join!(sending, answers.read_to_end(&mut told));
+    read.expect("it is read");
+    serving.await.expect("it doesn't panic");
+    told
+}
+
+/// Runs on a clock that goes on by itself where all wait.
+fn run<T>(work: impl Future<Output = T>) -> T {
+    let mut builder = tokio::runtime::Builder::new_current_thread();
+    builder.enable_all().start_paused(true).build().expect("a runtime").block_on(work)
+}
+
+/// The statuses of answers, one behind another. No body here has the words of a status line.
+fn statuses(told: &[u8]) -> Vec<u16> {
+    let text = String::from_utf8_lossy(told);
+    text.split("HTTP/1.").skip(1).map(|answer| answer[2..5].parse().expect("a status")).collect()
+}
+
+fn is_at_rest(server: &Server) -> bool {
+    let seats = server.door.run(|core| core.seats.count());
+    seats == 0 && server.connections.open() == 0 && server.bodies.is_empty() && server.answers.available_permits() == 64
+}
+
+#[tokio::test]
+async fn a_long_body_is_there_until_its_last_piece_is_taken() {
+    let mut body = Response::whole("text/plain", vec![7; 2 * BUFFER + 3]).body;
+    for (length, is_last) in [(BUFFER, false), (BUFFER, false), (3, true)] {
+        let piece = body.data().await.expect("a piece").expect("it isn't cut");
+        assert_eq!((piece.len(), body.is_end_stream()), (length, is_last));
+    }
+    assert!(body.data().await.is_none());
+}
+
+#[test]
+fn a_body_that_never_comes_is_refused_in_time() {
+    let server = server(&[]);
+    let told = run(async {
+        let connection = server.connections.come(([127, 0, 0, 1], 1).into()).expect("a place");
+        let (ours, mut client) = duplex(1 << 16);
+        tokio::spawn(serve(connection.watch(ours), server.clone(), connection));
+        let head = format!("POST /call HTTP/1.1\r\n{OWN}Content-Length: 9\r\n\r\nbegin\n");
+        client.write_all(head.as_bytes()).await.expect("there is room");
+        let mut told = vec![0; 12];
+        client.read_exact(&mut told).await.expect("an answer");
+        told
+    });
+    assert_eq!(statuses(&told), [408]);
+}
+
+// ---- drawn bodies
+
+/// Some lines, and what they are answered.
+fn lines(dice: &mut Dice) -> (String, String) {
+    let drawn: Vec<_> = (0..dice.below(40)).map(|_| *dice.of(&LINES)).collect();
+    let mut text: String = drawn.iter().map(|(line, _)| format!("{line}\n")).collect();
+    let faults = drawn.iter().enumerate().map(|(at, (_, fault))| format!("fault {} {fault}\n", at + 1)).collect();
+    // The last newline may be left out, unless nothing would be left of its line.
+    if drawn.last().is_some_and(|(line, _)| !line.is_empty()) && dice.one_in(3) {
+        text.pop();
+    }
+    // No line at all is one of no bytes.
+    (text, if drawn.is_empty() { "fault 1 1 wordcount\n".into() } else { faults })
+}
+
+/// A request with this body, in chunks or with its length.
+fn request(dice: &mut Dice, body: &[u8]) -> Vec<u8> {
+    let head = format!("POST /call HTTP/1.1\r\n{OWN}");
+    if dice.one_in(3) {
+        return [format!("{head}Content-Length: {}\r\n\r\n", body.len()).as_bytes(), body].concat();
+    }
+    let mut all = format!("{head}Transfer-Encoding: chunked\r\n\r\n").into_bytes();
+    let mut rest = body;
+    while !rest.is_empty() {
+        let (chunk, behind) = rest.split_at(1 + dice.below(rest.len().min(200) as u64) as usize);
+        let size = chunk.len();
+        let line = match dice.below(4) {
+            0 => format!("{size:X}\r\n"),
+            1 => format!("{size:05x}\r\n"),
+            2 => format!("{size:x};name=value\r\n"),
+            _ => format!("{size:x}\r\n"),
+        };
+        all.extend([line.as_bytes(), chunk, b"\r\n"].concat());
+        rest = behind;
+    }
+    all.extend(b"0\r\n\r\n");
+    all
+}
+
+/// The bytes, cut at drawn places.
+fn pieces<'a>(dice: &mut Dice, mut bytes: &'a [u8]) -> Vec<&'a [u8]> {
+    let (mut pieces, most) = (Vec::new(), *dice.of(&[2, 30, 1000, 100_000]));
+    while !bytes.is_empty() {
+        let (piece, rest) = bytes.split_at((1 + dice.below(most) as usize).min(bytes.len()));
+        pieces.push(piece);
+        bytes = rest;
+    }
+    pieces
+}
+
+#[test]
+fn bodies_are_taken_in_whatever_chunks_and_pieces_they_come() {
+    let (server, mut dice) = (server(&["--max-message", "2000"]), Dice::new(41));
+    dice.each(|dice| {
+        let (mut sent, mut expected) = (Vec::new(), Vec::new());
+        for _ in 0..1 + dice.below(3) {
+            let (text, faults) = lines(dice);
+            sent.extend(request(dice, text.as_bytes()));
+            expected.push(faults);
+        }
+        let told = run(told(&server, &pieces(dice, &sent)));
+        let text = String::from_utf8(told).expect("text");
+        let bodies: Vec<&str> =
+            text.split("HTTP/1.1 200").skip(1).filter_map(|one| Some(one.split_once("\r\n\r\n")?.1)).collect();
+        assert_eq!(bodies, expected, "{sent:?}");
+        assert!(is_at_rest(&server));
+    });
+}
+
+#[test]
+fn changed_requests_are_answered_or_cut_and_leave_nothing() {
+    let (server, mut dice) = (server(&["--max-message", "2000"]), Dice::new(42));
+    let mut found = std::collections::BTreeMap::new();
+    dice.each(|dice| {
+        let body = match dice.below(8) {
+            0 => "x".repeat(MOST + 1 + dice.below(3000) as usize),
+            _ => lines(dice).0,
+        };
+        let mut sent = request(dice, body.as_bytes());
+        (0..1 + dice.below(3)).for_each(|_| change(dice, &mut sent));
+        let told = run(told(&server, &pieces(dice, &sent)));
+        for status in statuses(&told) {
+            *found.entry(status).or_insert(0) += 1;
+            assert!([200, 400, 401, 403, 404, 405, 408, 413, 414, 431].contains(&status), "{status}: {sent:?}");
+        }
+        assert!(is_at_rest(&server), "{sent:?}");
+    });
+    assert!(found.contains_key(&200) && found.contains_key(&400), "{found:?}");
+}
+
+fn change(dice: &mut Dice, bytes: &mut Vec<u8>) {
+    let pieces: [&[u8]; 8] = [
+        b"\r\n",
+        b"0\r\n\r\n",
+        b"Content-Length: 3\r\n",
+        b"Transfer-Encoding: chunked\r\n",
+        b"\0",
+        b"ffffffffffffffff",
+        b"-",
+        b" ",
+    ];
+    let at = dice.below(bytes.len() as u64 + 1) as usize;
+    match dice.below(5) {
+        0 => bytes.insert(at, dice.below(256) as u8),
+        1 if at < bytes.len() => drop(bytes.remove(at)),
+        2 if at < bytes.len() => bytes[at] ^= 1 << dice.below(8),
+        3 => bytes.truncate(at),
+        _ => drop(bytes.splice(at..at, dice.of(&pieces).iter().copied()).count()),
+    }
+}
