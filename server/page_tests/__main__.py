@@ -51,6 +51,7 @@ async def in_quiet():
                 await tab.keep(FOLDER / ("page-%d-%s.png" % (width, scheme)), scale)
             await quiet.an_example_by_keys(tab)
             await quiet.words(tab)
+            await quiet.hostile(tab)
             await quiet.lists(tab)
             await quiet.new_numbers(tab)
             await quiet.left_out(tab)

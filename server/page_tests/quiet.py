@@ -16,6 +16,9 @@ AGES = """Promise.all([import('/page/metrics.mjs'), import('/page/vitals.mjs')])
     vitals.draw(list, live);
     return ["oldest", "closing"].map((it) => list.querySelector(`[data-key=${it}] b`).textContent);
 })"""
+HOSTILE = ("<img%20src=x%20onerror=window.hit=1>", "\"><svg/onload=window.hit=1>", "'onmouseover='window.hit=1", "${window.hit=1}",
+           "<script>window.hit=1</script>", "<a%20href=javascript:window.hit=1>x</a>", "&lt;img%20src=x&gt;", "</title><b>x</b>")
+MADE_OF_IT = "document.querySelectorAll('main :is(img, script, a, iframe, object, [onerror], [onload], [onmouseover])').length"
 LEFT_OUT = """import('/page/holders.mjs').then(({ Holders }) => {
     const server = { identity: "a", sessions: 1, closed: "9", horizon: "0", limit: "9", holder: "closed", oldest: null };
     const feed = { number: "1", opened: null, consumer: null, streamed: true, seat: null, floor: "9", told: 1, lag: 0 };
@@ -106,6 +109,23 @@ async def words(tab):
     await tab.write("abort .")
     await tab.press("Enter")
     await tab.until(LOG + ".includes('=> aborted')")
+
+
+async def hostile(tab):
+    """Keys, values, bounds and lines that would be markup are text, wherever the page shows them."""
+    for word in HOSTILE:
+        await tab.press("/")
+        lines = "begin", "put . %s %s" % (word, word), "get . " + word, word, "open %s - 0" % word, "open - %s 0" % word, "commit ."
+        await tab.write("\n".join(lines))
+        await tab.press("Enter")
+        await tab.until("document.getElementById('lines').value === ''")
+    await tab.until("(%s.match(/committed 1/g) ?? []).length >= %d" % (LOG, len(HOSTILE)))
+    await tab_to(tab, "events")
+    await tab.press("ArrowUp", 20)
+    await tab.press("End")
+    await tab.until(VIEW + " === 'live'")
+    expect("no key, value, bound or line becomes markup", await tab.value(MADE_OF_IT) == 0)
+    expect("or is run", await tab.value("window.hit === undefined"))
 
 
 async def lists(tab):
