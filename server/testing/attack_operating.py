@@ -8,6 +8,7 @@ import contextlib
 import json
 import os
 import re
+import shutil
 import signal
 import socket
 import ssl
@@ -20,7 +21,8 @@ import aiohttp
 
 from attack_beside import Scale
 from attack_memory import started
-from attack_wire import ended_within, refused_start, rest_of
+from attack_slow import ended_within
+from attack_wire import refused_start, rest_of
 from handmade import Ended, Session, Wire
 from machine import LONGEST, TOP, Program, Room, Server, free_port, wait_for
 
@@ -100,6 +102,34 @@ def test_tls(room: Room, scale: Scale) -> str:
                   ("--tls-cert", cert, "--tls-key", room.file("none"))):
         refused_start(room, *wrong)
     return "and four wrong ways to ask for it"
+
+
+# ---- the program
+
+PROGRAM = os.path.join(TOP, "server", "out", "release", "ripsawbean-server")
+
+
+def test_the_program_needs_nothing_beside_it(room: Room, scale: Scale) -> str:
+    """It serves in a folder that has nothing but the program: no library, no file of the page. That needs root."""
+    assert os.getuid() == 0, "only root may change the root"
+    folder, port = room.file("bare"), free_port()
+    os.mkdir(folder)
+    shutil.copy(PROGRAM, folder)
+    words = ["/ripsawbean-server", "--port", str(port)]
+    program = room.start(Program(room.path, "in-bare", words, preexec_fn=lambda: os.chroot(folder), cwd="/"))
+
+    def answer(path: str) -> tuple[int, bytes] | None:
+        assert not program.has_ended(), program.tail()
+        with contextlib.suppress(OSError), contextlib.closing(Wire(port)) as wire:
+            wire.ask("GET", path)
+            return wire.answer()
+        return None
+    assert wait_for(lambda: answer("/healthz"), "it") == (200, b"ok\n")
+    assert b"/page/page.mjs" in (answer("/") or (0, b""))[1]
+    session = Session(port)
+    assert "=> committed 1\n" in session.call("begin\nput . a x\ncommit .\n")
+    session.close()
+    return "%.1f MB" % (os.path.getsize(PROGRAM) / 1e6)
 
 
 # ---- systemd, settings
@@ -225,7 +255,8 @@ def test_a_gentle_end_is_no_endless_one(room: Room, scale: Scale) -> str:
 
 # ---- a proxy
 
-NGINX = os.path.join(TOP, "server", "proxies", "nginx.conf")
+PROXIES = os.path.join(TOP, "server", "proxies")
+Text = Callable[[int, int], str]  # of a proxy's configuration, by the ports of the server and its own
 
 
 def pushed(port: int, write: Callable[[str], str], count: int = 40) -> list[float]:
@@ -244,18 +275,33 @@ def pushed(port: int, write: Callable[[str], str], count: int = 40) -> list[floa
     return sorted(found)
 
 
+def for_nginx(room: Room, text: str) -> Text:
+    """The configuration as it stands, but for its ports and certificates."""
+    def fitted(server_port: int, port: int) -> str:
+        there = text.replace("127.0.0.1:7077", "127.0.0.1:%d" % server_port)
+        there = re.sub(r"^ *(listen \[|ssl_)[^;]*;\n", "", there, flags=re.M)
+        there = re.sub(r"^( *)listen [^;]*;", r"\1listen 127.0.0.1:%d;" % port, there, flags=re.M)
+        return "daemon off;\npid %s;\nerror_log stderr;\nevents {}\nhttp {\naccess_log off;\n%s\n}\n" % (
+            room.file("nginx.pid"), there)
+    return fitted
+
+
+def for_caddy(text: str) -> Text:
+    """The same, but for its ports, and for a host that has a certificate."""
+    def fitted(server_port: int, port: int) -> str:
+        there = text.replace("127.0.0.1:7077", "127.0.0.1:%d" % server_port)
+        return "{\nadmin off\n}\n" + there.replace("data.example {", "http://127.0.0.1:%d {" % port)
+    return fitted
+
+
 @contextlib.contextmanager
-def nginx(room: Room, text: str, server_port: int, port: int) -> Iterator[None]:
-    """nginx before the server, with the configuration as it stands, but for its ports and certificates."""
-    text = text.replace("127.0.0.1:7077", "127.0.0.1:%d" % server_port)
-    text = re.sub(r"^ *(listen \[|ssl_)[^;]*;\n", "", text, flags=re.M)
-    text = re.sub(r"^( *)listen [^;]*;", r"\1listen 127.0.0.1:%d;" % port, text, flags=re.M)
-    path = room.file("nginx.conf")
-    with open(path, "w") as file:
-        file.write("daemon off;\npid %s;\nerror_log stderr;\nevents {}\nhttp {\naccess_log off;\n%s\n}\n" % (
-            room.file("nginx.pid"), text))
+def proxy(room: Room, words: list[str], text: str, port: int) -> Iterator[None]:
+    """A proxy before the server, whose configuration is this text, and whose file is the last word."""
+    with open(words[-1], "w") as file:
+        file.write(text)
     os.chmod(room.path, 0o755)
-    proxy = room.start(Program(room.path, "nginx", ["nginx", "-c", path]))
+    home = {**os.environ, "HOME": room.path, "XDG_DATA_HOME": room.path, "XDG_CONFIG_HOME": room.path}
+    proxy = room.start(Program(room.path, words[0], words, env=home))
 
     def serves() -> bool:
         assert not proxy.has_ended(), proxy.tail()
@@ -264,17 +310,17 @@ def nginx(room: Room, text: str, server_port: int, port: int) -> Iterator[None]:
             return True
         return False
     try:
-        wait_for(serves, "nginx")
+        wait_for(serves, words[0])
         yield
     finally:
         proxy.kill(signal.SIGTERM)
 
 
-def behind_nginx(room: Room, text: str) -> str:
+def behind(room: Room, words: list[str], text: Text) -> str:
     """Median of a push through the proxy, and a session through it. The proxy's own name is one of the server's."""
     port = free_port()
     server = started(room, "--host", "127.0.0.1:%d" % port)
-    with nginx(room, text, server.port, port):
+    with proxy(room, words, text(server.port, port), port):
         wire = Session(server.port)
         tries = []
         for _ in range(3):
@@ -291,7 +337,14 @@ def behind_nginx(room: Room, text: str) -> str:
 
 def test_behind_nginx_as_it_comes(room: Room, scale: Scale) -> str:
     """A proxy that buffers, as nginx does where nothing else is said, passes each row on at once."""
-    return behind_nginx(room, """
+    return behind_nginx(room, AS_IT_COMES)
+
+
+def behind_nginx(room: Room, text: str) -> str:
+    return behind(room, ["nginx", "-c", room.file("nginx.conf")], for_nginx(room, text))
+
+
+AS_IT_COMES = """
         map $http_upgrade $connection_upgrade { default upgrade; '' ''; }
         server {
             listen 80;
@@ -302,12 +355,18 @@ def test_behind_nginx_as_it_comes(room: Room, scale: Scale) -> str:
                 proxy_set_header Upgrade $http_upgrade;
                 proxy_set_header Connection $connection_upgrade;
             }
-        }""")
+        }"""
 
 
 def test_behind_nginx_by_the_file(room: Room, scale: Scale) -> str:
-    with open(NGINX) as file:
+    with open(os.path.join(PROXIES, "nginx.conf")) as file:
         return behind_nginx(room, file.read())
+
+
+def test_behind_caddy_by_the_file(room: Room, scale: Scale) -> str:
+    with open(os.path.join(PROXIES, "Caddyfile")) as file:
+        text = for_caddy(file.read())
+    return behind(room, ["caddy", "run", "--adapter", "caddyfile", "--config", room.file("Caddyfile")], text)
 
 
 TESTS: list[Callable[[Room, Scale], str]] = [one for name, one in list(globals().items()) if name.startswith("test_")]
