@@ -35,6 +35,10 @@ def test_a_message_of_begins_and_its_session_s_end(room: Room, scale: Scale) -> 
     return beside(room, "begins", "170000")
 
 
+def test_a_message_of_opens_and_its_session_s_end(room: Room, scale: Scale) -> str:
+    return beside(room, "opens", "50000")
+
+
 def test_a_million_protections_tried(room: Room, scale: Scale) -> str:
     return beside(room, "protections", scale.of(300_000, 1_000_000))
 
@@ -49,6 +53,14 @@ def test_scans_of_deleted_rows(room: Room, scale: Scale) -> str:
 
 def test_first_feeds_of_many_rows(room: Room, scale: Scale) -> str:
     return beside(room, "first_feeds", scale.of(200_000, 1_000_000))
+
+
+def test_first_feeds_as_events(room: Room, scale: Scale) -> str:
+    return beside(room, "first_events", scale.of(200_000, 1_000_000))
+
+
+def test_reports_of_many_rows(room: Room, scale: Scale) -> str:
+    return beside(room, "reports", scale.of(100_000, 1_000_000))
 
 
 def test_transcripts_of_64_megabytes(room: Room, scale: Scale) -> str:

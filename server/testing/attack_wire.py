@@ -1,4 +1,4 @@
-"""Clients that are slow, many, half there or gone: each is ended in time, and an honest one is served meanwhile.
+"""Clients that are half there, gone, or say what no good one says; names and tokens that are odd; and the end.
 
 Each function is a test. It gets a room, and how heavy the load is to be.
 """
@@ -14,76 +14,12 @@ from collections.abc import Callable
 
 from attack_beside import Scale
 from attack_memory import started
+from attack_slow import head
 from handmade import HANDSHAKE, PING, PONG, TEXT, Cut, Ended, Refused, Session, Wire, fill, framed
-from machine import LONGEST, SERVER, Room, Server, wait_for
+from machine import LONGEST, SERVER, Room, wait_for
 
-HEAD_SECONDS = 10  # in which a connection has to have sent a head, as the page promises
 SEATS = 64
 STARTS_SECONDS = 15  # after which a server that should have ended counts as one that serves
-
-
-def honest(server: Server, most: float = 1.0) -> float:
-    """The longest of ten requests on new connections. The best of three rounds has to stay below a limit."""
-    rounds = []
-    for _ in range(3):
-        took = []
-        for _ in range(10):
-            began = time.monotonic()
-            assert server.ask("GET", "/consumer/nobody")[0] == 200
-            took.append(time.monotonic() - began)
-        rounds.append(max(took))
-        if rounds[-1] <= most:
-            return rounds[-1]
-    raise AssertionError("an honest request takes %s s" % rounds)
-
-
-def head(server: Server, method: str, path: str, more: str = "") -> bytes:
-    return ("%s %s HTTP/1.1\r\nHost: 127.0.0.1:%d\r\n%s" % (method, path, server.port, more)).encode()
-
-
-def ended_within(wires: list[Wire], seconds: float) -> int:
-    """How many of them the server has ended, after so many seconds for all."""
-    end = time.monotonic() + seconds
-    return sum(one.ends_within(max(end - time.monotonic(), 0.01)) for one in wires)
-
-
-def test_slow_heads(room: Room, scale: Scale) -> str:
-    """A head that comes a byte a second is cut after ten seconds, and costs no others anything."""
-    server = started(room)
-    slow = [Wire(server.port) for _ in range(200)]
-    began, whole = time.monotonic(), head(server, "GET", "/state", "X: %s\r\n\r\n" % ("x" * 100))
-    left = list(slow)
-    for at in range(HEAD_SECONDS + 6):
-        for one in list(left):
-            try:
-                one.send(whole[at : at + 1])
-            except OSError:
-                left.remove(one)
-        took = honest(server)
-        time.sleep(1)
-    cut = ended_within(slow, 5)
-    assert cut == len(slow), "%d of %d slow connections were ended" % (cut, len(slow))
-    return "%d cut after %.0f s; an honest request took %.0f ms" % (cut, time.monotonic() - began, took * 1e3)
-
-
-def test_slow_bodies(room: Room, scale: Scale) -> str:
-    """A body has ten seconds. Those who wait for theirs take no seats."""
-    server = started(room)
-    slow = [Wire(server.port) for _ in range(100)]
-    for one in slow:
-        one.send(head(server, "POST", "/call", "Content-Length: 1000\r\n\r\n") + b"begin\n")
-    time.sleep(0.5)
-    assert "=> stats" in server.call("stats\n"), "a seat is free"
-    took = honest(server)
-    for one in slow[:10]:
-        one.socket.settimeout(HEAD_SECONDS + 5)
-        with contextlib.suppress(OSError):
-            status, body = one.answer()
-            assert status in (400, 408), (status, body)
-    ended = ended_within(slow, 15)
-    assert ended == len(slow), "%d of %d were ended" % (ended, len(slow))
-    assert server.holders("transaction") == []
-    return "honest %.0f ms" % (took * 1e3)
 
 
 def test_half_frames(room: Room, scale: Scale) -> str:
@@ -118,41 +54,6 @@ def test_requests_behind_a_feed(room: Room, scale: Scale) -> str:
         assert status != 101, "a WebSocket of another path"
     assert "=> none\n" in server.call("begin\nget . smuggled\n")
     return "of four paths"
-
-
-def test_three_thousand_connections(room: Room, scale: Scale) -> str:
-    """The silent ones make room, and an honest request takes no second."""
-    server = started(room)
-    silent = []
-    for _ in range(3000):
-        with contextlib.suppress(OSError):
-            silent.append(Wire(server.port, timeout=5))
-    took = honest(server)
-    files = len(os.listdir("/proc/%d/fd" % server.child.pid))
-    for one in silent:
-        one.close()
-    assert len(silent) >= 2900, "only %d could connect" % len(silent)
-    assert files < 1200, "%d files are open" % files
-    return "honest %.0f ms, %d files" % (took * 1e3, files)
-
-
-def test_fewer_files_than_connections(room: Room, scale: Scale) -> str:
-    """With 120 files and 300 connections the log stays short, and an honest request is served."""
-    limit = ("sh", "-c", 'ulimit -n 120; exec "$@"', "sh")
-    server = started(room, before=limit)
-    silent = []
-    for _ in range(300):
-        with contextlib.suppress(OSError):
-            silent.append(Wire(server.port, timeout=2))
-    began = time.monotonic()
-    took = honest(server, 2.0)
-    time.sleep(3)
-    size = os.path.getsize(server.log)
-    for one in silent:
-        one.close()
-    took = max(took, honest(server, 2.0))
-    assert size < 1 << 20, "the log has %d MB after %.0f s" % (size >> 20, time.monotonic() - began)
-    return "honest %.0f ms, %d bytes of log" % (took * 1e3, size)
 
 
 def test_a_client_that_takes_all_seats(room: Room, scale: Scale) -> str:

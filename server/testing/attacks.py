@@ -1,8 +1,8 @@
 """Clients that mean harm, or mean nothing and do harm: `server/test attacks`, in some six minutes.
 
 Each attack is a test with a bound, and a figure that is told. `--heavy` is for the whole size of each, in some fifteen
-minutes, and `--runs 100` for as many servers that get no more memory. It needs nothing but a server to start, nginx and
-openssl.
+minutes, and `--runs 100` for as many servers that get no more memory. It needs nothing but a server to start, nginx,
+Caddy and openssl.
 """
 
 import argparse
@@ -13,16 +13,19 @@ import traceback
 from collections.abc import Callable
 
 import attack_beside
+import attack_http
 import attack_limits
 import attack_memory
 import attack_operating
+import attack_slow
 import attack_tokens
 import attack_wire
 from attack_beside import Scale
 from machine import Program, Room
 from tally import Tally
 
-THEMES = (attack_beside, attack_memory, attack_wire, attack_limits, attack_tokens, attack_operating)
+THEMES = (attack_beside, attack_memory, attack_slow, attack_wire, attack_http, attack_limits, attack_tokens,
+          attack_operating)
 Test = Callable[[Room, Scale], str]
 
 

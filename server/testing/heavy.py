@@ -81,6 +81,17 @@ def begins(port: int, count: int = 170_000) -> None:
     again_and_again(work)
 
 
+def opens(port: int, count: int = 50_000) -> None:
+    """Opens as many feeds as a message holds, and leaves: all of them end with the session."""
+    def work() -> None:
+        mine = session(port)
+        answer = mine.call("open - - 0\n" * count)
+        mine.close()
+        if answer.count("\n") != count or sum(map(answer.count, ("=> opened ", "=> belowhorizon ", "fault "))) != count:
+            raise ValueError("other answers than one for each line: " + answer[-200:])
+    again_and_again(work)
+
+
 def protections(port: int, count: int = 1_000_000) -> None:
     """Protects the same again and again, and keeps what it gets. Then it asks who holds what."""
     mine = session(port)
@@ -127,6 +138,12 @@ def transcripts(port: int, count: int = 64 << 20) -> None:
     again_and_again(lambda: fetch(port, "/transcript"))
 
 
+def reports(port: int, count: int = 100_000) -> None:
+    """The two reports of a database of so many rows, again and again."""
+    fill(session(port), "reported/", count)
+    again_and_again(lambda: (fetch(port, "/state"), fetch(port, "/holders"), fetch(port, "/metrics")))
+
+
 def names(port: int, count: int = 10_000) -> None:
     """As many names of consumers, and who asks for the list of them."""
     wire = Wire(port)
@@ -141,13 +158,13 @@ def names(port: int, count: int = 10_000) -> None:
     again_and_again(lambda: fetch(port, "/holders"))
 
 
-def first_feeds(port: int, count: int = 1_000_000) -> None:
+def first_feeds(port: int, count: int = 1_000_000, more: str = "") -> None:
     """Feeds from their beginning, read as fast as they come, one after the other."""
     fill(session(port), "", count)
 
     def work() -> None:
         wire = Wire(port)
-        wire.ask("GET", "/feed", bearer(TOKEN))
+        wire.ask("GET", "/feed", bearer(TOKEN) + more)
         room, tail = bytearray(1 << 20), b""
         while b'{"resolved":"' not in tail:
             got = wire.socket.recv_into(room)
@@ -156,6 +173,11 @@ def first_feeds(port: int, count: int = 1_000_000) -> None:
             tail = (tail + room[max(got - 200, 0) : got])[-200:]
         wire.close()
     again_and_again(work)
+
+
+def first_events(port: int, count: int = 1_000_000) -> None:
+    """The same as server-sent events."""
+    first_feeds(port, count, "Accept: text/event-stream\r\n")
 
 
 def readers(port: int, count: int = 30) -> None:

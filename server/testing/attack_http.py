@@ -1,0 +1,240 @@
+"""What no good client sends: odd requests, bombs, drawn bytes; clients that vanish; and a server that was stopped.
+
+Each function is a test. It gets a room, and how heavy the load is to be.
+"""
+
+import contextlib
+import gzip
+import json
+import os
+import random
+import signal
+import subprocess
+import time
+from collections.abc import Callable
+
+from attack_beside import Scale
+from attack_limits import compare_reports
+from attack_memory import peak, started
+from attack_slow import head, honest
+from handmade import HANDSHAKE, PING, TEXT, Cut, Ended, Session, Wire, fill, framed
+from machine import SERVER, Room, Server, wait_for
+
+WRITE = b"begin\nput . smuggled x\ncommit .\n"
+SIZE = b"%x\r\n" % len(WRITE)
+# Heads with the body that they have, which are refused or cut: two servers could take each for another request.
+ODD = (
+    (b"Content-Length: 5\r\nContent-Length: 32\r\n\r\n", WRITE),
+    (b"Content-Length: +32\r\n\r\n", WRITE),
+    (b"Content-Length: 32 32\r\n\r\n", WRITE),
+    (b"Content-Length: 0x20\r\n\r\n", WRITE),
+    (b"Content-Length: -1\r\n\r\n", WRITE),
+    (b"Content-Length: 99999999999999999999\r\n\r\n", WRITE),
+    (b"Transfer-Encoding: xchunked\r\n\r\n", SIZE + WRITE + b"\r\n0\r\n\r\n"),
+    (b"Transfer-Encoding: chunked, identity\r\n\r\n", SIZE + WRITE + b"\r\n0\r\n\r\n"),
+    (b"Transfer-Encoding: chunked\r\n\r\n", b"1" * 20 + b"\r\n" + WRITE + b"\r\n0\r\n\r\n"),
+    (b"Transfer-Encoding: chunked\r\n\r\n", SIZE + WRITE + b"XX0\r\n\r\n"),
+    (b"Transfer-Encoding: chunked\r\n\r\n", b"-20\r\n" + WRITE + b"\r\n0\r\n\r\n"),
+    (b"Content-Length : 32\r\n\r\n", WRITE),
+    (b"X: a\r\n b\r\nContent-Length: 32\r\n\r\n", WRITE),
+    (b"X: a\0b\r\nContent-Length: 32\r\n\r\n", WRITE),
+    (b"X: a\rb\r\nContent-Length: 32\r\n\r\n", WRITE),
+    (b"X\x07: a\r\nContent-Length: 32\r\n\r\n", WRITE),
+    (b"Host: evil.example\r\nContent-Length: 32\r\n\r\n", WRITE),
+)
+# What is taken, as RFC 9112 allows: lines that end in LF alone, and chunks where a length is given too.
+LENIENT = (
+    b"GET /healthz HTTP/1.1\nHost: a\n\n",
+    b"GET /healthz HTTP/1.1\r\nHost: a\r\nContent-Length: 99\r\nTransfer-Encoding: chunked\r\n\r\n4 ;a=b\r\nXXXX\r\n0\r\n\r\n",
+    b"GET /healthz HTTP/1.1\r\nHost: a\r\nTransfer-Encoding: chunked\r\nContent-Length: 99\r\n\r\n4\r\nXXXX\r\n0\r\n\r\n",
+    b"\r\nGET /healthz HTTP/1.1\r\nHost: a\r\nContent-Length: 4\r\nContent-Length: 4\r\n\r\nXXXX",
+)
+# What stands in place of the first line.
+ODD_LINES = (b"POST /call HTTP/1.0\r\n\r\n", b"POST /call HTTP/3.0\r\n", b"PRI * HTTP/2.0\r\n\r\nSM\r\n\r\n", b"POST  /call HTTP/1.1\r\n",
+             b"POST /call\r\n", b"POST /c\0all HTTP/1.1\r\n", b"\x16\x03\x01\x02\0\x01\0\x01\xfc\x03\x03", b"CONNECT evil:1 HTTP/1.1\r\n")
+
+
+def statuses(wire: Wire) -> list[int]:
+    """Of all that comes until the other side ends the connection, or is silent for a while."""
+    wire.socket.settimeout(3)
+    with contextlib.suppress(OSError):
+        while True:
+            wire.read()
+    return [int(one[2:5]) for one in bytes(wire.held).split(b"HTTP/1.")[1:]]
+
+
+def test_requests_that_are_odd(room: Room, scale: Scale) -> str:
+    """Each is refused or cut, and no line of its body is taken, whatever it may be taken for elsewhere."""
+    server = started(room)
+    own = b"Host: 127.0.0.1:%d\r\n" % server.port
+    asked = [b"POST /call HTTP/1.1\r\n" + own + lines + body for lines, body in ODD]
+    asked += [line + own + b"Content-Length: 32\r\n\r\n" + WRITE for line in ODD_LINES]
+    for request in asked:
+        with contextlib.closing(Wire(server.port)) as wire:
+            wire.send(request)
+            found = statuses(wire)
+            assert all(400 <= status < 500 for status in found), (request, found)
+        assert "=> none\n" in server.call("begin\nget . smuggled\n"), request
+    for request in LENIENT:
+        with contextlib.closing(Wire(server.port)) as wire:
+            wire.send(2 * request)
+            assert statuses(wire) == [200, 200], (request, bytes(wire.held))
+    return "%d, and %d that are taken" % (len(asked), len(LENIENT))
+
+
+def test_methods_and_paths_that_are_not_there(room: Room, scale: Scale) -> str:
+    """No path leads out of the table, and nothing is granted to pages of other sites."""
+    server = started(room)
+    for method in ("OPTIONS", "TRACE", "PUT", "PATCH", "PROPFIND"):
+        for path in ("/call", "/feed", "/", "/consumer/a"):
+            with contextlib.closing(Wire(server.port)) as wire:
+                wire.ask(method, path, "Origin: http://127.0.0.1:%d\r\n" % server.port)
+                status, headers = wire.head()
+                assert status == 405 and not any(name.startswith("access-control") for name in headers), (method, headers)
+                assert "server" not in headers, headers
+    for path in ("/../etc/passwd", "/page/../call", "/page/..%2fcall", "/page/%2e%2e/call", "//call", "/call/", "/./call", "/page//",
+                 "/picture/../page/page.mjs", "/page/page.mjs/", "/page/page.mjs%00", "/page/PAGE.mjs", "/page/.", "\\call", "/call;a"):
+        with contextlib.closing(Wire(server.port)) as wire:
+            wire.ask("GET", path)
+            assert wire.head()[0] in (400, 404), path
+    return "five methods, fifteen paths"
+
+
+def endless(server: Server, begin: bytes, more: bytes) -> int:
+    """Sends a beginning, and then the same again and again, up to 64 MB. How much was taken."""
+    sent, block = 0, more * (1 << 16)
+    with contextlib.closing(Wire(server.port, timeout=15)) as wire, contextlib.suppress(OSError):
+        wire.send(begin)
+        while sent < 64 << 20:
+            wire.send(block)
+            sent += len(block)
+    return sent
+
+
+def test_bombs(room: Room, scale: Scale) -> str:
+    """Heads, trailers and bodies without an end, bodies that would unpack to much, frames that are impossible."""
+    server = started(room)
+    before = peak(server)
+    post = head(server, "POST", "/call", "Transfer-Encoding: chunked\r\n\r\n")
+    endless(server, head(server, "GET", "/state"), b"X: y\r\n")
+    endless(server, head(server, "GET", "/state", "X: "), b"x")
+    endless(server, post + b"0\r\n", b"X: y\r\n")
+    endless(server, post, b"4\r\nxxxx\r\n")
+    endless(server, b"GET /" + b"x", b"x")
+    packed = gzip.compress(b"stats\n" * 1_000_000)
+    status, told = server.ask("POST", "/call", packed, {"Content-Encoding": "gzip"})
+    assert status != 200 or "=> stats" not in told, "a body was unpacked"
+    for frame, code in (
+        (b"\x81\xff\x40\0\0\0\0\0\0\0\0\0\0\0", 1009), (b"\xc1\x80\0\0\0\0", 1002), (b"\x81\x01x", 1002), (b"\x83\x80\0\0\0\0", 1002),
+        (framed(b"x" * 126, PING), 1002), (framed(b"x", PING, False), 1002), (framed(b"x", 0), 1002), (framed(b"\xff", TEXT), 1007),
+        (framed(b"x", 2), 1003), (b"\x81\xfe\0\x01\0\0\0\0x", 1002),
+    ):
+        session = Session(server.port)
+        session.send(frame)
+        try:
+            raise AssertionError("a frame is answered: %r %s" % (frame[:20], session.told()))
+        except Ended as end:
+            assert end.code == code, (frame[:20], end)
+        session.close()
+    found = peak(server) - before
+    assert found < 64 << 20, "%d MB more" % (found >> 20)
+    return "%d MB more, honest %.0f ms" % (found >> 20, honest(server) * 1e3)
+
+
+def test_clients_that_vanish(room: Room, scale: Scale) -> str:
+    """Twenty times a hundred and eighty clients that go without a word, in the middle of whatever they do."""
+    server, dice = started(room), random.Random(3)
+    fill(Session(server.port), "there/", 2000, "x" * 200)
+    files = len(os.listdir("/proc/%d/fd" % server.child.pid))
+    beginnings = (
+        head(server, "GET", "/feed", "\r\n"), head(server, "GET", "/feed?consumer=gone", "\r\n"), head(server, "GET", "/transcript", "\r\n"),
+        head(server, "GET", "/session", HANDSHAKE + "\r\n") + framed(b"begin\nput . gone x\nopen - - 0\nprotect 0\n"),
+        head(server, "GET", "/session", HANDSHAKE + "\r\n") + framed(b"scan 1 - -\n" * 50)[:-7],
+        head(server, "POST", "/call", "Content-Length: 500\r\n\r\n") + b"begin\n", b"GET / HT", b"",
+    )
+    for _ in range(20):
+        wires = [Wire(server.port, little=True) for _ in range(180)]
+        for one in wires:
+            with contextlib.suppress(OSError):
+                one.send(dice.choice(beginnings))
+        time.sleep(dice.random() / 10)
+        for one in wires:
+            one.reset()
+    wait_for(lambda: server.holders("server")[0]["sessions"] == 0, "all sessions to end")
+    wait_for(lambda: not any(server.holders(kind) for kind in ("transaction", "feed")), "all feeds to end")
+    wait_for(lambda: len(os.listdir("/proc/%d/fd" % server.child.pid)) <= files + 2, "all files to be closed")
+    assert "=> none\n" in server.call("begin\nget . gone\n") and "shout" not in server.words()
+    return "3600 of them"
+
+
+def drawn_request(dice: random.Random, server: Server) -> bytes:
+    """A request of good parts in a drawn order, of which some bytes are changed."""
+    method, path = dice.choice(("GET", "POST", "DELETE", "HEAD")), dice.choice((
+        "/feed?lo=%%00&hi=%d", "/call", "/session", "/consumer/a?stored=%d&generation=0", "/state", "/transcript?since=%d", "/holders",
+        "/metrics", "/session/%d", "/feed?from=%d&gap=3", "/page/page.mjs", "/healthz", "/consumer/%d")).replace("%d", str(dice.randrange(99)))
+    body = "".join(dice.choice(("begin\n", "put . a 1\n", "commit .\n", "scan . - -\n", "\n", "é\n")) for _ in range(dice.randrange(9)))
+    lines = dice.sample(("Accept: text/event-stream\r\n", HANDSHAKE, "Expect: 100-continue\r\n", "Last-Event-ID: a:%d\r\n" % dice.randrange(9),
+                         "Connection: close\r\n", "Content-Length: %d\r\n" % len(body.encode())), dice.randrange(5))
+    whole = bytearray(head(server, method, path, "".join(lines) + "\r\n") + body.encode())
+    for _ in range(dice.choice((0, 0, 1, 4))):
+        whole[dice.randrange(len(whole))] = dice.randrange(256)
+    return bytes(whole)
+
+
+def drawn_message(dice: random.Random) -> str:
+    words = ("begin", "put", "get", "scan", "del", "commit", "abort", "open", "openinitial", "poll", "cancel", "protect", "release", "close",
+             "closehard", "collect", "stats", ".", "-", "a", "b%20", "%zz", "0", "1", "2", "7", "99999999999999999999", "", "\0", "é")
+    return "".join(" ".join(dice.choices(words, k=dice.randrange(1, 5))) + "\n" for _ in range(dice.randrange(1, 20)))
+
+
+def test_drawn_requests_and_messages(room: Room, scale: Scale) -> str:
+    """Whatever comes, no answer is a fault of the server, each line has one answer, and the reports agree."""
+    server, dice = started(room, "--ahead", "1000"), random.Random(5)
+    requests, found = int(scale.of(1500, 6000)), set()
+    for _ in range(requests):
+        with contextlib.closing(Wire(server.port)) as wire, contextlib.suppress(OSError):
+            wire.send(drawn_request(dice, server))
+            wire.socket.settimeout(0.2)
+            with contextlib.suppress(Cut, ConnectionError):
+                found.add(wire.head()[0])
+    assert not found & {500, 502, 505}, found
+    session, count = Session(server.port), int(scale.of(3000, 40_000))
+    for _ in range(count):
+        text = drawn_message(dice)
+        told = session.call(text).splitlines()
+        answers = sum(1 for line in told if line.startswith("fault ") or " => " in line and line.split(" ", 1)[0].isdigit())
+        assert answers == text.count("\n"), (text, told)
+    session.say_goodbye()
+    wait_for(lambda: server.holders("server")[0]["sessions"] == 0, "the session to end")
+    faults = compare_reports(server)
+    assert not faults, faults
+    assert server.holders("server")[0]["shouts"] == 0 and "panicked" not in server.words(), server.tail()
+    return "%d requests, %d messages: %s" % (requests, count, sorted(found))
+
+
+def test_a_server_that_was_stopped(room: Room, scale: Scale) -> str:
+    """Sessions stand whose clients answered nothing because the server slept, and what is old by then is aborted."""
+    server = started(room, "--heartbeat", "2", "--max-age", "3")
+    session, feed = Session(server.port), Wire(server.port)
+    session.call("begin\n")
+    feed.ask("GET", "/feed")
+    feed.until(b"\r\n\r\n")
+    server.child.send_signal(signal.SIGSTOP)
+    time.sleep(6)
+    server.child.send_signal(signal.SIGCONT)
+    wait_for(lambda: not server.holders("transaction"), "the old transaction to be aborted")
+    assert "=> ended\n" in session.call("commit .\n") and "=> committed 1\n" in session.call("begin\nput . awake x\ncommit .\n")
+    feed.until(b'"updated":')
+    return "6 s"
+
+
+def test_a_second_server_of_a_port(room: Room, scale: Scale) -> str:
+    """It ends with a sentence, and the first one goes on."""
+    server = started(room)
+    done = subprocess.run([SERVER, "--port", str(server.port)], capture_output=True, text=True, timeout=20, stdin=subprocess.DEVNULL)
+    assert done.returncode == 1 and str(server.port) in done.stderr and done.stderr.count("\n") == 1, done
+    assert json.loads(server.ask("GET", "/consumer/nobody")[1])["identity"] == server.identity
+    return done.stderr.strip()
+
+
+TESTS: list[Callable[[Room, Scale], str]] = [one for name, one in list(globals().items()) if name.startswith("test_")]
