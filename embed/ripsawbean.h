@@ -114,7 +114,10 @@ enum {
     RIPSAWBEAN_BELOWHORIZON = 24, // the timestamp is below the horizon, so versions may be gone
 
     // By a note of ripsawbean_calls alone.
-    RIPSAWBEAN_ANSWERTOOLONG = 25 // the answer would have more bytes than are let through: no call was made
+    RIPSAWBEAN_ANSWERTOOLONG = 25, // the answer would have more bytes than are let through: no call was made
+
+    // By ripsawbean_open and ripsawbean_replica_open, before anything else is looked at. The handle is as it was.
+    RIPSAWBEAN_PROCESSOR = 26      // the processor lacks what the code needs: on x86-64, what x86-64-v2 has
 };
 
 // The version of the library: 65536 times the first of its three numbers, 256 times the second, and the third.
@@ -534,6 +537,7 @@ static inline const char *ripsawbean_status_name(uint8_t status) {
         "ok",          "wordcount", "unknowncommand", "number", "keylength", "valuelength", "session", "nonewline", "linetoolong",
         "badbyte",     "reply",     "follow",         "nomemory", "spent",   "unwritten",   "ring",    "closed",    "open",
         "nomessage",   "notafter",  "outsidespan",    "resolvedback", "nofeed", "novalue", "belowhorizon", "answertoolong",
+        "processor",
     };
     return status < sizeof names / sizeof *names ? names[status] : "unknown";
 }

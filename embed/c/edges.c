@@ -204,7 +204,7 @@ static void handles_open_and_close(void) {
     end(&db);
     for (unsigned status = 0; status < 256; status++) {
         CHECK(ripsawbean_status_name((uint8_t)status) != NULL);
-        CHECK((strcmp(ripsawbean_status_name((uint8_t)status), "unknown") == 0) == (status > RIPSAWBEAN_ANSWERTOOLONG));
+        CHECK((strcmp(ripsawbean_status_name((uint8_t)status), "unknown") == 0) == (status > RIPSAWBEAN_PROCESSOR));
     }
     CHECK(strcmp(ripsawbean_status_name(RIPSAWBEAN_BADBYTE), "badbyte") == 0);
     CHECK(strcmp(ripsawbean_status_name(RIPSAWBEAN_OPEN), "open") == 0);

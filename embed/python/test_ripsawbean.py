@@ -143,7 +143,7 @@ class Calls(unittest.TestCase):
         self.assertEqual(str(self.db.make("stats")), "1 0 stats => stats 0 1 0 0 0\n")
 
     def test_the_kinds_name_their_status(self):
-        self.assertEqual(sorted(ripsawbean.errors.ERRORS), [*range(1, 10), *range(12, 26)])
+        self.assertEqual(sorted(ripsawbean.errors.ERRORS), [*range(1, 10), *range(12, 27)])
 
     def test_values_of_python(self):
         db = self.db

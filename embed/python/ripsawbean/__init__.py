@@ -25,8 +25,8 @@ that the program uses too.
 from .database import Database
 from .errors import (
     AlreadyOpen, AnswerTooLong, BadByte, BelowHorizon, Closed, Error, KeyLength, LineFault, LineTooLong, NoFeed, NoMemory, NoMessage,
-    NoNewline, NotAfter,
-    NotTaken, Number, OutsideSpan, Refused, ResolvedBack, RingRange, Session, Spent, UnknownCommand, Unwritten, ValueLength, WordCount,
+    NoNewline, NotAfter, NotTaken, Number, OutsideSpan, Processor, Refused, ResolvedBack, RingRange, Session, Spent, UnknownCommand,
+    Unwritten, ValueLength, WordCount,
 )
 from .events import Answer, Event, Message, Record, Resolved, Row, messages_of, spell, unspell
 from .handles import VERSION as __version__
@@ -37,5 +37,5 @@ __all__ = [
     "Database", "Answer", "Event", "Held", "Places", "Record", "Replica", "Row", "Resolved", "messages_of", "spell", "unspell", "version",
     "Error", "LineFault", "WordCount", "UnknownCommand", "Number", "KeyLength", "ValueLength", "Session", "NoNewline",
     "LineTooLong", "BadByte", "NoMemory", "Spent", "Unwritten", "AnswerTooLong", "RingRange", "Closed", "AlreadyOpen", "Refused",
-    "NotTaken", "NoMessage", "NotAfter", "OutsideSpan", "ResolvedBack", "NoFeed", "BelowHorizon",
+    "NotTaken", "NoMessage", "NotAfter", "OutsideSpan", "ResolvedBack", "NoFeed", "BelowHorizon", "Processor",
 ]

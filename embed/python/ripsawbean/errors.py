@@ -158,6 +158,12 @@ class AnswerTooLong(Error):
     status = 25
 
 
+class Processor(Error):
+    """The processor lacks what the library's code needs, which is x86-64-v2."""
+
+    status = 26
+
+
 class Refused(Error):
     """The call was made, and its answer is a refusal. `answer` has its words, and `event` what the call returned."""
 
@@ -172,7 +178,7 @@ ERRORS = {
     for kind in (
         WordCount, UnknownCommand, Number, KeyLength, ValueLength, Session, NoNewline, LineTooLong, BadByte, NoMemory, Spent,
         Unwritten, RingRange, Closed, AlreadyOpen, NoMessage, NotAfter, OutsideSpan, ResolvedBack, NoFeed, NoValue,
-        BelowHorizon, AnswerTooLong,
+        BelowHorizon, AnswerTooLong, Processor,
     )
 }
 

@@ -10,6 +10,8 @@ pub enum OpenError {
     RingRange,
     /// There was no memory for it.
     NoMemory,
+    /// The processor lacks what the library's code needs, which is x86-64-v2.
+    Processor,
 }
 
 /// The first fault of a line, in the order of tests: its length, its newline, its bytes, its words, the seat, the
@@ -134,6 +136,8 @@ pub enum ReplicaError {
     NoFeed,
     /// There was no memory for it.
     NoMemory,
+    /// The processor lacks what the library's code needs, which is x86-64-v2.
+    Processor,
 }
 
 /// Why a message was not taken. Nothing changed.
@@ -157,6 +161,7 @@ impl ReplicaError {
             (_, Some(fault)) => ReplicaError::Line(fault),
             (12, _) => ReplicaError::NoMemory,
             (22, _) => ReplicaError::NoFeed,
+            (26, _) => ReplicaError::Processor,
             _ => unreachable!("a replica returned {status}"),
         }
     }
@@ -181,6 +186,7 @@ impl fmt::Display for ReplicaError {
             ReplicaError::Line(fault) => fault.fmt(f),
             ReplicaError::NoFeed => f.write_str("the command opens no feed"),
             ReplicaError::NoMemory => f.write_str("no memory for the replica"),
+            ReplicaError::Processor => OpenError::Processor.fmt(f),
         }
     }
 }
@@ -223,6 +229,7 @@ impl OpenError {
         match status {
             12 => OpenError::NoMemory,
             15 => OpenError::RingRange,
+            26 => OpenError::Processor,
             _ => unreachable!("opening a closed handle returned {status}"),
         }
     }
@@ -340,6 +347,7 @@ impl fmt::Display for OpenError {
         f.write_str(match self {
             OpenError::RingRange => "the ring is not 1 to 65536",
             OpenError::NoMemory => "no memory for a database",
+            OpenError::Processor => "the processor lacks what the library needs: x86-64-v2",
         })
     }
 }
@@ -462,6 +470,7 @@ mod tests {
             assert_eq!(fault.code(), status);
         }
         assert_eq!([12, 13, 14].map(CallError::of), [CallError::NoMemory, CallError::Spent, CallError::Unwritten]);
-        assert_eq!([12, 15].map(OpenError::of), [OpenError::NoMemory, OpenError::RingRange]);
+        let opened = [OpenError::NoMemory, OpenError::RingRange, OpenError::Processor];
+        assert_eq!([12, 15, 26].map(OpenError::of), opened);
     }
 }
