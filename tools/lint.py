@@ -298,11 +298,12 @@ def program_version(house):
 
 # The version that the program tells, and the kit.
 PROGRAMS = re.compile(r'"([\d.]+)\nproved with ([^"\n]*)"')
-# Where else the version stands. In C it is a number with a byte for each part.
+# Where else the version stands. In the library it is a number with a byte for each part.
 VERSIONS = {
     "embed/rust/Cargo.toml": r'^version = "(.*)"',
     "server/Cargo.toml": r'^version = "(.*)"',
     "embed/ripsawbean.h": r"^#define RIPSAWBEAN_VERSION (0x\w{6})$",
+    "crates/ripsawbean/src/version.rt": r"^const VERSION: u32 = (0x\w{6});$",
     "embed/python/ripsawbean/handles.py": r'^VERSION = "(.*)"',
     "clients/python/pyproject.toml": r'^version = "(.*)"',
     "clients/javascript/package.json": r'^  "version": "(.*)"',
@@ -323,8 +324,8 @@ def versions(house):
     program, header = "crates/command_line/src/version.rt", "embed/ripsawbean.h"
     told = PROGRAMS.search(house.text(program)) if program in house.paths else None
     for path, pattern in VERSIONS.items() if told else ():
-        own = "0x%02x%02x%02x" % tuple(map(int, told[1].split("."))) if path == header else told[1]
-        yield from differing(house, path, pattern, own)
+        number = "0x%02x%02x%02x" % tuple(map(int, told[1].split(".")))
+        yield from differing(house, path, pattern, number if "(0x" in pattern else told[1])
     abi = re.search(r"^#define RIPSAWBEAN_ABI (\d+)$", house.text(header), re.M) if header in house.paths else None
     for path, pattern in ABIS.items() if abi else ():
         yield from differing(house, path, pattern, abi[1])

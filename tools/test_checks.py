@@ -143,10 +143,21 @@ class Checks(unittest.TestCase):
 
     def test_a_proof_from_nothing_takes_nothing_of_another_run(self):
         """A crate that was proved before fails this check, because its seconds are then not those from nothing."""
-        of_run, counts = "mvfeed: 1 crates, on 2 processors\n", (r"(\d+) crates, on", "crates")
+        of_run = "mvfeed: 1 crates, on 2 processors\n"
         for told, result in {of_run: "passed", of_run + "mvfeed: low was proved before, none left\n": "failed"}.items():
-            files = {"lines": told, "mvfeed": "#!/bin/sh\ncat\ncat lines >&2\n"}
-            self.assertEqual(self.in_a_house(checks.FROM_NOTHING, files, counts)[:2], (result, "1 crates"))
+            self.assertEqual(self.from_nothing(told, "the same"), (result, "1 crates"))
+
+    def test_a_program_of_other_bytes_fails_the_proof_from_nothing(self):
+        self.assertEqual(self.from_nothing("mvfeed: 1 crates, on 2 processors\n", "another"), ("failed", "1 crates"))
+
+    def from_nothing(self, told, program):
+        """What the check comes to where a build in a fresh clone tells this, and makes the same as a program or not."""
+        files = {"lines": told, "mvfeed": "#!/bin/sh\ncat\ncat lines >&2\n", "crates/mvfeed/out/mvfeed": "the same"}
+        with tempfile.NamedTemporaryFile("w") as before:
+            before.write(program)
+            before.flush()
+            with mock.patch.dict(os.environ, PROGRAM=before.name):
+                return self.in_a_house(checks.FROM_NOTHING, files, (r"(\d+) crates, on", "crates"))[:2]
 
     def test_a_first_answer_is_in_time_and_right_and_the_checker_says_so(self):
         counts = (r"first answer took (\d+) seconds", "seconds")

@@ -1,0 +1,122 @@
+#!/usr/bin/env python3
+"""Writes the record of a release: what it is made of, by what, what was checked, and the checksum of each file.
+
+    record.py [--draft] --version V --program FILE --embed FOLDER --server FILE DIST > build-record.json
+
+The form is an in-toto statement whose predicate is SLSA's provenance, version 1, so that tools can read it. A check of
+docs/LAST-RUN.md that failed, that wasn't run, or whose sources have changed since stops it, but for a draft.
+"""
+
+import argparse
+import importlib.machinery
+import importlib.util
+import json
+import subprocess
+import sys
+from pathlib import Path
+from typing import Any, Dict, Iterator, List
+
+TOP = Path(__file__).resolve().parent.parent
+sys.dont_write_bytecode = True
+sys.path.insert(0, str(TOP / "tools"))
+import origin  # noqa: E402
+
+COLUMNS = ("check", "result", "counted", "seconds", "commit", "date", "machine")
+# Checks that say how something is, and not whether a release is right.
+OPTIONAL = ("slow-proofs",)
+OWN = ("build-record.json", "SHA256SUMS")
+
+
+def said(*words: str) -> str:
+    return subprocess.run(words, cwd=TOP, capture_output=True, check=True, text=True).stdout.strip()
+
+
+def checks_of_house() -> Any:
+    """The script `checks` as a module."""
+    loader = importlib.machinery.SourceFileLoader("checks", str(TOP / "checks"))
+    made = importlib.util.module_from_spec(importlib.util.spec_from_loader("checks", loader))
+    sys.modules["checks"] = made
+    loader.exec_module(made)
+    return made
+
+
+def rows(page: str) -> Iterator[Dict[str, str]]:
+    """The rows of LAST-RUN's table."""
+    for line in page.splitlines():
+        cells = [it.strip() for it in line.strip("|").split("|")]
+        if line.startswith("| `") and len(cells) == len(COLUMNS):
+            yield dict(zip(COLUMNS, [cells[0].strip("`"), *cells[1:]]))
+
+
+def faults(found: Dict[str, Dict[str, str]], house: Any) -> Iterator[str]:
+    """What speaks against a release: each check that didn't pass for the sources as they are now."""
+    asked = argparse.Namespace(minutes=1, is_bounded=False, since=None)
+    for check in house.checks_of(asked):
+        row = found.get(check.name)
+        if check.name in OPTIONAL:
+            continue
+        if not row:
+            yield "%s wasn't run" % check.name
+        elif row["result"] != "passed":
+            yield "%s %s" % (check.name, row["result"])
+        elif " and changes" in row["commit"]:
+            yield "%s passed with changes that weren't committed" % check.name
+        elif house.marked(row["commit"], check).endswith(house.CHANGED):
+            yield "%s passed before what it checks was changed" % check.name
+
+
+def made_of(name: str, path: Path) -> Dict[str, Any]:
+    """A file that the release is made of, with the sources that it is of by its note."""
+    places = origin.read(str(path))
+    return {"name": name, "digest": {"sha256": origin.checksum(str(path))}, "annotations": {"sources": places}}
+
+
+def statement(its: argparse.Namespace, checked: List[Dict[str, str]]) -> Dict[str, Any]:
+    subjects = [it for it in sorted(its.dist.iterdir()) if it.name not in OWN]
+    materials = [
+        {"name": "repository", "digest": {"gitCommit": said("git", "rev-parse", "HEAD")}},
+        {"name": "toolchain", "annotations": {"rt version": said("rt", "version")}},
+        made_of("mvfeed, as proved and built", its.program),
+        made_of("libripsawbean.a, as proved and built", its.embed / "libripsawbean.a"),
+        made_of("libripsawbean.so, as linked and tested", its.embed / "libripsawbean.so"),
+        made_of("ripsawbean-server, as built and tested", its.server),
+    ]
+    tools = {it: said(it, "--version").splitlines()[0] for it in ("gcc", "ld", "cargo", "rustc", "dpkg-deb", "npm")}
+    return {
+        "_type": "https://in-toto.io/Statement/v1",
+        "subject": [{"name": it.name, "digest": {"sha256": origin.checksum(str(it))}} for it in subjects],
+        "predicateType": "https://slsa.dev/provenance/v1",
+        "predicate": {
+            "buildDefinition": {
+                "buildType": "https://ripsawbean.invalid/release/v1",
+                "externalParameters": {"version": its.version, "draft": its.draft},
+                "resolvedDependencies": materials,
+                "internalParameters": tools,
+            },
+            "runDetails": {
+                "builder": {"id": "https://ripsawbean.invalid/release"},
+                "byproducts": [{"name": "docs/LAST-RUN.md", "annotations": {"checks": checked}}],
+            },
+        },
+    }
+
+
+def main() -> None:
+    parser = argparse.ArgumentParser(description=__doc__, formatter_class=argparse.RawDescriptionHelpFormatter)
+    parser.add_argument("--version", required=True)
+    for name in ("program", "embed", "server"):
+        parser.add_argument("--" + name, required=True, type=Path)
+    parser.add_argument("--draft", action="store_true")
+    parser.add_argument("dist", type=Path)
+    its = parser.parse_args()
+    checked = list(rows((TOP / "docs" / "LAST-RUN.md").read_text()))
+    against = list(faults({it["check"]: it for it in checked}, checks_of_house()))
+    if against and not its.draft:
+        sys.exit("release: docs/LAST-RUN.md has no passed check of these sources: " + "; ".join(against))
+    if against:
+        print("release: a draft, although " + "; ".join(against), file=sys.stderr)
+    print(json.dumps(statement(its, checked), indent=1))
+
+
+if __name__ == "__main__":
+    main()
