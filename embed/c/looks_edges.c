@@ -273,6 +273,6 @@ int main(void) {
     what_a_seat_holds();
     CHECK(ripsawbean_version() == 0x000100);
     CHECK(strcmp(ripsawbean_status_name(RIPSAWBEAN_BELOWHORIZON), "belowhorizon") == 0);
-    printf("looks: %lu checks passed\n", checks);
+    printf("looks_edges: %lu checks, %lu growths refused\n", checks, growths_refused);
     return 0;
 }

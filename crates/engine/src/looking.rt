@@ -1,4 +1,14 @@
 //! What is told without a command: versions of keys, and how far the database has come. It takes no memory.
+//!
+//! ```text
+//!                           oldest   closed   horizon   limit   reached   "a" at 40
+//! new                                0        0         0       0         none
+//! begin 10, put 10 a        10       0        0         0       10        none: it is undecided
+//! commit 10, begin 30       30       0        0         0       30        10
+//! put 30 a, close 50        30       29       0         29      30        10: 30 is undecided
+//! abort 30, close 50                 50       0         50      50        10
+//! protect 45, collect 50             50       45        45      50        (not asked: it is below the horizon)
+//! ```
 ghost use Rattle.std.specs.Prelude.{◌≡◌, ◌≤◌, List};
 ghost use Rattle.spans.specs.declared.calls.events.Event.{Event};
 ghost use Rattle.spans.specs.Collection.{horizon_of};

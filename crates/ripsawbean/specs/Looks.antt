@@ -8,7 +8,7 @@ use Rattle.embedded.specs.Embedded.{StandsFor}
 use Rattle.embedded.specs.Held.{AreHeldBy}
 use Rattle.embedded.specs.Versions.{AreVersionsAt}
 use Rattle.embedded.specs.declared.database.Database.{Database}
-use Rattle.embedded.specs.declared.held.Held.{Held}
+use Rattle.embedded.specs.declared.held.HeldRecord.{HeldRecord}
 use Rattle.embedded.specs.declared.versions.VersionFault.{VersionFault}
 use Rattle.embedded.specs.declared.versions.VersionFault.TheVariants.{BelowHorizon, KeyLength, NoMemory}
 use Rattle.ripsawbean.specs.ReplicaExports.{number_or_none}
@@ -54,8 +54,8 @@ ToldPlaces None feed number told = (number ≡ 16) × (told ≡ no_places)
 -- ---- what a seat holds
 
 -- at 0 as many as there is room for, and how many there are; at any other number none is shown
-abbrev pub ToldHeld : Option Database → (seat : ℕ) → ℕ → (out out' : List Held) → ℕ → Type 0
+abbrev pub ToldHeld : Option Database → (seat : ℕ) → ℕ → (out out' : List HeldRecord) → ℕ → Type 0
 ToldHeld (Some d) seat zero out out' count =
-    (h : List Event) → StandsFor d h → (held : List Held) × AreHeldBy h seat held × (count ≡ length held) × (out' ≡ take (length out) held ++ drop (length held) out)
+    (h : List Event) → StandsFor d h → (held : List HeldRecord) × AreHeldBy h seat held × (count ≡ length held) × (out' ≡ take (length out) held ++ drop (length held) out)
 ToldHeld (Some d) seat (suc n) out out' count = (suc n ≡ 12) × (count ≡ 0) × (out' ≡ out)
 ToldHeld None seat number out out' count = (number ≡ 16) × (count ≡ 0) × (out' ≡ out)

@@ -5,7 +5,7 @@ ghost use Rattle.ripsawbean.specs.Looks.{ToldHeld};
 
 use crate::handle::Handle;
 use crate::{CLOSED, NO_MEMORY};
-use embedded::{Database, Held};
+use embedded::{Database, HeldRecord};
 use std::alloc::Global;
 
 /// Shows what a seat holds: its undecided transactions, its feeds, and all protections, which are of no seat. `count` is
@@ -18,7 +18,7 @@ pub extern "C" fn ripsawbean_held_by(
     alloc: Global,
     handle: &mut Handle,
     seat: u8,
-    out: &mut [Held],
+    out: &mut [HeldRecord],
     count: &mut usize,
 ) -> u8
     ensures same { handle.new.database ≡ handle.old.database }
@@ -38,7 +38,7 @@ pub extern "C" fn ripsawbean_held_by(
 }
 
 /// What a seat holds, with the number that tells of it.
-fn held_by(database: &Database, seat: u8, out: &mut [Held], count: &mut usize) -> u8
+fn held_by(database: &Database, seat: u8, out: &mut [HeldRecord], count: &mut usize) -> u8
     ensures { ToldHeld (Some database.now) seat result out.old out.new count.new }
 {
     match database.held_by(seat) {
@@ -54,7 +54,7 @@ fn held_by(database: &Database, seat: u8, out: &mut [Held], count: &mut usize) -
 }
 
 /// Copies to the front as far as there is room, and tells how many there are.
-fn copy_held(held: &[Held], out: &mut [Held]) -> usize
+fn copy_held(held: &[HeldRecord], out: &mut [HeldRecord]) -> usize
     ensures copied { out.new ≡ take (length out.old) held.now ++ drop (length held.now) out.old }
     ensures count { result ≡ length held.now }
 {
