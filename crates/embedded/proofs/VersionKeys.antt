@@ -20,9 +20,7 @@ pub record HaveTold (p : List Effect) (t : ℕ) (bytes versions : List ℕ) (at 
   pub told : versions' ≡ told_of p t keys ++ drop count versions
   pub counted : count ≡ length keys
 
-pub none_told : (p : List Effect) (t : ℕ) (bytes versions : List ℕ) → HaveTold p t bytes versions 0 0 versions
-none_told p t bytes versions = record { keys = []; each = tt; read = refl; told = refl; counted = refl }
-
+-- keys, and one more
 keys_more : (keys : List (List ℕ)) (x : List ℕ) → AllByRecursion IsKey keys → IsKey x → AllByRecursion IsKey (keys ++ x ∷ [])
 keys_more [] x all is = (is, tt)
 keys_more (y ∷ keys) x all is = (all.0, keys_more keys x all.1 is)
