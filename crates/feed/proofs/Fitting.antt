@@ -1,5 +1,5 @@
 -- How many messages find room, by the first of them.
-use Rattle.std.proofs.Common.{Bool, List, [], ap, arith, cond, drop, false, inl, inr, length, refl, suc, sym, take, true, zero, ℕ, ◌+◌, ◌-◌, ◌<◌, ◌∙◌, ◌∷◌, ◌≡◌, ◌≤◌}
+use Rattle.std.proofs.Common.{List, [], ap, arith, drop, false, inl, inr, length, refl, suc, sym, take, true, zero, ℕ, ◌+◌, ◌-◌, ◌<◌, ◌∙◌, ◌∷◌, ◌≡◌, ◌≤◌}
 use Rattle.std.specs.Prelude.{nat_le, nat_lt, ◌⊎◌}
 use Rattle.std.proofs.lemmas.Bool.Decides.{nat_tests}
 use Rattle.spans.specs.declared.calls.messages.Message.{Message}
@@ -34,10 +34,10 @@ first_all (suc n) zero xs low few = absurd (omega arith)
 first_all (suc n) (suc m) [] low few = refl
 first_all (suc n) (suc m) (x ∷ xs) low few = ap (λ l. x ∷ l) (first_all n m xs (omega (arith, low)) (omega (arith, few)))
 
-short_of : (max bytes : ℕ) (ms : List Message) → count_within bytes ms < length ms → count_within bytes ms ≡ count_or max bytes ms
+pub short_of : (max bytes : ℕ) (ms : List Message) → count_within bytes ms < length ms → count_within bytes ms ≡ count_or max bytes ms
 short_of max bytes ms few = let on : nat_lt (count_within bytes ms) (length ms) ≡ true = grind (arith, nat_tests) in rw on refl
 
-all_of : (max bytes : ℕ) (ms : List Message) → length ms ≤ count_within bytes ms → max ≡ count_or max bytes ms
+pub all_of : (max bytes : ℕ) (ms : List Message) → length ms ≤ count_within bytes ms → max ≡ count_or max bytes ms
 all_of max bytes ms all = let off : nat_lt (count_within bytes ms) (length ms) ≡ false = grind (arith, nat_tests) in rw off refl
 
 -- not all of the first find room

@@ -13,3 +13,4 @@ pub mod Building
 pub mod Slotting
 pub mod Reports
 pub mod Fitting
+pub mod Ringing

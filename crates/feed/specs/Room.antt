@@ -29,6 +29,11 @@ count_within bytes (m ∷ ms) = if nat_le (message_weight m) bytes then suc (cou
 abbrev pub count_or : (max bytes : ℕ) → List Message → ℕ
 count_or max bytes ms = if nat_lt (count_within bytes ms) (length ms) then count_within bytes ms else max
 
+-- the same where so many rows found room, of fewer than max, and these are all messages that are left for so many bytes
+abbrev pub with_due : (max count left : ℕ) → List Message → ℕ
+with_due max count left [] = max
+with_due max count left (m ∷ ms) = if nat_lt left 17 then count else max
+
 -- the rows that are left for a live feed, in its ring, or in the store where it is behind
 pub record IsLeftFor (store : Stored) (closed : ℕ) (l : Live) (rows : List Row) : Type 0 where
   pub ring : l.behind ≡ false → rows ≡ l.ring

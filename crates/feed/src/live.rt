@@ -2,7 +2,7 @@
 ghost use Rattle.std.specs.Prelude.{◌≡◌, ◌≤◌, ◌⊎◌, ℕ, IfOk, IfSome, MatchOption, max, take, drop, map, false};
 ghost use Rattle.timestamps.specs.declared.ts.TheConstants.{MAX};
 ghost use Rattle.kept.specs.Places.{place_floor, row_floor};
-ghost use Rattle.std.specs.Prelude.{◌&&◌, [], true, nat_lt};
+ghost use Rattle.std.specs.Prelude.{◌&&◌, [], true, nat_lt, slice_get};
 ghost use Rattle.std.specs.Option.{option_copied};
 ghost use Rattle.timestamps.specs.declared.row.Row.{Row};
 ghost use Rattle.spans.specs.Consumer.{is_after_name};
@@ -179,6 +179,16 @@ impl LiveFeed {
             }
         }
         Ok(messages)
+    }
+
+    /// The row at a place of its ring, where there is one.
+    pub(crate) fn ring_row(&self, place: usize) -> Option<&Row>
+        ensures { option_copied result ≡ slice_get self.now.ring place }
+    {
+        match self.ring.get(place) {
+            None => None,
+            Some(row) => Some(row),
+        }
     }
 
     /// The timestamp of the resolved message that is due, if one is.

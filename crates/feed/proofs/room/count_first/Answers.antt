@@ -1,6 +1,5 @@
-use Rattle.std.proofs.Common.{ap, arith, inl, inr, length, sym, ◌<◌, ◌≡◌, ◌≤◌, ◌∙◌}
-use Rattle.feed.specs.Room.{count_within}
-use Rattle.feed.proofs.Fitting.{left_all, left_short}
+use Rattle.std.proofs.Common.{arith}
+use Rattle.feed.proofs.Fitting.{left_short}
 use Rattle.feed.proofs.room.count_first.Goals as goal
 
 pub returns-then-count-all-clause-count : goal.returns-then-count-all-clause-count

@@ -1,4 +1,4 @@
-use Rattle.std.proofs.Common.{drop, ◌+◌, ◌≡◌, ◌≤◌}
+use Rattle.std.proofs.Common.{drop, ◌+◌, ◌≡◌}
 use Rattle.feed.specs.Room.{count_within}
 use Rattle.feed.proofs.room.count_within.Given as goal
 
