@@ -207,8 +207,9 @@ static struct {
     const char *name;
     unsigned seat;
     uint64_t number, most;
-    uint8_t key[300], value[70000];
+    uint8_t key[300], value[70000]; // of a scan its bounds
     size_t key_length, value_length;
+    bool has_high, is_within; // of a poll, whether it has a bound, which lets all through
 } parts;
 
 static bool has_parts(void) {
@@ -217,6 +218,7 @@ static bool has_parts(void) {
         size_t words;
     } commands[] = {
         {"begin", 1}, {"get", 2}, {"put", 3}, {"del", 2}, {"commit", 1}, {"abort", 1}, {"close", 1}, {"readat", 2}, {"poll", 2},
+        {"scan", 3},  {"scanat", 3},
     };
     char *at;
     parts.seat = (unsigned)strtoul(line, &at, 10);
@@ -224,20 +226,29 @@ static bool has_parts(void) {
     for (size_t i = 0; i < sizeof commands / sizeof *commands; i++) {
         if (!has_name(at, commands[i].name)) continue;
         parts.name = commands[i].name;
+        parts.is_within = false;
         parts.number = strtoull(at + strlen(parts.name) + 1, &at, 10);
         if (strcmp(parts.name, "poll") == 0) {
             parts.most = strtoull(at, NULL, 10);
+            parts.is_within = one_in(2);
         } else if (commands[i].words > 1) {
             parts.key_length = unspell(++at, parts.key);
-            if (commands[i].words > 2) parts.value_length = unspell(strchr(at, ' ') + 1, parts.value);
+            if (commands[i].words > 2) {
+                const char *last = strchr(at, ' ') + 1;
+                parts.value_length = unspell(last, parts.value);
+                parts.has_high = strcmp(last, "-\n") != 0;
+            }
         }
         return true;
     }
     return false;
 }
 
+// Whether the parts, or a look, may want memory before the call.
 static bool is_long(void) {
-    bool has_key = strchr("gpdr", parts.name[0]) != NULL && strcmp(parts.name, "poll") != 0;
+    if (parts.name[0] == 's') return true;
+    if (strcmp(parts.name, "poll") == 0) return parts.is_within;
+    bool has_key = strchr("gpdr", parts.name[0]) != NULL;
     return has_key && (parts.key_length > 24 || (strcmp(parts.name, "put") == 0 && parts.value_length > 24));
 }
 
@@ -252,10 +263,16 @@ static uint8_t call_parts(database *db, uint8_t *out, size_t room, size_t *lengt
     case 'd': return ripsawbean_delete(handle, seat, parts.number, key, parts.key_length, answer);
     case 'a': return ripsawbean_abort(handle, seat, parts.number, answer);
     case 'r': return ripsawbean_read_at(handle, seat, parts.number, key, parts.key_length, out, room, length, answer);
+    case 's':
+        return (strcmp(parts.name, "scan") == 0 ? ripsawbean_scan : ripsawbean_scan_at)(
+            handle, seat, parts.number, key, parts.key_length, value, parts.value_length, parts.has_high, UINT64_MAX, UINT64_MAX, out, room,
+            length, answer);
     case 'c':
         if (parts.name[1] == 'o') return ripsawbean_commit(handle, seat, parts.number, answer);
         return ripsawbean_close_to(handle, seat, parts.number, answer);
     default:
+        if (parts.is_within && parts.name[1] == 'o')
+            return ripsawbean_poll_within(handle, seat, parts.number, parts.most, UINT64_MAX, out, room, length, answer);
         if (parts.name[1] == 'o') return ripsawbean_poll(handle, seat, parts.number, parts.most, out, room, length, answer);
         return ripsawbean_put(handle, seat, parts.number, key, parts.key_length, value, parts.value_length, answer);
     }
@@ -301,7 +318,7 @@ static void see_answer(database *db, const uint8_t *beginning, size_t shown, siz
 
 // Makes the call of the line by its parts, and again where there was no memory for it. `expected` is the parts' fault.
 static void call_typed(database *db, uint8_t expected) {
-    bool shows = strchr("gr", parts.name[0]) != NULL || strcmp(parts.name, "poll") == 0;
+    bool shows = strchr("grs", parts.name[0]) != NULL || strcmp(parts.name, "poll") == 0;
     line[line_length] = '\0';
     for (;;) {
         size_t room = random_room(db), length = shows ? 12345 : 0;
@@ -311,13 +328,16 @@ static void call_typed(database *db, uint8_t expected) {
         uint8_t status = call_parts(db, out, room, &length, &answer);
         bool was_refused = refuse_none();
         if (status == RIPSAWBEAN_OK || status == RIPSAWBEAN_UNWRITTEN) {
-            CHECK(expected == 0 && (status == RIPSAWBEAN_OK || (was_refused && strcmp(parts.name, "poll") == 0 && answer.kind == 8)));
+            CHECK(expected == 0 && (status == RIPSAWBEAN_OK || (was_refused && answer.kind == (parts.name[0] == 's' ? 9 : 8))));
             CHECK(status == RIPSAWBEAN_OK || length == 0);
             size_t shown = length < room ? length : room;
             CHECK(is_sand(out, shown, room));
             uint8_t *beginning = malloc(shown + 1);
             CHECK(beginning != NULL);
             memcpy(beginning, out, shown);
+            // Of a feed that doesn't live no messages find room.
+            if (parts.is_within && (answer.kind == RIPSAWBEAN_ANSWER_NOFEED || answer.kind == RIPSAWBEAN_ANSWER_FEEDCANCELLED))
+                line_length = (size_t)sprintf(line, "%u poll %llu 0\n", parts.seat, (unsigned long long)parts.number);
             take_event(db, out, 0);
             see_answer(db, beginning, shown, length, status == RIPSAWBEAN_OK, &answer);
             free(beginning);
@@ -348,6 +368,10 @@ static void call_faulty(database *db) {
     }
     if (has_key && one_in(2)) {
         parts.key_length = one_in(2) ? 0 : 257 + below(40);
+        expected = RIPSAWBEAN_KEYLENGTH;
+    }
+    if (parts.name[0] == 's' && one_in(2)) {
+        parts.key_length = 258 + below(40);
         expected = RIPSAWBEAN_KEYLENGTH;
     }
     if (expected == 0 || one_in(4)) {
