@@ -1,6 +1,6 @@
 -- How many messages find room, by what is kept.
 use Rattle.std.proofs.Common.{Bool, List, None, Option, Some, ap, cond, false, refl, sym, subst, take, true, ℕ, ◌∙◌, ◌≡◌}
-use Rattle.std.specs.Prelude.{option_map, is_some}
+use Rattle.std.specs.Prelude.{option_map}
 use Rattle.spans.specs.Effects.{Effect, effects_of}
 use Rattle.spans.specs.Feeds.{Feed, feed_of, is_cancelled, next_messages}
 use Rattle.spans.specs.Kept.{Place, place_with}

@@ -1,7 +1,6 @@
 -- Where a scan of the kept keys ends, one of all written keys ends.
-use Rattle.std.proofs.Common.{Bool, List, None, Option, Some, [], ap, arith, cond, false, inl, inr, refl, sym, true, zero, suc, ℕ, ◌&&◌, ◌+◌, ◌-◌, ◌<◌, ◌==◌, ◌∙◌, ◌∷◌, ◌≡◌, ◌≤◌, ◌⊎◌}
+use Rattle.std.proofs.Common.{Bool, List, None, Option, Some, [], ap, arith, cond, false, inl, inr, refl, sym, true, zero, suc, ℕ, ◌&&◌, ◌-◌, ◌<◌, ◌==◌, ◌∙◌, ◌∷◌, ◌≡◌, ◌≤◌, ◌⊎◌}
 use Rattle.std.specs.Prelude.{filter, is_some, nat_lt, not, ◌||◌}
-use Rattle.std.proofs.lemmas.Bool.Decides.{nat_tests}
 use Rattle.std.proofs.lemmas.Bool.{ltb-false}
 use Rattle.spans.specs.Collection.{horizon_of}
 use Rattle.spans.specs.Effects.{After, Effect, effects_of}
@@ -17,7 +16,7 @@ use Rattle.spans.proofs.Steps.{by_test, newest_is}
 use Rattle.kept.specs.Finding.{AreKeysOf, is_seen_blocked, seen}
 use Rattle.kept.specs.StandsFor.{StandsFor}
 use Rattle.kept.proofs.Reading.{blocked_is, seen_value}
-use Rattle.mvto_rules.specs.Room.{IsEnd, end_at, end_seen, end_within, is_over, row_weight}
+use Rattle.mvto_rules.specs.Room.{IsEnd, end_seen, end_within, is_over, row_weight}
 use Rattle.engine.specs.Room.{scan_end}
 
 -- a read stops at the key, or finds a value there

@@ -41,7 +41,8 @@
 //! - `version_at`: O(log n + log v log b), for each undecided version above it too
 //! - `report`: O(log n) for each undecided transaction, each protection and each feed
 //! - `scan_end`: O(log n), and as a `readat` for each key up to the end
-//! - `poll_count`: as polls of messages up to twice as many as find room
+//! - `poll_count`: O(log n), and the messages of a ring that find room; from the store as a few polls, of up to twice as
+//!   many messages as find room, but 15 at least
 //!
 //! Memory: begin, get, scan, put, del, readat, scanat, protect, open and poll take it before anything changes. Without it
 //! they answer so, and all is as it was: open and poll in `openings` and `polls`, and the others in the rules. Abort,
@@ -167,7 +168,7 @@ impl Engine {
     }
 
     /// How many of a feed's next messages, at most `max`, find room in `bytes` bytes: `max` where all of them do, and 0
-    /// where it doesn't live. It takes memory for the messages that it looks at.
+    /// where it doesn't live. It takes memory for messages that it looks for in the store.
     pub fn poll_count(&self, feed: u64, max: u64, bytes: u64) -> Result<u64, AllocError>
         ensures { (h : List Event) → StandsFor self.now h → IfOk result (λ n. n ≡ poll_count (effects_of h) feed max bytes) }
     {

@@ -1,8 +1,10 @@
 //! Cases, and what is asked of each; and a run of calls.
 mod cases;
+mod rooms;
 mod running;
 mod serving;
 
+use rooms::{CLOSED, OPEN, POLLS, SCANS, find_room};
 use running::{FIRST, READER, steps};
 use serving::is_served;
 
@@ -23,4 +25,12 @@ fn feeds_are_served_from_where_they_should_be(rt: HostRuntime) {
 fn a_run_gives_the_events_of_a_transcript(rt: HostRuntime) {
     assert!(rt; steps(rt.alloc(), READER) == Some(5));
     assert!(rt; steps(rt.alloc(), FIRST) == Some(10));
+}
+
+#[test]
+fn looks_say_how_far_there_is_room(rt: HostRuntime) {
+    // rings that hold no message, and all
+    assert!(rt; find_room(rt.alloc(), 1, OPEN, SCANS) == Some(true));
+    assert!(rt; find_room(rt.alloc(), 1, CLOSED, POLLS) == Some(true));
+    assert!(rt; find_room(rt.alloc(), 1024, CLOSED, POLLS) == Some(true));
 }

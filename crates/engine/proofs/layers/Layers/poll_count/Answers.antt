@@ -1,11 +1,10 @@
 use Rattle.std.proofs.Common.{subst, ◌∙◌, ℕ}
 use Rattle.std.specs.Prelude.{IfOk}
-use Rattle.closing.specs.Standing.{closed_in}
 use Rattle.feed.specs.Live.{cut_at_max}
 use Rattle.feed.specs.Room.{IsFeedCount}
 use Rattle.feed.specs.Standing.{live_in}
 use Rattle.feed.proofs.Serving.{uncut}
-use Rattle.mvto_rules.specs.Holding.{closing_of, versions_of}
+use Rattle.mvto_rules.specs.Holding.{versions_of}
 use Rattle.version_chain.specs.Stores.{Stored}
 use Rattle.engine.proofs.layers.Layers.poll_count.Goals as goal
 

@@ -1,0 +1,133 @@
+//! How far scans and polls of an engine find room.
+use engine::Engine;
+use script::scripts::read_script;
+use spans::calls::Cmd;
+use std::alloc::Global;
+use text_format::Format;
+
+/// The rows of a transaction have 23, 28 and 19 bytes; b was deleted, so it has none.
+pub(super) const OPEN: &str = "2 open - - 0
+0 begin 10
+0 put 10 a 12345
+0 del 10 b
+0 put 10 c 1234567890
+0 put 10 d 1
+1 begin 20
+1 put 20 0 x
+";
+
+/// Scans, and behind each how many rows and bytes there is room for, and where it ends.
+pub(super) const SCANS: (&str, &str) = (
+    "0 scan 10 - -
+0 scan 10 - -
+0 scan 10 - -
+0 scan 10 - -
+0 scan 10 - -
+0 scan 10 b d
+0 scan 10 b c
+1 scan 20 - -
+1 scan 20 - -
+1 scan 20 - a
+",
+    "9 70 -
+9 69 d
+2 70 d
+0 70 a
+9 22 a
+0 99 c
+0 0 -
+1 99 -
+0 99 0
+9 99 -
+",
+);
+
+/// What is told of it once it is closed: messages of 23, 18, 28, 19 and 17 bytes.
+pub(super) const CLOSED: &str = "2 open - - 0
+0 begin 10
+0 put 10 a 12345
+0 del 10 b
+0 put 10 c 1234567890
+0 put 10 d 1
+0 commit 10
+0 close 30
+";
+
+/// Polls, and behind each the bytes that there is room for, and how many messages find room. A feed that doesn't live
+/// tells none. Of scans at a timestamp as above.
+pub(super) const POLLS: (&str, &str) = (
+    "2 poll 1 9
+2 poll 1 9
+2 poll 1 9
+2 poll 1 9
+2 poll 1 3
+2 poll 1 0
+2 poll 2 9
+0 scanat 10 - -
+0 scanat 9 - -
+",
+    "0 105 9
+0 104 4
+0 22 0
+0 41 2
+0 105 3
+0 0 0
+0 105 0
+1 99 c
+0 0 -
+",
+);
+
+/// Whether each of these finds room as it says, after a script by an engine whose feeds hold so many rows.
+pub(super) fn find_room(
+    alloc: Global,
+    ring: u32,
+    script: &str,
+    asked: (&str, &str),
+) -> Option<bool> {
+    let engine = engine_of(alloc, ring, script)?;
+    let cmds = read_script(alloc, asked.0.as_bytes(), 3, Format::One).ok()?;
+    let mut count = 0usize;
+    for ((_, cmd), row) in cmds.iter().zip(asked.1.lines()) {
+        if !finds_room(&engine, cmd, row)? {
+            return Some(false);
+        }
+        count = count.saturating_add(1);
+    }
+    Some(count == cmds.len())
+}
+
+fn engine_of(alloc: Global, ring: u32, script: &str) -> Option<Engine> {
+    if ring == 0 || ring > 65536 {
+        return None;
+    }
+    let calls = read_script(alloc, script.as_bytes(), 3, Format::One).ok()?;
+    let mut engine = Engine::new(alloc, ring);
+    for (seat, cmd) in &calls {
+        if engine.steps() == u64::MAX {
+            return None;
+        }
+        engine.step(*seat, cmd);
+    }
+    Some(engine)
+}
+
+fn finds_room(engine: &Engine, cmd: &Cmd, row: &str) -> Option<bool> {
+    let (rows, rest) = row.split_once(' ')?;
+    let (bytes, wanted) = rest.split_once(' ')?;
+    let rows = rows.parse::<u64>().ok()?;
+    let bytes = bytes.parse::<u64>().ok()?;
+    match cmd {
+        Cmd::Scan { ts: t, span } | Cmd::ScanAt { t, span } => {
+            match engine.scan_end(*t, span, rows, bytes) {
+                None => Some(wanted == "-"),
+                Some(key) => Some(key.bytes() == wanted.as_bytes()),
+            }
+        }
+        Cmd::Poll { feed, max } => {
+            let count = engine.poll_count(*feed, *max, bytes).ok()?;
+            Some(wanted.parse::<u64>() == Ok(count))
+        }
+        _ => None,
+    }
+}
