@@ -1,0 +1,352 @@
+-- The dump's run is legal, and what is kept of it: the versions that are left, and nothing else.
+use Rattle.std.proofs.Common.{◌≡◌, ℕ, zero, suc, ◌<◌, ◌≤◌, ◌==◌, Bool, true, false, not, cond, ◌&&◌, ◌||◌, List, [], ◌∷◌, ◌++◌, length, map, Option, Some, None, refl, sym, ◌∙◌, ap, subst, inl, inr, arith}
+use Rattle.std.proofs.lemmas.Bool.Decides.{nat_tests}
+use Rattle.std.proofs.lemmas.Bool.{eqb-true, and_parts, or_parts, both_ways}
+use Rattle.std.specs.Prelude.{bytes_eq, filter, is_some, nat_le, nat_lt, option_map, max, min, ◌↔◌, ◌⊎◌}
+use Rattle.timestamps.specs.declared.ts.TheConstants.{MAX}
+use Rattle.spans.specs.Collection.{VersionName, horizon_of, is_dead, version_name, is_delete}
+use Rattle.spans.specs.Effects.{After, Effect, Commits, Writes, event}
+use Rattle.spans.specs.Kept.{Kept, Transaction, Place}
+use Rattle.spans.specs.Newest.{newest}
+use Rattle.spans.specs.Promises.{left_version_of}
+use Rattle.spans.specs.Streams.{written_value}
+use Rattle.spans.specs.Transactions.{closed_of, is_committed, is_aborted, owner_of}
+use Rattle.spans.specs.Versions.{committed_version_of, version_of, write_of, write_set}
+use Rattle.spans.specs.declared.calls.commands.Cmd.TheVariants.{Begin, Close, Collect, Commit}
+use Rattle.spans.specs.declared.calls.replies.Reply.TheVariants.{Closed, Collected, Committed, Started}
+use Rattle.spans.specs.declared.calls.events.Event.{Event}
+use Rattle.spans.specs.declared.state.State.TheVariants as states
+use Rattle.spans.proofs.Copies.{AllAllowed}
+use Rattle.spans.proofs.Horizon.{horizon_low}
+use Rattle.spans.proofs.Keyed.{RisingKeys, filter_rises}
+use Rattle.spans.proofs.Steps.{by_test, newest_fewer, none_of}
+use Rattle.spans.proofs.WriteSets.{has, has_filtered, has_written, write_set_rises}
+use Rattle.kept.specs.Finding.{is_dead_in, is_dropped, kept_committed}
+use Rattle.kept.specs.Table.{is_open, keys_of, new_transaction}
+use Rattle.kept.specs.StandsFor.{StandsFor, nothing_kept}
+use Rattle.kept.specs.Changes.{IsAlike}
+use Rattle.kept.proofs.AfterBegins.{new_is_kept}
+use Rattle.kept.proofs.Answering.{step_stands}
+use Rattle.kept.proofs.Standing.{alike_stands}
+use Rattle.restarts.specs.Dump.{dump, end_steps, left_keys, transaction_steps, versions_through, write_step, write_steps}
+use Rattle.restarts.specs.Running.{with_steps}
+use Rattle.restarts.proofs.Blocks.{IsOpenIn, all_inserted, all_written, begin_now, begun, commit_now, committed_at, inserted_all, open_with, ended, steps_append, writes_now, written_committed, written_is, written_others, written_version}
+
+-- ---- what is kept of the dump through a timestamp
+
+abbrev pub again_with : List (List ℕ) → Option Transaction
+again_with [] = None
+again_with (x ∷ keys) = Some (record { seat = 0; state = states.Committed; keys = x ∷ keys })
+
+abbrev pub again : List Effect → ℕ → Option Transaction
+again p t = again_with (left_keys p t)
+
+abbrev pub through : List Effect → ℕ → Kept
+through p n = record {
+  closed = 0;
+  horizon = 0;
+  version = λ x t. cond (nat_le t n) (left_version_of p x t) None;
+  committed = λ x t. true;
+  marked = λ x t. false;
+  transaction = λ t. cond (nat_le t n) (again p t) None;
+  protections = [];
+  protections_made = 0;
+  feed = λ f. None;
+  feeds_opened = 0;
+}
+
+-- ---- and of all of it
+
+abbrev pub left_kept : List Effect → ℕ → Kept
+left_kept p m = record {
+  closed = m;
+  horizon = horizon_of p;
+  version = left_version_of p;
+  committed = λ x t. true;
+  marked = λ x t. false;
+  transaction = λ t. None;
+  protections = [];
+  protections_made = 0;
+  feed = λ f. None;
+  feeds_opened = 0;
+}
+
+-- ---- the versions that are left
+
+-- 0 is nobody's timestamp
+pub none_at_zero : (p : List Effect) → AllAllowed p → is_committed p 0 ≡ false
+none_at_zero [] all = refl
+none_at_zero (Commits k ∷ p) all = let other : (k == 0) ≡ false = grind (arith, nat_tests, all.0.above) in rw other (none_at_zero p all.1)
+none_at_zero (_ ∷ p) all = none_at_zero p all.1
+
+-- of one that didn't commit none is left
+pub none_left : (p : List Effect) (x : List ℕ) (t : ℕ) → is_committed p t ≡ false → left_version_of p x t ≡ None
+none_left p x t open' = rw open' refl
+
+-- what isn't committed isn't left
+pub uncommitted_gone : (p : List Effect) (x : List ℕ) (t : ℕ) → committed_version_of p x t ≡ None → left_version_of p x t ≡ None
+uncommitted_gone p x t none = step (is_dead p (version_name x t)) (committed_version_of p x t) none
+  where
+    step : (b : Bool) (o : Option After) → o ≡ None → cond b None o ≡ None
+    step true o e = refl
+    step false o e = e
+
+-- what is left was written
+left_wrote : (p : List Effect) (x : List ℕ) (t : ℕ) → is_some (left_version_of p x t) ≡ true → is_some (write_of p t x) ≡ true
+left_wrote p x t is = step (is_dead p (version_name x t)) (is_committed p t) (write_of p t x) is
+  where
+    step : (b c : Bool) (o : Option After) → is_some (cond b None (cond c o None)) ≡ true → is_some o ≡ true
+    step true c o e = cc
+    step false false o e = cc
+    step false true o e = e
+
+-- and as it is left
+pub left_value : (p : List Effect) (x : List ℕ) (t : ℕ) → is_some (left_version_of p x t) ≡ true → left_version_of p x t ≡ Some (written_value (write_of p t x))
+left_value p x t is = step (is_dead p (version_name x t)) (is_committed p t) (write_of p t x) is
+  where
+    step : (b c : Bool) (o : Option After) → is_some (cond b None (cond c o None)) ≡ true → cond b None (cond c o None) ≡ Some (written_value o)
+    step true c o e = cc
+    step false false o e = cc
+    step false true None e = cc
+    step false true (Some a) e = refl
+
+-- a key is one of those that are left exactly where its version is
+pub has_left : (p : List Effect) (x : List ℕ) (t : ℕ) → has x (left_keys p t) ≡ is_some (left_version_of p x t)
+has_left p x t = has_filtered (λ y. is_some (left_version_of p y t)) x (write_set p t) ∙ ap (λ b. is_some (left_version_of p x t) && b) (has_written p t x) ∙ by_test (is_some (left_version_of p x t))
+    (λ is. rw is (left_wrote p x t is))
+    (λ isnt. rw isnt refl)
+
+-- so is each version that is left
+pub left_of_key : (p : List Effect) (x : List ℕ) (t : ℕ) → left_version_of p x t ≡ cond (has x (left_keys p t)) (Some (written_value (write_of p t x))) None
+left_of_key p x t = by_test (is_some (left_version_of p x t))
+    (λ is. rw (has_left p x t, is) (left_value p x t is))
+    (λ isnt. rw (has_left p x t, isnt) (none_of (left_version_of p x t) isnt))
+
+-- of one that didn't commit no key is left
+none_kept : (p : List Effect) (t : ℕ) → is_committed p t ≡ false → (xs : List (List ℕ)) → filter (λ x. is_some (left_version_of p x t)) xs ≡ []
+none_kept p t open' [] = refl
+none_kept p t open' (x ∷ xs) = let none : is_some (left_version_of p x t) ≡ false = ap is_some (none_left p x t open') in rw none (none_kept p t open' xs)
+
+pub none_again : (p : List Effect) (t : ℕ) → is_committed p t ≡ false → again p t ≡ None
+none_again p t open' = ap again_with (none_kept p t open' (write_set p t))
+
+-- ---- one more timestamp
+
+-- at a timestamp of which nothing is left nothing changes
+same_through : (p : List Effect) (t : ℕ) → left_keys p (suc t) ≡ [] → IsAlike (through p t) (through p (suc t))
+same_through p t empty = record {
+  closed = refl;
+  horizon = refl;
+  version = λ y i. by_test (i == suc t)
+      (λ same. let e : i ≡ suc t = eqb-true i (suc t) same in
+      let here : left_version_of p y (suc t) ≡ None = left_of_key p y (suc t) ∙ rw empty refl in
+      let upto : nat_le i (suc t) ≡ true = grind (arith, nat_tests) in let above : nat_le i t ≡ false = grind (arith, nat_tests) in
+      rw (upto, above) (subst (λ n. left_version_of p y n ≡ None) (sym e) here))
+      (λ other. let alike : nat_le i (suc t) ≡ nat_le i t = grind (arith, nat_tests) in rw alike refl);
+  committed = λ y i b there. refl;
+  marked = λ y n. refl;
+  transaction = λ i. by_test (i == suc t)
+      (λ same. let e : i ≡ suc t = eqb-true i (suc t) same in
+      let here : again p (suc t) ≡ None = ap again_with empty in
+      let upto : nat_le i (suc t) ≡ true = grind (arith, nat_tests) in let above : nat_le i t ≡ false = grind (arith, nat_tests) in
+      rw (upto, above) (subst (λ n. again p n ≡ None) (sym e) here))
+      (λ other. let alike : nat_le i (suc t) ≡ nat_le i t = grind (arith, nat_tests) in rw alike refl);
+  protections = refl;
+  protections_made = refl;
+  feed = λ f. refl;
+  feeds_opened = refl;
+}
+
+-- what the transaction's steps leave
+abbrev after_block : List Effect → ℕ → List (List ℕ) → Kept
+after_block p t keys = committed_at (all_written (begun (through p t) (suc t)) (suc t) (λ x. written_value (write_of p (suc t) x)) keys) (suc t)
+
+block_alike : (p : List Effect) (t : ℕ) (x : List ℕ) (xs : List (List ℕ)) → left_keys p (suc t) ≡ x ∷ xs
+    → (all_written (begun (through p t) (suc t)) (suc t) (λ x. written_value (write_of p (suc t) x)) (x ∷ xs)).transaction (suc t) ≡ Some (open_with (x ∷ xs))
+    → IsAlike (after_block p t (x ∷ xs)) (through p (suc t))
+block_alike p t x xs keys open' =
+    let k : Kept = begun (through p t) (suc t) in
+    let after : List ℕ → After = λ x. written_value (write_of p (suc t) x) in
+    let is = written_is k (suc t) after (x ∷ xs) in record {
+      closed = ap (λ (k : Kept). 0) is ∙ sym (ap (λ (k : Kept). k.closed) is);
+      horizon = sym (ap (λ (k : Kept). k.horizon) is);
+      version = λ y i. sym (written_version k (suc t) after (x ∷ xs) y i ∙ ap (λ ks. cond ((suc t == i) && has y ks) (Some (after y)) (cond (nat_le i t) (left_version_of p y i) None)) (sym keys) ∙ by_test (suc t == i)
+          (λ same. let e : suc t ≡ i = eqb-true (suc t) i same in
+          let upto : nat_le i (suc t) ≡ true = grind (arith, nat_tests) in let above : nat_le i t ≡ false = grind (arith, nat_tests) in
+          rw (same, upto, above) (subst (λ n. cond (has y (left_keys p (suc t))) (Some (after y)) None ≡ left_version_of p y n) e (sym (left_of_key p y (suc t)))))
+          (λ other. let alike : nat_le i (suc t) ≡ nat_le i t = grind (arith, nat_tests) in rw (other, alike) refl));
+      committed = λ y i b there. sym (ap (λ o. ((suc t == i) && has y (keys_of o)) || (all_written k (suc t) after (x ∷ xs)).committed y i) open' ∙ ap (λ c. ((suc t == i) && has y (x ∷ xs)) || c) (written_committed k (suc t) after (x ∷ xs) y i) ∙ done ((suc t == i) && has y (x ∷ xs)));
+      marked = λ y n. sym (ap (λ (k : Kept). k.marked y n) is);
+      transaction = λ i. by_test (suc t == i)
+          (λ same. let e : suc t ≡ i = eqb-true (suc t) i same in
+          let upto : nat_le i (suc t) ≡ true = grind (arith, nat_tests) in
+          rw (upto, same) (subst (λ n. again p n ≡ option_map ended ((all_written k (suc t) after (x ∷ xs)).transaction n)) e (ap again_with keys ∙ sym (ap (option_map ended) open'))))
+          (λ other. let alike : nat_le i (suc t) ≡ nat_le i t = grind (arith, nat_tests) in
+          rw (alike, other) (sym (written_others k (suc t) after (x ∷ xs) i other ∙ (rw other refl))));
+      protections = sym (ap (λ (k : Kept). k.protections) is);
+      protections_made = sym (ap (λ (k : Kept). k.protections_made) is);
+      feed = λ f. sym (ap (λ (k : Kept). k.feed f) is);
+      feeds_opened = sym (ap (λ (k : Kept). k.feeds_opened) is);
+    }
+  where
+    done : (b : Bool) → (b || cond b false true) ≡ true
+    done true = refl
+    done false = refl
+
+-- the transaction of one more timestamp
+block_stands : (p : List Effect) (t : ℕ) (h : List Event) → suc t ≤ MAX → StandsFor (through p t) h → (keys : List (List ℕ)) → left_keys p (suc t) ≡ keys → StandsFor (through p (suc t)) (with_steps h (transaction_steps p (suc t) keys))
+block_stands p t h low stands [] keys = alike_stands (through p t) (through p (suc t)) h stands (same_through p t keys)
+block_stands p t h low stands (x ∷ xs) keys =
+    let after : List ℕ → After = λ x. written_value (write_of p (suc t) x) in
+    let past : nat_le (suc t) t ≡ false = grind (arith, nat_tests) in
+    let same : (suc t == suc t) ≡ true = grind (arith, nat_tests) in
+    let k : Kept = begun (through p t) (suc t) in
+    let h' : List Event = event (length h) 0 (Begin (suc t)) Started ∷ h in
+    let first : StandsFor k h' = begin_now (through p t) h (suc t) (length h) stands refl (omega arith) low (rw past refl) in
+    let wrote = writes_now k h' (suc t) after [] (x ∷ xs) first (record { closed = refl; some = omega arith; marks = λ x n. refl; open' = rw same refl }) in
+    let rising : RisingKeys (x ∷ xs) = subst RisingKeys keys (filter_rises (λ y. is_some (left_version_of p y (suc t))) (write_set p (suc t)) (write_set_rises p (suc t))) in
+    let ends : IsOpenIn (all_written k (suc t) after (x ∷ xs)) (suc t) (x ∷ xs) = subst (IsOpenIn (all_written k (suc t) after (x ∷ xs)) (suc t)) (inserted_all (x ∷ xs) rising) wrote.1 in
+    let h'' : List Event = with_steps h' (write_steps p (suc t) (x ∷ xs)) in
+    let last = commit_now (all_written k (suc t) after (x ∷ xs)) h'' (suc t) (length h'') (x ∷ xs) wrote.0 ends in
+    subst (StandsFor (through p (suc t))) (sym (steps_append h' (write_steps p (suc t) (x ∷ xs)) ((Commit (suc t), Committed (length (x ∷ xs))) ∷ [])))
+    (alike_stands (after_block p t (x ∷ xs)) (through p (suc t)) _ last (block_alike p t x xs keys ends.open'))
+
+-- all of them
+through_stands : (p : List Effect) → AllAllowed p → (n : ℕ) → n ≤ MAX → StandsFor (through p n) (with_steps [] (versions_through p n))
+through_stands p all zero low = alike_stands nothing_kept (through p 0) [] (record { legal = tt; fits = new_is_kept }) (record {
+  closed = refl;
+  horizon = refl;
+  version = λ y i. by_test (i == 0)
+      (λ same. let e : i ≡ 0 = eqb-true i 0 same in let upto : nat_le i 0 ≡ true = grind (arith, nat_tests) in
+      rw upto (subst (λ n. left_version_of p y n ≡ None) (sym e) (none_left p y 0 (none_at_zero p all))))
+      (λ other. let above : nat_le i 0 ≡ false = grind (arith, nat_tests) in rw above refl);
+  committed = λ y i b there. cc;
+  marked = λ y n. refl;
+  transaction = λ i. by_test (i == 0)
+      (λ same. let e : i ≡ 0 = eqb-true i 0 same in let upto : nat_le i 0 ≡ true = grind (arith, nat_tests) in
+      rw upto (subst (λ n. again p n ≡ None) (sym e) (none_again p 0 (none_at_zero p all))))
+      (λ other. let above : nat_le i 0 ≡ false = grind (arith, nat_tests) in rw above refl);
+  protections = refl;
+  protections_made = refl;
+  feed = λ f. refl;
+  feeds_opened = refl;
+})
+through_stands p all (suc t) low = subst (StandsFor (through p (suc t))) (sym (steps_append [] (versions_through p t) (transaction_steps p (suc t) (left_keys p (suc t)))))
+    (block_stands p t (with_steps [] (versions_through p t)) low (through_stands p all t (omega (arith, low))) (left_keys p (suc t)) refl)
+
+-- ---- the end
+
+-- every version that is left lies at or below m
+pub record AllBelow (p : List Effect) (m : ℕ) : Type 0 where
+  pub in_range : m ≤ MAX
+  pub closed : closed_of p ≤ m
+  pub committed : (t : ℕ) → is_committed p t ≡ true → t ≤ m
+
+-- nothing of the dump is undecided
+none_open : (p : List Effect) (n t : ℕ) → is_open ((through p n).transaction t) ≡ false
+none_open p n t = by_keys (nat_le t n) (left_keys p t)
+  where
+    by_keys : (b : Bool) (keys : List (List ℕ)) → is_open (cond b (again_with keys) None) ≡ false
+    by_keys false keys = refl
+    by_keys true [] = refl
+    by_keys true (x ∷ keys) = refl
+
+-- what is kept once it is closed
+abbrev closed_through : List Effect → ℕ → Kept
+closed_through p m = record (through p m) { closed = m; transaction = λ i. cond (nat_lt m i) ((through p m).transaction i) None }
+
+close_now : (p : List Effect) (m n : ℕ) (h : List Event) → m ≤ MAX → StandsFor (through p m) h → StandsFor (closed_through p m) (event n 0 (Close m) (Closed m 0) ∷ h)
+close_now p m n h low stands = step_stands (through p m) (closed_through p m) h n 0 (Close m) (Closed m 0) stands (inl (record {
+  right = (None, λ _ t. none_open p m t, (let in' : nat_lt MAX m ≡ false = grind (arith, nat_tests) in let top : max 0 m ≡ m = omega arith in rw (in', top) refl));
+  change = record { marked = λ y j. sym (none (nat_lt m j)); transaction = λ i. refl; rest = refl };
+}))
+  where
+    none : (b : Bool) → (b && false) ≡ false
+    none true = refl
+    none false = refl
+
+-- none at all above m
+left_below : (p : List Effect) (m : ℕ) → AllBelow p m → (x : List ℕ) (t : ℕ) → nat_le t m ≡ false → left_version_of p x t ≡ None
+left_below p m below x t above = by_test (is_committed p t)
+    (λ done. absurd (let low : t ≤ m = below.committed t done in grind (arith, nat_tests)))
+    (λ undone. none_left p x t undone)
+
+closed_alike : (p : List Effect) (m : ℕ) → AllBelow p m → IsAlike (closed_through p m) (record (left_kept p m) { horizon = 0 })
+closed_alike p m below = record {
+  closed = refl;
+  horizon = refl;
+  version = λ y i. by_test (nat_le i m)
+      (λ low. rw low refl)
+      (λ above. rw above (left_below p m below y i above));
+  committed = λ y i b there. refl;
+  marked = λ y n. refl;
+  transaction = λ i. by_test (nat_lt m i)
+      (λ above. let past : nat_le i m ≡ false = grind (arith, nat_tests) in rw (above, past) refl)
+      (λ low. rw low refl);
+  protections = refl;
+  protections_made = refl;
+  feed = λ f. refl;
+  feeds_opened = refl;
+}
+
+-- what is left isn't dead by the same horizon
+left_live : (p : List Effect) (m : ℕ) (x : List ℕ) (t : ℕ) (a : After) → left_version_of p x t ≡ Some a → is_dead_in (record (left_kept p m) { horizon = 0 }) (horizon_of p) x t ≡ false
+left_live p m x t a is =
+    let live : is_dead p (version_name x t) ≡ false = alive (is_dead p (version_name x t)) (committed_version_of p x t) is in
+    let done : is_committed p t ≡ true = by_test (is_committed p t) (λ done. done) (λ undone. absurd (let no' : None ≡ Some a = sym (none_left p x t undone) ∙ is in cc)) in
+    let wrote : write_of p t x ≡ Some a = rw (live, done) at is in
+    by_test (nat_le t (horizon_of p))
+    (λ low. let kept : (is_delete (write_of p t x) || nat_lt t (newest (committed_version_of p x) (horizon_of p)).ts) ≡ false = rw (done, low) at live in
+    let both = or_parts (is_delete (write_of p t x)) (nat_lt t (newest (committed_version_of p x) (horizon_of p)).ts) kept in
+    let fewer : (newest (left_version_of p x) (horizon_of p)).ts ≤ (newest (committed_version_of p x) (horizon_of p)).ts =
+    newest_fewer (committed_version_of p x) (left_version_of p x) (horizon_of p) (λ j _ none. uncommitted_gone p x j none) in
+    let delete : is_delete (left_version_of p x t) ≡ false = ap is_delete (is ∙ sym wrote) ∙ both.0 in
+    let top : nat_lt t (newest (left_version_of p x) (horizon_of p)).ts ≡ false = grind (arith, nat_tests, both.1, fewer) in
+    neither (nat_le t (horizon_of p)) (is_delete (left_version_of p x t)) (nat_lt t (newest (left_version_of p x) (horizon_of p)).ts) delete
+    top)
+    (λ high. not_first (nat_le t (horizon_of p)) _ high)
+  where
+    neither : (b c d : Bool) → c ≡ false → d ≡ false → (b && (c || d)) ≡ false
+    neither true false false e f = refl
+    neither true true d e f = e
+    neither true false true e f = f
+    neither false c d e f = refl
+
+    not_first : (b c : Bool) → b ≡ false → (b && c) ≡ false
+    not_first true c e = cc
+    not_first false c e = refl
+
+    alive : (b : Bool) (o : Option After) → cond b None o ≡ Some a → b ≡ false
+    alive true o e = cc
+    alive false o e = refl
+
+collect_now : (p : List Effect) (m n : ℕ) (h : List Event) → AllAllowed p → AllBelow p m → StandsFor (record (left_kept p m) { horizon = 0 }) h
+    → StandsFor (left_kept p m) (event n 0 (Collect (horizon_of p)) (Collected (horizon_of p) 0) ∷ h)
+collect_now p m n h all below stands =
+    let k : Kept = record (left_kept p m) { horizon = 0 } in
+    let low : horizon_of p ≤ m = omega (arith, horizon_low p all, below.closed) in
+    let reach : max 0 (min (horizon_of p) m) ≡ horizon_of p = omega (arith, low) in
+    step_stands k (left_kept p m) h n 0 (Collect (horizon_of p)) (Collected (horizon_of p) 0) stands (inl (record {
+      right = (None, None, [], λ _. rw reach (record { least_protection = λ n. refl; lowest_floor = λ f. refl; drops = record { distinct = tt; each = λ v. (λ i. absurd i, λ is. none_dropped v is) } }),
+          (let in' : nat_lt MAX (horizon_of p) ≡ false = grind (arith, nat_tests, below.in_range) in rw (in', reach) refl));
+      change = record { version = λ y i. each y i (left_version_of p y i) refl; committed = λ y i b e. refl; rest = refl };
+    }))
+  where
+    each : (y : List ℕ) (i : ℕ) (o : Option After) → left_version_of p y i ≡ o → left_version_of p y i ≡ cond (is_dead_in (record (left_kept p m) { horizon = 0 }) (horizon_of p) y i) None (left_version_of p y i)
+    each y i None e = by_test (is_dead_in (record (left_kept p m) { horizon = 0 }) (horizon_of p) y i) (λ is. rw is e) (λ isnt. rw isnt refl)
+    each y i (Some a) e = rw (left_live p m y i a e) refl
+
+    none_dropped : (v : VersionName) → is_dropped (record (left_kept p m) { horizon = 0 }) (horizon_of p) v ≡ true → ⊥
+    none_dropped v is = by_version (left_version_of p v.key v.ts) refl
+      where
+        by_version : (o : Option After) → left_version_of p v.key v.ts ≡ o → ⊥
+        by_version None e = (let no' : false ≡ true = ap (λ o. is_some o && is_dead_in (record (left_kept p m) { horizon = 0 }) (horizon_of p) v.key v.ts) (sym e) ∙ is in cc)
+        by_version (Some a) e = (let b = and_parts _ _ is in both_ways _ (left_live p m v.key v.ts a e) b.1)
+
+-- the dump's run is legal, and of it the versions are kept that are left
+pub rebuilt_stands : (p : List Effect) (m : ℕ) → AllAllowed p → AllBelow p m → StandsFor (left_kept p m) (with_steps [] (dump p m))
+rebuilt_stands p m all below =
+    let h : List Event = with_steps [] (versions_through p m) in
+    let closed : StandsFor (closed_through p m) (event (length h) 0 (Close m) (Closed m 0) ∷ h) = close_now p m (length h) h below.in_range (through_stands p all m below.in_range) in
+    subst (StandsFor (left_kept p m)) (sym (steps_append [] (versions_through p m) (end_steps p m)))
+    (collect_now p m (suc (length h)) (event (length h) 0 (Close m) (Closed m 0) ∷ h) all below (alike_stands (closed_through p m) (record (left_kept p m) { horizon = 0 }) _ closed (closed_alike p m below)))

@@ -1,0 +1,46 @@
+-- The dump of a database: the commands that rebuild it, each with the answer that is foreseen (this project).
+use Rattle.std.specs.Prelude.{ℕ, zero, suc, List, [], ◌∷◌, ◌++◌, map, filter, length, Some, None, is_some}
+use Rattle.spans.specs.declared.calls.commands.Cmd.TheVariants.{Begin, Put, Del, Commit, Close, Collect}
+use Rattle.spans.specs.declared.calls.replies.Reply.TheVariants.{Started, Written, Committed, Closed, Collected}
+use Rattle.spans.specs.declared.calls.events.Event.{Event}
+use Rattle.spans.specs.Effects.{After, Effect, effects_of}
+use Rattle.spans.specs.Versions.{write_of, write_set}
+use Rattle.spans.specs.Streams.{written_value}
+use Rattle.spans.specs.Collection.{horizon_of}
+use Rattle.spans.specs.Promises.{left_version_of}
+use Rattle.restarts.specs.Running.{Step, with_steps}
+
+-- the keys of which the version of t is committed and not dead, rising
+abbrev pub left_keys : List Effect → ℕ → List (List ℕ)
+left_keys p t = filter (λ x. is_some (left_version_of p x t)) (write_set p t)
+
+-- t writes at x what is to be left there
+abbrev pub write_step : ℕ → List ℕ → After → Step
+write_step t x None = (Del t x, Written)
+write_step t x (Some v) = (Put t x v, Written)
+
+-- the writes of t at the keys, once more
+abbrev pub write_steps : List Effect → ℕ → List (List ℕ) → List Step
+write_steps p t keys = map (λ x. write_step t x (written_value (write_of p t x))) keys
+
+-- the transaction of t at the keys, once more; and no transaction where there is no key
+abbrev pub transaction_steps : List Effect → ℕ → List (List ℕ) → List Step
+transaction_steps p t [] = []
+transaction_steps p t (x ∷ keys) = (Begin t, Started) ∷ write_steps p t (x ∷ keys) ++ (Commit t, Committed (length (x ∷ keys))) ∷ []
+
+-- the transactions at or below a timestamp of which a version is left, by rising timestamp, each with what is left of it
+abbrev pub versions_through : List Effect → ℕ → List Step
+versions_through p zero = []
+versions_through p (suc t) = versions_through p t ++ transaction_steps p (suc t) (left_keys p (suc t))
+
+-- what ends a dump: closed is m from then on, and the horizon is what it was. Nothing dies by it
+abbrev pub end_steps : List Effect → ℕ → List Step
+end_steps p m = (Close m, Closed m 0) ∷ (Collect (horizon_of p), Collected (horizon_of p) 0) ∷ []
+
+-- the dump, which closes at m: all versions at or below m that are left, each at its own timestamp, and the end
+abbrev pub dump : List Effect → ℕ → List Step
+dump p m = versions_through p m ++ end_steps p m
+
+-- the history of the dump, run on a database that is empty
+abbrev pub rebuilt : List Event → ℕ → List Event
+rebuilt h m = with_steps [] (dump (effects_of h) m)

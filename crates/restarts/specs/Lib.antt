@@ -1,0 +1,5 @@
+pub mod Running
+pub mod Dump
+pub mod Crash
+pub mod Renumbering
+pub mod Restart

@@ -1,0 +1,21 @@
+-- A history that goes on: with steps whose answers are foreseen, and with commands that are answered.
+use Rattle.std.specs.Prelude.{ℕ, List, [], ◌∷◌, length}
+use Rattle.spans.specs.declared.calls.commands.Cmd.{Cmd}
+use Rattle.spans.specs.declared.calls.replies.Reply.{Reply}
+use Rattle.spans.specs.declared.calls.events.Event.{Event}
+use Rattle.spans.specs.Effects.{effects_of, event}
+use Rattle.spans.specs.Answer.{answer_of}
+
+-- a command with the answer that is foreseen
+abbrev pub Step : Type 0
+Step = Cmd × Reply
+
+-- the history with the steps after it, all of seat 0, the first of them first
+abbrev pub with_steps : List Event → List Step → List Event
+with_steps h [] = h
+with_steps h (s ∷ steps) = with_steps (event (length h) 0 s.0 s.1 ∷ h) steps
+
+-- the history with the commands after it, all of seat 0, each with its answer
+abbrev pub run : List Event → List Cmd → List Event
+run h [] = h
+run h (cmd ∷ cmds) = run (event (length h) 0 cmd (answer_of (effects_of h) 0 cmd) ∷ h) cmds
