@@ -1,0 +1,87 @@
+-- The maps and the streams of a database that was rebuilt.
+use Rattle.std.proofs.Common.{◌≡◌, ℕ, ◌<◌, ◌≤◌, ◌==◌, Bool, true, false, cond, ◌&&◌, List, [], ◌∷◌, length, Option, Some, None, refl, sym, ◌∙◌, ap, subst, inl, inr, arith}
+use Rattle.std.proofs.lemmas.Bool.Decides.{nat_tests}
+use Rattle.std.specs.Prelude.{is_some, nat_le}
+use Rattle.timestamps.specs.declared.row.Row.{Row}
+use Rattle.spans.specs.Collection.{LiveFeed, horizon_of, is_dead, live_feeds, version_name}
+use Rattle.spans.specs.Effects.{After, Begins, Commits, Effect}
+use Rattle.spans.specs.Kept.{IsKeptOf, kept_version}
+use Rattle.spans.specs.Newest.{Version}
+use Rattle.spans.specs.Promises.{left_version_of}
+use Rattle.spans.specs.Serial.{map_at}
+use Rattle.spans.specs.Streams.{stream_of}
+use Rattle.spans.specs.Transactions.{is_aborted, is_committed, owner_of}
+use Rattle.spans.specs.Versions.{committed_version_of, write_of}
+use Rattle.spans.specs.declared.span.Span.{Span}
+use Rattle.spans.proofs.Copies.{AllAllowed, not_both}
+use Rattle.spans.proofs.Dead.{committed_is, left_newest}
+use Rattle.spans.proofs.Steps.{by_test, map_at_is, newest_same}
+use Rattle.spans.proofs.StreamOrder.{IsRowIn, IsStreamed, in_stream, stream_rises}
+use Rattle.kept.proofs.Counts.{feeds_count}
+use Rattle.kept.proofs.Dead.{high_live}
+use Rattle.kept.proofs.Untold.{only_rows}
+use Rattle.restarts.proofs.Rebuilding.{left_kept, none_left}
+
+-- who has committed has begun
+pub committed_begun : (p : List Effect) → AllAllowed p → (t : ℕ) → is_committed p t ≡ true → is_some (owner_of p t) ≡ true
+committed_begun [] all t is = cc
+committed_begun (Begins k seat ∷ p) all t is = by_test (k == t)
+    (λ same. rw same refl)
+    (λ other. rw other (committed_begun p all.1 t is))
+committed_begun (Commits k ∷ p) all t is = by_test (k == t)
+    (λ same. let e : k ≡ t = grind (arith, nat_tests) in subst (λ n. is_some (owner_of p n) ≡ true) e all.0.begun)
+    (λ other. committed_begun p all.1 t (rw other at is))
+committed_begun (_ ∷ p) all t is = committed_begun p all.1 t is
+
+-- of a committed transaction what is left is what is kept
+left_is_kept : (q : List Effect) → AllAllowed q → (x : List ℕ) (t : ℕ) → is_committed q t ≡ true → left_version_of q x t ≡ kept_version q x t
+left_is_kept q all x t done = ap (λ b. cond (is_dead q (version_name x t)) None (cond b (write_of q t x) None)) done
+    ∙ sym (ap (λ b. cond (is_dead q (version_name x t)) None (cond b None (write_of q t x))) (not_both q all t done))
+
+-- the versions that are left are the same
+pub left_same : (p q : List Effect) (m : ℕ) → AllAllowed q → IsKeptOf (left_kept p m) q → (x : List ℕ) (t : ℕ) → left_version_of q x t ≡ left_version_of p x t
+left_same p q m all fits x t = by_test (is_committed q t)
+    (λ done. left_is_kept q all x t done ∙ sym (fits.versions x t))
+    (λ undone. none_left q x t undone ∙ sym (by_version undone (left_version_of p x t) refl))
+  where
+    by_version : is_committed q t ≡ false → (o : Option After) → left_version_of p x t ≡ o → o ≡ None
+    by_version undone None e = refl
+    by_version undone (Some a) e = (let no' : true ≡ false = fits.committed x t a e ∙ undone in cc)
+
+-- so are the maps from the horizon on
+pub map_same : (p q : List Effect) (m : ℕ) → AllAllowed q → IsKeptOf (left_kept p m) q → (t : ℕ) (x : List ℕ) → horizon_of p ≤ t → map_at q t x ≡ map_at p t x
+map_same p q m all fits t x high =
+    let high' : horizon_of q ≤ t = omega (arith, fits.horizon_at, high) in
+    map_at_is q t x ∙ sym (left_newest q x t high')
+    ∙ ap (λ (n : Version). n.after) (newest_same (left_version_of q x) (left_version_of p x) t (λ i low. left_same p q m all fits x i))
+    ∙ left_newest p x t high ∙ sym (map_at_is p t x)
+
+-- above the horizon all that is committed is left
+all_left : (p : List Effect) (x : List ℕ) (t : ℕ) → horizon_of p < t → left_version_of p x t ≡ committed_version_of p x t
+all_left p x t above = let high : nat_le t (horizon_of p) ≡ false = grind (arith, nat_tests) in rw (high_live p x t high) refl
+
+-- so are the committed versions above it
+committed_same : (p q : List Effect) (m : ℕ) → AllAllowed q → IsKeptOf (left_kept p m) q → (x : List ℕ) (t : ℕ) → horizon_of p < t → committed_version_of q x t ≡ committed_version_of p x t
+committed_same p q m all fits x t above = sym (all_left q x t (omega (arith, fits.horizon_at, above))) ∙ left_same p q m all fits x t ∙ all_left p x t above
+
+-- a streamed row is one in another history with the same committed versions
+moved_row : (p q : List Effect) (span : Span) (c n : ℕ) (r : Row) → ((x : List ℕ) (t : ℕ) → c < t → committed_version_of p x t ≡ committed_version_of q x t) → IsStreamed p span c n r → IsStreamed q span c n r
+moved_row p q span c n r same s =
+    let there : committed_version_of q r.key r.ts ≡ Some r.after = sym (same r.key r.ts s.above) ∙ rw s.done s.wrote in
+    let is = committed_is q r.key r.ts r.after there in
+    record { above = s.above; low = s.low; done = is.0; inside = s.inside; wrote = is.1 }
+
+-- and so are the streams from the horizon on
+pub stream_same : (p q : List Effect) (m : ℕ) → AllAllowed q → IsKeptOf (left_kept p m) q → (span : Span) (c t : ℕ) → horizon_of p ≤ c → stream_of q span c t ≡ stream_of p span c t
+stream_same p q m all fits span c t high = only_rows (stream_of q span c t) (stream_of p span c t) (stream_rises q span c t) (stream_rises p span c t) (λ r. (
+  λ i. (in_stream p span c t r).1 (moved_row q p span c t r (λ x i above. committed_same p q m all fits x i (omega (arith, above, high))) ((in_stream q span c t r).0 i)),
+  λ i. (in_stream q span c t r).1 (moved_row p q span c t r (λ x i above. sym (committed_same p q m all fits x i (omega (arith, above, high)))) ((in_stream p span c t r).0 i)),
+))
+
+-- no feed lives where none is kept
+pub none_lives : (p q : List Effect) (m : ℕ) → AllAllowed q → IsKeptOf (left_kept p m) q → live_feeds q ≡ []
+none_lives p q m all fits = by_length (live_feeds q) (feeds_count (left_kept p m) q all fits [] (record { distinct = tt; each = λ f. (λ i. absurd i, λ (is : false ≡ true). cc) }))
+  where
+    by_length : (ws : List LiveFeed) → 0 ≡ length ws → ws ≡ []
+    by_length [] e = refl
+    by_length (w ∷ ws) e = absurd (omega (arith, e))
