@@ -1,3 +1,4 @@
 pub mod Blocks
 pub mod Rebuilding
 pub mod Alike
+pub mod Crashing

@@ -7,6 +7,7 @@ use Rattle.kept.specs.StandsFor.{StandsFor}
 use Rattle.restarts.specs.Dump.{rebuilt}
 use Rattle.restarts.specs.Restart.{CanRestart}
 use Rattle.restarts.proofs.Alike.{committed_begun, map_same, none_lives, stream_same}
+use Rattle.restarts.proofs.Crashing.{crash_stands}
 use Rattle.restarts.proofs.Rebuilding.{AllBelow, left_kept, rebuilt_stands}
 use Rattle.restarts.proofs.law.law_of_restarts.Goals as goal
 
@@ -18,6 +19,9 @@ stands h m can = rebuilt_stands (effects_of h) m (legal_allowed h can.legal) (be
 
 pub returns-clause-rebuilds : goal.returns-clause-rebuilds
 returns-clause-rebuilds c = λ h m can. (stands h m can).legal
+
+pub returns-clause-crashes : goal.returns-clause-crashes
+returns-clause-crashes c = λ h m can. (crash_stands h m can).legal
 
 pub returns-clause-closed : goal.returns-clause-closed
 returns-clause-closed c = λ h m can. sym (stands h m can).fits.closed_at
