@@ -2,3 +2,4 @@ pub mod Blocks
 pub mod Rebuilding
 pub mod Alike
 pub mod Crashing
+pub mod Findings

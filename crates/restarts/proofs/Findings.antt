@@ -1,0 +1,291 @@
+-- What the replies rest on can always be found in what is kept of a history: the keys of a span, the test of the marks, the
+-- oldest undecided transaction, what holds a collection back and what it drops, the rows that are left for a feed.
+use Rattle.std.proofs.Common.{◌≡◌, ℕ, zero, suc, ◌<◌, ◌≤◌, ◌==◌, Bool, true, false, not, cond, ◌&&◌, ◌||◌, List, [], ◌∷◌, ◌++◌, length, map, take, Option, Some, None, refl, sym, ◌∙◌, ap, subst, inl, inr, arith}
+use Rattle.std.proofs.lemmas.Bool.Decides.{nat_tests}
+use Rattle.std.proofs.lemmas.Bool.{and_from, and_parts, both_ways, or_cases, or_left, or_right, eqb-true, leb-true, ltb-true}
+use Rattle.std.specs.List.{list_any}
+use Rattle.std.specs.Prelude.{bytes_eq, filter, is_some, min, nat_le, nat_lt, ◌↔◌, ◌⊎◌}
+use Rattle.timestamps.specs.declared.row.Row.{Row}
+use Rattle.spans.specs.Collection.{LiveFeed, Protection, VersionName, live_feeds, version_name, versions_of}
+use Rattle.spans.specs.Effects.{After, Effect}
+use Rattle.spans.specs.Feeds.{Feed, feed_of, feeds_opened, untold_rows}
+use Rattle.spans.specs.Keys.{in_span}
+use Rattle.spans.specs.Kept.{IsKeptOf, Kept, Place, kept_version, place_of}
+use Rattle.spans.specs.Reads.{too_late}
+use Rattle.spans.specs.Transactions.{closed_of, is_undecided, least_of, undecided_timestamps}
+use Rattle.spans.specs.Versions.{version_of, written_keys}
+use Rattle.spans.specs.declared.span.Span.{Span}
+use Rattle.spans.proofs.Copies.{AllAllowed}
+use Rattle.spans.proofs.Keyed.{IsIn, filter_in, filter_rises}
+use Rattle.spans.proofs.Legal.{keys_rise, written_in}
+use Rattle.spans.proofs.Members.{AreDistinct, Has, distinct_filter, has_filter, open_distinct}
+use Rattle.spans.proofs.Steps.{by_test, key_itself, none_of, same_key, version_wrote}
+use Rattle.spans.proofs.VersionNames.{has_versions, versions_distinct}
+use Rattle.kept.specs.Finding.{AreKeysOf, is_dead_in, is_dropped}
+use Rattle.kept.specs.Lists.{AreThose}
+use Rattle.kept.specs.Marks.{IsLate}
+use Rattle.kept.specs.Places.{AreLeft, AreNext, IsLeastFloor, or_min, place_floor}
+use Rattle.kept.specs.Table.{IsOldest, is_open, refusal}
+use Rattle.kept.proofs.AfterCloses.{open_is}
+use Rattle.kept.proofs.Counts.{has_undecided}
+use Rattle.kept.proofs.Dead.{kept_is}
+use Rattle.kept.proofs.Floors.{placed_by}
+use Rattle.kept.proofs.Polling.{left_are}
+use Rattle.kept.proofs.Replying.{known_is}
+use Rattle.kept.proofs.Refusals.{active_of, refusal_is}
+
+some_is : {A : Type 0} (o : Option A) → is_some o ≡ true → (a : A) × (o ≡ Some a)
+some_is None is = cc
+some_is (Some a) is = (a, refl)
+
+-- ---- versions
+
+pub versions_in : Kept → List Effect → List VersionName
+versions_in k p = filter (λ v. is_some (k.version v.key v.ts)) (versions_of p)
+
+-- a kept version is one of the history
+kept_listed : (k : Kept) (p : List Effect) → AllAllowed p → IsKeptOf k p → (v : VersionName) → is_some (k.version v.key v.ts) ≡ true → Has v (versions_of p)
+kept_listed k p all fits v is =
+    let a = some_is (k.version v.key v.ts) is in
+    let there : version_of p v.key v.ts ≡ Some a.0 = kept_is p v.key v.ts a.0 (sym (fits.versions v.key v.ts) ∙ a.1) in
+    (has_versions p all v).1 (ap is_some there)
+
+pub kept_versions : (k : Kept) (p : List Effect) → AllAllowed p → IsKeptOf k p → AreThose (λ v. is_some (k.version v.key v.ts)) (versions_in k p)
+unfolding versions_in
+kept_versions k p all fits = record {
+  distinct = distinct_filter (λ v. is_some (k.version v.key v.ts)) (versions_of p) (versions_distinct p all);
+  each = λ v. let f = has_filter (λ v. is_some (k.version v.key v.ts)) v (versions_of p) in (λ i. (f.0 i).0, λ is. f.1 (is, kept_listed k p all fits v is));
+}
+
+-- those that a collection drops
+pub dropped_in : Kept → List Effect → ℕ → List VersionName
+dropped_in k p n = filter (λ v. is_dead_in k n v.key v.ts) (versions_in k p)
+
+pub dropped_are : (k : Kept) (p : List Effect) → AllAllowed p → IsKeptOf k p → (n : ℕ) → AreThose (is_dropped k n) (dropped_in k p n)
+unfolding dropped_in
+dropped_are k p all fits n =
+    let those = kept_versions k p all fits in record {
+      distinct = distinct_filter (λ v. is_dead_in k n v.key v.ts) (versions_in k p) those.distinct;
+      each = λ v. let f = has_filter (λ v. is_dead_in k n v.key v.ts) v (versions_in k p) in (
+        λ i. and_from (is_some (k.version v.key v.ts)) (is_dead_in k n v.key v.ts) ((those.each v).0 (f.0 i).1) (f.0 i).0,
+        λ is. let b = and_parts (is_some (k.version v.key v.ts)) (is_dead_in k n v.key v.ts) is in f.1 (b.1, (those.each v).1 b.0),
+      );
+    }
+
+-- ---- the keys of a span
+
+-- one of the names is of the key
+abbrev names_key : List ℕ → VersionName → Bool
+names_key x v = bytes_eq v.key x
+
+any_has : (x : List ℕ) (vs : List VersionName) → list_any (names_key x) vs ≡ true → (v : VersionName) × Has v vs × (v.key ≡ x)
+any_has x [] is = cc
+any_has x (v ∷ vs) is = elim (or_cases (names_key x v) (list_any (names_key x) vs) is) [
+  | inl here ↦ (v, inl refl, same_key v.key x here)
+  | inr there ↦ (let m = any_has x vs there in (m.0, inr m.1, m.2))
+]
+
+has_any_key : (x : List ℕ) (v : VersionName) (vs : List VersionName) → Has v vs → v.key ≡ x → list_any (names_key x) vs ≡ true
+has_any_key x v [] i e = absurd i
+has_any_key x v (w ∷ vs) i e = elim i [
+  | inl here ↦ or_left (names_key x w) (list_any (names_key x) vs) (subst (λ z. bytes_eq z x ≡ true) (sym (ap (λ (n : VersionName). n.key) here ∙ e)) (key_itself x))
+  | inr there ↦ or_right (names_key x w) (list_any (names_key x) vs) (has_any_key x v vs there e)
+]
+
+pub keys_in : Kept → List Effect → Span → List (List ℕ)
+keys_in k p span = filter (λ x. in_span span x && list_any (names_key x) (versions_in k p)) (written_keys p)
+
+pub keys_are : (k : Kept) (p : List Effect) → AllAllowed p → IsKeptOf k p → (span : Span) → AreKeysOf k span (keys_in k p span)
+unfolding keys_in
+keys_are k p all fits span =
+    let those = kept_versions k p all fits in record {
+      rising = filter_rises (λ x. in_span span x && list_any (names_key x) (versions_in k p)) (written_keys p) (keys_rise p);
+      each = λ x. let f = filter_in (λ x. in_span span x && list_any (names_key x) (versions_in k p)) x (written_keys p) in (
+        λ i. let b = and_parts (in_span span x) (list_any (names_key x) (versions_in k p)) (f.0 i).0 in
+            let m = any_has x (versions_in k p) b.1 in
+            (b.0, m.0.ts, subst (λ z. is_some (k.version z m.0.ts) ≡ true) m.2 ((those.each m.0).0 m.1)),
+        λ i. let a = some_is (k.version x i.1) i.2 in
+            let there : version_of p x i.1 ≡ Some a.0 = kept_is p x i.1 a.0 (sym (fits.versions x i.1) ∙ a.1) in
+            f.1 (
+              and_from (in_span span x) (list_any (names_key x) (versions_in k p)) i.0 (has_any_key x (version_name x i.1) (versions_in k p) ((those.each (version_name x i.1)).1 i.2) refl),
+              written_in p i.1 x a.0 (version_wrote p x i.1 a.0 there).1,
+            ),
+      );
+    }
+
+-- ---- the test of the marks
+
+pub late_found : (k : Kept) (p : List Effect) → IsKeptOf k p → (seat t : ℕ) (x : List ℕ) → refusal k seat t ≡ None → IsLate k x t (too_late p x t)
+late_found k p fits seat t x none =
+    let here = active_of p seat t (sym (refusal_is k p fits seat t) ∙ none) in
+    fits.marks x t here.above (rw here.uncommitted refl)
+
+-- ---- the least of some numbers
+
+abbrev pub least_in : List ℕ → Option ℕ
+least_in [] = None
+least_in (n ∷ ns) = Some (or_min (least_in ns) n)
+
+pub least_is : (n : ℕ) (ms : List ℕ) → or_min (least_in ms) n ≡ least_of n ms
+least_is n [] = refl
+least_is n (m ∷ ms) = turn (least_in ms) ∙ ap (min m) (least_is n ms)
+  where
+    turn : (o : Option ℕ) → or_min (Some (or_min o m)) n ≡ min m (or_min o n)
+    turn None = omega arith
+    turn (Some l) = omega arith
+
+none_least : (ns : List ℕ) → least_in ns ≡ None → (n : ℕ) → Has n ns → ⊥
+none_least [] e n i = i
+none_least (l ∷ ns) e n i = cc
+
+least_among : (m : ℕ) (ns : List ℕ) → least_in ns ≡ Some m → Has m ns × ((n : ℕ) → Has n ns → m ≤ n)
+least_among m [] e = cc
+least_among m (l ∷ ns) e = by_rest (least_in ns) (λ j is. least_among j ns is) (λ is. none_least ns is) e
+  where
+    by_rest : (o : Option ℕ) → ((j : ℕ) → o ≡ Some j → Has j ns × ((n : ℕ) → Has n ns → j ≤ n)) → (o ≡ None → (n : ℕ) → Has n ns → ⊥) → Some (or_min o l) ≡ Some m → Has m (l ∷ ns) × ((n : ℕ) → Has n (l ∷ ns) → m ≤ n)
+    by_rest None some none e = let at : l ≡ m = cc in (inl at, λ n i. elim i [ inl here ↦ omega (arith, at, here) | inr there ↦ absurd (none refl n there) ])
+    by_rest (Some j) some none e =
+        let more = some j refl in
+        let at : min j l ≡ m = cc in
+        by_test (nat_le l j)
+        (λ low. let low' : l ≤ j = leb-true l j low in (inl (omega (arith, at, low')), λ n i. elim i [ inl here ↦ omega (arith, at, here) | inr there ↦ (let b = more.1 n there in omega (arith, at, b)) ]))
+        (λ high. let high' : j ≤ l = grind (arith, nat_tests) in let is : j ≡ m = omega (arith, at, high') in
+        (inr (subst (λ i. Has i ns) is more.0), λ n i. elim i [ inl here ↦ omega (arith, at, here) | inr there ↦ (let b = more.1 n there in omega (arith, at, b)) ]))
+
+-- ---- undecided transactions
+
+pub oldest_found : (k : Kept) (p : List Effect) → AllAllowed p → IsKeptOf k p → IsOldest k.transaction (least_in (undecided_timestamps p))
+oldest_found k p all fits = by_least (least_in (undecided_timestamps p)) refl
+  where
+    listed : (t : ℕ) → is_open (k.transaction t) ≡ true → Has t (undecided_timestamps p)
+    listed t is = (has_undecided p t).1 (sym (open_is k p all fits t) ∙ is)
+
+    by_least : (o : Option ℕ) → least_in (undecided_timestamps p) ≡ o → IsOldest k.transaction o
+    by_least None e = λ t. by_test (is_open (k.transaction t)) (λ is. absurd (none_least (undecided_timestamps p) e t (listed t is))) (λ isnt. isnt)
+    by_least (Some m) e = let l = least_among m (undecided_timestamps p) e in (open_is k p all fits m ∙ (has_undecided p m).0 l.0, λ t is. l.1 t (listed t is))
+
+pub undecided_are : (k : Kept) (p : List Effect) → AllAllowed p → IsKeptOf k p → AreThose (λ t. is_open (k.transaction t)) (undecided_timestamps p)
+undecided_are k p all fits = record {
+  distinct = open_distinct p all;
+  each = λ t. (λ i. open_is k p all fits t ∙ (has_undecided p t).0 i, λ is. (has_undecided p t).1 (sym (open_is k p all fits t) ∙ is));
+}
+
+pub cut_are : (k : Kept) (p : List Effect) → AllAllowed p → IsKeptOf k p → (to : ℕ) → AreThose (λ t. nat_le t to && is_open (k.transaction t)) (filter (λ t. nat_le t to) (undecided_timestamps p))
+cut_are k p all fits to =
+    let those = undecided_are k p all fits in record {
+      distinct = distinct_filter (λ t. nat_le t to) (undecided_timestamps p) those.distinct;
+      each = λ t. let f = has_filter (λ t. nat_le t to) t (undecided_timestamps p) in (
+        λ i. and_from (nat_le t to) (is_open (k.transaction t)) (f.0 i).0 ((those.each t).0 (f.0 i).1),
+        λ is. let b = and_parts (nat_le t to) (is_open (k.transaction t)) is in f.1 (b.0, (those.each t).1 b.1),
+      );
+    }
+
+-- ---- feeds
+
+-- the numbers from 1 on
+abbrev pub first_numbers : ℕ → List ℕ
+first_numbers zero = []
+first_numbers (suc n) = suc n ∷ first_numbers n
+
+first_low : (n f : ℕ) → Has f (first_numbers n) → f ≤ n
+first_low zero f i = absurd i
+first_low (suc n) f i = elim i [ inl here ↦ omega (arith, here) | inr there ↦ (let low = first_low n f there in omega (arith, low)) ]
+
+first_distinct : (n : ℕ) → AreDistinct (first_numbers n)
+first_distinct zero = tt
+first_distinct (suc n) = (λ i. let low = first_low n (suc n) i in omega (arith, low), first_distinct n)
+
+has_first : (n f : ℕ) → 0 < f → f ≤ n → Has f (first_numbers n)
+has_first zero f some low = absurd (omega (arith, some, low))
+has_first (suc n) f some low = by_test (suc n == f)
+    (λ same. inl (eqb-true (suc n) f same))
+    (λ other. inr (has_first n f some (grind (arith, nat_tests))))
+
+-- a feed that is kept was opened
+opened_one : (k : Kept) (p : List Effect) → AllAllowed p → IsKeptOf k p → (f : ℕ) → is_some (k.feed f) ≡ true → Has f (first_numbers (feeds_opened p))
+opened_one k p all fits f is =
+    let place = some_is (k.feed f) is in
+    let l = placed_by k p fits f place.0 place.1 in
+    let known : (nat_lt 0 f && nat_le f (feeds_opened p)) ≡ true = sym (known_is p all f) ∙ ap is_some l.1 in
+    let b = and_parts (nat_lt 0 f) (nat_le f (feeds_opened p)) known in
+    has_first (feeds_opened p) f (ltb-true 0 f b.0) (leb-true f (feeds_opened p) b.1)
+
+-- the feeds that live
+pub living : Kept → List Effect → List ℕ
+living k p = filter (λ f. is_some (k.feed f)) (first_numbers (feeds_opened p))
+
+pub living_are : (k : Kept) (p : List Effect) → AllAllowed p → IsKeptOf k p → AreThose (λ f. is_some (k.feed f)) (living k p)
+unfolding living
+living_are k p all fits = record {
+  distinct = distinct_filter (λ f. is_some (k.feed f)) (first_numbers (feeds_opened p)) (first_distinct (feeds_opened p));
+  each = λ f. let i = has_filter (λ f. is_some (k.feed f)) f (first_numbers (feeds_opened p)) in (λ h. (i.0 h).0, λ is. i.1 (is, opened_one k p all fits f is));
+}
+
+-- the least floor of those in a list
+abbrev with_floor : Option Place → Option ℕ → Option ℕ
+with_floor None o = o
+with_floor (Some place) o = Some (or_min o (place_floor place))
+
+abbrev pub least_floor : (ℕ → Option Place) → List ℕ → Option ℕ
+least_floor feed [] = None
+least_floor feed (f ∷ fs) = with_floor (feed f) (least_floor feed fs)
+
+abbrev IsLeastAmong : (ℕ → Option Place) → List ℕ → Option ℕ → Type 0
+IsLeastAmong feed fs None = (f : ℕ) → Has f fs → feed f ≡ None
+IsLeastAmong feed fs (Some m) = ((f : ℕ) × (place : Place) × (feed f ≡ Some place) × (place_floor place ≡ m)) × ((f : ℕ) (place : Place) → Has f fs → feed f ≡ Some place → m ≤ place_floor place)
+
+least_floor_among : (feed : ℕ → Option Place) (fs : List ℕ) → IsLeastAmong feed fs (least_floor feed fs)
+least_floor_among feed [] = λ f i. absurd i
+least_floor_among feed (f ∷ fs) = step (feed f) refl (least_floor feed fs) (least_floor_among feed fs)
+  where
+    step : (o : Option Place) → feed f ≡ o → (l : Option ℕ) → IsLeastAmong feed fs l → IsLeastAmong feed (f ∷ fs) (with_floor o l)
+    step None e None more = λ g i. elim i [ inl here ↦ subst (λ n. feed n ≡ None) here e | inr there ↦ more g there ]
+    step None e (Some m) more = (more.0, λ g place i at. elim i [
+      | inl here ↦ (let no' : None ≡ Some place = sym (subst (λ n. feed n ≡ None) here e) ∙ at in cc)
+      | inr there ↦ more.1 g place there at
+    ])
+    step (Some place) e None more = ((f, place, e, refl), λ g q i at. elim i [
+      | inl here ↦ (let same : Some place ≡ Some q = sym (subst (λ n. feed n ≡ Some place) here e) ∙ at in let is : place ≡ q = cc in let floor : place_floor place ≡ place_floor q = ap place_floor is in omega (arith, floor))
+      | inr there ↦ (let no' : None ≡ Some q = sym (more g there) ∙ at in cc)
+    ])
+    step (Some place) e (Some m) more = by_test (nat_le m (place_floor place))
+        (λ low. let low' : m ≤ place_floor place = leb-true m (place_floor place) low in
+        let top : min m (place_floor place) ≡ m = omega (arith, low') in
+        ((more.0.0, more.0.1, more.0.2, more.0.3 ∙ sym top), λ g q i at. elim i [
+          | inl here ↦ (let same : Some place ≡ Some q = sym (subst (λ n. feed n ≡ Some place) here e) ∙ at in let is : place ≡ q = cc in let floor : place_floor place ≡ place_floor q = ap place_floor is in omega (arith, floor, low'))
+          | inr there ↦ (let b = more.1 g q there at in omega (arith, b))
+        ]))
+        (λ high. let high' : place_floor place ≤ m = grind (arith, nat_tests) in
+        let top : min m (place_floor place) ≡ place_floor place = omega (arith, high') in
+        ((f, place, e, sym top), λ g q i at. elim i [
+          | inl here ↦ (let same : Some place ≡ Some q = sym (subst (λ n. feed n ≡ Some place) here e) ∙ at in let is : place ≡ q = cc in let floor : place_floor place ≡ place_floor q = ap place_floor is in omega (arith, floor))
+          | inr there ↦ (let b = more.1 g q there at in omega (arith, b))
+        ]))
+
+pub floor_found : (k : Kept) (p : List Effect) → AllAllowed p → IsKeptOf k p → IsLeastFloor k.feed (least_floor k.feed (living k p))
+floor_found k p all fits = by_least (least_floor k.feed (living k p)) (least_floor_among k.feed (living k p))
+  where
+    those : AreThose (λ f. is_some (k.feed f)) (living k p)
+    those = living_are k p all fits
+
+    by_least : (o : Option ℕ) → IsLeastAmong k.feed (living k p) o → IsLeastFloor k.feed o
+    by_least None among = λ f. by_test (is_some (k.feed f)) (λ is. among f ((those.each f).1 is)) (λ isnt. none_of (k.feed f) isnt)
+    by_least (Some m) among = (among.0, λ f place at. among.1 f place ((those.each f).1 (ap is_some at)) at)
+
+-- ---- the rows that are left for a feed
+
+abbrev rows_of_feed : List Effect → ℕ → Option Feed → List Row
+rows_of_feed p f None = []
+rows_of_feed p f (Some feed) = untold_rows p f feed
+
+pub rows_for : List Effect → ℕ → List Row
+rows_for p f = rows_of_feed p f (feed_of p f)
+
+pub next_found : (k : Kept) (p : List Effect) → AllAllowed p → IsKeptOf k p → (f max : ℕ) (place : Place) → k.feed f ≡ Some place → AreNext k place max (rows_for p f)
+unfolding rows_for
+next_found k p all fits f max place at =
+    let l = placed_by k p fits f place at in
+    let left : AreLeft k.version k.committed place k.closed (untold_rows p f l.0) =
+    subst (λ n. AreLeft k.version k.committed place n (untold_rows p f l.0)) (sym fits.closed_at)
+    (subst (λ q. AreLeft k.version k.committed q (closed_of p) (untold_rows p f l.0)) l.3 (left_are k p all fits f l.0 l.1 l.2)) in
+    subst (AreNext k place max) (sym (ap (rows_of_feed p f) l.1)) (record { all = untold_rows p f l.0; left = left; first = refl })
