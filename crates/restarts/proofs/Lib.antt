@@ -3,3 +3,4 @@ pub mod Rebuilding
 pub mod Alike
 pub mod Crashing
 pub mod Findings
+pub mod Shifting
