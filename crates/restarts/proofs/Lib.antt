@@ -4,3 +4,4 @@ pub mod Alike
 pub mod Crashing
 pub mod Findings
 pub mod Shifting
+pub mod TwinReplies
