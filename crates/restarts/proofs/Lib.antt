@@ -5,3 +5,4 @@ pub mod Crashing
 pub mod Findings
 pub mod Shifting
 pub mod TwinReplies
+pub mod TwinSteps
