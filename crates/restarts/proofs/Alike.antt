@@ -1,5 +1,5 @@
 -- The maps and the streams of a database that was rebuilt.
-use Rattle.std.proofs.Common.{◌≡◌, ℕ, ◌<◌, ◌≤◌, ◌==◌, Bool, true, false, cond, ◌&&◌, List, [], ◌∷◌, length, Option, Some, None, refl, sym, ◌∙◌, ap, subst, inl, inr, arith}
+use Rattle.std.proofs.Common.{◌≡◌, ℕ, ◌<◌, ◌≤◌, ◌==◌, true, false, cond, List, [], ◌∷◌, length, Option, Some, None, refl, sym, ◌∙◌, ap, subst, arith}
 use Rattle.std.proofs.lemmas.Bool.Decides.{nat_tests}
 use Rattle.std.specs.Prelude.{is_some, nat_le}
 use Rattle.timestamps.specs.declared.row.Row.{Row}
@@ -10,13 +10,13 @@ use Rattle.spans.specs.Newest.{Version}
 use Rattle.spans.specs.Promises.{left_version_of}
 use Rattle.spans.specs.Serial.{map_at}
 use Rattle.spans.specs.Streams.{stream_of}
-use Rattle.spans.specs.Transactions.{is_aborted, is_committed, owner_of}
+use Rattle.spans.specs.Transactions.{is_committed, owner_of}
 use Rattle.spans.specs.Versions.{committed_version_of, write_of}
 use Rattle.spans.specs.declared.span.Span.{Span}
 use Rattle.spans.proofs.Copies.{AllAllowed, not_both}
 use Rattle.spans.proofs.Dead.{committed_is, left_newest}
 use Rattle.spans.proofs.Steps.{by_test, map_at_is, newest_same}
-use Rattle.spans.proofs.StreamOrder.{IsRowIn, IsStreamed, in_stream, stream_rises}
+use Rattle.spans.proofs.StreamOrder.{IsStreamed, in_stream, stream_rises}
 use Rattle.kept.proofs.Counts.{feeds_count}
 use Rattle.kept.proofs.Dead.{high_live}
 use Rattle.kept.proofs.Untold.{only_rows}

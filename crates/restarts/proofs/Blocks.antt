@@ -1,12 +1,11 @@
 -- A transaction that is written again, step by step, in what is kept.
-use Rattle.std.proofs.Common.{◌≡◌, ℕ, suc, ◌<◌, ◌≤◌, ◌==◌, Bool, true, false, not, cond, ◌&&◌, ◌||◌, List, [], ◌∷◌, ◌++◌, length, map, Option, Some, None, refl, sym, ◌∙◌, ap, subst, inl, inr, arith}
+use Rattle.std.proofs.Common.{◌≡◌, ℕ, ◌<◌, ◌≤◌, ◌==◌, Bool, true, false, cond, ◌&&◌, ◌||◌, List, [], ◌∷◌, ◌++◌, length, map, Some, None, refl, sym, ◌∙◌, ap, subst, inl, inr, arith}
 use Rattle.std.proofs.lemmas.Bool.Decides.{nat_tests}
-use Rattle.std.specs.Prelude.{bytes_eq, is_some, nat_le, nat_lt, option_map, ◌↔◌, ◌⊎◌}
+use Rattle.std.specs.Prelude.{bytes_eq, nat_le, option_map, ◌↔◌, ◌⊎◌}
 use Rattle.spans.specs.Answer.{is_timestamp}
 use Rattle.spans.specs.Effects.{After, event}
 use Rattle.spans.specs.Kept.{IsCrossed, Kept, Transaction}
 use Rattle.spans.specs.Keys.{insert_key}
-use Rattle.spans.specs.declared.calls.commands.Cmd.{Cmd}
 use Rattle.spans.specs.declared.calls.commands.Cmd.TheVariants.{Begin, Commit, Del, Put}
 use Rattle.spans.specs.declared.calls.events.Event.{Event}
 use Rattle.spans.specs.declared.calls.replies.Reply.TheVariants.{Committed, Started, Written}
@@ -15,9 +14,7 @@ use Rattle.spans.proofs.Keyed.{IsIn, RisingKeys, add_rises, added_in, only_in, o
 use Rattle.spans.proofs.Steps.{by_test, same_key}
 use Rattle.spans.proofs.WriteSets.{has}
 use Rattle.timestamps.specs.declared.ts.TheConstants.{MAX}
-use Rattle.kept.specs.Answered.{IsChangedBy, IsReplyOf}
 use Rattle.kept.specs.Marks.{IsLate}
-use Rattle.kept.specs.Replies.{begin_reply, commit_reply}
 use Rattle.kept.specs.StandsFor.{StandsFor}
 use Rattle.kept.specs.Table.{keys_of, new_transaction, refusal}
 use Rattle.kept.proofs.Answering.{step_stands}

@@ -1,12 +1,12 @@
 -- What is kept of a crash: the versions that are left, and how many feeds and protections there have been.
-use Rattle.std.proofs.Common.{◌≡◌, ℕ, suc, ◌<◌, ◌≤◌, ◌==◌, Bool, true, false, not, cond, ◌&&◌, ◌||◌, List, [], ◌∷◌, ◌++◌, length, map, Option, Some, None, refl, sym, ◌∙◌, ap, subst, inl, inr, arith}
+use Rattle.std.proofs.Common.{◌≡◌, ℕ, ◌<◌, ◌≤◌, ◌==◌, Bool, true, false, not, cond, ◌&&◌, ◌||◌, List, [], ◌∷◌, ◌++◌, length, map, Option, Some, None, refl, sym, ◌∙◌, ap, subst, inl, inr, arith}
 use Rattle.std.proofs.lemmas.Bool.Decides.{nat_tests}
 use Rattle.std.proofs.lemmas.Bool.{and_parts, both_ways, or_cases, or_parts}
 use Rattle.std.specs.List.{list_any}
 use Rattle.std.specs.Prelude.{bytes_eq, filter, is_some, max, nat_le, nat_lt, ◌⊎◌}
 use Rattle.timestamps.specs.declared.ts.TheConstants.{MAX}
 use Rattle.spans.specs.Answer.{answer_of}
-use Rattle.spans.specs.Collection.{LiveFeed, Protection, horizon_of, live_feeds, protections_made, protections_of}
+use Rattle.spans.specs.Collection.{LiveFeed, Protection, live_feeds, protections_made, protections_of}
 use Rattle.spans.specs.Effects.{After, Begins, Effect, HardCloses, Reads, Scans, effect, effect_of, effects_of, event}
 use Rattle.spans.specs.Feeds.{feeds_opened}
 use Rattle.spans.specs.Keys.{in_span}
@@ -35,7 +35,7 @@ use Rattle.kept.proofs.Answering.{reply_is_answer, step_stands}
 use Rattle.kept.proofs.Counts.{has_live}
 use Rattle.kept.proofs.Dead.{no_kept}
 use Rattle.kept.proofs.Standing.{alike_stands}
-use Rattle.restarts.specs.Crash.{crash, crash_commands}
+use Rattle.restarts.specs.Crash.{crash}
 use Rattle.restarts.specs.Restart.{CanRestart}
 use Rattle.restarts.specs.Running.{run}
 use Rattle.restarts.proofs.Rebuilding.{left_kept, none_left}

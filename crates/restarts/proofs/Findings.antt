@@ -1,22 +1,22 @@
 -- What the replies rest on can always be found in what is kept of a history: the keys of a span, the test of the marks, the
 -- oldest undecided transaction, what holds a collection back and what it drops, the rows that are left for a feed.
-use Rattle.std.proofs.Common.{◌≡◌, ℕ, zero, suc, ◌<◌, ◌≤◌, ◌==◌, Bool, true, false, not, cond, ◌&&◌, ◌||◌, List, [], ◌∷◌, ◌++◌, length, map, take, Option, Some, None, refl, sym, ◌∙◌, ap, subst, inl, inr, arith}
+use Rattle.std.proofs.Common.{◌≡◌, ℕ, zero, suc, ◌<◌, ◌≤◌, ◌==◌, Bool, true, ◌&&◌, List, [], ◌∷◌, Option, Some, None, refl, sym, ◌∙◌, ap, subst, inl, inr, arith}
 use Rattle.std.proofs.lemmas.Bool.Decides.{nat_tests}
-use Rattle.std.proofs.lemmas.Bool.{and_from, and_parts, both_ways, or_cases, or_left, or_right, eqb-true, leb-true, ltb-true}
+use Rattle.std.proofs.lemmas.Bool.{and_from, and_parts, or_cases, or_left, or_right, eqb-true, leb-true, ltb-true}
 use Rattle.std.specs.List.{list_any}
-use Rattle.std.specs.Prelude.{bytes_eq, filter, is_some, min, nat_le, nat_lt, ◌↔◌, ◌⊎◌}
+use Rattle.std.specs.Prelude.{bytes_eq, filter, is_some, min, nat_le, nat_lt}
 use Rattle.timestamps.specs.declared.row.Row.{Row}
-use Rattle.spans.specs.Collection.{LiveFeed, Protection, VersionName, live_feeds, version_name, versions_of}
-use Rattle.spans.specs.Effects.{After, Effect}
+use Rattle.spans.specs.Collection.{VersionName, version_name, versions_of}
+use Rattle.spans.specs.Effects.{Effect}
 use Rattle.spans.specs.Feeds.{Feed, feed_of, feeds_opened, untold_rows}
 use Rattle.spans.specs.Keys.{in_span}
-use Rattle.spans.specs.Kept.{IsKeptOf, Kept, Place, kept_version, place_of}
+use Rattle.spans.specs.Kept.{IsKeptOf, Kept, Place}
 use Rattle.spans.specs.Reads.{too_late}
-use Rattle.spans.specs.Transactions.{closed_of, is_undecided, least_of, undecided_timestamps}
+use Rattle.spans.specs.Transactions.{closed_of, least_of, undecided_timestamps}
 use Rattle.spans.specs.Versions.{version_of, written_keys}
 use Rattle.spans.specs.declared.span.Span.{Span}
 use Rattle.spans.proofs.Copies.{AllAllowed}
-use Rattle.spans.proofs.Keyed.{IsIn, filter_in, filter_rises}
+use Rattle.spans.proofs.Keyed.{filter_in, filter_rises}
 use Rattle.spans.proofs.Legal.{keys_rise, written_in}
 use Rattle.spans.proofs.Members.{AreDistinct, Has, distinct_filter, has_filter, open_distinct}
 use Rattle.spans.proofs.Steps.{by_test, key_itself, none_of, same_key, version_wrote}
@@ -240,27 +240,37 @@ least_floor_among feed (f ∷ fs) = step (feed f) refl (least_floor feed fs) (le
   where
     step : (o : Option Place) → feed f ≡ o → (l : Option ℕ) → IsLeastAmong feed fs l → IsLeastAmong feed (f ∷ fs) (with_floor o l)
     step None e None more = λ g i. elim i [ inl here ↦ subst (λ n. feed n ≡ None) here e | inr there ↦ more g there ]
-    step None e (Some m) more = (more.0, λ g place i at. elim i [
-      | inl here ↦ (let no' : None ≡ Some place = sym (subst (λ n. feed n ≡ None) here e) ∙ at in cc)
-      | inr there ↦ more.1 g place there at
-    ])
-    step (Some place) e None more = ((f, place, e, refl), λ g q i at. elim i [
-      | inl here ↦ (let same : Some place ≡ Some q = sym (subst (λ n. feed n ≡ Some place) here e) ∙ at in let is : place ≡ q = cc in let floor : place_floor place ≡ place_floor q = ap place_floor is in omega (arith, floor))
-      | inr there ↦ (let no' : None ≡ Some q = sym (more g there) ∙ at in cc)
-    ])
+    step None e (Some m) more = (
+      more.0,
+      λ g place i at. elim i [
+        | inl here ↦ (let no' : None ≡ Some place = sym (subst (λ n. feed n ≡ None) here e) ∙ at in cc)
+        | inr there ↦ more.1 g place there at
+      ],
+    )
+    step (Some place) e None more = (
+      (f, place, e, refl),
+      λ g q i at. elim i [
+        | inl here ↦ (let same : Some place ≡ Some q = sym (subst (λ n. feed n ≡ Some place) here e) ∙ at in let is : place ≡ q = cc in let floor : place_floor place ≡ place_floor q = ap place_floor is in omega (arith, floor))
+        | inr there ↦ (let no' : None ≡ Some q = sym (more g there) ∙ at in cc)
+      ],
+    )
     step (Some place) e (Some m) more = by_test (nat_le m (place_floor place))
         (λ low. let low' : m ≤ place_floor place = leb-true m (place_floor place) low in
-        let top : min m (place_floor place) ≡ m = omega (arith, low') in
-        ((more.0.0, more.0.1, more.0.2, more.0.3 ∙ sym top), λ g q i at. elim i [
-          | inl here ↦ (let same : Some place ≡ Some q = sym (subst (λ n. feed n ≡ Some place) here e) ∙ at in let is : place ≡ q = cc in let floor : place_floor place ≡ place_floor q = ap place_floor is in omega (arith, floor, low'))
-          | inr there ↦ (let b = more.1 g q there at in omega (arith, b))
-        ]))
+        let top : min m (place_floor place) ≡ m = omega (arith, low') in (
+          (more.0.0, more.0.1, more.0.2, more.0.3 ∙ sym top),
+          λ g q i at. elim i [
+            | inl here ↦ (let same : Some place ≡ Some q = sym (subst (λ n. feed n ≡ Some place) here e) ∙ at in let is : place ≡ q = cc in let floor : place_floor place ≡ place_floor q = ap place_floor is in omega (arith, floor, low'))
+            | inr there ↦ (let b = more.1 g q there at in omega (arith, b))
+          ],
+        ))
         (λ high. let high' : place_floor place ≤ m = grind (arith, nat_tests) in
-        let top : min m (place_floor place) ≡ place_floor place = omega (arith, high') in
-        ((f, place, e, sym top), λ g q i at. elim i [
-          | inl here ↦ (let same : Some place ≡ Some q = sym (subst (λ n. feed n ≡ Some place) here e) ∙ at in let is : place ≡ q = cc in let floor : place_floor place ≡ place_floor q = ap place_floor is in omega (arith, floor))
-          | inr there ↦ (let b = more.1 g q there at in omega (arith, b))
-        ]))
+        let top : min m (place_floor place) ≡ place_floor place = omega (arith, high') in (
+          (f, place, e, sym top),
+          λ g q i at. elim i [
+            | inl here ↦ (let same : Some place ≡ Some q = sym (subst (λ n. feed n ≡ Some place) here e) ∙ at in let is : place ≡ q = cc in let floor : place_floor place ≡ place_floor q = ap place_floor is in omega (arith, floor))
+            | inr there ↦ (let b = more.1 g q there at in omega (arith, b))
+          ],
+        ))
 
 pub floor_found : (k : Kept) (p : List Effect) → AllAllowed p → IsKeptOf k p → IsLeastFloor k.feed (least_floor k.feed (living k p))
 floor_found k p all fits = by_least (least_floor k.feed (living k p)) (least_floor_among k.feed (living k p))

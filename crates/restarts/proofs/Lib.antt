@@ -6,3 +6,4 @@ pub mod Findings
 pub mod Shifting
 pub mod TwinReplies
 pub mod TwinSteps
+pub mod GoingOnAlike

@@ -1,17 +1,17 @@
 -- The dump's run is legal, and what is kept of it: the versions that are left, and nothing else.
-use Rattle.std.proofs.Common.{◌≡◌, ℕ, zero, suc, ◌<◌, ◌≤◌, ◌==◌, Bool, true, false, not, cond, ◌&&◌, ◌||◌, List, [], ◌∷◌, ◌++◌, length, map, Option, Some, None, refl, sym, ◌∙◌, ap, subst, inl, inr, arith}
+use Rattle.std.proofs.Common.{◌≡◌, ℕ, zero, suc, ◌≤◌, ◌==◌, Bool, true, false, cond, ◌&&◌, ◌||◌, List, [], ◌∷◌, length, Option, Some, None, refl, sym, ◌∙◌, ap, subst, inl, arith}
 use Rattle.std.proofs.lemmas.Bool.Decides.{nat_tests}
 use Rattle.std.proofs.lemmas.Bool.{eqb-true, and_parts, or_parts, both_ways}
-use Rattle.std.specs.Prelude.{bytes_eq, filter, is_some, nat_le, nat_lt, option_map, max, min, ◌↔◌, ◌⊎◌}
+use Rattle.std.specs.Prelude.{filter, is_some, nat_le, nat_lt, option_map, max, min}
 use Rattle.timestamps.specs.declared.ts.TheConstants.{MAX}
 use Rattle.spans.specs.Collection.{VersionName, horizon_of, is_dead, version_name, is_delete}
-use Rattle.spans.specs.Effects.{After, Effect, Commits, Writes, event}
-use Rattle.spans.specs.Kept.{Kept, Transaction, Place}
+use Rattle.spans.specs.Effects.{After, Effect, Commits, event}
+use Rattle.spans.specs.Kept.{Kept, Transaction}
 use Rattle.spans.specs.Newest.{newest}
 use Rattle.spans.specs.Promises.{left_version_of}
 use Rattle.spans.specs.Streams.{written_value}
-use Rattle.spans.specs.Transactions.{closed_of, is_committed, is_aborted, owner_of}
-use Rattle.spans.specs.Versions.{committed_version_of, version_of, write_of, write_set}
+use Rattle.spans.specs.Transactions.{closed_of, is_committed}
+use Rattle.spans.specs.Versions.{committed_version_of, write_of, write_set}
 use Rattle.spans.specs.declared.calls.commands.Cmd.TheVariants.{Begin, Close, Collect, Commit}
 use Rattle.spans.specs.declared.calls.replies.Reply.TheVariants.{Closed, Collected, Committed, Started}
 use Rattle.spans.specs.declared.calls.events.Event.{Event}
@@ -21,16 +21,16 @@ use Rattle.spans.proofs.Horizon.{horizon_low}
 use Rattle.spans.proofs.Keyed.{RisingKeys, filter_rises}
 use Rattle.spans.proofs.Steps.{by_test, newest_fewer, none_of}
 use Rattle.spans.proofs.WriteSets.{has, has_filtered, has_written, write_set_rises}
-use Rattle.kept.specs.Finding.{is_dead_in, is_dropped, kept_committed}
-use Rattle.kept.specs.Table.{is_open, keys_of, new_transaction}
+use Rattle.kept.specs.Finding.{is_dead_in, is_dropped}
+use Rattle.kept.specs.Table.{is_open, keys_of}
 use Rattle.kept.specs.StandsFor.{StandsFor, nothing_kept}
 use Rattle.kept.specs.Changes.{IsAlike}
 use Rattle.kept.proofs.AfterBegins.{new_is_kept}
 use Rattle.kept.proofs.Answering.{step_stands}
 use Rattle.kept.proofs.Standing.{alike_stands}
-use Rattle.restarts.specs.Dump.{dump, end_steps, left_keys, transaction_steps, versions_through, write_step, write_steps}
+use Rattle.restarts.specs.Dump.{dump, end_steps, left_keys, transaction_steps, versions_through, write_steps}
 use Rattle.restarts.specs.Running.{with_steps}
-use Rattle.restarts.proofs.Blocks.{IsOpenIn, all_inserted, all_written, begin_now, begun, commit_now, committed_at, inserted_all, open_with, ended, steps_append, writes_now, written_committed, written_is, written_others, written_version}
+use Rattle.restarts.proofs.Blocks.{IsOpenIn, all_written, begin_now, begun, commit_now, committed_at, inserted_all, open_with, ended, steps_append, writes_now, written_committed, written_is, written_others, written_version}
 
 -- ---- what is kept of the dump through a timestamp
 
@@ -327,8 +327,13 @@ collect_now p m n h all below stands =
     let low : horizon_of p ≤ m = omega (arith, horizon_low p all, below.closed) in
     let reach : max 0 (min (horizon_of p) m) ≡ horizon_of p = omega (arith, low) in
     step_stands k (left_kept p m) h n 0 (Collect (horizon_of p)) (Collected (horizon_of p) 0) stands (inl (record {
-      right = (None, None, [], λ _. rw reach (record { least_protection = λ n. refl; lowest_floor = λ f. refl; drops = record { distinct = tt; each = λ v. (λ i. absurd i, λ is. none_dropped v is) } }),
-          (let in' : nat_lt MAX (horizon_of p) ≡ false = grind (arith, nat_tests, below.in_range) in rw (in', reach) refl));
+      right = (
+        None,
+        None,
+        [],
+        λ _. rw reach (record { least_protection = λ n. refl; lowest_floor = λ f. refl; drops = record { distinct = tt; each = λ v. (λ i. absurd i, λ is. none_dropped v is) } }),
+        (let in' : nat_lt MAX (horizon_of p) ≡ false = grind (arith, nat_tests, below.in_range) in rw (in', reach) refl),
+      );
       change = record { version = λ y i. each y i (left_version_of p y i) refl; committed = λ y i b e. refl; rest = refl };
     }))
   where

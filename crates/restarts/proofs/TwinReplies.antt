@@ -1,5 +1,5 @@
 -- What is kept answers as it does with its numbers shifted: each reply can be found, and is the same but for its numbers.
-use Rattle.std.proofs.Common.{◌≡◌, ℕ, suc, ◌+◌, ◌<◌, ◌≤◌, ◌==◌, Bool, true, false, not, cond, ◌&&◌, List, [], ◌∷◌, ◌++◌, length, map, take, Option, Some, None, refl, sym, ◌∙◌, ap, subst, inl, inr, arith}
+use Rattle.std.proofs.Common.{◌≡◌, ℕ, suc, ◌==◌, true, false, not, cond, List, [], ◌∷◌, length, map, take, Option, Some, None, refl, sym, ◌∙◌, ap}
 use Rattle.std.specs.List.{list_any}
 use Rattle.std.specs.Prelude.{filter, is_some, max, nat_le, nat_lt}
 use Rattle.timestamps.specs.declared.row.Row.{Row}
@@ -16,16 +16,14 @@ use Rattle.spans.specs.declared.span.Span.{Span}
 use Rattle.spans.specs.declared.calls.commands.Cmd.{Cmd}
 use Rattle.spans.specs.declared.calls.commands.Cmd.TheVariants.{Abort, Begin, Cancel, Close, CloseHard, Collect, Commit, Del, Get, Open, OpenEvery, OpenInitial, OpenInitialEvery, Poll, Protect, Put, ReadAt, Release, Scan, ScanAt, Stats}
 use Rattle.spans.specs.declared.calls.events.Event.{Event}
-use Rattle.spans.specs.declared.calls.replies.Refusal.{Refusal}
 use Rattle.spans.specs.declared.calls.replies.Refusal.TheVariants.{BelowClosed, BelowHorizon, Blocked, NoProtection, NotClosed, NotOwner, TooLate, TsRange, TsUsed}
 use Rattle.spans.specs.declared.calls.replies.Reply.{Reply}
 use Rattle.spans.specs.declared.calls.replies.Reply.TheVariants.{Aborted, Cancelled, Closed, Collected, Committed, Found, Messages, Opened, Protected, Refused, Released, Rows, Started, Written}
 use Rattle.spans.specs.declared.calls.replies.Reply.TheVariants as replies
 use Rattle.spans.proofs.Copies.{AllAllowed}
 use Rattle.spans.proofs.Legal.{legal_allowed}
-use Rattle.spans.proofs.Steps.{by_test, none_of}
 use Rattle.kept.specs.Answered.{IsReplyOf}
-use Rattle.kept.specs.Collecting.{IsCollected, reached}
+use Rattle.kept.specs.Collecting.{reached}
 use Rattle.kept.specs.Finding.{AreKeysOf, is_seen_blocked, seen}
 use Rattle.kept.specs.Places.{AreNext}
 use Rattle.kept.specs.Replies.{abort_reply, begin_reply, cancel_reply, close_hard_reply, close_reply, collect_reply, commit_reply, feed_refusal, get_reply, kept_opening_tests, messages_left, open_reply, poll_place, poll_reply, protect_reply, read_at_reply, release_reply, scan_at_reply, scan_reply, stats_reply, unless_refused, write_reply}
@@ -83,8 +81,12 @@ twin_reply n m k p all fits seat (Scan t span) =
     let are : AreKeysOf k span keys = keys_are k p all fits span in record {
       reply = scan_reply k seat t keys;
       one = (keys, λ _. are, refl);
-      other = (keys, λ _. same_keys n m k span keys are, (renumbered_unless n m (refusal k seat t) (first_refusal_or (map (λ x. (is_seen_blocked k x t, Blocked (seen k x t).ts)) keys) (Rows (pairs_of (λ x. (seen k x t).after) keys)))
-          ∙ ap (unless_refused (refusal k seat t)) (renumbered_first n m (map (λ x. (is_seen_blocked k x t, Blocked (seen k x t).ts)) keys) (Rows (pairs_of (λ x. (seen k x t).after) keys)))));
+      other = (
+        keys,
+        λ _. same_keys n m k span keys are,
+        (renumbered_unless n m (refusal k seat t) (first_refusal_or (map (λ x. (is_seen_blocked k x t, Blocked (seen k x t).ts)) keys) (Rows (pairs_of (λ x. (seen k x t).after) keys)))
+            ∙ ap (unless_refused (refusal k seat t)) (renumbered_first n m (map (λ x. (is_seen_blocked k x t, Blocked (seen k x t).ts)) keys) (Rows (pairs_of (λ x. (seen k x t).after) keys)))),
+      );
     }
 twin_reply n m k p all fits seat (Put t x v) = record {
   reply = write_reply k seat t (too_late p x t);
@@ -140,11 +142,17 @@ twin_reply n m k p all fits seat (Collect to) =
     let drops = dropped_are k p all fits horizon in record {
       reply = collect_reply to horizon (dropped_in k p horizon);
       one = (protection, floor, dropped_in k p horizon, λ _. record { least_protection = λ i. least_is i (map (λ (w : Protection). w.at) k.protections); lowest_floor = found; drops = drops }, refl);
-      other = (protection, floor, dropped_in k p horizon, λ _. record {
-        least_protection = λ i. least_is i (map (λ (w : Protection). w.at) k.protections) ∙ ap (Rattle.spans.specs.Transactions.least_of i) (sym (protections_at m k.protections));
-        lowest_floor = floor_same n m k (no_zeroth k p all fits) floor found;
-        drops = record { distinct = drops.distinct; each = drops.each };
-      }, renumbered_first n m ((nat_lt MAX to, TsRange) ∷ []) (Collected horizon (length (dropped_in k p horizon))));
+      other = (
+        protection,
+        floor,
+        dropped_in k p horizon,
+        λ _. record {
+          least_protection = λ i. least_is i (map (λ (w : Protection). w.at) k.protections) ∙ ap (Rattle.spans.specs.Transactions.least_of i) (sym (protections_at m k.protections));
+          lowest_floor = floor_same n m k (no_zeroth k p all fits) floor found;
+          drops = record { distinct = drops.distinct; each = drops.each };
+        },
+        renumbered_first n m ((nat_lt MAX to, TsRange) ∷ []) (Collected horizon (length (dropped_in k p horizon))),
+      );
     }
 twin_reply n m k p all fits seat (Open span cursor) = record { reply = open_reply (kind_of false None) k cursor; one = refl; other = opened_alike n m k (kind_of false None) cursor }
 twin_reply n m k p all fits seat (OpenInitial span cursor) = record { reply = open_reply (kind_of true None) k cursor; one = refl; other = opened_alike n m k (kind_of true None) cursor }

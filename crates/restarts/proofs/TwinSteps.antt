@@ -1,19 +1,19 @@
 -- What is kept changes as it does with its numbers shifted.
-use Rattle.std.proofs.Common.{◌≡◌, ℕ, zero, suc, ◌+◌, ◌-◌, ◌<◌, ◌≤◌, ◌==◌, Bool, true, false, not, cond, ◌&&◌, ◌||◌, List, [], ◌∷◌, length, map, Option, Some, None, refl, sym, ◌∙◌, ap, subst, inl, inr, arith}
+use Rattle.std.proofs.Common.{◌≡◌, ℕ, zero, suc, ◌+◌, ◌-◌, ◌<◌, ◌==◌, Bool, true, false, not, cond, ◌&&◌, ◌||◌, List, ◌∷◌, map, Option, Some, None, refl, sym, ap, subst, inl, inr, arith}
 use Rattle.std.proofs.lemmas.Bool.Decides.{nat_tests}
 use Rattle.std.proofs.lemmas.Bool.{eqb-true, or_cases, or_left, or_right}
-use Rattle.std.specs.Prelude.{bytes_eq, filter, is_some, nat_le, nat_lt, option_map, ◌↔◌, ◌⊎◌}
+use Rattle.std.specs.Prelude.{bytes_eq, filter, nat_le, nat_lt, option_map}
 use Rattle.spans.specs.Collection.{Protection}
-use Rattle.spans.specs.Effects.{Aborts, After, Begins, Cancels, Closes, Collects, Commits, Effect, HardCloses, NoEffect, Opens, Polls, Protects, Reads, Releases, Scans, SnapshotReads, SnapshotScans, Writes, effect, effect_of, effects_of, event}
-use Rattle.spans.specs.Feeds.{feeds_opened, start_at}
+use Rattle.spans.specs.Effects.{Aborts, After, Begins, Cancels, Closes, Collects, Commits, Effect, HardCloses, NoEffect, Opens, Polls, Protects, Reads, Releases, Scans, SnapshotReads, SnapshotScans, Writes, effect, effect_of, effects_of}
+use Rattle.spans.specs.Feeds.{start_at}
 use Rattle.spans.specs.Keys.{in_span, insert_key}
 use Rattle.spans.specs.Kept.{IsKeptOf, Kept, Place, Transaction}
-use Rattle.spans.specs.Legal.{IsLegal, IsRightEvent, is_accepted, may_lack_memory}
+use Rattle.spans.specs.Legal.{IsRightEvent}
 use Rattle.spans.specs.Transactions.{closed_of}
 use Rattle.spans.specs.declared.calls.commands.Cmd.{Cmd}
 use Rattle.spans.specs.declared.calls.commands.Cmd.TheVariants.{Abort, Begin, Cancel, Close, CloseHard, Collect, Commit, Del, Get, Open, OpenEvery, OpenInitial, OpenInitialEvery, Poll, Protect, Put, ReadAt, Release, Scan, ScanAt, Stats}
 use Rattle.spans.specs.declared.calls.events.Event.{Event}
-use Rattle.spans.specs.declared.calls.replies.Refusal.TheVariants.{NoMemory, TooLate}
+use Rattle.spans.specs.declared.calls.replies.Refusal.TheVariants.{TooLate}
 use Rattle.spans.specs.declared.calls.replies.Reply.{Reply}
 use Rattle.spans.specs.declared.calls.replies.Reply.TheVariants.{Aborted, Cancelled, Closed, Collected, Committed, Found, Messages, Opened, Protected, Refused, Released, Rows, Started, Written}
 use Rattle.spans.specs.declared.kind.Kind.{Kind}
@@ -24,7 +24,6 @@ use Rattle.spans.proofs.Legal.{legal_allowed, right_allowed}
 use Rattle.spans.proofs.Steps.{by_test, key_itself}
 use Rattle.spans.proofs.WriteSets.{has}
 use Rattle.kept.specs.Answered.{IsChangedBy}
-use Rattle.kept.specs.Changes.{IsAlike}
 use Rattle.kept.specs.Finding.{is_dead_in, seen}
 use Rattle.kept.specs.Places.{moved}
 use Rattle.kept.specs.StandsFor.{StandsFor}
@@ -34,8 +33,7 @@ use Rattle.kept.proofs.Answering.{changed_stands}
 use Rattle.kept.proofs.Marking.{added}
 use Rattle.kept.proofs.Staying.{alike_self}
 use Rattle.restarts.specs.Renumbering.{number_from, renumbered_cmd, renumbered_reply}
-use Rattle.restarts.proofs.Shifting.{feed_at, released_same, same_number, shifted, shifted_protection}
-use Rattle.restarts.proofs.TwinReplies.{no_zeroth}
+use Rattle.restarts.proofs.Shifting.{released_same, shifted, shifted_protection}
 
 -- an effect with its numbers shifted
 abbrev pub shifted_effect : (n m : ℕ) → Effect → Effect

@@ -1,4 +1,4 @@
-use Rattle.std.proofs.Common.{List, ℕ, sym, true, ◌≡◌}
+use Rattle.std.proofs.Common.{List, ℕ, sym}
 use Rattle.spans.specs.Effects.{effects_of}
 use Rattle.spans.specs.declared.calls.events.Event.{Event}
 use Rattle.spans.proofs.Legal.{legal_allowed}
@@ -8,6 +8,7 @@ use Rattle.restarts.specs.Dump.{rebuilt}
 use Rattle.restarts.specs.Restart.{CanRestart}
 use Rattle.restarts.proofs.Alike.{committed_begun, map_same, none_lives, stream_same}
 use Rattle.restarts.proofs.Crashing.{crash_stands}
+use Rattle.restarts.proofs.GoingOnAlike.{go_on_alike}
 use Rattle.restarts.proofs.Rebuilding.{AllBelow, left_kept, rebuilt_stands}
 use Rattle.restarts.proofs.law.law_of_restarts.Goals as goal
 
@@ -43,3 +44,6 @@ returns-clause-maps c = λ h m can t x high. let s = stands h m can in map_same 
 
 pub returns-clause-streams : goal.returns-clause-streams
 returns-clause-streams c = λ h m can span cursor t high. let s = stands h m can in stream_same (effects_of h) (effects_of (rebuilt h m)) m (legal_allowed (rebuilt h m) s.legal) s.fits span cursor t high
+
+pub returns-clause-goes_on : goal.returns-clause-goes_on
+returns-clause-goes_on c = λ h m can es. go_on_alike h m (stands h m can) (crash_stands h m can) es
