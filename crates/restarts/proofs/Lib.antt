@@ -7,3 +7,4 @@ pub mod Shifting
 pub mod TwinReplies
 pub mod TwinSteps
 pub mod GoingOnAlike
+pub mod Foreseeing

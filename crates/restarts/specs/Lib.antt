@@ -3,3 +3,4 @@ pub mod Dump
 pub mod Crash
 pub mod Renumbering
 pub mod Restart
+pub mod WorkedRestart

@@ -1,13 +1,14 @@
-use Rattle.std.proofs.Common.{List, ℕ, sym}
+use Rattle.std.proofs.Common.{List, [], ℕ, sym}
 use Rattle.spans.specs.Effects.{effects_of}
 use Rattle.spans.specs.declared.calls.events.Event.{Event}
 use Rattle.spans.proofs.Legal.{legal_allowed}
 use Rattle.kept.proofs.AfterCloses.{open_is}
 use Rattle.kept.specs.StandsFor.{StandsFor}
-use Rattle.restarts.specs.Dump.{rebuilt}
+use Rattle.restarts.specs.Dump.{dump, rebuilt}
 use Rattle.restarts.specs.Restart.{CanRestart}
 use Rattle.restarts.proofs.Alike.{committed_begun, map_same, none_lives, stream_same}
 use Rattle.restarts.proofs.Crashing.{crash_stands}
+use Rattle.restarts.proofs.Foreseeing.{dump_accepted, run_is}
 use Rattle.restarts.proofs.GoingOnAlike.{go_on_alike}
 use Rattle.restarts.proofs.Rebuilding.{AllBelow, left_kept, rebuilt_stands}
 use Rattle.restarts.proofs.law.law_of_restarts.Goals as goal
@@ -20,6 +21,9 @@ stands h m can = rebuilt_stands (effects_of h) m (legal_allowed h can.legal) (be
 
 pub returns-clause-rebuilds : goal.returns-clause-rebuilds
 returns-clause-rebuilds c = λ h m can. (stands h m can).legal
+
+pub returns-clause-foreseen : goal.returns-clause-foreseen
+returns-clause-foreseen c = λ h m can. run_is [] (dump (effects_of h) m) (dump_accepted (effects_of h) m) (stands h m can).legal
 
 pub returns-clause-crashes : goal.returns-clause-crashes
 returns-clause-crashes c = λ h m can. (crash_stands h m can).legal
