@@ -1,11 +1,10 @@
 -- The answers of a legal run are the ones that were foreseen, where none of them is a refusal.
-use Rattle.std.proofs.Common.{◌≡◌, ℕ, zero, suc, Bool, true, false, List, [], ◌∷◌, ◌++◌, length, map, Option, Some, None, refl, sym, ◌∙◌, ap, subst, inl, inr}
+use Rattle.std.proofs.Common.{◌≡◌, ℕ, zero, suc, true, false, List, [], ◌∷◌, ◌++◌, length, map, Some, None, refl, sym, ◌∙◌, ap, inl, inr}
 use Rattle.spans.specs.Answer.{answer_of}
 use Rattle.spans.specs.Effects.{After, Effect, effects_of, event}
 use Rattle.spans.specs.Legal.{IsLegal, IsRightEvent, is_accepted}
 use Rattle.spans.specs.Streams.{written_value}
 use Rattle.spans.specs.Versions.{write_of}
-use Rattle.spans.specs.declared.calls.commands.Cmd.TheVariants.{Begin, Commit}
 use Rattle.spans.specs.declared.calls.events.Event.{Event}
 use Rattle.restarts.specs.Dump.{dump, end_steps, left_keys, transaction_steps, versions_through, write_step, write_steps}
 use Rattle.restarts.specs.Running.{Step, run, with_steps}

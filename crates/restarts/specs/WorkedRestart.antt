@@ -1,8 +1,7 @@
 -- The example that the crate's page draws, worked.
-use Rattle.std.specs.Prelude.{ℕ, List, [], ◌∷◌, ◌≡◌, map, take, Some, None, refl}
+use Rattle.std.specs.Prelude.{ℕ, List, [], ◌∷◌, ◌≡◌, map, take, None, refl}
 use Rattle.spans.specs.declared.span.Span.{Span}
-use Rattle.spans.specs.declared.calls.commands.Cmd.TheVariants.{Begin, Put, Del, Commit, Close, CloseHard, Collect, Open, Cancel, Poll}
-use Rattle.spans.specs.declared.calls.replies.Reply.{Reply}
+use Rattle.spans.specs.declared.calls.commands.Cmd.TheVariants.{Begin, Put, Del, Commit, Close, Collect, Open, Poll}
 use Rattle.spans.specs.declared.calls.replies.Reply.TheVariants.{Started, Written, Committed, Closed, Collected, Opened, Cancelled}
 use Rattle.spans.specs.declared.calls.events.Event.{Event}
 use Rattle.spans.specs.Effects.{effects_of, event}
@@ -29,8 +28,8 @@ all_keys = record { lo = None; hi = None }
 -- 10 wrote a, 20 wrote a and b, 25 deleted b, 30 has begun and written; 20 is closed and collected; a feed is open
 abbrev history : List Event
 history = run [] (
-  Begin 10 ∷ Put 10 a one ∷ Commit 10 ∷ Begin 20 ∷ Put 20 b one ∷ Put 20 a two ∷ Commit 20 ∷ Begin 25 ∷ Del 25 b ∷ Commit 25
-  ∷ Begin 30 ∷ Put 30 a one ∷ Close 20 ∷ Collect 20 ∷ Open all_keys 20 ∷ [])
+    Begin 10 ∷ Put 10 a one ∷ Commit 10 ∷ Begin 20 ∷ Put 20 b one ∷ Put 20 a two ∷ Commit 20 ∷ Begin 25 ∷ Del 25 b ∷ Commit 25
+    ∷ Begin 30 ∷ Put 30 a one ∷ Close 20 ∷ Collect 20 ∷ Open all_keys 20 ∷ [])
 
 -- the version of 10 is dead and that of 30 undecided. The others are written again, keys rising, the delete too
 pub dumped : dump (effects_of history) 30 ≡
