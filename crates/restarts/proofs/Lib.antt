@@ -8,3 +8,4 @@ pub mod TwinReplies
 pub mod TwinSteps
 pub mod GoingOnAlike
 pub mod Foreseeing
+pub mod InRange

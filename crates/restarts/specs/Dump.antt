@@ -1,9 +1,10 @@
 -- The dump of a database: the commands that rebuild it, each with the answer that is foreseen (this project).
-use Rattle.std.specs.Prelude.{ℕ, zero, suc, List, [], ◌∷◌, ◌++◌, map, filter, length, Some, None, is_some}
+use Rattle.std.specs.Prelude.{ℕ, zero, suc, List, [], ◌∷◌, ◌++◌, map, filter, length, max, Some, None, is_some}
 use Rattle.spans.specs.declared.calls.commands.Cmd.TheVariants.{Begin, Put, Del, Commit, Close, Collect}
 use Rattle.spans.specs.declared.calls.replies.Reply.TheVariants.{Started, Written, Committed, Closed, Collected}
 use Rattle.spans.specs.declared.calls.events.Event.{Event}
 use Rattle.spans.specs.Effects.{After, Effect, effects_of}
+use Rattle.spans.specs.Transactions.{begun_of, closed_of}
 use Rattle.spans.specs.Versions.{write_of, write_set}
 use Rattle.spans.specs.Streams.{written_value}
 use Rattle.spans.specs.Collection.{horizon_of}
@@ -44,3 +45,12 @@ dump p m = versions_through p m ++ end_steps p m
 -- the history of the dump, run on a database that is empty
 abbrev pub rebuilt : List Event → ℕ → List Event
 rebuilt h m = with_steps [] (dump (effects_of h) m)
+
+-- the greatest of n and the numbers
+abbrev pub greatest_of : ℕ → List ℕ → ℕ
+greatest_of n [] = n
+greatest_of n (m ∷ ms) = max m (greatest_of n ms)
+
+-- where a dump may close that is to close at n or above: at the greatest of n, closed and all that began
+abbrev pub mark_of : List Effect → ℕ → ℕ
+mark_of p n = greatest_of (max n (closed_of p)) (begun_of p)

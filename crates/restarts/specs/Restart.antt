@@ -10,7 +10,7 @@ use Rattle.spans.specs.Collection.{horizon_of}
 use Rattle.spans.specs.Serial.{map_at}
 use Rattle.spans.specs.Streams.{stream_of}
 use Rattle.restarts.specs.Running.{Step, run}
-use Rattle.restarts.specs.Dump.{dump, rebuilt}
+use Rattle.restarts.specs.Dump.{dump, mark_of, rebuilt}
 use Rattle.restarts.specs.Crash.{crash}
 use Rattle.restarts.specs.Renumbering.{renumbered}
 
@@ -45,3 +45,7 @@ StreamsAreSame h m = (span : Span) (cursor t : ℕ) → horizon_of (effects_of h
 -- events, the newest first, are legal after the dump's run exactly where they are, renumbered, after the crash
 abbrev pub GoesOnAlike : List Event → ℕ → Type 0
 GoesOnAlike h m = (es : List Event) → IsLegal (es ++ rebuilt h m) ↔ IsLegal (map (renumbered h m) es ++ crash h m)
+
+-- there is such a timestamp at or above each that is in range: a dump may close there
+abbrev pub HasMark : List Event → ℕ → Type 0
+HasMark h n = IsLegal h → n ≤ MAX → CanRestart h (mark_of (effects_of h) n) × (n ≤ mark_of (effects_of h) n)

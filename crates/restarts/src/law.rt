@@ -1,14 +1,15 @@
 //! The law of restarts, as the contract of one function.
-ghost use Rattle.std.specs.Prelude.{[], ℕ, false, ◌≡◌};
+ghost use Rattle.std.specs.Prelude.{List, [], ℕ, false, ◌≡◌};
+ghost use Rattle.spans.specs.declared.calls.events.Event.{Event};
 ghost use Rattle.spans.specs.Effects.{effects_of};
 ghost use Rattle.spans.specs.Legal.{IsLegal};
 ghost use Rattle.spans.specs.Transactions.{closed_of, is_undecided};
 ghost use Rattle.spans.specs.Collection.{horizon_of, live_feeds, protections_of};
 ghost use Rattle.restarts.specs.Dump.{rebuilt};
 ghost use Rattle.restarts.specs.Crash.{crash};
-ghost use Rattle.restarts.specs.Restart.{AreForeseen, EachRestart, GoesOnAlike, MapsAreSame, StreamsAreSame, rebuilt_effects};
+ghost use Rattle.restarts.specs.Restart.{AreForeseen, EachRestart, GoesOnAlike, HasMark, MapsAreSame, StreamsAreSame, rebuilt_effects};
 
-/// Of each legal history h, and each m at or above closed and all that began: the dump that closes at m
+/// Of each legal history h, and each m at or above closed and all that began (`marks` has one): the dump that closes at m
 /// runs on an empty database, each command with the answer that the dump foresees. Then closed is m, the
 /// horizon is that of h, nothing is undecided, no feed lives and no protection stands; and from the
 /// horizon on the maps and the streams are those of h, also of what is committed above closed.
@@ -24,6 +25,7 @@ ghost use Rattle.restarts.specs.Restart.{AreForeseen, EachRestart, GoesOnAlike, 
 ///
 /// It does nothing. Its contract is the theorem.
 pub fn law_of_restarts()
+    ensures marks { (h : List Event) (n : ℕ) → HasMark h n }
     ensures rebuilds { EachRestart (λ h m. IsLegal (rebuilt h m)) }
     ensures foreseen { EachRestart AreForeseen }
     ensures crashes { EachRestart (λ h m. IsLegal (crash h m)) }

@@ -10,6 +10,7 @@ use Rattle.restarts.proofs.Alike.{committed_begun, map_same, none_lives, stream_
 use Rattle.restarts.proofs.Crashing.{crash_stands}
 use Rattle.restarts.proofs.Foreseeing.{dump_accepted, run_is}
 use Rattle.restarts.proofs.GoingOnAlike.{go_on_alike}
+use Rattle.restarts.proofs.InRange.{has_mark}
 use Rattle.restarts.proofs.Rebuilding.{AllBelow, left_kept, rebuilt_stands}
 use Rattle.restarts.proofs.law.law_of_restarts.Goals as goal
 
@@ -18,6 +19,9 @@ below h m can = record { in_range = can.in_range; closed = can.closed; committed
 
 stands : (h : List Event) (m : ℕ) → CanRestart h m → StandsFor (left_kept (effects_of h) m) (rebuilt h m)
 stands h m can = rebuilt_stands (effects_of h) m (legal_allowed h can.legal) (below h m can)
+
+pub returns-clause-marks : goal.returns-clause-marks
+returns-clause-marks c = has_mark
 
 pub returns-clause-rebuilds : goal.returns-clause-rebuilds
 returns-clause-rebuilds c = λ h m can. (stands h m can).legal
