@@ -1,5 +1,5 @@
 -- What a table of transactions says.
-use Rattle.std.specs.Prelude.{ℕ, List, ◌≡◌, ◌≤◌, ◌⊎◌, Bool, true, false, ◌==◌, ◌&&◌, ◌-◌, nat_lt, nat_le, if◌then◌else◌, Option, Some, None, unwrap_or}
+use Rattle.std.specs.Prelude.{ℕ, List, ◌≡◌, ◌≤◌, ◌⊎◌, Bool, true, false, ◌==◌, ◌&&◌, ◌-◌, nat_lt, nat_le, if◌then◌else◌, Option, Some, None, is_some, unwrap_or}
 use Rattle.std.specs.Map.{lookup}
 use Rattle.std.specs.BTreeMap.{is_at}
 use Rattle.std.specs.Ordering.{nat_cmp}
@@ -94,3 +94,8 @@ pub record IsDecidedThrough (table : Table) (to n : ℕ) : Type 0 where
   pub most : n ≤ to
   pub below : (t : ℕ) → open_in (transaction_at table t) ≡ true → n ≤ t - 1
   pub reached : (n ≡ to) ⊎ ((t : ℕ) × (open_in (transaction_at table t) ≡ true) × (n ≡ t - 1))
+
+-- n is the greatest timestamp of the table, or 0 where it has none
+pub record IsLatest (table : Table) (n : ℕ) : Type 0 where
+  pub most : (t : ℕ) → is_some (transaction_at table t) ≡ true → t ≤ n
+  pub reached : (n ≡ 0) ⊎ (is_some (transaction_at table n) ≡ true)

@@ -3,7 +3,7 @@ ghost use Rattle.std.specs.Prelude.{◌≡◌, ◌<◌, ℕ, [], OnOk, OnErr, na
 ghost use Rattle.plain_versions.specs.Counting.{IsCountOf};
 ghost use Rattle.plain_versions.specs.Reports.{AreAllOpen};
 ghost use Rattle.plain_versions.specs.Undecided.{AreUndecidedBetween};
-ghost use Rattle.plain_versions.specs.Transactions.{transaction_at, committed_in, open_in, begun, decided, hard_closed, is_undecided_through, IsDecidedThrough, IsSetAt};
+ghost use Rattle.plain_versions.specs.Transactions.{transaction_at, committed_in, open_in, begun, decided, hard_closed, is_undecided_through, IsDecidedThrough, IsLatest, IsSetAt};
 
 use crate::decisions::{abort_open, decide_at};
 use spans::state::State;
@@ -11,6 +11,7 @@ use std::alloc::{AllocError, Global};
 use std::collections::btree_map::Entry;
 use std::collections::btree_set::Range;
 use std::collections::{BTreeMap, BTreeSet};
+use std::iter::DoubleEndedIterator;
 use std::marker::Model;
 use std::ops::Bound;
 use timestamps::ts_key::TsKey;
@@ -140,6 +141,16 @@ impl Transactions {
         let low = Bound::Excluded(TsKey(low));
         let to = Bound::Included(TsKey(to));
         self.undecided.range((low, to))
+    }
+
+    /// The greatest timestamp that began, or 0 where none did.
+    pub fn latest(&self) -> u64
+        ensures { IsLatest self.now result }
+    {
+        match self.table.range(..).next_back() {
+            None => 0,
+            Some((ts, _)) => ts.0,
+        }
     }
 
     /// The timestamp `to`, or the one just below the oldest undecided transaction where that is lower.

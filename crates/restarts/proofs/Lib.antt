@@ -9,3 +9,4 @@ pub mod TwinSteps
 pub mod GoingOnAlike
 pub mod Foreseeing
 pub mod InRange
+pub mod ByRows

@@ -123,7 +123,7 @@ left_of_key p x t = by_test (is_some (left_version_of p x t))
     (λ isnt. rw (has_left p x t, isnt) (none_of (left_version_of p x t) isnt))
 
 -- of one that didn't commit no key is left
-none_kept : (p : List Effect) (t : ℕ) → is_committed p t ≡ false → (xs : List (List ℕ)) → filter (λ x. is_some (left_version_of p x t)) xs ≡ []
+pub none_kept : (p : List Effect) (t : ℕ) → is_committed p t ≡ false → (xs : List (List ℕ)) → filter (λ x. is_some (left_version_of p x t)) xs ≡ []
 none_kept p t open' [] = refl
 none_kept p t open' (x ∷ xs) = let none : is_some (left_version_of p x t) ≡ false = ap is_some (none_left p x t open') in rw none (none_kept p t open' xs)
 

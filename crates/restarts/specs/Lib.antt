@@ -2,5 +2,6 @@ pub mod Running
 pub mod Dump
 pub mod Crash
 pub mod Renumbering
+pub mod Rows
 pub mod Restart
 pub mod WorkedRestart
