@@ -415,7 +415,7 @@ def pictures(house):
 
 @rule
 def words(house):
-    """The pages have at most 22,500 words together; a word has a letter or a digit."""
+    """The pages have at most 26,000 words together; a word has a letter or a digit."""
     count = sum(len(re.findall(r"\S*\w\S*", house.text(it))) for it in house.pages() if it != WRITTEN)
     if count > MOST_WORDS:
         yield "docs", 1, "the pages have %d words" % count
