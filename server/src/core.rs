@@ -9,6 +9,7 @@
 //! 3. `identity` is drawn at random at the start. A timestamp means something only together with it, because each start
 //!    is a new history.
 
+use crate::api::holds::Holds;
 use crate::closing::Closing;
 use crate::door::Turn;
 use crate::ledger::{Ledger, Reason};
@@ -19,7 +20,7 @@ use crate::options::Options;
 use crate::outcome::{floor_after, Outcome, Words};
 use crate::seats::{Owner, Seats, Session};
 use crate::transcript::Transcript;
-use ripsawbean::{CallError, Command, Database, Event, OpenError, Refusal};
+use ripsawbean::{CallError, Command, Database, Event, OpenError, Refusal, VersionError};
 use std::io::Write;
 use std::sync::Arc;
 use std::time::Instant;
@@ -36,6 +37,8 @@ pub struct Core {
     pub names: Names,
     pub closing: Closing,
     pub limits: Limits,
+    /// Snapshots that requests hold for a while.
+    pub holds: Holds,
     /// Answers that were not the ones that had to come.
     pub shouts: u64,
     pub log: Arc<Log>,
@@ -51,6 +54,8 @@ enum Wanted<'a> {
     Text(&'a mut Vec<u8>),
     /// The lines behind the first one, behind this.
     Messages(&'a mut Vec<u8>),
+    /// The event, which this looks at.
+    Event(&'a mut dyn FnMut(Event<'_>)),
 }
 
 /// What became of an event's text.
@@ -73,6 +78,7 @@ impl Core {
             names: Names::new(options.max_consumers),
             closing: Closing::new(options),
             limits: Limits::of(options),
+            holds: Holds::default(),
             shouts: 0,
             log,
             line: Vec::new(),
@@ -105,6 +111,24 @@ impl Core {
     /// are those of `call`.
     pub fn ask(&mut self, owner: Owner, command: Command<'_>) -> Result<Outcome, CallError> {
         self.make(owner, command, Wanted::Nothing)
+    }
+
+    /// The same, and the event is shown. After `Unwritten` the call was made, and nothing is shown.
+    pub fn show(
+        &mut self,
+        owner: Owner,
+        command: Command<'_>,
+        look: &mut dyn FnMut(Event<'_>),
+    ) -> Result<Outcome, CallError> {
+        self.make(owner, command, Wanted::Event(look))
+    }
+
+    /// The version of each key: the timestamp of its newest committed value at or below a timestamp, or `None` where it
+    /// has none there. It makes no call.
+    pub fn versions_at(&mut self, at: u64, keys: &[&[u8]]) -> Result<Vec<Option<u64>>, VersionError> {
+        let mut versions = Vec::new();
+        self.database.versions_at(at, keys, &mut versions)?;
+        Ok(versions)
     }
 
     /// Asks what has one right outcome, and shouts where another comes.
@@ -224,12 +248,16 @@ impl Core {
     }
 }
 
-/// Adds an event to the transcript, and tells what is wanted of its text.
+/// Adds an event to the transcript, and tells what is wanted of it.
 fn keep(transcript: &mut Transcript, event: Event<'_>, wanted: &mut Wanted<'_>) -> Kept {
     let (text, floor) = (event.text(), floor_after(event.text()));
     transcript.add(text);
     let (out, told) = match wanted {
         Wanted::Nothing => return Kept { floor, is_told: true },
+        Wanted::Event(look) => {
+            look(event);
+            return Kept { floor, is_told: true };
+        }
         Wanted::Text(out) => (out, text),
         Wanted::Messages(out) => (out, text.split_once('\n').map_or("", |(_, lines)| lines)),
     };

@@ -57,6 +57,7 @@ pub enum Method {
     /// As `Get`, and the answer's body is left out.
     Head,
     Post,
+    Put,
     Delete,
     Other,
 }
@@ -67,6 +68,7 @@ impl Method {
             Method::Get => "GET",
             Method::Head => "HEAD",
             Method::Post => "POST",
+            Method::Put => "PUT",
             Method::Delete => "DELETE",
             Method::Other => "other",
         }
@@ -187,6 +189,11 @@ impl Response {
     pub fn whole(content_type: &'static str, body: impl Into<Bytes>) -> Response {
         let body = Body::new(Content::Whole(body.into()));
         Response { status: 200, headers: vec![("content-type", content_type.into())], body }
+    }
+
+    /// An answer that has no body.
+    pub fn empty(status: u16) -> Response {
+        Response { status, headers: Vec::new(), body: Body::new(Content::Whole(Bytes::new())) }
     }
 
     /// An answer of status 200 whose body comes piece by piece.
@@ -412,6 +419,7 @@ fn method_of(inner: &hyper::Request<hyper::Body>) -> Method {
         hyper::Method::GET => Method::Get,
         hyper::Method::HEAD => Method::Head,
         hyper::Method::POST => Method::Post,
+        hyper::Method::PUT => Method::Put,
         hyper::Method::DELETE => Method::Delete,
         _ => Method::Other,
     }

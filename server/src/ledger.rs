@@ -25,6 +25,7 @@ use std::collections::{BTreeMap, BTreeSet, HashMap, VecDeque};
 use std::fmt;
 use std::sync::Arc;
 use std::time::{Duration, Instant};
+use tokio::sync::watch;
 
 /// A consumer's name.
 pub type Name = Arc<str>;
@@ -133,6 +134,8 @@ pub struct Ledger {
     protected: BTreeSet<(u64, u64)>,
     ended: HashMap<u64, Ended>,
     reasons: HashMap<u64, Reason>,
+    /// Those that wait for a transaction's decision: its end drops the sender, and so wakes them.
+    awaited: HashMap<u64, watch::Sender<()>>,
 }
 
 impl Ledger {
@@ -206,6 +209,14 @@ impl Ledger {
         self.protected.iter().filter_map(|&(_, number)| Some((number, self.protections.get(&number)?)))
     }
 
+    /// Changes, by an error, once a transaction is decided.
+    pub fn decision_of(&mut self, ts: u64) -> watch::Receiver<()> {
+        match self.undecided.contains_key(&ts) {
+            true => self.awaited.entry(ts).or_insert_with(|| watch::channel(()).0).subscribe(),
+            false => watch::channel(()).1,
+        }
+    }
+
     /// Says why a feed is about to be cancelled.
     pub fn will_end(&mut self, feed: u64, reason: Reason) {
         self.reasons.insert(feed, reason);
@@ -254,6 +265,7 @@ impl Ledger {
     fn end_of(&mut self, seats: &mut Seats, ts: u64) {
         let Some(transaction) = self.undecided.remove(&ts) else { return };
         self.ages.remove(&(transaction.since, ts));
+        self.awaited.remove(&ts);
         if let Some(taken) = seats.taken_mut(transaction.seat) {
             taken.begun.remove(&ts);
         }

@@ -16,16 +16,19 @@
 //! streams       each feed that is followed is polled once closed has moved, and its messages are pushed
 //! ```
 //!
+//! `api` is beside that life: a transaction in one request, keys and rows, as JSON.
+//!
 //! Beside them: `door` (the lock, and turns), `seats` (the 64 seats), `consumers` and `names` (what consumers have
 //! stored, held while they are down), `lag` (rows closed above a timestamp), `transcript` (the events kept), `reports`,
-//! `metrics`, `connections` (how many, and which are silent or stuck), `bodies` (their bytes), `ws`, `query`, `refusal`, `options`, `tokens`,
-//! `tls`, `notify`, `log`, `page`.
+//! `metrics`, `connections` (how many, and which are silent or stuck), `bodies` (their bytes), `ws`, `query`, `refusal`,
+//! `options`, `tokens`, `tls`, `notify`, `log`, `page`.
 //!
 //! Three rules hold everywhere. All calls are made under one lock, which no one holds over an await. The database alone
 //! decides: the ledger only follows its answers, and where an answer isn't as the ledger foretells, the server says so
 //! aloud. An event is in the transcript and in the ledger before the lock is given back.
 #![forbid(unsafe_code)]
 
+mod api;
 mod bodies;
 mod closing;
 mod connections;

@@ -26,12 +26,14 @@ use std::time::{Duration, SystemTime, UNIX_EPOCH};
 pub struct Metrics {
     /// From when a message of lines, or a body of them, was whole to its answer.
     pub calls: Histogram,
+    /// From when a request for keys, rows or a transaction was whole to its answer.
+    pub transactions: Histogram,
     started: SystemTime,
 }
 
 impl Default for Metrics {
     fn default() -> Metrics {
-        Metrics { calls: Histogram::default(), started: SystemTime::now() }
+        Metrics { calls: Histogram::default(), transactions: Histogram::default(), started: SystemTime::now() }
     }
 }
 
@@ -138,6 +140,9 @@ fn of_server(text: &mut Text, server: &Server) {
     let name = "ripsawbean_call_seconds";
     text.head(name, "histogram", "Time from a message of lines, or a body of them, to its answer.");
     server.metrics.calls.write(&mut text.text, name).expect("a string takes what is written");
+    let name = "ripsawbean_transaction_seconds";
+    text.head(name, "histogram", "Time from a request for keys, rows or a transaction to its answer.");
+    server.metrics.transactions.write(&mut text.text, name).expect("a string takes what is written");
     let version = concat!("{version=\"", env!("CARGO_PKG_VERSION"), "\"}");
     text.family("ripsawbean_build_info", "gauge", "The server's version.", [(version, 1)]);
 }

@@ -66,7 +66,7 @@ const fn file(name: &'static str, meaning: &'static str) -> Row {
 
 const MOST: u64 = 1 << 62;
 
-const TABLE: [Row; 32] = [
+const TABLE: [Row; 33] = [
     whole("port", 7077, 0, 65535, "the port; 0 takes a free one, which the first line of the output names"),
     whole("ring", 1024, 1, 65536, "rows that each feed keeps at hand; no answer depends on it"),
     whole("max-lag", 1_000_000, 1, MOST, "rows closed above a reader beyond which nothing is held for it any longer"),
@@ -87,6 +87,7 @@ const TABLE: [Row; 32] = [
     seconds("heartbeat", 20.0, 0.1, "how often a session's connection is asked whether it is there"),
     seconds("patience", 30.0, 0.1, "how long an answer waits for a reader that takes nothing"),
     seconds("seat-age", 0.0, 0.0, "how long a session without a message keeps its seat; 0: for ever"),
+    seconds("remember", 60.0, 0.0, "how long the answer to an Idempotency-Key is remembered"),
     seconds("drain", 0.0, 0.0, "how long undecided transactions may go on when the server is told to end"),
     Row { name: "address", kind: Kind::Word("127.0.0.1"), meaning: "the address; another one needs a token" },
     Row { name: "host", kind: Kind::Names, meaning: "a further name by which the server may be called" },
@@ -131,6 +132,7 @@ pub struct Options {
     pub patience: Duration,
     /// Zero: for ever.
     pub seat_age: Duration,
+    pub remember: Duration,
     pub drain: Duration,
     pub tokens: Option<TokenFile>,
     pub tls: Option<TlsFiles>,
@@ -271,6 +273,7 @@ fn options(given: &Given) -> Result<Options, Fault> {
         heartbeat: given.seconds("heartbeat")?,
         patience: given.seconds("patience")?,
         seat_age: given.seconds("seat-age")?,
+        remember: given.seconds("remember")?,
         drain: given.seconds("drain")?,
         tokens: token_file(given)?,
         tls: tls_files(given)?,

@@ -13,12 +13,13 @@
 //! 2. A number is 0 to 2^63 - 1, in digits, without a leading zero.
 
 use crate::refusal::Refusal;
+use std::fmt::Write;
 
 /// The greatest number of the database: 2^63 - 1.
 pub const GREATEST: u64 = i64::MAX as u64;
 
 /// The names whose values are numbers, on every path.
-const NUMBERS: [&str; 6] = ["from", "gap", "stored", "generation", "since", "idle"];
+const NUMBERS: [&str; 8] = ["from", "gap", "stored", "generation", "since", "idle", "at", "limit"];
 
 #[derive(Debug, Clone, PartialEq, Eq)]
 enum Value {
@@ -112,6 +113,20 @@ pub fn number_of(word: &[u8]) -> Option<u64> {
     let is_plain = word.iter().all(u8::is_ascii_digit) && (word.len() == 1 || word.first() != Some(&b'0'));
     let number = std::str::from_utf8(word).ok().filter(|_| is_plain)?.parse().ok()?;
     (number <= GREATEST).then_some(number)
+}
+
+/// How a query spells bytes: letters, digits and `-._~` are themselves.
+pub fn percent_encoded(bytes: &[u8]) -> String {
+    let mut word = String::with_capacity(bytes.len());
+    for &byte in bytes {
+        if byte.is_ascii_alphanumeric() || b"-._~".contains(&byte) {
+            word.push(char::from(byte));
+        } else {
+            // Writing to a string can't fail.
+            let _ = write!(word, "%{byte:02X}");
+        }
+    }
+    word
 }
 
 /// The bytes for which a word stands: `%` and two hexadecimal digits are one byte, and all else is itself.
@@ -252,6 +267,7 @@ mod tests {
             let upper: String = bytes.iter().map(|byte| format!("%{byte:02X}")).collect();
             let lower: String = bytes.iter().map(|byte| format!("%{byte:02x}")).collect();
             assert_eq!(percent_decoded(upper.as_bytes()), bytes);
+            assert_eq!(percent_decoded(percent_encoded(&bytes).as_bytes()), bytes);
             assert_eq!(percent_decoded(lower.as_bytes()), bytes);
         });
     }

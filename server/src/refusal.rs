@@ -66,6 +66,11 @@ impl Refusal {
 
 /// The refusals that several modules make.
 impl Refusal {
+    /// It may be asked for again in a second.
+    pub fn busy(error: &'static str, why: impl Into<String>) -> Refusal {
+        Refusal::new(503, error, why).with_header("Retry-After", "1")
+    }
+
     pub fn unauthorized() -> Refusal {
         Refusal::new(401, "token", "the request has to show the token, as Bearer or as Basic's password")
             .with_header("WWW-Authenticate", CHALLENGE)

@@ -203,7 +203,7 @@ fn is_within(keys: &Keys, opened: &str) -> bool {
 /// The seat of a session; what is the server's has none.
 fn seat_of(owner: Owner) -> Option<u64> {
     match owner {
-        Owner::Server => None,
+        Owner::Server | Owner::Page => None,
         Owner::Seat(seat) => Some(u64::from(seat)),
     }
 }

@@ -4,6 +4,7 @@
 //! Each handler is `async fn(&Arc<Server>, Request) -> Result<Response, Refusal>`. server/README.md says what each takes
 //! and gives.
 
+use crate::api::{keys, openapi, remembered, rows, transact};
 use crate::bodies::Bodies;
 use crate::connections::Connections;
 use crate::door::Door;
@@ -28,6 +29,7 @@ pub struct Server {
     pub bodies: Arc<Bodies>,
     pub streams: streams::Streams,
     pub metrics: metrics::Metrics,
+    pub remembered: remembered::Remembered,
     pub tasks: Tasks,
     /// Places of the answers of `POST /call`, until they were handed to their sockets.
     pub answers: Arc<Semaphore>,
@@ -58,6 +60,10 @@ enum Place {
     Session,
     Seat,
     Call,
+    Transact,
+    Key,
+    Rows,
+    OpenApi,
     Feed,
     Consumers,
     Consumer,
@@ -70,10 +76,13 @@ enum Place {
     File,
 }
 
-/// The paths that are one word. Beside them there are `/session/SEAT`, `/consumer/NAME` and the page's files.
-const PATHS: [(&str, Place); 10] = [
+/// The paths that are one word. Beside them there are `/session/SEAT`, `/key/KEY`, `/consumer/NAME` and the page's files.
+const PATHS: [(&str, Place); 13] = [
     ("/session", Place::Session),
     ("/call", Place::Call),
+    ("/transact", Place::Transact),
+    ("/rows", Place::Rows),
+    ("/openapi.json", Place::OpenApi),
     ("/feed", Place::Feed),
     ("/consumer", Place::Consumers),
     ("/state", Place::State),
@@ -90,6 +99,8 @@ impl Place {
         match PATHS.iter().find(|(one, _)| *one == path) {
             Some(&(_, place)) => Some(place),
             None if is_below("/session/") => Some(Place::Seat),
+            // A key may have any bytes.
+            None if path.starts_with("/key/") => Some(Place::Key),
             None if is_below("/consumer/") => Some(Place::Consumer),
             None if page::has(path) => Some(Place::File),
             None => None,
@@ -98,11 +109,12 @@ impl Place {
 
     /// The methods that it takes, and the right that each wants.
     fn methods(self) -> &'static [(Method, Right)] {
-        use Method::{Delete, Get, Head, Post};
+        use Method::{Delete, Get, Head, Post, Put};
         match self {
-            // What a session's lines may do is asked of each line.
+            // What a session's lines may do is asked of each line, and a transaction's steps of each step.
             Place::Session => &[(Get, Right::Any)],
-            Place::Call => &[(Post, Right::Any)],
+            Place::Call | Place::Transact => &[(Post, Right::Any)],
+            Place::Key => &[(Get, Right::Read), (Head, Right::Read), (Put, Right::Write), (Delete, Right::Write)],
             Place::Seat => &[(Delete, Right::Operate)],
             Place::Feed => &[(Get, Right::Read)],
             Place::Consumer => &[(Get, Right::Read), (Head, Right::Read), (Post, Right::Write), (Delete, Right::Write)],
@@ -136,6 +148,12 @@ pub async fn handle(server: &Arc<Server>, request: Request) -> Result<Response, 
         (Place::Session, _) => session::session(server, request).await,
         (Place::Seat, _) => session::end(server, request).await,
         (Place::Call, _) => session::call(server, request).await,
+        (Place::Transact, _) => transact::transact(server, request).await,
+        (Place::Key, Method::Put) => keys::put(server, request).await,
+        (Place::Key, Method::Delete) => keys::delete(server, request).await,
+        (Place::Key, _) => keys::get(server, request).await,
+        (Place::Rows, _) => rows::rows(server, request).await,
+        (Place::OpenApi, _) => openapi::openapi(server, request).await,
         (Place::Feed, _) => streams::feed(server, request).await,
         (Place::Consumers, _) => consumers::list(server, request).await,
         (Place::Consumer, Method::Post) => consumers::post(server, request).await,
@@ -161,6 +179,11 @@ mod tests {
             ("/session", "GET"),
             ("/session/7", "DELETE"),
             ("/call", "POST"),
+            ("/transact", "POST"),
+            ("/key/", "GET, HEAD, PUT, DELETE"),
+            ("/key/a/b%2F", "GET, HEAD, PUT, DELETE"),
+            ("/rows", "GET, HEAD"),
+            ("/openapi.json", "GET, HEAD"),
             ("/feed", "GET"),
             ("/consumer", "GET, HEAD"),
             ("/consumer/a.b-c_D", "GET, HEAD, POST, DELETE"),
@@ -175,7 +198,9 @@ mod tests {
         ] {
             assert_eq!(Place::of(path).map(Place::allowed).as_deref(), Some(allowed), "{path}");
         }
-        for path in ["", "/nothing", "/call/", "/consumer/", "/consumer/a/b", "/session/", "/page/", "/page/../call"] {
+        for path in
+            ["", "/nothing", "/call/", "/consumer/", "/consumer/a/b", "/session/", "/page/", "/page/../call", "/key"]
+        {
             assert_eq!(Place::of(path), None, "{path}");
         }
     }
@@ -187,6 +212,9 @@ mod tests {
         assert_eq!(right_of(Method::Post, "/consumer/a"), Right::Write);
         assert_eq!(right_of(Method::Delete, "/consumer/a"), Right::Write);
         assert_eq!(right_of(Method::Delete, "/session/5"), Right::Operate);
+        assert_eq!(right_of(Method::Post, "/transact"), Right::Read);
+        assert_eq!(right_of(Method::Put, "/key/a"), Right::Write);
+        assert_eq!(right_of(Method::Head, "/key/a"), Right::Read);
         assert_eq!(right_of(Method::Get, "/healthz"), Right::Nobody);
         assert_eq!(right_of(Method::Other, "/healthz"), Right::Read);
         assert_eq!(right_of(Method::Get, "/nothing"), Right::Read);

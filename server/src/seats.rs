@@ -20,8 +20,10 @@ pub const OWN_SEAT: u8 = SEATS - 1;
 /// Whose a feed or a protection is.
 #[derive(Clone, Copy, Debug, PartialEq, Eq, PartialOrd, Ord)]
 pub enum Owner {
-    /// The server's: it streams the feed, or a name has the protection.
+    /// The server's: it streams the feed, or a name or a request has the protection.
     Server,
+    /// The server's for one page of rows: the feed is cancelled before anyone else is served.
+    Page,
     /// That of the session with this seat.
     Seat(u8),
 }
@@ -30,7 +32,7 @@ impl Owner {
     /// The seat by which its calls are made.
     pub fn seat(self) -> u8 {
         match self {
-            Owner::Server => OWN_SEAT,
+            Owner::Server | Owner::Page => OWN_SEAT,
             Owner::Seat(seat) => seat,
         }
     }
@@ -154,7 +156,7 @@ impl Seats {
     /// The session of an owner, where it is one.
     pub fn of_mut(&mut self, owner: Owner) -> Option<&mut Taken> {
         match owner {
-            Owner::Server => None,
+            Owner::Server | Owner::Page => None,
             Owner::Seat(seat) => self.taken_mut(seat),
         }
     }

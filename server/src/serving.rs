@@ -6,6 +6,7 @@
 //! 1. What is accepted is served within the limits of `connections`, or answered 503 and closed.
 //! 2. The work on the database never stops in silence: a panic in it ends the process.
 
+use crate::api::remembered::Remembered;
 use crate::bodies::Bodies;
 use crate::closing;
 use crate::connections::Connections;
@@ -123,6 +124,7 @@ fn put_together(options: Options, address: SocketAddr, log: Arc<Log>) -> Result<
         bodies: Bodies::new(options.max_message),
         streams: Streams::default(),
         metrics: Metrics::default(),
+        remembered: Remembered::new(options.remember),
         tasks: Tasks::default(),
         answers: Arc::new(Semaphore::new(usize::from(SEATS))),
         is_ending: watch::channel(false).0,

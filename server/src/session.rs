@@ -82,7 +82,7 @@ pub async fn call(server: &Arc<Server>, request: Request) -> Result<Response, Re
 }
 
 /// So many answers are there at once at most, the last one of someone who may operate.
-fn place_of_answer(server: &Server, who: &Who) -> Result<OwnedSemaphorePermit, Refusal> {
+pub fn place_of_answer(server: &Server, who: &Who) -> Result<OwnedSemaphorePermit, Refusal> {
     let kept = usize::from(!who.may(Right::Operate));
     let place = server.answers.clone().try_acquire_owned().ok().filter(|_| server.answers.available_permits() >= kept);
     place.ok_or_else(Refusal::no_seats)

@@ -1,5 +1,6 @@
 //! What tests share: a core without sockets, and numbers that are drawn.
 
+use crate::api::remembered::Remembered;
 use crate::bodies::Bodies;
 use crate::closing;
 use crate::connections::Connections;
@@ -74,6 +75,7 @@ pub fn server(words: &[&str]) -> Arc<Server> {
         bodies: Bodies::new(options.max_message),
         streams: Streams::default(),
         metrics: Metrics::default(),
+        remembered: Remembered::new(options.remember),
         tasks: Tasks::default(),
         answers: Arc::new(Semaphore::new(usize::from(SEATS))),
         is_ending: watch::channel(false).0,

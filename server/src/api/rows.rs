@@ -1,0 +1,188 @@
+//! `GET /rows`: the rows of a span, in pages of one snapshot.
+//!
+//! ```text
+//! GET /rows?lo=a&limit=2            {"timestamp":"7","rows":[..],"next":"/rows?lo=c&at=7&limit=2"}
+//! GET /rows?lo=c&at=7&limit=2       {"timestamp":"7","rows":[..],"next":null}
+//! ```
+//!
+//! 1. All pages of a walk show one snapshot, or are refused. While there are more, it is held for `hold` seconds, and
+//!    each page holds it anew.
+
+use super::plan::{Bounds, MOST_ROWS, ROWS};
+use super::run::{Row, Stop};
+use super::transact::tell_rows;
+use super::{bytes::MOST_BOUND, seconds_in, spelling_in, wait_in};
+use crate::core::Core;
+use crate::http::{Request, Response};
+use crate::query::{arguments, percent_encoded, Arguments};
+use crate::refusal::Refusal;
+use crate::routes::Server;
+use std::borrow::Cow;
+use std::sync::Arc;
+use std::time::{Duration, Instant};
+
+/// Seconds for which a snapshot is held where nothing is said, and at most.
+const HOLD: Duration = Duration::from_secs(30);
+const MOST_HOLD: f64 = 300.0;
+
+/// A page as it is told.
+struct Shown {
+    timestamp: u64,
+    rows: Vec<Row<'static>>,
+    next: Option<Vec<u8>>,
+}
+
+pub async fn rows(server: &Arc<Server>, request: Request) -> Result<Response, Refusal> {
+    let given = arguments(&request.path, &request.query, &["lo", "hi", "at", "limit", "hold", "wait", "bytes"])?;
+    let (wait, hold, spelling) = (wait_in(&given)?, hold_in(&given)?, spelling_in(&given)?);
+    let (limit, span) = (limit_in(&given)?, span_in(&given)?);
+    if !span.is_within(request.who.keys()) {
+        return Err(Refusal::other_keys());
+    }
+    let place = super::place_of_answer(server, &request.who)?;
+    let start = Instant::now();
+    let work = |core: &mut Core, at| page(core, &span, at, limit, hold);
+    let Shown { timestamp, rows, next } = at_snapshot(server, given.number("at"), start + wait, work).await?;
+    let next = next.map(|lo| path_of(&given, &lo, timestamp));
+    let mut out = format!("{{\"timestamp\":\"{timestamp}\",\"rows\":").into_bytes();
+    tell_rows(&mut out, &rows, spelling);
+    match &next {
+        // A path has no byte that JSON escapes.
+        Some(next) => out.extend_from_slice(format!(",\"next\":\"{next}\"}}\n").as_bytes()),
+        None => out.extend_from_slice(b",\"next\":null}\n"),
+    }
+    server.metrics.transactions.note(start.elapsed());
+    let response = Response::whole("application/json; charset=utf-8", out)
+        .with("ripsawbean-timestamp", timestamp.to_string())
+        .with("cache-control", "no-cache")
+        .keeping(place);
+    Ok(match next {
+        Some(next) => response.with("link", format!("<{next}>; rel=\"next\"")),
+        None => response,
+    })
+}
+
+/// Works at a snapshot, once it is closed: at the closed timestamp where none is asked for.
+pub async fn at_snapshot<R>(
+    server: &Server,
+    at: Option<u64>,
+    until: Instant,
+    work: impl Fn(&mut Core, u64) -> Result<R, Refusal>,
+) -> Result<R, Refusal> {
+    let mut moved = server.door.moved();
+    loop {
+        moved.borrow_and_update();
+        let worked = server.door.run(|core| match at {
+            Some(at) if at > core.ledger.closed.max(core.ledger.greatest) => {
+                let why = "this timestamp is above all that began";
+                Some(Err(Refusal::new(409, "notclosed", why).with_number("closed", core.ledger.closed)))
+            }
+            Some(at) if at > core.ledger.closed => None,
+            Some(at) if at < core.ledger.horizon => Some(Err(Stop::BelowHorizon(core.ledger.horizon).refusal())),
+            at => Some(work(core, at.unwrap_or(core.ledger.closed))),
+        });
+        if let Some(worked) = worked {
+            return worked;
+        }
+        if tokio::time::timeout_at(until.into(), moved.changed()).await.is_err() {
+            let closed = server.door.run(|core| core.ledger.closed);
+            return Err(Refusal::busy("notclosed", "an older transaction is undecided").with_number("closed", closed));
+        }
+    }
+}
+
+/// For how long a snapshot is to be held, where that is asked.
+pub fn hold_in(given: &Arguments) -> Result<Option<Duration>, Refusal> {
+    seconds_in(given, "hold", MOST_HOLD)
+}
+
+fn page(
+    core: &mut Core,
+    span: &Bounds<'_>,
+    timestamp: u64,
+    limit: usize,
+    hold: Option<Duration>,
+) -> Result<Shown, Refusal> {
+    let page = core.page(span.span(), timestamp, limit).map_err(|unread| Stop::from(unread).refusal())?;
+    let keys: Vec<&[u8]> = page.rows.iter().map(|(key, _)| key.as_slice()).collect();
+    let versions = core.versions_at(timestamp, &keys).map_err(|_| Stop::NoMemory.refusal())?;
+    if page.next.is_some() || hold.is_some() {
+        core.hold_snapshot(timestamp, hold.unwrap_or(HOLD))?;
+    }
+    let rows = page.rows.into_iter().zip(versions);
+    let rows = rows.map(|((key, value), version)| Row { key: Cow::Owned(key), value: Some(value), version });
+    Ok(Shown { timestamp, rows: rows.collect(), next: page.next })
+}
+
+fn limit_in(given: &Arguments) -> Result<usize, Refusal> {
+    match given.number("limit").unwrap_or(ROWS) {
+        limit @ 1..=MOST_ROWS => Ok(limit as usize),
+        _ => Err(Refusal::new(400, "number", format!("limit has to be a number from 1 to {MOST_ROWS}"))),
+    }
+}
+
+fn span_in(given: &Arguments) -> Result<Bounds<'_>, Refusal> {
+    let [lo, hi] = ["lo", "hi"].map(|name| given.bytes(name).unwrap_or_default());
+    if lo.len().max(hi.len()) > MOST_BOUND {
+        return Err(Refusal::new(400, "keylength", format!("a bound has {MOST_BOUND} bytes at most")));
+    }
+    Ok(Bounds::new(Cow::Borrowed(lo), Cow::Borrowed(hi)))
+}
+
+/// The path of the page behind, which asks for the same otherwise.
+fn path_of(given: &Arguments, lo: &[u8], at: u64) -> String {
+    let mut path = format!("/rows?lo={}", percent_encoded(lo));
+    let mut add = |name: &str, word: &str| path.extend(["&", name, "=", word]);
+    if let Some(hi) = given.bytes("hi").filter(|hi| !hi.is_empty()) {
+        add("hi", &percent_encoded(hi));
+    }
+    add("at", &at.to_string());
+    if let Some(limit) = given.number("limit") {
+        add("limit", &limit.to_string());
+    }
+    for name in ["hold", "wait", "bytes"] {
+        if let Some(word) = given.bytes(name) {
+            add(name, &percent_encoded(word));
+        }
+    }
+    path
+}
+
+#[cfg(test)]
+mod tests {
+    use super::*;
+
+    const NAMES: [&str; 7] = ["lo", "hi", "at", "limit", "hold", "wait", "bytes"];
+
+    #[test]
+    fn the_next_path_asks_for_the_same() {
+        for (query, next) in [
+            ("", "/rows?lo=c%00&at=7"),
+            ("lo=a&hi=", "/rows?lo=c%00&at=7"),
+            (
+                "lo=a&hi=z%20%26&limit=2&hold=5&bytes=base64",
+                "/rows?lo=c%00&hi=z%20%26&at=7&limit=2&hold=5&bytes=base64",
+            ),
+            ("at=7&wait=0.5", "/rows?lo=c%00&at=7&wait=0.5"),
+        ] {
+            let given = arguments("/rows", query, &NAMES).expect("a query");
+            let path = path_of(&given, b"c\0", 7);
+            assert_eq!(path, next);
+            assert!(arguments("/rows", path.strip_prefix("/rows?").expect("a query"), &NAMES).is_ok());
+        }
+    }
+
+    #[test]
+    fn limits_and_bounds() {
+        let error = |query: &str| {
+            let given = arguments("/rows", query, &NAMES)?;
+            limit_in(&given).and(span_in(&given).map(drop))
+        };
+        for query in ["limit=0", "limit=10001"] {
+            assert_eq!(error(query).unwrap_err().error, "number", "{query}");
+        }
+        let long = format!("lo={}", "x".repeat(258));
+        assert_eq!(error(&long).unwrap_err().error, "keylength");
+        assert!(error(&long[..long.len() - 1]).is_ok() && error("limit=10000").is_ok());
+    }
+}

@@ -1,0 +1,411 @@
+//! Runs a plan as one transaction: all of it, or nothing.
+//!
+//! ```text
+//! begin TS                      above all that began, and above closed
+//! get, scan ..                  conditions, and then the steps of a branch
+//! put, del ..
+//! commit TS                     or abort TS
+//! ```
+//!
+//! A part of a span that is read is found by a page of the last closed timestamp first, so a scan of ten rows reads ten
+//! rows, whatever the span holds. It conflicts with what it has read, and no further.
+//!
+//! 1. All its calls are made under one lock, at a timestamp above all that began. So no write of it comes too late, and
+//!    no two plans block each other. A session's undecided write may block a read of it: then nothing was changed.
+//! 2. When `run` returns, the transaction is decided. Where there was no memory to abort it, --max-age does it.
+//! 3. It reads at most `MOST_READ` rows, and tells at most --max-reply bytes.
+
+use super::pages::{Rows, Unread};
+use super::plan::{Bounds, Condition, Plan, Step};
+use crate::core::Core;
+use crate::outcome::Outcome;
+use crate::refusal::Refusal;
+use crate::seats::Owner;
+use ripsawbean::{CallError, Command, Refusal as Refused, Span};
+use std::borrow::Cow;
+use std::collections::BTreeSet;
+use tokio::sync::watch;
+
+/// Rows that one transaction reads by scans: some 0.1 seconds in which no one else is served.
+const MOST_READ: usize = 100_000;
+/// Rows of a part of a span that is compared with a snapshot.
+const PART: usize = 1000;
+/// What a row costs in an answer beside its key and value.
+const ROW_BYTES: usize = 40;
+
+/// How a plan has ended.
+#[derive(Debug, PartialEq)]
+pub enum End<'p> {
+    Committed(Committed<'p>),
+    Failed(Failed<'p>),
+}
+
+#[derive(Debug, PartialEq)]
+pub struct Committed<'p> {
+    pub timestamp: u64,
+    pub branch: Branch,
+    /// Keys that were written.
+    pub written: u64,
+    /// One for each step.
+    pub results: Vec<Told<'p>>,
+}
+
+/// Conditions don't hold, and there is no `else`.
+#[derive(Debug, PartialEq)]
+pub struct Failed<'p> {
+    pub timestamp: u64,
+    /// Each condition that doesn't hold, by its place, with what its key was.
+    pub found: Vec<(usize, Option<Row<'p>>)>,
+}
+
+#[derive(Clone, Copy, Debug, PartialEq, Eq)]
+pub enum Branch {
+    Then,
+    Else,
+}
+
+/// What a step tells.
+#[derive(Debug, PartialEq)]
+pub enum Told<'p> {
+    /// A write.
+    Nothing,
+    Row(Row<'p>),
+    Rows {
+        rows: Vec<Row<'p>>,
+        more: bool,
+    },
+}
+
+#[derive(Debug, PartialEq)]
+pub struct Row<'p> {
+    pub key: Cow<'p, [u8]>,
+    pub value: Option<Vec<u8>>,
+    /// The timestamp of its value, where it has one.
+    pub version: Option<u64>,
+}
+
+/// Why a plan came to nothing.
+#[derive(Debug)]
+pub enum Stop {
+    /// By the undecided transaction of this timestamp. The receiver changes once it is decided.
+    Blocked(u64, watch::Receiver<()>),
+    NotClosed(u64),
+    BelowHorizon(u64),
+    NoMemory,
+    Full,
+    Draining,
+    TooMuch,
+    ReplyTooLong,
+    /// The database gave an answer that it can't give.
+    Unexpected,
+    /// The commit was called, and its answer is lost.
+    Lost,
+}
+
+impl Stop {
+    /// The refusal, of which nothing was changed but where it says so.
+    pub fn refusal(self) -> Refusal {
+        match self {
+            Stop::Blocked(by, _) => {
+                let why = "a transaction in the way is undecided: nothing was changed";
+                Refusal::busy("blocked", why).with_number("by", by)
+            }
+            Stop::NotClosed(closed) => {
+                Refusal::new(409, "notclosed", "this timestamp is above closed").with_number("closed", closed)
+            }
+            Stop::BelowHorizon(horizon) => {
+                let why = "versions at this timestamp may be gone";
+                Refusal::new(410, "belowhorizon", why).with_number("horizon", horizon)
+            }
+            Stop::NoMemory => Refusal::busy("nomemory", "there is no memory for it: nothing was changed"),
+            Stop::Full => Refusal::busy("full", "the server's memory is full: keys can be deleted, and not put"),
+            Stop::Draining => Refusal::busy("draining", "the server is about to end"),
+            Stop::TooMuch => Refusal::new(
+                422,
+                "toomuch",
+                format!("a transaction reads {MOST_READ} rows at most: nothing was changed"),
+            ),
+            Stop::ReplyTooLong => {
+                let why = "the answer would be longer than --max-reply: nothing was changed";
+                Refusal::new(422, "replytoolong", why)
+            }
+            Stop::Unexpected => Refusal::new(500, "unexpected", "the server's log says more: nothing was changed"),
+            Stop::Lost => Refusal::new(500, "unwritten", "it may have committed: there is no memory for its answer"),
+        }
+    }
+}
+
+impl From<Unread> for Stop {
+    fn from(unread: Unread) -> Stop {
+        match unread {
+            Unread::BelowHorizon(horizon) => Stop::BelowHorizon(horizon),
+            Unread::NoMemory => Stop::NoMemory,
+        }
+    }
+}
+
+/// Runs a plan once.
+pub fn run<'p>(core: &mut Core, plan: &'p Plan<'_>) -> Result<End<'p>, Stop> {
+    check(core, plan)?;
+    let timestamp = core.ledger.next_timestamp();
+    let mut running = Running { core, timestamp, own: BTreeSet::new(), read: 0, bytes: 0 };
+    running.begin()?;
+    let ended = running.steps(plan).and_then(|end| running.commit(end));
+    if !matches!(ended, Ok(End::Committed(_)) | Err(Stop::Lost)) {
+        running.abort();
+    }
+    ended
+}
+
+/// What can be refused before anything is begun.
+fn check(core: &Core, plan: &Plan<'_>) -> Result<(), Stop> {
+    if core.limits.is_draining {
+        return Err(Stop::Draining);
+    }
+    for condition in &plan.conditions {
+        match *condition {
+            Condition::Unchanged { since, .. } if since > core.ledger.closed => {
+                return Err(Stop::NotClosed(core.ledger.closed))
+            }
+            Condition::Unchanged { since, .. } if since < core.ledger.horizon => {
+                return Err(Stop::BelowHorizon(core.ledger.horizon))
+            }
+            _ => {}
+        }
+    }
+    Ok(())
+}
+
+/// A transaction that was begun.
+struct Running<'c, 'p> {
+    core: &'c mut Core,
+    timestamp: u64,
+    /// Keys that it has written.
+    own: BTreeSet<&'p [u8]>,
+    /// Rows that scans have read.
+    read: usize,
+    /// Bytes that are told.
+    bytes: usize,
+}
+
+impl<'p> Running<'_, 'p> {
+    fn begin(&mut self) -> Result<(), Stop> {
+        let ts = self.timestamp;
+        match self.core.ask(Owner::Server, Command::Begin { ts }) {
+            Ok(Outcome::Started { .. }) => Ok(()),
+            other => Err(self.stop("begin", other)),
+        }
+    }
+
+    fn commit(&mut self, end: End<'p>) -> Result<End<'p>, Stop> {
+        let End::Committed(mut told) = end else { return Ok(end) };
+        match self.core.ask(Owner::Server, Command::Commit { ts: self.timestamp }) {
+            Ok(Outcome::Committed { rows, .. }) => told.written = rows,
+            Err(CallError::Unwritten) => return Err(Stop::Lost),
+            other => return Err(self.stop("commit", other)),
+        }
+        Ok(End::Committed(told))
+    }
+
+    fn abort(&mut self) {
+        let ts = self.timestamp;
+        match self.core.ask(Owner::Server, Command::Abort { ts }) {
+            Ok(Outcome::Aborted { .. } | Outcome::Refused(Refused::NoMemory)) | Err(_) => {}
+            Ok(other) => {
+                self.stop("abort", Ok(other));
+            }
+        }
+    }
+
+    fn steps(&mut self, plan: &'p Plan<'_>) -> Result<End<'p>, Stop> {
+        let found = self.failed(&plan.conditions)?;
+        let timestamp = self.timestamp;
+        let (branch, steps) = match (found.is_empty(), &plan.otherwise) {
+            (true, _) => (Branch::Then, &plan.then),
+            (false, Some(otherwise)) => (Branch::Else, otherwise),
+            (false, None) => return Ok(End::Failed(Failed { timestamp, found })),
+        };
+        // Only its own branch is told.
+        self.bytes = 0;
+        let mut results = Vec::with_capacity(steps.len());
+        for step in steps {
+            results.push(self.step(step)?);
+        }
+        self.tell_versions(&mut results)?;
+        Ok(End::Committed(Committed { timestamp, branch, written: 0, results }))
+    }
+
+    /// The conditions that don't hold. All of them are looked at, so that all are told.
+    fn failed(&mut self, conditions: &'p [Condition<'_>]) -> Result<Vec<(usize, Option<Row<'p>>)>, Stop> {
+        let mut rows = Vec::new();
+        let mut found = Vec::new();
+        for (at, condition) in conditions.iter().enumerate() {
+            match condition {
+                Condition::Key { key, test } => rows.push((at, test, self.get(key)?)),
+                Condition::Unchanged { span, since } if self.is_unchanged(span, *since)? => {}
+                Condition::Unchanged { .. } => found.push((at, None)),
+            }
+        }
+        let with_value = |row: &&mut Row<'p>| row.value.is_some();
+        let mut all: Vec<&mut Row<'p>> = rows.iter_mut().map(|(_, _, row)| row).filter(with_value).collect();
+        self.set_versions(&mut all)?;
+        for (at, test, row) in rows {
+            if !test.holds(row.value.as_deref(), row.version) {
+                found.push((at, Some(row)));
+            }
+        }
+        found.sort_by_key(|(at, _)| *at);
+        Ok(found)
+    }
+
+    fn step(&mut self, step: &'p Step<'_>) -> Result<Told<'p>, Stop> {
+        let ts = self.timestamp;
+        match step {
+            Step::Put { .. } if self.core.is_full() => Err(Stop::Full),
+            Step::Put { key, value } => self.write("put", key, Command::Put { ts, key, value }),
+            Step::Del { key } => self.write("del", key, Command::Del { ts, key }),
+            Step::Get { key } => Ok(Told::Row(self.get(key)?)),
+            Step::Scan { span, limit } => self.scan(span, *limit),
+        }
+    }
+
+    fn write(&mut self, name: &str, key: &'p [u8], command: Command<'_>) -> Result<Told<'p>, Stop> {
+        match self.core.ask(Owner::Server, command) {
+            Ok(Outcome::Written { .. }) => {
+                self.own.insert(key);
+                Ok(Told::Nothing)
+            }
+            other => Err(self.stop(name, other)),
+        }
+    }
+
+    fn get(&mut self, key: &'p [u8]) -> Result<Row<'p>, Stop> {
+        let mut value = None;
+        let command = Command::Get { ts: self.timestamp, key };
+        match self.core.show(Owner::Server, command, &mut |event| value = event.value()) {
+            Ok(Outcome::Nothing) => {}
+            other => return Err(self.stop("get", other)),
+        }
+        self.count(key.len() + value.as_ref().map_or(0, Vec::len))?;
+        Ok(self.row(Cow::Borrowed(key), value))
+    }
+
+    /// A row, with its version where it is this transaction's own.
+    fn row(&self, key: Cow<'p, [u8]>, value: Option<Vec<u8>>) -> Row<'p> {
+        let is_own = value.is_some() && self.own.contains(&*key);
+        Row { version: is_own.then_some(self.timestamp), key, value }
+    }
+
+    fn scan(&mut self, span: &Bounds<'_>, limit: usize) -> Result<Told<'p>, Stop> {
+        let (mut rows, mut lo, closed) = (Rows::new(), span.lo.to_vec(), self.core.ledger.closed);
+        let more = loop {
+            let (part, want) = (Span { lo: &lo, hi: span.hi.as_deref() }, limit + 1 - rows.len());
+            let page = self.core.page(part, closed, want)?;
+            // A page that ends early has some 4 MB.
+            let is_long = page.rows.len() < want;
+            let hi = page.next.as_deref().or(span.hi.as_deref());
+            self.read(Span { lo: &lo, hi }, page.rows.len(), &mut rows)?;
+            match page.next {
+                _ if rows.len() > limit => break true,
+                None => break false,
+                Some(_) if is_long => break true,
+                Some(next) => lo = next,
+            }
+        };
+        rows.truncate(limit);
+        self.count(rows.iter().map(|(key, value)| key.len() + value.len() + ROW_BYTES).sum())?;
+        let rows = rows.into_iter().map(|(key, value)| self.row(Cow::Owned(key), Some(value))).collect();
+        Ok(Told::Rows { rows, more })
+    }
+
+    /// Whether the rows of a span are those of a snapshot: the values, and not only the keys.
+    fn is_unchanged(&mut self, span: &Bounds<'_>, since: u64) -> Result<bool, Stop> {
+        let (mut lo, closed) = (span.lo.to_vec(), self.core.ledger.closed);
+        loop {
+            let part = Span { lo: &lo, hi: span.hi.as_deref() };
+            let mut then = self.core.page(part, since, PART)?;
+            let now = if since == closed { None } else { self.core.page(part, closed, PART)?.next };
+            // Both are known up to the nearer end.
+            let next = match (then.next.take(), now) {
+                (Some(then), Some(now)) => Some(then.min(now)),
+                (then, now) => then.or(now),
+            };
+            let (hi, paged) = (next.as_deref().or(span.hi.as_deref()), then.rows.len());
+            then.rows.retain(|(key, _)| hi.is_none_or(|hi| key.as_slice() < hi));
+            let mut rows = Rows::new();
+            self.read(Span { lo: &lo, hi }, paged, &mut rows)?;
+            match next {
+                _ if rows != then.rows => return Ok(false),
+                Some(next) => lo = next,
+                None => return Ok(true),
+            }
+        }
+    }
+
+    /// The rows of a span as the transaction sees them. A page of so many rows has found the span.
+    fn read(&mut self, span: Span<'_>, paged: usize, rows: &mut Rows) -> Result<(), Stop> {
+        let before = rows.len();
+        let command = Command::Scan { ts: self.timestamp, span };
+        match self.core.show(Owner::Server, command, &mut |event| rows.extend(event.rows())) {
+            Ok(Outcome::Nothing) => {}
+            other => return Err(self.stop("scan", other)),
+        }
+        self.read += paged.max(rows.len() - before);
+        match self.read > MOST_READ {
+            true => Err(Stop::TooMuch),
+            false => Ok(()),
+        }
+    }
+
+    fn tell_versions(&mut self, results: &mut [Told<'p>]) -> Result<(), Stop> {
+        let mut rows = Vec::new();
+        for result in results {
+            match result {
+                Told::Nothing => {}
+                Told::Row(row) => rows.push(row),
+                Told::Rows { rows: found, .. } => rows.extend(found),
+            }
+        }
+        rows.retain(|row| row.value.is_some() && row.version.is_none());
+        self.set_versions(&mut rows)
+    }
+
+    /// Sets the versions of rows that others have written. The newest committed version below the timestamp is the one
+    /// that was read, because an undecided one would have blocked.
+    fn set_versions(&mut self, rows: &mut [&mut Row<'p>]) -> Result<(), Stop> {
+        if rows.is_empty() {
+            return Ok(());
+        }
+        let keys: Vec<&[u8]> = rows.iter().map(|row| &*row.key).collect();
+        let versions = self.core.versions_at(self.timestamp, &keys).map_err(|_| Stop::NoMemory)?;
+        rows.iter_mut().zip(versions).for_each(|(row, version)| row.version = version);
+        Ok(())
+    }
+
+    fn count(&mut self, bytes: usize) -> Result<(), Stop> {
+        self.bytes += bytes;
+        match self.bytes > self.core.limits.max_reply {
+            true => Err(Stop::ReplyTooLong),
+            false => Ok(()),
+        }
+    }
+
+    /// Why a call didn't do what it should.
+    fn stop(&mut self, name: &str, outcome: Result<Outcome, CallError>) -> Stop {
+        match outcome {
+            Ok(Outcome::Refused(Refused::Blocked(by))) => Stop::Blocked(by, self.core.ledger.decision_of(by)),
+            Ok(Outcome::Refused(Refused::NoMemory)) | Err(CallError::NoMemory | CallError::Unwritten) => Stop::NoMemory,
+            Ok(outcome) => {
+                self.core.shout(&format!("{name} => {outcome}, in a transaction that runs alone"));
+                Stop::Unexpected
+            }
+            Err(error) => {
+                self.core.shout(&format!("{name}: {error}, in a transaction that runs alone"));
+                Stop::Unexpected
+            }
+        }
+    }
+}
+
+#[cfg(test)]
+mod tests;
