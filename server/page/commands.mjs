@@ -108,8 +108,8 @@ export class Commands {
 // A line of an answer: an event, a row or message behind one, or a fault. A refusal has its words below it.
 function answerOf(line) {
   const at = line.lastIndexOf(" => ");
-  const fault = /^fault \d+ \d+ (\S+)$/.exec(line);
-  if (fault) return markup`<p class="no">${line}</p>${says(fault[1])}`;
+  const fault = /^fault \d+ \d+ (\S+)/.exec(line);
+  if (fault) return markup`<p class="no">${fault[0]}</p>${says(fault[1])}`;
   if (at < 0 || !/^\d+ \d+ /.test(line)) return markup`<p class="more">${cut(line, 2 * LONGEST)}</p>`;
   const [name, ...details] = line.slice(at + 4).split(" ");
   const isRefused = REFUSALS.has(name);

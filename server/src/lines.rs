@@ -11,13 +11,26 @@
 //! poll FEED MAX    has a MAX of 128 at most
 //! ```
 //!
-//! 1. A line is answered by exactly one event or one `fault LINE CODE NAME`, in its order. LINE counts the session's
+//! Whoever wrote `commit .` into a message hasn't seen what failed before it in that message. So behind a fault, and
+//! behind a line with a dot that was refused, lines with a dot are left out, and `commit .` becomes `abort .`:
+//!
+//! ```text
+//! begin              0 0 begin 1 => started
+//! put . k 10 EUR     fault 2 1 wordcount put takes TS KEY VALUE; a space inside a word is spelled %20
+//! put . paid yes     fault 3 71 skipped a line before it in this message failed: commit . aborts
+//! commit .           1 0 abort 1 => aborted
+//! ```
+//!
+//! `begin` and the next message begin anew. A line with a timestamp is taken as it stands.
+//!
+//! 1. A line is answered by exactly one event or one `fault LINE CODE NAME WHY`, in its order. LINE counts the session's
 //!    lines from 1.
 //! 2. A faulty line makes no call, and the session goes on.
 //! 3. Codes below 64 are the database's own, which docs/GUIDE.md lists. Those from 64 on are the server's.
 
 use crate::core::Core;
 use crate::door::Turn;
+use crate::faults::why;
 use crate::gate::Right;
 use crate::options::Options;
 use crate::outcome::Outcome;
@@ -55,6 +68,7 @@ pub enum Fault {
     TooMany,
     NoRight,
     Draining,
+    Skipped,
 }
 
 impl Fault {
@@ -67,6 +81,7 @@ impl Fault {
             Fault::TooMany => 68,
             Fault::NoRight => 69,
             Fault::Draining => 70,
+            Fault::Skipped => 71,
         }
     }
 
@@ -79,6 +94,7 @@ impl Fault {
             Fault::TooMany => "toomany",
             Fault::NoRight => "noright",
             Fault::Draining => "draining",
+            Fault::Skipped => "skipped",
         }
     }
 }
@@ -93,11 +109,23 @@ pub struct Lines {
     data: Vec<u8>,
     taken: usize,
     pub answers: Vec<u8>,
+    pub told: Told,
+}
+
+/// What was told of some lines so far.
+#[derive(Clone, Copy, Debug, Default, PartialEq, Eq)]
+pub struct Told {
+    /// Whether a line was a fault.
+    pub has_fault: bool,
+    /// Whether a line was refused.
+    pub has_refusal: bool,
+    /// Whether a line of the transaction that the dot stands for has failed.
+    is_spoiled: bool,
 }
 
 impl Lines {
     pub fn new(data: Vec<u8>) -> Lines {
-        Lines { data, taken: 0, answers: Vec::new() }
+        Lines { data, taken: 0, answers: Vec::new(), told: Told::default() }
     }
 
     /// Takes lines until this time, one at least. Once the answers are too long, no further call is made.
@@ -106,10 +134,11 @@ impl Lines {
             let rest = &self.data[self.taken..];
             let end = rest.iter().position(|&byte| byte == b'\n').map_or(rest.len(), |at| at + 1);
             session.lines += 1;
-            if self.answers.len() < core.limits.max_reply {
-                take(core, session, &rest[..end], &mut self.answers)?;
+            let (line, out) = (&rest[..end], &mut self.answers);
+            if out.len() < core.limits.max_reply {
+                take(core, session, line, &mut self.told, out)?;
             } else {
-                tell_fault(core, session, Fault::ReplyTooLong, &mut self.answers);
+                self.told.tell(core, session, Fault::ReplyTooLong, line, out);
             }
             self.taken += end;
             if Instant::now() >= until {
@@ -120,37 +149,58 @@ impl Lines {
     }
 }
 
-fn take(core: &mut Core, session: &mut Session, line: &[u8], out: &mut Vec<u8>) -> Result<(), Lost> {
-    let made = match prepared(core, session, line) {
+fn take(core: &mut Core, session: &mut Session, line: &[u8], told: &mut Told, out: &mut Vec<u8>) -> Result<(), Lost> {
+    let begins = matches!(line.strip_prefix(b"begin"), Some([] | [b' ' | b'\n', ..]));
+    told.is_spoiled &= !begins;
+    let has_dot = has_dot(session, line);
+    let made = match prepared(core, session, line, told.is_spoiled && has_dot) {
         Err(fault) => {
-            tell_fault(core, session, fault, out);
+            told.tell(core, session, fault, line, out);
             return Ok(());
         }
         Ok(None) => core.call(session, line, out),
         Ok(Some(other)) => core.call(session, &other, out),
     };
     match made {
-        Ok(Outcome::Closed { at, aborted: 1.. }) if line.starts_with(b"closehard ") => {
-            audit(core, session, "closehard", at);
+        Ok(outcome) => {
+            if let (Outcome::Closed { at, aborted: 1.. }, true) = (&outcome, line.starts_with(b"closehard ")) {
+                audit(core, session, "closehard", *at);
+            }
+            if matches!(outcome, Outcome::Refused(_) | Outcome::TooLate { .. }) {
+                told.has_refusal = true;
+                told.is_spoiled |= has_dot;
+            }
         }
-        Ok(_) => {}
-        Err(CallError::Line(fault)) => tell(core, session, fault.code(), fault.name(), out),
-        Err(CallError::NoMemory) => tell(core, session, 12, "nomemory", out),
-        Err(CallError::Spent) => tell(core, session, 13, "spent", out),
-        Err(CallError::AnswerTooLong) => tell(core, session, 25, "answertoolong", out),
+        Err(CallError::Line(fault)) => told.fault(core, session, fault.code(), fault.name(), line, out),
+        Err(CallError::NoMemory) => told.fault(core, session, 12, "nomemory", line, out),
+        Err(CallError::Spent) => told.fault(core, session, 13, "spent", line, out),
+        Err(CallError::AnswerTooLong) => told.fault(core, session, 25, "answertoolong", line, out),
         Err(CallError::Unwritten) => return Err(Lost),
     }
     Ok(())
 }
 
-fn tell_fault(core: &mut Core, session: &Session, fault: Fault, out: &mut Vec<u8>) {
-    tell(core, session, fault.code(), fault.name(), out);
-}
+impl Told {
+    fn tell(&mut self, core: &mut Core, session: &Session, fault: Fault, line: &[u8], out: &mut Vec<u8>) {
+        self.fault(core, session, fault.code(), fault.name(), line, out);
+    }
 
-fn tell(core: &mut Core, session: &Session, code: u8, name: &'static str, out: &mut Vec<u8>) {
-    core.ledger.refused(name);
-    // Writing to a vector can't fail.
-    let _ = writeln!(out, "fault {} {code} {name}", session.lines);
+    fn fault(
+        &mut self,
+        core: &mut Core,
+        session: &Session,
+        code: u8,
+        name: &'static str,
+        line: &[u8],
+        out: &mut Vec<u8>,
+    ) {
+        core.ledger.refused(name);
+        // What was left out follows from another fault, or from a refusal.
+        self.has_fault |= name != Fault::Skipped.name();
+        self.is_spoiled = true;
+        // Writing to a vector can't fail.
+        let _ = writeln!(out, "fault {} {code} {name} {}", session.lines, why(name, line));
+    }
 }
 
 /// Who has ended what is another's.
@@ -163,19 +213,21 @@ fn audit(core: &Core, session: &Session, event: &'static str, number: u64) {
 type Prepared = Result<Option<Vec<u8>>, Fault>;
 
 /// One rule for each command that isn't handed on as it is.
-fn prepared(core: &Core, session: &mut Session, line: &[u8]) -> Prepared {
+fn prepared(core: &Core, session: &mut Session, line: &[u8], is_spoiled: bool) -> Prepared {
     let whole = line.strip_suffix(b"\n").unwrap_or(line);
     let end = whole.iter().position(|&byte| byte == b' ');
     let (command, rest) = end.map_or((whole, None), |at| (&whole[..at], Some(&whole[at + 1..])));
     check_right(session, command)?;
     check_keys(session, command, rest.unwrap_or(b""))?;
     match (command, rest) {
+        (b"commit" | b"abort", _) if is_spoiled => Ok(dot(session, b"abort", line)),
+        _ if is_spoiled => Err(Fault::Skipped),
         (b"begin", _) => begin(core, session, line, rest),
         (b"close", Some(to)) => bound(core, to).map(|()| None),
         (b"closehard", Some(to)) => bound(core, to).map(|()| None),
-        (b"put", Some(rest)) if !core.is_full() => Ok(dot(session, command, rest, line)),
+        (b"put", Some(_)) if !core.is_full() => Ok(dot(session, command, line)),
         (b"put", Some(_)) => Err(Fault::Full),
-        (b"get" | b"scan" | b"del" | b"commit" | b"abort", Some(rest)) => Ok(dot(session, command, rest, line)),
+        (b"get" | b"scan" | b"del" | b"commit" | b"abort", Some(_)) => Ok(dot(session, command, line)),
         (b"open" | b"openinitial" | b"openevery" | b"openinitialevery", Some(_)) => has_room(core, session, Kind::Feed),
         (b"protect", Some(_)) => has_room(core, session, Kind::Protection),
         (b"poll", Some(rest)) => poll(core, line, rest),
@@ -242,18 +294,24 @@ fn begin(core: &Core, session: &mut Session, line: &[u8], rest: Option<&[u8]>) -
     Ok(is_drawn.then(|| format!("begin {}\n", core.ledger.next_timestamp()).into_bytes()))
 }
 
-/// The line with the session's last timestamp for a dot as the first word.
-fn dot(session: &Session, command: &[u8], rest: &[u8], line: &[u8]) -> Option<Vec<u8>> {
-    let last = session.last?;
-    let has_dot = rest.first() == Some(&b'.') && matches!(rest.get(1), None | Some(b' '));
-    has_dot.then(|| {
-        let mut spelled = Vec::with_capacity(line.len() + GREATEST_LENGTH);
-        spelled.extend_from_slice(command);
-        // Writing to a vector can't fail.
-        let _ = write!(spelled, " {last}");
-        spelled.extend_from_slice(&line[command.len() + 2..]);
-        spelled
-    })
+/// Whether a line is of the transaction that the session began last, by a dot.
+fn has_dot(session: &Session, line: &[u8]) -> bool {
+    let commands: [&[u8]; 6] = [b"get", b"scan", b"put", b"del", b"commit", b"abort"];
+    let behind = |command: &&[u8]| line.strip_prefix(*command)?.strip_prefix(b" .");
+    let behind = commands.iter().find_map(behind);
+    session.last.is_some() && matches!(behind, Some([] | [b' ' | b'\n', ..]))
+}
+
+/// The line of a command with the session's last timestamp for a dot as the first word.
+fn dot(session: &Session, command: &[u8], line: &[u8]) -> Option<Vec<u8>> {
+    let last = session.last.filter(|_| has_dot(session, line))?;
+    let behind = line.iter().position(|&byte| byte == b'.')? + 1;
+    let mut spelled = Vec::with_capacity(line.len() + GREATEST_LENGTH);
+    spelled.extend_from_slice(command);
+    // Writing to a vector can't fail.
+    let _ = write!(spelled, " {last}");
+    spelled.extend_from_slice(&line[behind..]);
+    Some(spelled)
 }
 
 /// A timestamp is not far ahead of all others.

@@ -115,6 +115,15 @@ pub fn number_of(word: &[u8]) -> Option<u64> {
     (number <= GREATEST).then_some(number)
 }
 
+/// Whether something is asked for by `NAME=1`.
+pub fn flag_in(given: &Arguments, name: &str) -> Result<bool, Refusal> {
+    match given.bytes(name) {
+        None | Some(b"0") => Ok(false),
+        Some(b"1") => Ok(true),
+        Some(_) => Err(Refusal::new(400, "argument", format!("{name} has to be 0 or 1"))),
+    }
+}
+
 /// How a query spells bytes: letters, digits and `-._~` are themselves.
 pub fn percent_encoded(bytes: &[u8]) -> String {
     let mut word = String::with_capacity(bytes.len());

@@ -12,8 +12,8 @@ use crate::connections::Connection;
 use crate::door::Turn;
 use crate::gate::{Right, Who};
 use crate::http::{Request, Response};
-use crate::lines::{Lines, Lost};
-use crate::query::{arguments, number_of};
+use crate::lines::{Lines, Lost, Told};
+use crate::query::{arguments, flag_in, number_of};
 use crate::refusal::Refusal;
 use crate::routes::Server;
 use crate::seats::Session;
@@ -64,7 +64,7 @@ impl Drop for Seated {
 
 /// `POST /call`: lines in, events out.
 pub async fn call(server: &Arc<Server>, request: Request) -> Result<Response, Refusal> {
-    arguments(&request.path, &request.query, &[])?;
+    let is_strict = flag_in(&arguments(&request.path, &request.query, &["strict"])?, "strict")?;
     let (who, connection) = (request.who.clone(), request.connection.clone());
     let mut data = request.body(server.options.max_message, BODY).await?;
     if data.last() != Some(&b'\n') {
@@ -78,7 +78,21 @@ pub async fn call(server: &Arc<Server>, request: Request) -> Result<Response, Re
     let told = answer(&mut seated, &mut lines).await;
     drop(seated);
     server.metrics.calls.note(start.elapsed());
-    told.map(|()| Response::whole("text/plain; charset=utf-8", lines.answers).keeping(place))
+    told?;
+    let mut response = Response::whole("text/plain; charset=utf-8", lines.answers).keeping(place);
+    if is_strict {
+        response.status = status_of(lines.told);
+    }
+    Ok(response)
+}
+
+/// The status that says whether all went well.
+fn status_of(told: Told) -> u16 {
+    match told {
+        Told { has_fault: true, .. } => 422,
+        Told { has_refusal: true, .. } => 409,
+        _ => 200,
+    }
 }
 
 /// So many answers are there at once at most, the last one of someone who may operate.

@@ -101,10 +101,14 @@ pub fn texts(core: &mut Core, session: &mut Session, text: &str) -> String {
     String::from_utf8(lines.answers).expect("text")
 }
 
-/// The same without what stands before each answer.
+/// The same without what stands before each answer, and without a fault's sentence.
 pub fn answers(core: &mut Core, session: &mut Session, text: &str) -> Vec<String> {
     let told = texts(core, session, text);
-    told.lines().map(|line| line.rsplit_once(" => ").map_or(line, |(_, answer)| answer).to_string()).collect()
+    let short = |line: &str| match line.strip_prefix("fault ") {
+        Some(_) => line.splitn(5, ' ').take(4).collect::<Vec<_>>().join(" "),
+        None => line.rsplit_once(" => ").map_or(line, |(_, answer)| answer).to_string(),
+    };
+    told.lines().map(short).collect()
 }
 
 /// The same, and then closing as far as transactions are decided.

@@ -125,10 +125,10 @@ def test_half_lines(room, server):
     async def work(client):
         async with client.ws_connect(server.url + "/session") as one:
             told = (await asked(one, "begin\nput . half 12")).data.split("\n")
-            assert told[0].endswith("=> started") and told[1] == "fault 2 7 nonewline", told
-            assert (await asked(one, "34\n")).data == "fault 3 2 unknowncommand\n"
+            assert told[0].endswith("=> started") and told[1].startswith("fault 2 7 nonewline "), told
+            assert (await asked(one, "34\n")).data.startswith("fault 3 2 unknowncommand ")
             assert (await asked(one, "get . half\ncommit .\n")).data.count("=> none\n") == 1
-            assert (await asked(one, "stats\r\n")).data == "fault 6 9 badbyte\n"
+            assert (await asked(one, "stats\r\n")).data.startswith("fault 6 9 badbyte ")
     talk(work)
 
 
@@ -137,10 +137,10 @@ def test_huge_lines(room, server):
     async def work(client):
         session = server.url + "/session"
         async with client.ws_connect(session) as other, client.ws_connect(session) as one:
-            script = "begin\nput . huge %s\nput . huge %s\ncommit .\n" % ("x" * 250000, "y" * 65536)
+            script = "".join("begin\nput . huge %s\ncommit .\n" % value for value in ("x" * 250000, "y" * 65536))
             lines = (await asked(one, script)).data.split("\n")
-            assert lines[1] == "fault 2 8 linetoolong" and lines[2].endswith("=> written"), lines[1][:200]
-            assert lines[3].endswith("=> committed 1")
+            assert lines[1].startswith("fault 2 8 linetoolong ") and lines[2].endswith("=> aborted"), lines[1][:200]
+            assert lines[4].endswith("=> written") and lines[5].endswith("=> committed 1")
             with contextlib.suppress(OSError):  # the connection may end while it is still sent to
                 assert (await asked(one, "x" * 3_000_000)).type is not aiohttp.WSMsgType.TEXT
             assert "=> stats" in (await asked(other, "stats\n")).data

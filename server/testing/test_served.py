@@ -243,7 +243,7 @@ class Lines(unittest.IsolatedAsyncioTestCase):
             for at in range(2000):
                 first, second, _ = (await socket.receive()).data.split("\n")
                 self.assertTrue(first.endswith(" readat 0 %d => none" % at), first)
-                self.assertEqual(second, "fault %d 2 unknowncommand" % (2 * at + 2))
+                self.assertTrue(second.startswith("fault %d 2 unknowncommand " % (2 * at + 2)), second)
 
     async def test_pings_are_answered_while_a_long_message_is(self):
         """A message takes longer than the heartbeat, and its client is taken for one that is there."""
@@ -297,13 +297,14 @@ class Lines(unittest.IsolatedAsyncioTestCase):
     async def test_a_session_holds_so_many_of_each(self):
         async with served("--max-held", "3") as client:
             text = await (await client.post("/call", data="protect 0\n" * 5)).text()
-            self.assertEqual(text.splitlines()[3:], ["fault 4 68 toomany", "fault 5 68 toomany"])
+            self.assertEqual([line.split(" ")[:4] for line in text.splitlines()[3:]],
+                             [["fault", line, "68", "toomany"] for line in ("4", "5")])
 
     async def test_where_memory_is_full_nothing_is_put(self):
         async with served("--max-memory", "1") as client:
             await asyncio.sleep(1.2)
-            text = await (await client.post("/call", data="begin\nput . a 1\ndel . a\ncommit .\n")).text()
-            self.assertEqual(text.splitlines()[1], "fault 2 67 full")
+            text = await (await client.post("/call", data="begin\nput . a 1\nbegin\ndel . a\ncommit .\n")).text()
+            self.assertTrue(text.splitlines()[1].startswith("fault 2 67 full "), text)
             self.assertIn("=> committed 1\n", text)
 
 
@@ -327,7 +328,7 @@ class End(unittest.IsolatedAsyncioTestCase):
             await socket.send_str("put . a 1\nbegin\ncommit 1\n")
             answers = (await socket.receive()).data.splitlines()
             self.assertTrue(answers[0].endswith("=> written"))
-            self.assertEqual(answers[1], "fault 3 70 draining")
+            self.assertTrue(answers[1].startswith("fault 3 70 draining "), answers[1])
             self.assertTrue(answers[2].endswith("=> committed 1"))
             self.assertEqual(await asyncio.wait_for(client.process.wait(), END_SECONDS), 0)
 

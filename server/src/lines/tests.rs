@@ -45,6 +45,8 @@ fn where_begin_is_refused_no_line_goes_to_the_transaction_before() {
     let mut one = session(&mut core);
     answers(&mut core, &mut one, "begin\n");
     assert_eq!(answers(&mut core, &mut one, "begin 1\nput . a 1\n"), ["tsused", "fault 3 3 number"]);
+    let told = texts(&mut core, &mut one, "put . a 1\n");
+    assert_eq!(told, "fault 4 3 number the dot stands for no transaction: begin came to nothing, or wasn't there\n");
 }
 
 #[test]
@@ -78,7 +80,7 @@ fn half_a_line_is_no_line() {
     let mut core = core(&[]);
     let mut one = session(&mut core);
     assert_eq!(answers(&mut core, &mut one, "begin\nput . a 12"), ["started", "fault 2 7 nonewline"]);
-    assert_eq!(answers(&mut core, &mut one, "34\ncommit .\n"), ["fault 3 2 unknowncommand", "committed 0"]);
+    assert_eq!(answers(&mut core, &mut one, "34\ncommit .\n"), ["fault 3 2 unknowncommand", "aborted"]);
     assert_eq!(answers(&mut core, &mut one, "begin"), ["fault 5 7 nonewline"]);
     assert_eq!(core.ledger.undecided.len(), 0);
 }
@@ -149,8 +151,8 @@ fn where_memory_is_full_rows_can_be_deleted_and_not_put() {
     let mut core = core(&["--max-memory", "1000"]);
     let mut one = session(&mut core);
     core.watch_memory(1001);
-    let told = answers(&mut core, &mut one, "begin\nput . a 1\ndel . a\ncommit .\n");
-    assert_eq!(told, ["started", "fault 2 67 full", "written", "committed 1"]);
+    let told = answers(&mut core, &mut one, "begin\ndel . a\ncommit .\nbegin\nput . a 1\ncommit .\n");
+    assert_eq!(told, ["started", "written", "committed 1", "started", "fault 5 67 full", "aborted"]);
     core.watch_memory(999);
     assert_eq!(answers(&mut core, &mut one, "begin\nput . a 1\n"), ["started", "written"]);
 }
@@ -163,7 +165,9 @@ fn lines_want_rights() {
     let mut told = |rights: &[Right]| {
         let mut one = core.seats.take("127.0.0.1:1".into(), Who::of("reader", rights), 0).expect("a seat");
         let lines = "begin\nget . a\nput . a 1\ndel . a\nabort .\nclosehard 0\ncollect 0\ncancel 1\nrelease 1\nstats\n";
-        let told = answers(&mut core, &mut one, lines);
+        // Each is a message: within one, lines behind a fault are left out.
+        let told: Vec<String> =
+            lines.lines().flat_map(|line| answers(&mut core, &mut one, &format!("{line}\n"))).collect();
         end(&mut core, &one);
         told.iter().map(|answer| !answer.ends_with("69 noright")).collect::<Vec<_>>()
     };
@@ -330,4 +334,62 @@ fn a_session_ends_in_turns() {
     let past = Instant::now();
     let turns = std::iter::from_fn(|| (core.end(one.seat, past) == Turn::More).then_some(())).count();
     assert_eq!((turns, core.ledger.undecided.len(), core.seats.count()), (6, 0, 0));
+}
+
+#[test]
+fn behind_a_fault_the_rest_of_the_transaction_is_left_out() {
+    let mut core = core(&[]);
+    let mut one = session(&mut core);
+    for (lines, told) in [
+        (
+            "begin\nput . k 10 EUR\nput . p yes\nget . k\ncommit .\n",
+            &["started", "fault 2 1 wordcount", "fault 3 71 skipped", "fault 4 71 skipped", "aborted"][..],
+        ),
+        // It may be half of a value, so any faulty line counts.
+        ("begin\nput . k two\nlines\ncommit .\n", &["started", "written", "fault 8 2 unknowncommand", "aborted"]),
+        ("begin\nput . k\nabort .\n", &["started", "fault 11 1 wordcount", "aborted"]),
+        // What comes before `begin` is none of its transaction.
+        ("foo\nbegin\nput . k 1\ncommit .\n", &["fault 13 2 unknowncommand", "started", "written", "committed 1"]),
+        // A line with a timestamp is taken as it stands.
+        (
+            "begin 100\nfoo\nput 100 k 2\ncommit 100\n",
+            &["started", "fault 18 2 unknowncommand", "written", "committed 1"],
+        ),
+        // A refusal that isn't of the transaction leaves it.
+        ("begin\nreadat 900 k\nput . k 3\ncommit .\n", &["started", "notclosed 0", "written", "committed 1"]),
+    ] {
+        assert_eq!(answers(&mut core, &mut one, lines), told, "{lines}");
+    }
+    let undecided = answers(&mut core, &mut one, "begin\nput . k\n");
+    assert_eq!(undecided[1], "fault 26 1 wordcount");
+    // Whoever writes the next message has seen it.
+    assert_eq!(answers(&mut core, &mut one, "put . k 4\ncommit .\n"), ["written", "committed 1"]);
+}
+
+#[test]
+fn behind_a_refusal_too() {
+    let mut core = core(&[]);
+    let (mut one, mut two) = (session(&mut core), session(&mut core));
+    answers(&mut core, &mut one, "begin\nput . count 5\n");
+    let told = answers(&mut core, &mut two, "begin\nget . count\nput . count 6\ncommit .\n");
+    assert_eq!(told, ["started", "blocked 1", "fault 3 71 skipped", "aborted"]);
+    answers(&mut core, &mut two, "begin\nget . other\n");
+    let told = answers(&mut core, &mut one, "put . other 1\nput . count 6\ncommit .\n");
+    assert_eq!(told, ["toolate", "fault 4 71 skipped", "ended"]);
+    assert_eq!(core.ledger.undecided.len(), 1);
+}
+
+#[test]
+fn what_was_told_says_whether_all_went_well() {
+    let mut core = core(&[]);
+    let mut one = session(&mut core);
+    let mut told = |text: &str| {
+        let mut lines = Lines::new(text.as_bytes().to_vec());
+        lines.turn(&mut core, &mut one, Instant::now() + Duration::from_secs(60)).expect("memory");
+        (lines.told.has_fault, lines.told.has_refusal)
+    };
+    assert_eq!(told("begin\nput . a 1\ncommit .\n"), (false, false));
+    assert_eq!(told("begin\ncommit 1\nput . a 1\ncommit .\n"), (false, true));
+    assert_eq!(told("begin\ncommit .\nget . a\nput . a 1\n"), (false, true));
+    assert_eq!(told("begin\nput . a\nput . a 1\ncommit .\n"), (true, false));
 }
