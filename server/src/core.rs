@@ -123,6 +123,26 @@ impl Core {
         self.make(owner, command, Wanted::Event(look))
     }
 
+    /// Makes the snapshot reads of lines, each with its seat, and shows the event of each. It ends at the first error.
+    pub fn show_all(&mut self, reads: &[u8], look: &mut dyn FnMut(Event<'_>)) -> Result<(), CallError> {
+        let mut wanted = Wanted::Event(look);
+        let mut end = Ok(());
+        for made in self.database.calls(reads) {
+            match made {
+                Ok(event) => {
+                    keep(&mut self.transcript, event, &mut wanted);
+                    self.ledger.note(&mut self.seats, Owner::Server, &Outcome::Nothing);
+                }
+                Err(error) => end = end.and(Err(error)),
+            }
+        }
+        if end == Err(CallError::Unwritten) {
+            self.ledger.note(&mut self.seats, Owner::Server, &Outcome::Nothing);
+            return if self.keep_again(&mut wanted).is_told { Ok(()) } else { end };
+        }
+        end
+    }
+
     /// The version of each key: the timestamp of its newest committed value at or below a timestamp, or `None` where it
     /// has none there. It makes no call.
     pub fn versions_at(&mut self, at: u64, keys: &[&[u8]]) -> Result<Vec<Option<u64>>, VersionError> {

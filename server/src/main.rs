@@ -21,7 +21,7 @@
 //! Beside them: `door` (the lock, and turns), `seats` (the 64 seats), `consumers` and `names` (what consumers have
 //! stored, held while they are down), `lag` (rows closed above a timestamp), `transcript` (the events kept), `reports`,
 //! `metrics`, `connections` (how many, and which are silent or stuck), `bodies` (their bytes), `ws`, `query`, `refusal`,
-//! `options`, `tokens`, `tls`, `notify`, `log`, `page`, `faults` (their words).
+//! `options`, `tokens`, `tls`, `notify`, `log`, `page`, `before` (values before a feed's rows), `faults` (their words).
 //!
 //! Three rules hold everywhere. All calls are made under one lock, which no one holds over an await. The database alone
 //! decides: the ledger only follows its answers, and where an answer isn't as the ledger foretells, the server says so
@@ -29,6 +29,7 @@
 #![forbid(unsafe_code)]
 
 mod api;
+mod before;
 mod bodies;
 mod closing;
 mod connections;

@@ -18,6 +18,7 @@
 //! 2. The feed lives as long as the stream, and no longer.
 //! 3. One piece waits for a reader, of at most `ENOUGH` bytes and one poll more.
 
+use crate::before::with_before;
 use crate::connections::Connection;
 use crate::core::Core;
 use crate::form::Form;
@@ -47,6 +48,7 @@ const ENOUGH: usize = 1 << 15;
 pub struct Stream {
     place: Place,
     feed: u64,
+    before: Option<Before>,
     form: Form,
     sender: Sender,
     connection: Arc<Connection>,
@@ -57,6 +59,13 @@ pub struct Stream {
     /// Whether the ledger says that its reader has no room.
     waits: bool,
     written: Instant,
+}
+
+/// Rows are told with the values before.
+#[derive(Clone, Copy, Debug)]
+pub struct Before {
+    /// The timestamp of the rows that the feed begins with, where it does.
+    pub initial: Option<u64>,
 }
 
 /// Why a stream goes on no longer.
@@ -91,6 +100,7 @@ impl Stream {
             moved: place.server().door.moved(),
             place,
             feed,
+            before: None,
             form,
             sender,
             connection,
@@ -99,6 +109,11 @@ impl Stream {
             waits: false,
             written: Instant::now(),
         }
+    }
+
+    /// Tells each row with the value before.
+    pub fn with(self, before: Option<Before>) -> Stream {
+        Stream { before, ..self }
     }
 
     /// Follows the feed to its end. The last message waits for its reader, but not for ever.
@@ -182,7 +197,7 @@ impl Stream {
             if self.seen == Some(closed) {
                 return Ok((Told::nothing(), closed));
             }
-            Ok((polled(core, self.feed, &mut self.pace), closed))
+            Ok((polled(core, self.feed, self.before, &mut self.pace), closed))
         })?;
         self.waits = false;
         self.seen = matches!(told.next, Next::Wait).then_some(closed);
@@ -209,18 +224,24 @@ impl Told {
 }
 
 /// Polls until there is enough for a piece, or all is told.
-fn polled(core: &mut Core, feed: u64, pace: &mut Pace) -> Told {
+fn polled(core: &mut Core, feed: u64, before: Option<Before>, pace: &mut Pace) -> Told {
     let mut told = Told::nothing();
     loop {
-        let before = told.text.len();
+        let start = told.text.len();
         let count = match core.poll(feed, pace.most(), &mut told.text) {
             Ok(Outcome::Messages { count, .. }) => count,
             Ok(Outcome::Refused(Refused::NoMemory)) => return Told { next: Next::Pause, ..told },
             Ok(_) => return told,
             Err(_) => return Told { next: Next::Cut, ..told },
         };
+        if let Some(Before { initial }) = before {
+            match with_before(core, &told.text.split_off(start), initial) {
+                Ok(text) => told.text.extend(text),
+                Err(_) => return Told { next: Next::Cut, ..told },
+            }
+        }
         told.count += count;
-        if !pace.told(count, told.text.len() - before) {
+        if !pace.told(count, told.text.len() - start) {
             return told;
         }
         if told.text.len() >= ENOUGH {
@@ -249,11 +270,11 @@ mod tests {
     fn rows_are_lines_of_json_and_resolved_comes_last() {
         let (mut core, mut session, feed) = with_feed();
         put(&mut core, &mut session, &[("a", "1")]);
-        let told = polled(&mut core, feed, &mut Pace::default());
+        let told = polled(&mut core, feed, None, &mut Pace::default());
         let text = "{\"after\":\"MQ==\",\"key\":\"YQ==\",\"updated\":\"1\"}\n{\"resolved\":\"1\"}\n";
         assert_eq!((String::from_utf8(told.text).as_deref(), told.count), (Ok(text), 2));
         assert!(matches!(told.next, Next::Wait));
-        assert!(polled(&mut core, feed, &mut Pace::default()).text.is_empty());
+        assert!(polled(&mut core, feed, None, &mut Pace::default()).text.is_empty());
     }
 
     #[test]
@@ -265,7 +286,7 @@ mod tests {
             say(&mut core, &mut session, &format!("begin\n{puts}commit .\n"));
             let (mut rows, mut pace) = (0, Pace::default());
             loop {
-                let told = polled(&mut core, feed, &mut pace);
+                let told = polled(&mut core, feed, None, &mut pace);
                 assert!(told.text.len() < 400_000, "{} bytes at once", told.text.len());
                 rows += told.text.split(|byte| *byte == b'\n').filter(|line| line.starts_with(b"{\"after\"")).count();
                 if matches!(told.next, Next::Wait) {
@@ -282,7 +303,7 @@ mod tests {
         let (mut core, mut session, feed) = with_feed();
         put(&mut core, &mut session, &[("a", "1")]);
         core.end_stream(feed);
-        assert!(polled(&mut core, feed, &mut Pace::default()).text.is_empty());
+        assert!(polled(&mut core, feed, None, &mut Pace::default()).text.is_empty());
         assert_eq!(core.ledger.take_end(feed), None);
     }
 }

@@ -19,11 +19,11 @@ use crate::json::Object;
 use crate::ledger::{Name, Reason};
 use crate::names::{name_in, not_closed};
 use crate::outcome::{name_of, Outcome};
-use crate::query::{arguments, Arguments};
+use crate::query::{arguments, flag_in, Arguments};
 use crate::refusal::Refusal;
 use crate::routes::Server;
 use crate::seats::Owner;
-use crate::stream::Stream;
+use crate::stream::{Before, Stream};
 use ripsawbean::{CallError, Command, Refusal as Refused, Span};
 use std::sync::atomic::{AtomicU64, AtomicUsize, Ordering::Relaxed};
 use std::sync::Arc;
@@ -101,6 +101,7 @@ impl Opened {
 
 pub async fn feed(server: &Arc<Server>, request: Request) -> Result<Response, Refusal> {
     let given = asked(&request)?;
+    let is_before = flag_in(&given, "before")?;
     if !request.who.keys().covers(span_of(&given).lo, span_of(&given).hi) {
         return Err(Refusal::other_keys());
     }
@@ -113,7 +114,8 @@ pub async fn feed(server: &Arc<Server>, request: Request) -> Result<Response, Re
     let form = Form::asked(&request.list("accept"), &opened.identity);
     let (response, sender) = Response::stream(form.content_type());
     let opening = form.opening(&opened.text());
-    let stream = Stream::new(place, opened.feed, form, sender, request.connection.clone());
+    let before = is_before.then(|| Before { initial: (!given.has("from")).then_some(opened.from) });
+    let stream = Stream::new(place, opened.feed, form, sender, request.connection.clone()).with(before);
     request.connection.exempt();
     server.spawn(stream.run(opening));
     let response = response
@@ -131,7 +133,7 @@ pub async fn feed(server: &Arc<Server>, request: Request) -> Result<Response, Re
 
 /// The query, and where a browser's `EventSource` goes on by itself, the place that it names.
 fn asked(request: &Request) -> Result<Arguments, Refusal> {
-    let names = ["lo", "hi", "from", "gap", "identity", "consumer"];
+    let names = ["lo", "hi", "from", "gap", "identity", "consumer", "before"];
     let mut given = arguments(&request.path, &request.query, &names)?;
     if let Some((identity, place)) = request.header("last-event-id").and_then(place_in) {
         given.set_bytes("identity", identity.to_vec());
