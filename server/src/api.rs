@@ -69,13 +69,12 @@ impl Answer {
     }
 }
 
-/// The body of a request, as it is sent. It is read before it is refused, so that its connection can go on.
-async fn body_of(server: &Server, request: Request, most: usize) -> Result<Vec<u8>, Refusal> {
-    let is_plain = matches!(request.header("content-encoding"), None | Some(b"identity"));
+/// The body of a request, as it is sent. It is read before anything is refused, so that its connection can go on.
+async fn body_of(server: &Server, request: &mut Request, most: usize) -> Result<Vec<u8>, Refusal> {
     let body = request.body(most.min(server.options.max_message), BODY).await?;
-    match is_plain {
-        true => Ok(body),
-        false => Err(Refusal::new(415, "encoding", "a body is taken as it is, and isn't decoded")),
+    match request.header("content-encoding") {
+        None | Some(b"identity") => Ok(body),
+        Some(_) => Err(Refusal::new(415, "encoding", "a body is taken as it is, and isn't decoded")),
     }
 }
 

@@ -103,7 +103,7 @@ impl Request {
     }
 
     /// The body, of so many bytes at most, that comes within this time.
-    pub async fn body(mut self, most: usize, within: Duration) -> Result<Vec<u8>, Refusal> {
+    pub async fn body(&mut self, most: usize, within: Duration) -> Result<Vec<u8>, Refusal> {
         let end = Instant::now() + within;
         let held = self.bodies.begin(self.connection.peer.ip());
         let read = {

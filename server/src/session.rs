@@ -63,7 +63,7 @@ impl Drop for Seated {
 }
 
 /// `POST /call`: lines in, events out.
-pub async fn call(server: &Arc<Server>, request: Request) -> Result<Response, Refusal> {
+pub async fn call(server: &Arc<Server>, mut request: Request) -> Result<Response, Refusal> {
     let is_strict = flag_in(&arguments(&request.path, &request.query, &["strict"])?, "strict")?;
     let (who, connection) = (request.who.clone(), request.connection.clone());
     let mut data = request.body(server.options.max_message, BODY).await?;

@@ -157,15 +157,15 @@ enum Kind {
     Delete,
 }
 
-async fn write(server: &Arc<Server>, request: Request, kind: Kind) -> Result<Response, Refusal> {
-    let given = arguments(&request.path, &request.query, &["wait"])?;
-    let (wait, key, mut conditions) = (wait_in(&given)?, key_in(&request)?, conditions_in(&request)?);
-    let (head, is_matched) = (server.remembered.asked(&request)?, request.header("if-match").is_some());
+async fn write(server: &Arc<Server>, mut request: Request, kind: Kind) -> Result<Response, Refusal> {
     let value = match kind {
-        Kind::Put => value_of(server, request).await?,
+        Kind::Put => value_of(server, &mut request).await?,
         Kind::Delete => Vec::new(),
     };
     let start = Instant::now();
+    let given = arguments(&request.path, &request.query, &["wait"])?;
+    let (wait, key, mut conditions) = (wait_in(&given)?, key_in(&request)?, conditions_in(&request)?);
+    let (head, is_matched) = (server.remembered.asked(&request)?, request.header("if-match").is_some());
     let borrowed = || Cow::Borrowed(key.as_slice());
     let step = match kind {
         Kind::Put => Step::Put { key: borrowed(), value: Cow::Borrowed(&value) },
@@ -202,7 +202,7 @@ fn written(timestamp: u64, kind: Kind) -> Answer {
     }
 }
 
-async fn value_of(server: &Server, request: Request) -> Result<Vec<u8>, Refusal> {
+async fn value_of(server: &Server, request: &mut Request) -> Result<Vec<u8>, Refusal> {
     let is_value = |refusal: &Refusal| refusal.error == "toolong" && server.options.max_message > MOST_VALUE;
     body_of(server, request, MOST_VALUE).await.map_err(|refusal| match is_value(&refusal) {
         true => Refusal::new(413, "valuelength", format!("a value has {MOST_VALUE} bytes at most")),

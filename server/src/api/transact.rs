@@ -25,15 +25,15 @@ use std::io::Write;
 use std::sync::Arc;
 use std::time::Instant;
 
-pub async fn transact(server: &Arc<Server>, request: Request) -> Result<Response, Refusal> {
+pub async fn transact(server: &Arc<Server>, mut request: Request) -> Result<Response, Refusal> {
+    let body = body_of(server, &mut request, server.options.max_message).await?;
+    let start = Instant::now();
     let given = arguments(&request.path, &request.query, &["wait", "bytes"])?;
     let (wait, spelling) = (wait_in(&given)?, spelling_in(&given)?);
-    let (who, head) = (request.who.clone(), server.remembered.asked(&request)?);
-    let body = body_of(server, request, server.options.max_message).await?;
-    let start = Instant::now();
+    let head = server.remembered.asked(&request)?;
     let plan = Plan::of(&body)?;
-    plan.check(&who)?;
-    let place = plan.answers_at_length().then(|| super::place_of_answer(server, &who)).transpose()?;
+    plan.check(&request.who)?;
+    let place = plan.answers_at_length().then(|| super::place_of_answer(server, &request.who)).transpose()?;
     let work = async {
         match run_until(server, &plan, start + wait).await? {
             End::Committed(committed) => Ok(Answer::new(text_of(&committed, spelling))),
