@@ -17,9 +17,11 @@ import correct
 import edges
 from kills import kill_and_compare
 from machine import TOP, Room, Server
+from mixed import run_mixed
 from page import run_page
 from tally import Tally
 
+SERVED = ("test_served", "test_api", "test_plans", "test_openapi", "test_reference", "test_costs")
 OTHERS = {"attacks": attacks.main, "correct": correct.main}
 
 
@@ -48,8 +50,8 @@ def tests_of(module):
 
 
 def try_served(tally, only):
-    """Each test of test_served.py and test_costs.py, with a server of its own."""
-    suite = unittest.TestSuite(case for name in ("test_served", "test_costs") for case in tests_of(name))
+    """Each test of these modules, with a server of its own."""
+    suite = unittest.TestSuite(case for name in SERVED for case in tests_of(name))
     for test in (test for case in suite for test in case):
         name = test.id().split(".test_")[1].replace("_", " ")
         if only in name:
@@ -57,6 +59,16 @@ def try_served(tally, only):
             test.run(result)
             faults = [fault for _, text in result.failures + result.errors for fault in text.strip().split("\n")[-12:]]
             tally.told(name, faults)
+
+
+def try_mixed(tally, given):
+    figures, faults = "", []
+    with Room() as room:
+        try:
+            figures, faults = run_mixed(room, given.program, given.seed, 12)
+        except Exception:
+            faults = traceback.format_exc().strip().split("\n")[-12:] + [one.tail() for one in room.programs]
+    tally.told("a mixed load of all ways to write, seed %d" % given.seed, faults, figures)
 
 
 def main():
@@ -80,6 +92,8 @@ def whole():
         try_units(tally)
     try_served(tally, given.only)
     try_edges(tally, given.only)
+    if given.only in "mixed load":
+        try_mixed(tally, given)
     if given.only in "page":
         with Room() as room:
             pieces, faults = run_page(room.path, given.program)
