@@ -113,8 +113,8 @@ async def words(tab):
 
 async def hostile(tab):
     """Keys, values, bounds and lines that would be markup are text, wherever the page shows them."""
+    await tab.press("/")
     for word in HOSTILE:
-        await tab.press("/")
         lines = "begin", "put . %s %s" % (word, word), "get . " + word, word, "open %s - 0" % word, "open - %s 0" % word, "commit ."
         await tab.write("\n".join(lines))
         await tab.press("Enter")

@@ -67,10 +67,10 @@ impl Connections {
         Arc::new(Connections { most, patience, table: Mutex::default(), read, written })
     }
 
-    /// A new connection that may be served, or `None` where there are too many and none is silent.
+    /// A new connection that may be served, or `None` where there are too many and none makes room.
     pub fn come(self: &Arc<Connections>, peer: SocketAddr) -> Option<Arc<Connection>> {
         let mut table = self.table.lock();
-        let oldest = if table.open.len() >= self.most { table.take_oldest() } else { None };
+        let oldest = if table.open.len() >= self.most { table.take_first(network_of(peer.ip())) } else { None };
         let connection = (table.open.len() < self.most).then(|| {
             table.last += 1;
             let number = table.last;
@@ -114,6 +114,7 @@ impl Table {
         let network = network_of(connection.peer.ip());
         let entry = Entry { connection: Arc::downgrade(connection), network, busy: 0, silence: None };
         self.open.insert(number, entry);
+        self.silent.come(network);
         self.rests(number, HEAD);
     }
 
@@ -133,11 +134,13 @@ impl Table {
 
     fn goes(&mut self, number: u64) -> Option<Weak<Connection>> {
         self.speaks(number);
-        self.open.remove(&number).map(|entry| entry.connection)
+        let entry = self.open.remove(&number)?;
+        self.silent.go(entry.network);
+        Some(entry.connection)
     }
 
-    fn take_oldest(&mut self) -> Option<Weak<Connection>> {
-        let number = self.silent.first()?;
+    fn take_first(&mut self, comes: IpAddr) -> Option<Weak<Connection>> {
+        let number = self.silent.first(comes)?;
         self.goes(number)
     }
 

@@ -28,8 +28,8 @@ use std::time::Instant;
 
 /// Lines of each kind: those that stand lowest.
 const MOST_LINES: usize = 1000;
-/// Bytes of a transcript that are taken at a time. Small ones are whole in one piece.
-const PIECE: usize = 1 << 20;
+/// Bytes of a transcript that are taken at a time: two pieces wait for a slow reader.
+const PIECE: usize = 1 << 16;
 /// A transcript's first line.
 const HEADER: &[u8] = b"mvfeed 2\n";
 

@@ -103,6 +103,7 @@ def test_more_slow_readers_than_connections(room: Room, scale: Scale) -> str:
     """The same where nobody takes an answer that is longer than what the kernel keeps for a connection."""
     server = started(room)
     fill(Session(server.port), "kept/", 4000, "x" * 900)
+    before = peak(server)
     slow = []
     for at in range(1500):
         with contextlib.suppress(OSError):
@@ -114,7 +115,9 @@ def test_more_slow_readers_than_connections(room: Room, scale: Scale) -> str:
     for one in slow:
         one.close()
     assert len(slow) >= 1400, "only %d could connect" % len(slow)
-    return "honest %.0f ms" % (took * 1e3)
+    found = peak(server) - before
+    assert found < 384 << 20, "%d MB more" % (found >> 20)
+    return "%d MB more, honest %.0f ms" % (found >> 20, took * 1e3)
 
 
 def test_another_address_pushes_nobody_out(room: Room, scale: Scale) -> str:

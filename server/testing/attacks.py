@@ -1,6 +1,6 @@
-"""Clients that mean harm, or mean nothing and do harm: `server/test attacks`, in some six minutes.
+"""Clients that mean harm, or mean nothing and do harm: `server/test attacks`, in some ten minutes.
 
-Each attack is a test with a bound, and a figure that is told. `--heavy` is for the whole size of each, in some fifteen
+Each attack is a test with a bound, and a figure that is told. `--heavy` is for the whole size of each, in some twenty
 minutes, and `--runs 100` for as many servers that get no more memory. It needs nothing but a server to start, nginx,
 Caddy and openssl.
 """

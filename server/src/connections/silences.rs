@@ -1,14 +1,16 @@
-//! Silent connections, and which of them has to go first where another one needs a place.
+//! Silent connections, and which of them has to go where another one needs its place.
 //!
-//! It is that of the network which has most of them, and there the one that is silent for longest. So whoever opens many
-//! pushes out its own alone.
+//! It is of the network that has most connections, of those with silent ones, and there the one that is silent for
+//! longest. Whoever has as many himself makes room by his own. So who opens many pushes out nobody else's.
 //!
 //! ```text
-//! silent: 3 of network A, 1 of network B, which is silent for longest    first: A's oldest
+//! A has 5, of them 2 silent; B has 3 silent ones     one of A's comes: A's oldest goes
+//!                                                    one of B's comes: A's oldest goes
+//! A has 5, all busy; B has 3 silent ones             one of A's comes: none goes
 //! ```
 //!
-//! 1. `crowds` has each network once, with how many of its connections are silent.
-//! 2. To add one, to remove one and to find the first cost O(log n).
+//! 1. `crowds` has each network that has silent connections once, with how many it has in all.
+//! 2. Each call costs O(log n).
 
 use std::collections::{BTreeMap, BTreeSet, HashMap};
 use std::net::{IpAddr, Ipv6Addr};
@@ -28,37 +30,60 @@ pub fn network_of(address: IpAddr) -> IpAddr {
 pub struct Silences {
     /// The number of the last silence.
     last: u64,
-    /// Those of each network by their number, so the oldest first: whose each is.
-    of: HashMap<IpAddr, BTreeMap<u64, u64>>,
+    of: HashMap<IpAddr, Network>,
     crowds: BTreeSet<(usize, IpAddr)>,
 }
 
+#[derive(Default)]
+struct Network {
+    /// How many connections it has.
+    open: usize,
+    /// Its silences by their number, so the oldest first: whose each is.
+    silent: BTreeMap<u64, u64>,
+}
+
 impl Silences {
+    pub fn come(&mut self, network: IpAddr) {
+        self.change(network, |it| it.open += 1);
+    }
+
+    pub fn go(&mut self, network: IpAddr) {
+        self.change(network, |it| it.open -= 1);
+    }
+
     /// A connection of a network falls silent: the number of this silence.
     pub fn add(&mut self, network: IpAddr, connection: u64) -> u64 {
         self.last += 1;
-        let silent = self.of.entry(network).or_default();
-        self.crowds.remove(&(silent.len(), network));
-        silent.insert(self.last, connection);
-        self.crowds.insert((silent.len(), network));
-        self.last
+        let silence = self.last;
+        self.change(network, |it| {
+            it.silent.insert(silence, connection);
+        });
+        silence
     }
 
     pub fn remove(&mut self, network: IpAddr, silence: u64) {
-        let Some(silent) = self.of.get_mut(&network) else { return };
-        self.crowds.remove(&(silent.len(), network));
-        silent.remove(&silence);
-        if silent.is_empty() {
-            self.of.remove(&network);
-        } else {
-            self.crowds.insert((silent.len(), network));
-        }
+        self.change(network, |it| {
+            it.silent.remove(&silence);
+        });
     }
 
-    /// The connection that has to go first.
-    pub fn first(&self) -> Option<u64> {
-        let (_, network) = self.crowds.last()?;
-        self.of.get(network)?.first_key_value().map(|(_, connection)| *connection)
+    /// The connection that has to go where one of this network comes, if there is one.
+    pub fn first(&self, comes: IpAddr) -> Option<u64> {
+        let &(most, network) = self.crowds.last()?;
+        let own = self.of.get(&comes).map_or(0, |it| it.open);
+        let network = if most > own { network } else { comes };
+        self.of.get(&network)?.silent.first_key_value().map(|(_, connection)| *connection)
+    }
+
+    fn change(&mut self, network: IpAddr, how: impl FnOnce(&mut Network)) {
+        let it = self.of.entry(network).or_default();
+        self.crowds.remove(&(it.open, network));
+        how(it);
+        if !it.silent.is_empty() {
+            self.crowds.insert((it.open, network));
+        } else if it.open == 0 {
+            self.of.remove(&network);
+        }
     }
 
     #[cfg(test)]
@@ -84,40 +109,51 @@ mod tests {
     }
 
     #[test]
-    fn the_network_with_most_makes_room() {
-        let (a, b) = (address("192.0.2.1"), address("192.0.2.2"));
+    fn the_example_of_the_head() {
+        let [a, b, c] = [1, 2, 3].map(|last| IpAddr::from([192, 0, 2, last]));
         let mut silences = Silences::default();
-        let oldest = silences.add(b, 1);
-        let [first, second, _] = [2, 3, 4].map(|connection| silences.add(a, connection));
-        assert_eq!(silences.first(), Some(2));
-        silences.remove(a, first);
-        assert_eq!(silences.first(), Some(3));
-        silences.remove(a, second);
-        silences.remove(a, second);
-        silences.add(b, 5);
-        assert_eq!(silences.first(), Some(1));
-        silences.remove(b, oldest);
-        assert!(silences.first().is_some());
+        (0..5).for_each(|_| silences.come(a));
+        (0..3).for_each(|_| silences.come(b));
+        (0..3).for_each(|connection| assert!(silences.add(b, connection) > 0));
+        let own = [3, 4].map(|connection| silences.add(a, connection));
+        assert_eq!([a, b, c].map(|it| silences.first(it)), [Some(3); 3]);
+        own.into_iter().for_each(|silence| silences.remove(a, silence));
+        assert_eq!([a, b, c].map(|it| silences.first(it)), [None, Some(0), Some(0)]);
     }
 
     #[test]
-    fn crowds_are_counted_whatever_comes_and_goes() {
+    fn networks_are_counted_whatever_comes_and_goes() {
         let mut dice = Dice::new(31);
         let networks = [1, 2, 3].map(|last| IpAddr::from([192, 0, 2, last]));
-        let (mut silences, mut there) = (Silences::default(), Vec::new());
+        // Each with its network, and its silence where it is silent.
+        let (mut silences, mut there) = (Silences::default(), Vec::<(IpAddr, Option<u64>, u64)>::new());
         for connection in 0..5000 {
-            if dice.below(2) == 0 {
-                let network = *dice.of(&networks);
-                there.push((network, silences.add(network, connection), connection));
-            } else if !there.is_empty() {
-                let (network, silence, _) = there.remove(dice.below(there.len() as u64) as usize);
-                silences.remove(network, silence);
+            let at = dice.below(there.len().max(1) as u64) as usize;
+            match (dice.below(5), there.get_mut(at)) {
+                (0, Some((network, silence @ None, connection))) => {
+                    *silence = Some(silences.add(*network, *connection))
+                }
+                (1, Some((network, silence, _))) => {
+                    silence.take().into_iter().for_each(|it| silences.remove(*network, it))
+                }
+                (2, Some(_)) => {
+                    let (network, silence, _) = there.remove(at);
+                    silence.into_iter().for_each(|it| silences.remove(network, it));
+                    silences.go(network);
+                }
+                _ => {
+                    let network = *dice.of(&networks);
+                    silences.come(network);
+                    there.push((network, None, connection));
+                }
             }
-            let count = |network| there.iter().filter(|(one, ..)| *one == network).count();
-            let most =
-                networks.into_iter().max_by_key(|&network| (count(network), network)).filter(|&it| count(it) > 0);
-            let first = most.and_then(|network| there.iter().find(|(one, ..)| *one == network)).map(|it| it.2);
-            assert_eq!(silences.first(), first);
+            let open = |network| there.iter().filter(|it| it.0 == network).count();
+            let oldest = |network| there.iter().filter(|it| it.0 == network).filter_map(|it| Some((it.1?, it.2))).min();
+            for comes in networks {
+                let most = networks.into_iter().filter(|&it| oldest(it).is_some()).max_by_key(|&it| (open(it), it));
+                let from = most.map(|most| if open(most) > open(comes) { most } else { comes });
+                assert_eq!(silences.first(comes), from.and_then(oldest).map(|(_, connection)| connection));
+            }
         }
     }
 }

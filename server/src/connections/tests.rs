@@ -84,6 +84,9 @@ fn whoever_opens_many_makes_room_for_others() {
     let (first, second) = (come(&all), come(&all));
     let third = come(&all);
     assert_eq!([&other, &first, &second, &third].map(|one| one.is_cut()), [false, true, false, false]);
+    // Nor while its own are busy.
+    let _busy = (second.asks(), third.asks());
+    assert!(all.come(peer()).is_none() && !other.is_cut());
 }
 
 #[test]
