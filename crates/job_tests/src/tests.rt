@@ -5,6 +5,7 @@ mod changes;
 mod closings;
 mod command_lines;
 mod devices;
+mod dumps;
 mod failing_once;
 mod feeds;
 mod followed;
@@ -49,6 +50,7 @@ fn all_cases(rt: HostRuntime) {
         changes::CHANGES,
         states::STATES,
         states::STATELESS,
+        dumps::DUMPS,
     ] {
         for case in cases.split("@ ").skip(1) {
             assert!(rt; is_right(&rt, rt.alloc(), case) == Some(true), "{case}");

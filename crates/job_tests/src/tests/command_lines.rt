@@ -11,7 +11,7 @@ use std::alloc::{AllocError, Global};
 use word_lines::fault::LineFault;
 
 /// Command lines, whose words commas part, with what each asks for: `run` with its seats, its ring, its first position and
-/// its format, `race` with its sessions, its ring and its format, `check`, `state` with how much is told, or `follow` with its
+/// its format, `race` with its sessions, its ring and its format, `check`, `state` with how much is told, `dump` with where it closes at least, or `follow` with its
 /// bounds, its start, its feed, what is told of the rows and whether completeness is, and its format. Others are refused.
 const LINES: &str = "mvfeed,run => run 64 1024 0 One
 mvfeed,run,--seats,1 => run 1 1024 0 One
@@ -58,6 +58,12 @@ mvfeed,state,--live=yes => refused
 mvfeed,state,--format,2 => refused
 mvfeed,state,it => refused
 mvfeed,--live => refused
+mvfeed,dump => dump None
+mvfeed,dump,--at,0 => dump None
+mvfeed,dump,--at,9223372036854775807 => dump Some(9223372036854775807)
+mvfeed,dump,--at,9223372036854775808 => refused
+mvfeed,dump,--at => refused
+mvfeed,dump,it => refused
 mvfeed,follow,--cursor,0 => follow - - Cursor(0) None Count false One
 mvfeed,follow,--lo=-a,--hi,%25,--initial,9223372036854775807,--feed,18446744073709551615,--view => follow -a %25 Initial(9223372036854775807) Some(18446744073709551615) Rows false One
 mvfeed,follow,--lo,-,--cursor,7 => follow - - Cursor(7) None Count false One
@@ -115,6 +121,10 @@ fn is_asked(alloc: Global, line: &str) -> Option<bool> {
         }
         Some(Job::Check) => Some(wanted == "check"),
         Some(Job::State(detail)) => is_text(wanted, format!(in alloc; "state {detail:?}")),
+        Some(Job::Dump(at)) => {
+            let at = at.map(|at| at.get());
+            is_text(wanted, format!(in alloc; "dump {at:?}"))
+        }
         Some(Job::Follow(options)) => is_followed(alloc, &options, wanted),
         Some(Job::FollowSeed(seeded)) => {
             let (file, feed, shown) = (&seeded.file, seeded.feed, seeded.shown);

@@ -2,13 +2,14 @@
 use super::devices::{Sink, Source};
 use super::unfolding::{Words, unfolded};
 use follow::{FollowEnd, FollowOptions, Shown, Start, follow_io, span_of};
-use jobs::{DEFAULTS, Detail, End, RaceOptions, check_io, race_io, run_io, state_io};
+use jobs::{DEFAULTS, Detail, End, RaceOptions, check_io, dump_io, race_io, run_io, state_io};
 use races::Open;
 use sessions::{Config, OpenError, Reading, Writing};
 use std::alloc::{AllocError, Global};
 use std::sync::Wait;
 use std::thread::Threads;
 use text_format::Format;
+use timestamps::ts::Ts;
 
 /// How what a case asks for ended.
 #[derive(Clone, Copy)]
@@ -149,6 +150,7 @@ fn done<R: Threads + Wait + Sync>(
         }
         b"check" => check(alloc, source, sink),
         b"state" => state(alloc, detail_of(&mut words), source, sink),
+        b"dump" => dump(alloc, Ts::new(words.number()?), source, sink),
         b"race" => {
             let mut options = race_options_of(&mut words)?;
             options.format = format_of(header);
@@ -257,6 +259,13 @@ pub(super) fn state(alloc: Global, detail: Detail, source: Source<'_>, sink: &mu
     let mut input = Reading::new(source);
     let mut output = Writing::new(sink);
     state_io(alloc, detail, &mut input, &mut output)
+}
+
+/// How a dump ends that does.
+pub(super) fn dump(alloc: Global, at: Option<Ts>, source: Source<'_>, sink: &mut Sink) -> End {
+    let mut input = Reading::new(source);
+    let mut output = Writing::new(sink);
+    dump_io(alloc, at, &mut input, &mut output)
 }
 
 /// How a race ends that does.
