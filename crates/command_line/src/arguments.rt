@@ -14,6 +14,7 @@ use sessions::Config;
 use std::alloc::{AllocError, Global};
 use std::convert::AsStr;
 use text_format::Format;
+use timestamps::ts::Ts;
 use word_lines::fault::ReadError;
 
 /// What the program's command line may be.
@@ -22,6 +23,7 @@ pub fn command<'a>(alloc: Global) -> Result<Command<'a>, AllocError> {
     let command = with_subcommand(command, race_command(alloc)?)?;
     let command = with_subcommand(command, check_command(alloc))?;
     let command = with_subcommand(command, state_command(alloc)?)?;
+    let command = with_subcommand(command, dump_command(alloc)?)?;
     with_subcommand(command, follow_command(alloc)?)
 }
 
@@ -60,6 +62,11 @@ fn state_command<'a>(alloc: Global) -> Result<Command<'a>, AllocError> {
     let about =
         "Write the state after a transcript: what holds closed and the horizon, and how far each feed has come";
     with(subcommand(alloc, "state", about), live(alloc))
+}
+
+fn dump_command<'a>(alloc: Global) -> Result<Command<'a>, AllocError> {
+    let about = "Write the script that rebuilds the database of a transcript";
+    with(subcommand(alloc, "dump", about), at(alloc))
 }
 
 fn follow_command<'a>(alloc: Global) -> Result<Command<'a>, AllocError> {
@@ -118,6 +125,16 @@ fn live<'a>(alloc: Global) -> Arg<'a> {
         .help("Leave out the two counts that a database in use can't tell")
 }
 
+fn at<'a>(alloc: Global) -> Arg<'a> {
+    let help = "Close at this timestamp at least [default: 0]";
+    as_timestamp(option(alloc, "at", "T", help))
+}
+
+/// A timestamp, or 0.
+pub(crate) fn as_timestamp<'a>(arg: Arg<'a>) -> Arg<'a> {
+    arg.value_parser(value_parser!(u64).range(0..=9223372036854775807))
+}
+
 fn as_number<'a>(arg: Arg<'a>) -> Arg<'a> {
     arg.value_parser(value_parser!(u64))
 }
@@ -158,6 +175,8 @@ pub enum Job {
     Check,
     /// To tell the state after a transcript.
     State(Detail),
+    /// To write the script that rebuilds a transcript's database, which closes at a timestamp at least.
+    Dump(Option<Ts>),
     /// To follow a feed.
     Follow(FollowOptions),
     /// To follow a feed from the seed of a file on.
@@ -184,6 +203,9 @@ fn job_of(alloc: Global, matches: &ArgMatches) -> Result<Job, Error> {
     }
     if let Some(state) = matches.subcommand_matches("state") {
         return Ok(Job::State(detail_of(state)));
+    }
+    if let Some(dump) = matches.subcommand_matches("dump") {
+        return Ok(Job::Dump(at_of(dump)));
     }
     match matches.subcommand_matches("follow") {
         Some(follow) => follow_of(alloc, follow),
@@ -239,6 +261,12 @@ fn detail_of(state: &ArgMatches) -> Detail {
     } else {
         Detail::Whole
     }
+}
+
+/// Where a dump closes at least.
+fn at_of(dump: &ArgMatches) -> Option<Ts> {
+    let at: Option<u64> = dump.get_one("at");
+    Ts::new(at.unwrap_or(0))
 }
 
 /// The options of `mvfeed race`.

@@ -7,6 +7,7 @@ pub(crate) fn example_of(command: &str) -> &'static str {
         b"race" => RACE,
         b"check" => CHECK,
         b"state" => STATE,
+        b"dump" => DUMP,
         _ => FOLLOW,
     }
 }
@@ -28,6 +29,14 @@ const CHECK: &str = "Example:
 const STATE: &str = "Example:
   $ printf '0 3 begin 10 => started\\n1 3 put 10 a 1 => written\\n' | mvfeed state | tail -n 1
   {\"kind\":\"transaction\",\"timestamp\":\"10\",\"seat\":\"3\",\"keys\":\"1\"}";
+
+const DUMP: &str = "Example:
+  $ printf '0 begin 10\\n0 put 10 a 1\\n0 commit 10\\n1 begin 20\\n' | mvfeed run | mvfeed dump
+  0 begin 10
+  0 put 10 a 1
+  0 commit 10
+  0 close 20
+  0 collect 0";
 
 const FOLLOW: &str = "Example:
   $ printf '{\"after\":\"MQ==\",\"key\":\"YQ==\",\"updated\":\"10\"}\\n{\"resolved\":\"12\"}\\n' | mvfeed follow --cursor 0 --view

@@ -1,7 +1,7 @@
 //! What `mvfeed follow` is asked for: how its rows begin, and what is told of them.
 
-use crate::arguments::{format_of, option};
-use clap::{Arg, ArgAction, ArgGroup, ArgMatches, Command, value_parser};
+use crate::arguments::{as_timestamp, format_of, option};
+use clap::{Arg, ArgAction, ArgGroup, ArgMatches, Command};
 use follow::{FollowOptions, Seed, Shown, Start};
 use std::alloc::{AllocError, Global};
 use text_format::Format;
@@ -43,15 +43,10 @@ pub(crate) fn with_start<'a>(
         "T",
         "Begin as an initial feed of this timestamp does",
     );
-    let command = command.arg(as_cursor(cursor))?;
-    let command = command.arg(as_cursor(initial))?;
+    let command = command.arg(as_timestamp(cursor))?;
+    let command = command.arg(as_timestamp(initial))?;
     let command = command.arg(seed(alloc)?)?;
     command.group(start_group(alloc)?)
-}
-
-/// A timestamp, or 0.
-fn as_cursor<'a>(arg: Arg<'a>) -> Arg<'a> {
-    arg.value_parser(value_parser!(u64).range(0..=9223372036854775807))
 }
 
 fn seed<'a>(alloc: Global) -> Result<Arg<'a>, AllocError> {

@@ -10,6 +10,7 @@
 //! mvfeed race 2 --format 2       a race of 2 sessions, in format two      2 at Faulty, and what is wrong with the line
 //! mvfeed check                   a check                                  3 at No, and which event can't be right
 //! mvfeed state --live            the live state after a transcript        the same
+//! mvfeed dump --at 90            a dump that closes at 90 or above         the same
 //! mvfeed follow --cursor 0       a follower of all keys that starts at 0  0 at NoMessages, and that there are none
 //! mvfeed run --seats 0           refused                                  1, and clap's text
 //! ```

@@ -1,3 +1,4 @@
 pub mod Judging
 pub mod States
 pub mod Answering
+pub mod Dumps

@@ -4,3 +4,4 @@ pub mod States
 pub mod Ends
 pub mod Answers
 pub mod Races
+pub mod Dumps

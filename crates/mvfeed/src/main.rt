@@ -13,6 +13,9 @@
 //! $ printf '0 0 begin 10 => started\n' | mvfeed state
 //! {"kind":"database","closed":"0","horizon":"0","limit":"0","holder":"closed",..}
 //! {"kind":"transaction","timestamp":"10","seat":"0","keys":"0"}
+//! $ printf '0 0 begin 10 => started\n' | mvfeed dump
+//! 0 close 10
+//! 0 collect 0
 //! $ printf '{"resolved":"5"}\n' | mvfeed follow --cursor 0
 //! resolved 5 0
 //! ```
@@ -26,7 +29,7 @@
 
 use command_line::{Job, Seeded, command, job_in, status};
 use follow::{FollowOptions, SeedError, follow_io, seed_of};
-use jobs::{check_io, race_io, run_io, state_io};
+use jobs::{check_io, dump_io, race_io, run_io, state_io};
 use races::Open;
 use sessions::{Reading, Sink, Source, Writing};
 use std::alloc::Global;
@@ -68,6 +71,7 @@ fn done<S: Source, K: Sink, R: Threads + Wait + Sync + Files + AllocGlobal + Epr
         Job::Race(options) => race_io(rt, alloc, options, &Open, input, output),
         Job::Check => check_io(alloc, input, output),
         Job::State(detail) => state_io(alloc, detail, input, output),
+        Job::Dump(at) => dump_io(alloc, at, input, output),
         Job::Follow(options) => return followed(rt, alloc, options, input, output),
         Job::FollowSeed(seeded) => {
             return match options_of(rt, &seeded) {

@@ -17,3 +17,4 @@ pub mod Dying
 pub mod Collecting
 pub mod Limits
 pub mod Reporting
+pub mod Dumping

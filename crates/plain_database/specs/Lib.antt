@@ -7,3 +7,4 @@ pub mod Late
 pub mod Replies
 pub mod Answering
 pub mod Reports
+pub mod Dumps

@@ -36,8 +36,9 @@
 //! - `protect`, `open`, `cancel`: O(1); `release`: the protections that stand; `stats`: the feeds
 //! - `report`: the undecided transactions, the protections and the feeds; a whole one also a `collect` up to closed, and
 //!   for each live feed a `poll` of all its rows
+//! - `dump`: P for each committed version, and a copy of those that are left
 //!
-//! `answer` takes memory for rows, values and messages, and `report` for its lists. `record` takes it for a begin, get,
+//! `answer` takes memory for rows, values and messages, and `report` and `dump` for their lists. `record` takes it for a begin, get,
 //! scan, put, del, protect, opening or poll that is accepted, and none for other commands.
 //!
 //! Tests: `job_tests`, by random transcripts that are checked.
@@ -46,6 +47,7 @@
 mod closings;
 mod collections;
 pub mod database;
+pub mod dump;
 mod feeds;
 pub mod limit_law;
 mod protections;

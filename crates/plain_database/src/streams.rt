@@ -51,7 +51,7 @@ impl PlainDatabase {
     }
 
     /// The first `max` committed rows of a span behind a place, and at or below `through`.
-    fn stream_after(
+    pub(crate) fn stream_after(
         &self,
         span: &Span,
         ts: u64,

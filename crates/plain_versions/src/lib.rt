@@ -19,7 +19,7 @@
 //!
 //! Costs, where n transactions began, and k keys have v versions each:
 //!
-//! - `begin`, `find`, `has_committed`, `decide`, `decided_through`, `count_of`: O(log n)
+//! - `begin`, `find`, `has_committed`, `decide`, `decided_through`, `latest`, `count_of`: O(log n)
 //! - `abort_through`: O(log n) for each transaction that it aborts
 //! - `undecided_through`: O(log n), and those that it counts
 //! - `undecided_count`, `version_count`: O(1)

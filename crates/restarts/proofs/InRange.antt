@@ -74,15 +74,15 @@ effect_in_range p low e right = elim right [
 ]
 
 -- the greatest is at or above each
-at_most : (n m : ℕ) (ms : List ℕ) → n ≤ m → ((k : ℕ) → Has k ms → k ≤ m) → greatest_of n ms ≤ m
+pub at_most : (n m : ℕ) (ms : List ℕ) → n ≤ m → ((k : ℕ) → Has k ms → k ≤ m) → greatest_of n ms ≤ m
 at_most n m [] low each = low
 at_most n m (k ∷ ms) low each = let here : k ≤ m = each k (inl refl) in let more : greatest_of n ms ≤ m = at_most n m ms low (λ j i. each j (inr i)) in omega (arith, here, more)
 
-first_low : (n : ℕ) (ms : List ℕ) → n ≤ greatest_of n ms
+pub first_low : (n : ℕ) (ms : List ℕ) → n ≤ greatest_of n ms
 first_low n [] = omega arith
 first_low n (m ∷ ms) = let more : n ≤ greatest_of n ms = first_low n ms in omega (arith, more)
 
-each_low : (n k : ℕ) (ms : List ℕ) → Has k ms → k ≤ greatest_of n ms
+pub each_low : (n k : ℕ) (ms : List ℕ) → Has k ms → k ≤ greatest_of n ms
 each_low n k [] i = absurd i
 each_low n k (m ∷ ms) i = elim i [
   | inl here ↦ omega (arith, here)

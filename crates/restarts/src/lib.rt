@@ -26,6 +26,8 @@
 //!
 //! 1. What is kept after the dump is what is kept after the crash, but for how many feeds and protections there have been.
 //! 2. Answers rest on what is kept, so from there on they are the same but for these numbers.
+//!
+//! `jobs` writes the dump of a transcript, by `plain_database`. Tests: `job_tests`.
 #![tactic(auto)]
 
 pub mod law;

@@ -1,11 +1,14 @@
 -- What a checker has taken, what it says of the next event, and what it tells of all.
-use Rattle.std.specs.Prelude.{List, [], ◌∷◌, ◌++◌, ◌≡◌, ◌<◌, ◌↔◌, Bool, true, length, reverse}
+use Rattle.std.specs.Prelude.{ℕ, List, [], ◌∷◌, ◌++◌, ◌≡◌, ◌<◌, ◌↔◌, Bool, true, length, reverse}
 use Rattle.spans.specs.declared.calls.events.Event.{Event}
 use Rattle.spans.specs.declared.report.Report.{Report}
 use Rattle.spans.specs.Answer.{answer_of}
 use Rattle.spans.specs.Effects.{effects_of}
 use Rattle.spans.specs.Legal.{is_accepted, may_lack_memory}
 use Rattle.spans.specs.Report.{IsReport, limit_in, limit_of}
+use Rattle.restarts.specs.Dump.{mark_of}
+use Rattle.plain_database.specs.declared.dump.Dump.{Dump}
+use Rattle.plain_database.specs.Dumps.{IsDump}
 use Rattle.plain_database.specs.Tied as plain
 use Rattle.trace_check.specs.declared.checker.Checker.{Checker}
 use Rattle.trace_check.specs.Traces.{IsTrace, last_position}
@@ -36,3 +39,7 @@ abbrev pub Reports : Checker → Bool → Report → Type 0
 Reports c whole r =
     (events : List Event) → StandsFor c events → length events < 18446744073709551615
     → IsReport whole (effects_of (reverse events)) r × (limit_in r ≡ limit_of (effects_of (reverse events)))
+
+-- whatever events a checker has taken, this is their dump, which closes at or above a timestamp
+abbrev pub Dumps : Checker → ℕ → Dump → Type 0
+Dumps c at d = (events : List Event) → StandsFor c events → IsDump (effects_of (reverse events)) (mark_of (effects_of (reverse events)) at) d

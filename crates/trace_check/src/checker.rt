@@ -1,10 +1,12 @@
 //! Events checked one at a time.
-ghost use Rattle.std.specs.Prelude.{◌≡◌, ◌↔◌, [], true, false, IfOk, OnErr};
-ghost use Rattle.trace_check.specs.Checkers.{StandsFor, JudgesNext, MayLackNext, Reports, TakesNext};
+ghost use Rattle.std.specs.Prelude.{◌≡◌, ◌↔◌, ◌≤◌, [], true, false, IfOk, OnErr};
+ghost use Rattle.timestamps.specs.declared.ts.TheConstants.{MAX};
+ghost use Rattle.trace_check.specs.Checkers.{Dumps, StandsFor, JudgesNext, MayLackNext, Reports, TakesNext};
 ghost use Rattle.trace_check.specs.Traces.{IsInPlace};
 
 use crate::taking::take_in;
 use plain_database::database::PlainDatabase;
+use plain_database::dump::Dump;
 use spans::calls::Event;
 use spans::report::Report;
 use std::alloc::{AllocError, Global};
@@ -58,6 +60,14 @@ impl Checker {
         ensures report { IfOk result (Reports self.now whole) }
     {
         self.database.report(whole)
+    }
+
+    /// What a dump writes after the events that were taken, which closes at `at` or above.
+    pub fn dump(&self, at: u64) -> Result<Dump, AllocError>
+        requires { at ≤ MAX }
+        ensures dump { IfOk result (Dumps self.now at) }
+    {
+        self.database.dump(at)
     }
 }
 

@@ -25,10 +25,10 @@
 //!
 //! - `Checker::new`: O(1)
 //! - `Checker::take`: `answer` and `record` of `plain_database`, and one comparison of two replies
-//! - `Checker::report`: `report` of `plain_database`
+//! - `Checker::report`, `Checker::dump`: `report` and `dump` of `plain_database`
 //! - `check`: a `take` for each event, up to the first that isn't right
 //!
-//! `take` takes memory for one answer at a time, and for the event's trace in the database; `report` for the report. A
+//! `take` takes memory for one answer at a time, and for the event's trace in the database; `report` and `dump` for what they answer. A
 //! checker keeps no event.
 //!
 //! Tests: `job_tests`, `session_tests`.

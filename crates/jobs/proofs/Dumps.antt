@@ -1,0 +1,40 @@
+-- How a dump is written: by what a checker has taken, or as a check says that there is none.
+use Rattle.std.proofs.Common.{◌≡◌, ℕ, List, [], ◌∷◌, ◌++◌, None, refl, ◌∙◌, ap}
+use Rattle.std.specs.Prelude.{reverse}
+use Rattle.spans.specs.declared.calls.commands.Cmd.{Cmd}
+use Rattle.spans.specs.declared.calls.commands.Cmd.TheVariants.{Close, Collect}
+use Rattle.spans.specs.Effects.{Effect, effects_of}
+use Rattle.restarts.specs.Dump.{mark_of}
+use Rattle.restarts.specs.Rows.{commands_by_row, left_rows, row_commands}
+use Rattle.restarts.proofs.ByRows.{by_row}
+use Rattle.plain_database.specs.declared.dump.Dump.{Dump}
+use Rattle.plain_database.specs.Dumps.{IsDump}
+use Rattle.trace_check.specs.declared.checker.Checker.{Checker}
+use Rattle.trace_check.specs.Checkers.{Dumps}
+use Rattle.jobs.specs.declared.ending.End.{End}
+use Rattle.jobs.specs.declared.ending.End.TheVariants as ends
+use Rattle.jobs.specs.Dumps.{IsDumped, dump_text, lines_of}
+use Rattle.jobs.specs.Judging.{HasTakenText, IsRefusal}
+
+-- what is said of a text that isn't a trace's is said in the place of its dump
+pub refused_dump : (at : ℕ) (text : List ℕ) (end : End) (out : List ℕ) → IsRefusal text end out → IsDumped at text end out
+refused_dump at text ends.Done out refusal = absurd (refusal.0 refl)
+refused_dump at text (ends.Faulty line fault) out refusal = refusal.1
+refused_dump at text (ends.No position) out refusal = refusal.1
+refused_dump at text ends.Spent out refusal = refusal.1
+refused_dump at text (ends.Open reason) out refusal = refusal.1
+refused_dump at text ends.Input out refusal = refusal.1
+refused_dump at text ends.Output out refusal = refusal.1
+refused_dump at text ends.Memory out refusal = refusal.1
+refused_dump at text ends.Thread out refusal = refusal.1
+
+-- what a dump writes are its commands
+commands_are : (p : List Effect) (m : ℕ) (d : Dump) → IsDump p m d → row_commands None d.rows.items ++ Close d.to ∷ Collect d.horizon ∷ [] ≡ commands_by_row p m
+commands_are p m d is = ap (λ rows. row_commands None rows ++ Close d.to ∷ Collect d.horizon ∷ []) is.rows ∙ ap (λ l. row_commands None (left_rows p m) ++ l) (ap (λ n. Close n ∷ Collect d.horizon ∷ []) is.to ∙ ap (λ n. Close m ∷ Collect n ∷ []) is.horizon)
+
+-- the dump of a checker that has taken all events of a text is that of the text's database
+pub written_dump : (at : ℕ) (text : List ℕ) (checker : Checker) (d : Dump) (out : List ℕ) → HasTakenText text checker → Dumps checker at d → out ≡ dump_text d → IsDumped at text ends.Done out
+written_dump at text checker d out taken dumps told =
+    let p : List Effect = effects_of (reverse taken.events) in
+    let is : IsDump p (mark_of p at) d = dumps taken.events taken.stands in
+    (taken.events, taken.is, taken.stands.trace, told ∙ ap lines_of (commands_are p (mark_of p at) d is ∙ by_row p (mark_of p at)))

@@ -1,0 +1,34 @@
+-- How the dump of a text's database is written.
+use Rattle.std.specs.Prelude.{ℕ, List, [], ◌∷◌, ◌++◌, ◌≡◌, None, Ok, reverse}
+use Rattle.std.specs.List.{flat_map}
+use Rattle.text_format.specs.Limits.{format_of}
+use Rattle.spans.specs.declared.calls.commands.Cmd.{Cmd}
+use Rattle.spans.specs.declared.calls.commands.Cmd.TheVariants.{Close, Collect}
+use Rattle.spans.specs.declared.calls.events.Event.{Event}
+use Rattle.spans.specs.Effects.{effects_of}
+use Rattle.word_lines.specs.Commands.{command_line}
+use Rattle.script.specs.Transcripts.{transcript_at}
+use Rattle.restarts.specs.Dump.{mark_of}
+use Rattle.restarts.specs.Rows.{dump_commands, row_commands}
+use Rattle.plain_database.specs.declared.dump.Dump.{Dump}
+use Rattle.trace_check.specs.Traces.{IsTrace}
+use Rattle.jobs.specs.declared.ending.End.{End}
+use Rattle.jobs.specs.declared.ending.End.TheVariants as ends
+use Rattle.jobs.specs.Verdicts.{IsVerdict}
+
+-- the lines of session 0's commands
+abbrev pub lines_of : List Cmd → List ℕ
+lines_of cmds = flat_map (command_line 0) cmds
+
+-- the script of what a dump writes
+abbrev pub dump_text : Dump → List ℕ
+dump_text d = lines_of (row_commands None d.rows.items ++ Close d.to ∷ Collect d.horizon ∷ [])
+
+-- how the dump of a text's database is written, which closes at or above a timestamp: the dump where the text's events are a
+-- trace, and else what a check says
+abbrev pub IsDumped : ℕ → List ℕ → End → List ℕ → Type 0
+IsDumped at text ends.Done out = (events : List Event) × (transcript_at (format_of text) text ≡ Ok events) × IsTrace events
+    × (out ≡ lines_of (dump_commands (effects_of (reverse events)) (mark_of (effects_of (reverse events)) at)))
+IsDumped at text (ends.No position) out = IsVerdict text (ends.No position) out
+IsDumped at text (ends.Faulty line fault) out = IsVerdict text (ends.Faulty line fault) out
+IsDumped at text _ out = ⊥

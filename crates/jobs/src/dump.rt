@@ -1,0 +1,147 @@
+//! The dump of a transcript's database: a script that rebuilds it.
+ghost use Rattle.std.specs.Prelude.{◌≡◌, ◌++◌, ◌∷◌, ◌≤◌, IfOk, OnOk, None, unwrap_or};
+ghost use Rattle.std.specs.List.{flat_map};
+ghost use Rattle.timestamps.specs.declared.ts.TheConstants.{MAX};
+ghost use Rattle.word_lines.specs.Commands.{command_line};
+ghost use Rattle.restarts.specs.Dump.{write_step};
+ghost use Rattle.restarts.specs.Rows.{ended, row_commands, started};
+ghost use Rattle.jobs.specs.Answers.{IsAnswered, IsSilentAt};
+ghost use Rattle.jobs.specs.Dumps.{IsDumped, dump_text, lines_of};
+ghost use Rattle.jobs.specs.Ends.{end_of};
+
+use crate::ending::End;
+use crate::verdicts::refusal;
+use plain_database::dump::Dump;
+use sessions::{Sink, Source, read_whole, write_whole};
+use spans::calls::Cmd;
+use std::alloc::{AllocError, Global};
+use timestamps::row::Row;
+use timestamps::ts::Ts;
+use trace_check::checker::Checker;
+use word_lines::commands::write_command;
+
+/// Reads a transcript, and writes the script of session 0 that rebuilds its database. The script closes at `at`, or at the
+/// greatest of closed and all that began where that is above or none is given, and ends in a collection. Where the transcript
+/// isn't one that the database could have written it answers as `check` does: `no P`, or the fault line. Where memory
+/// runs out, nothing is written.
+pub fn dump_io<S: Source, K: Sink>(
+    alloc: Global,
+    at: Option<Ts>,
+    input: &mut S,
+    output: &mut K,
+) -> End
+    ensures answered { IsAnswered (IsDumped (unwrap_or at 0)) (S.reads input.old) (S.reads input.new) (K.writes output.old) (K.writes output.new) result }
+    ensures memory { IsSilentAt result (K.writes output.old) (K.writes output.new) }
+{
+    match dumped(alloc, at, input, output) {
+        Ok(end) | Err(end) => end,
+    }
+}
+
+fn dumped<S: Source, K: Sink>(
+    alloc: Global,
+    at: Option<Ts>,
+    input: &mut S,
+    output: &mut K,
+) -> Result<End, End>
+    ensures answered { IsAnswered (IsDumped (unwrap_or at 0)) (S.reads input.old) (S.reads input.new) (K.writes output.old) (K.writes output.new) (end_of result) }
+    ensures memory { IsSilentAt (end_of result) (K.writes output.old) (K.writes output.new) }
+{
+    let text = read_whole(alloc, input)?;
+    let (end, answer) = dump_of_text(alloc, at, text.as_slice())?;
+    write_whole(output, answer.as_slice())?;
+    Ok(end)
+}
+
+/// How [`dump_io`] ends on a text, and what it writes. It costs what [`verdict`](crate::verdict) does, and a look at each
+/// committed version.
+#[tactic(auto, using(crate::proofs::Dumps::refused_dump))]
+pub fn dump_of_text(
+    alloc: Global,
+    at: Option<Ts>,
+    text: &[u8],
+) -> Result<(End, Vec<u8>), AllocError>
+    ensures { IfOk result (λ answer. IsDumped (unwrap_or at 0) text.now answer.0 answer.1.items) }
+{
+    let mut checker = Checker::new(alloc);
+    if let Some(refused) = refusal(alloc, text, &mut checker)? {
+        return Ok(refused);
+    }
+    let dump = checker.dump(number_of(at))?;
+    let mut answer = Vec::new(alloc);
+    write_dump(&mut answer, &dump)?;
+    Ok((End::Done, answer))
+}
+
+/// The timestamp's number, or 0 where there is none.
+fn number_of(at: Option<Ts>) -> u64
+    ensures number { result ≡ unwrap_or at 0 }
+    ensures in_range { result ≤ MAX }
+{
+    match at {
+        None => 0,
+        Some(ts) => ts.get(),
+    }
+}
+
+/// Writes the script of a dump.
+fn write_dump(out: &mut Vec<u8>, dump: &Dump) -> Result<(), AllocError>
+    ensures { OnOk result (out.new.items ≡ out.old.items ++ dump_text dump.now) }
+{
+    put_rows(out, dump.rows.as_slice())?;
+    write_command(out, 0, &Cmd::Close { to: dump.to })?;
+    write_command(out, 0, &Cmd::Collect { to: dump.horizon })
+}
+
+/// Writes the transactions of the rows.
+fn put_rows(out: &mut Vec<u8>, rows: &[Row]) -> Result<(), AllocError>
+    ensures { OnOk result (out.new.items ≡ out.old.items ++ lines_of (row_commands None rows.now)) }
+{
+    let mut latest = None;
+    for row in rows {
+        put_start(out, latest, row.ts)?;
+        put_write(out, row)?;
+        latest = Some(row.ts);
+    }
+    put_end(out, latest)
+}
+
+/// Writes what comes before a row of a transaction, where `latest` may be open.
+fn put_start(out: &mut Vec<u8>, latest: Option<Ts>, ts: Ts) -> Result<(), AllocError>
+    ensures { OnOk result (out.new.items ≡ out.old.items ++ lines_of (started latest ts)) }
+{
+    if latest == Some(ts) {
+        return Ok(());
+    }
+    put_end(out, latest)?;
+    write_command(out, 0, &Cmd::Begin { ts: ts.get() })
+}
+
+/// Writes the end of the transaction that is open, where one is.
+fn put_end(out: &mut Vec<u8>, latest: Option<Ts>) -> Result<(), AllocError>
+    ensures { OnOk result (out.new.items ≡ out.old.items ++ lines_of (ended latest)) }
+{
+    match latest {
+        None => Ok(()),
+        Some(ts) => write_command(out, 0, &Cmd::Commit { ts: ts.get() }),
+    }
+}
+
+/// Writes the write that leaves a row.
+fn put_write(out: &mut Vec<u8>, row: &Row) -> Result<(), AllocError>
+    ensures { OnOk result (out.new.items ≡ out.old.items ++ command_line 0 (write_step row.now.ts row.now.key row.now.after).0) }
+{
+    let key = row.key.copy()?;
+    let cmd = match &row.after {
+        None => Cmd::Del {
+            ts: row.ts.get(),
+            key,
+        },
+        Some(value) => Cmd::Put {
+            ts: row.ts.get(),
+            key,
+            value: value.copy()?,
+        },
+    };
+    write_command(out, 0, &cmd)
+}

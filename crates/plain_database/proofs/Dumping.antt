@@ -1,0 +1,167 @@
+-- What a dump writes is what the definitions say.
+use Rattle.std.proofs.Common.{◌≡◌, ℕ, suc, ◌+◌, ◌<◌, ◌≤◌, ◌==◌, Bool, true, false, not, cond, ◌&&◌, ◌||◌, List, [], ◌∷◌, ◌++◌, length, map, take, drop, Option, Some, None, refl, sym, ◌∙◌, ap, subst, inl, inr, arith, append_assoc, get_or, zero, Result, Ok, Err}
+use Rattle.std.proofs.lemmas.Bool.Decides.{nat_tests}
+use Rattle.std.proofs.lemmas.List.{drop_more, take_all}
+use Rattle.std.specs.Prelude.{filter, is_none, is_some, max, nat_le, nat_lt, option_map, IfOk, ◌⊎◌}
+use Rattle.timestamps.specs.declared.row.Row.{Row}
+use Rattle.timestamps.specs.declared.ts.TheConstants.{MAX}
+use Rattle.spans.specs.declared.calls.events.Event.{Event}
+use Rattle.spans.specs.Collection.{horizon_of, is_dead, is_delete, version_name}
+use Rattle.spans.specs.Effects.{After, Effect, effects_of}
+use Rattle.spans.specs.Newest.{Version, newest}
+use Rattle.spans.specs.Streams.{stream_of}
+use Rattle.spans.specs.Transactions.{begun_of, closed_of, is_committed, owner_of}
+use Rattle.spans.specs.Versions.{committed_version_of, version_of, write_of}
+use Rattle.spans.proofs.Closed.{closed_version}
+use Rattle.spans.proofs.Copies.{AllAllowed}
+use Rattle.spans.proofs.Dead.{committed_is}
+use Rattle.spans.proofs.Horizon.{horizon_low}
+use Rattle.spans.proofs.Legal.{legal_allowed}
+use Rattle.spans.proofs.Members.{Has, among_has, has_begun}
+use Rattle.spans.proofs.Open.{begun_among}
+use Rattle.spans.proofs.Steps.{by_test, newest_same}
+use Rattle.spans.proofs.StreamOrder.{IsRowIn, IsStreamed, in_stream, stream_rises}
+use Rattle.kept.proofs.Untold.{only_rows}
+use Rattle.restarts.specs.Dump.{greatest_of, mark_of}
+use Rattle.restarts.specs.Rows.{all_keys, is_left, left_rows}
+use Rattle.restarts.proofs.InRange.{at_most, each_low, first_low}
+use Rattle.plain_versions.specs.declared.transactions.Transaction.{Transaction}
+use Rattle.plain_versions.specs.declared.versions.LentVersion.{LentVersion}
+use Rattle.plain_versions.specs.Chains.{committed_at, version_at}
+use Rattle.plain_versions.specs.Streams.{AreNextRows, AreRowsAfter, IsRowAfter}
+use Rattle.plain_versions.specs.Transactions.{IsLatest, transaction_at}
+use Rattle.plain_versions.specs.Versions.{IsBestOf}
+use Rattle.plain_versions.proofs.Newest.{best_is, place_of}
+use Rattle.plain_database.specs.declared.database.PlainDatabase.{PlainDatabase}
+use Rattle.plain_database.specs.Answering.{AfterEach}
+use Rattle.plain_database.specs.Dumps.{AreCommitted, AreLeftOf, Tells}
+use Rattle.plain_database.specs.Streams.{HasCommitted}
+use Rattle.plain_database.specs.Tied.{IsTied, StandsFor, owner_in}
+use Rattle.plain_database.proofs.Reporting.{all_taken}
+
+-- ---- where a dump closes
+
+-- the greatest of some numbers, and of n
+greatest_is : (n l : ℕ) (ms : List ℕ) → ((k : ℕ) → Has k ms → k ≤ l) → (l ≡ 0) ⊎ Has l ms → max n l ≡ greatest_of n ms
+greatest_is n l ms most reached =
+    let top : greatest_of n ms ≤ max n l = at_most n (max n l) ms (omega arith) (λ k i. let low : k ≤ l = most k i in omega arith) in
+    let least : n ≤ greatest_of n ms = first_low n ms in
+    let last : l ≤ greatest_of n ms = elim reached [ inl zeroth ↦ omega (arith, zeroth) | inr here ↦ each_low n l ms here ] in
+    omega arith
+
+same_some : (o : Option Transaction) → is_some (owner_in o) ≡ is_some o
+same_some None = refl
+same_some (Some x) = refl
+
+pub mark_is : (db : PlainDatabase) (p : List Effect) → IsTied db p → (at latest : ℕ) → IsLatest db.transactions latest → max (max at db.closed) latest ≡ mark_of p at
+mark_is db p tied at latest is =
+    let there : (t : ℕ) → is_some (transaction_at db.transactions t) ≡ is_some (owner_of p t) = λ t. sym (same_some (transaction_at db.transactions t)) ∙ ap is_some (tied.owners t) in
+    ap (λ n. max (max at n) latest) tied.closed_at
+    ∙ greatest_is (max at (closed_of p)) latest (begun_of p) (λ t i. is.most t (there t ∙ has_begun p t i))
+    (elim is.reached [ inl zeroth ↦ inl zeroth | inr here ↦ inr (among_has latest (begun_of p) (begun_among p latest (sym (there latest) ∙ here))) ])
+
+-- ---- which rows are left
+
+-- a committed version at or below the horizon
+module _ (db : PlainDatabase) (h : List Event) (stands : StandsFor db h) (r : Row) (there : committed_version_of (effects_of h) r.key r.ts ≡ Some r.after) where
+  above : db.horizon < r.ts → true ≡ is_left (effects_of h) r
+  above high =
+      let past : nat_le r.ts (horizon_of (effects_of h)) ≡ false = grind (arith, nat_tests, stands.tied.horizon_at) in
+      not_low (is_committed (effects_of h) r.ts) (nat_le r.ts (horizon_of (effects_of h))) _ past
+    where
+      not_low : (b c d : Bool) → c ≡ false → true ≡ not (b && (c && d))
+      not_low true true d e = cc
+      not_low true false d e = refl
+      not_low false c d e = refl
+
+  -- at or below it a delete is dead, and a value that isn't the newest
+  pub below : r.ts ≤ db.horizon → is_left (effects_of h) r ≡ not (is_none r.after || nat_lt r.ts (newest (committed_version_of (effects_of h) r.key) (horizon_of (effects_of h))).ts)
+  below low =
+      let is = committed_is (effects_of h) r.key r.ts r.after there in
+      let under : nat_le r.ts (horizon_of (effects_of h)) ≡ true = grind (arith, nat_tests, stands.tied.horizon_at) in
+      ap not (ap (λ b. b && (nat_le r.ts (horizon_of (effects_of h)) && (is_delete (write_of (effects_of h) r.ts r.key) || nat_lt r.ts (newest (committed_version_of (effects_of h) r.key) (horizon_of (effects_of h))).ts))) is.0
+      ∙ ap (λ b. b && (is_delete (write_of (effects_of h) r.ts r.key) || nat_lt r.ts (newest (committed_version_of (effects_of h) r.key) (horizon_of (effects_of h))).ts)) under
+      ∙ ap (λ o. is_delete o || nat_lt r.ts (newest (committed_version_of (effects_of h) r.key) (horizon_of (effects_of h))).ts) is.1)
+
+  -- what the chains have there
+  found : (o : Option LentVersion) → IsBestOf (version_at db.chains r.key) db.horizon o → (newest (committed_version_of (effects_of h) r.key) (horizon_of (effects_of h))).ts ≡ (place_of o).ts
+  found o best =
+      let p : List Effect = effects_of h in
+      let all = legal_allowed h stands.legal in
+      ap (λ (n : Version). n.ts) (
+      newest_same (committed_version_of p r.key) (version_at db.chains r.key) (horizon_of p) (λ i low. sym (stands.tied.versions r.key i ∙ closed_version p all r.key i (omega (arith, low, horizon_low p all))))
+      ∙ ap (newest (version_at db.chains r.key)) (sym stands.tied.horizon_at)
+      ∙ best_is (version_at db.chains r.key) db.horizon o best)
+
+  pub deleted : r.ts ≤ db.horizon → is_none r.after ≡ true → false ≡ is_left (effects_of h) r
+  deleted low none = sym (below low ∙ ap (λ b. not (b || nat_lt r.ts (newest (committed_version_of (effects_of h) r.key) (horizon_of (effects_of h))).ts)) none)
+
+  pub valued : r.ts ≤ db.horizon → is_none r.after ≡ false → (o : Option LentVersion) → IsBestOf (version_at db.chains r.key) db.horizon o → nat_le (place_of o).ts r.ts ≡ is_left (effects_of h) r
+  valued low value o best = sym (below low ∙ ap (λ b. not (b || nat_lt r.ts (newest (committed_version_of (effects_of h) r.key) (horizon_of (effects_of h))).ts)) value
+      ∙ ap (λ n. not (nat_lt r.ts n)) (found o best) ∙ turned r.ts (place_of o).ts)
+    where
+      turned : (n k : ℕ) → not (nat_lt n k) ≡ nat_le k n
+      turned n k = grind (arith, nat_tests)
+
+-- ---- row by row
+
+-- what is left of the rows so far
+abbrev pub IsLeftSoFar : PlainDatabase → List Row → ℕ → List Row → Type 0
+IsLeftSoFar db rows i left = AfterEach db (λ p. AreCommitted p rows → left ++ filter (is_left p) (drop i rows) ≡ filter (is_left p) rows)
+
+committed_tail : (p : List Effect) (rows : List Row) (i : ℕ) → AreCommitted p rows → AreCommitted p (drop i rows)
+committed_tail p rows zero all = all
+committed_tail p [] (suc i) all = tt
+committed_tail p (r ∷ rows) (suc i) all = committed_tail p rows i all.1
+
+-- one row more
+pub left_more : (p : List Effect) (rows left left' : List Row) (i : ℕ) (r : Row) (b : Bool) → i < length rows → r ≡ get_or rows i r → AreCommitted p rows
+    → (committed_version_of p r.key r.ts ≡ Some r.after → b ≡ is_left p r) → left' ≡ cond b (left ++ r ∷ []) left
+    → left ++ filter (is_left p) (drop i rows) ≡ filter (is_left p) rows → left' ++ filter (is_left p) (drop (i + 1) rows) ≡ filter (is_left p) rows
+left_more p rows left left' i r b low at all tells is so_far =
+    let next : drop i rows ≡ r ∷ drop (i + 1) rows = drop_more rows i r low ∙ ap (λ q. q ∷ drop (i + 1) rows) (sym at) in
+    let here : committed_version_of p r.key r.ts ≡ Some r.after = (subst (AreCommitted p) next (committed_tail p rows i all)).0 in
+    ap (λ l. l ++ filter (is_left p) (drop (i + 1) rows)) (is ∙ ap (λ c. cond c (left ++ r ∷ []) left) (tells here))
+    ∙ step (is_left p r) refl
+    ∙ ap (λ l. left ++ filter (is_left p) l) (sym next)
+    ∙ so_far
+  where
+    step : (c : Bool) → is_left p r ≡ c → cond c (left ++ r ∷ []) left ++ filter (is_left p) (drop (i + 1) rows) ≡ left ++ cond c (r ∷ filter (is_left p) (drop (i + 1) rows)) (filter (is_left p) (drop (i + 1) rows))
+    step true e = append_assoc left (r ∷ []) (filter (is_left p) (drop (i + 1) rows))
+    step false e = refl
+
+-- ---- all rows
+
+-- what comes after nothing is the stream of all keys
+after_nothing : (db : PlainDatabase) (p : List Effect) (through : ℕ) (rows : List Row) → HasCommitted db p → AreRowsAfter db.transactions db.chains all_keys 0 None through rows → rows ≡ stream_of p all_keys 0 through
+after_nothing db p through rows tied are = only_rows rows (stream_of p all_keys 0 through) are.rising (stream_rises p all_keys 0 through) (λ r. (
+  λ i. let s = (are.each r).0 i in
+      let is = committed_is p r.key r.ts r.after (sym (tied r.key r.ts) ∙ s.there) in
+      (in_stream p all_keys 0 through r).1 (record { above = omega (arith, s.some); low = s.low; done = is.0; inside = s.inside; wrote = is.1 }),
+  λ i. let s = (in_stream p all_keys 0 through r).0 i in
+      (are.each r).1 (record { there = tied r.key r.ts ∙ both (is_committed p r.ts) (write_of p r.ts r.key) s.done s.wrote; inside = s.inside; later = (let above : nat_lt 0 r.ts ≡ true = grind (arith, nat_tests, s.above) in above); low = s.low; some = omega (arith, s.above) }),
+))
+  where
+    both : {a : After} (b : Bool) (o : Option After) → b ≡ true → o ≡ Some a → cond b o None ≡ Some a
+    both true o d w = w
+    both false o d w = cc
+
+pub stream_rows : (db : PlainDatabase) (p : List Effect) (through max : ℕ) (rows : List Row) → HasCommitted db p → AreNextRows db.transactions db.chains all_keys 0 None through max rows → length rows < max → rows ≡ stream_of p all_keys 0 through
+stream_rows db p through max rows tied next few =
+    let many : length rows ≡ length next.all = all_taken max rows next.all next.first few in
+    next.first ∙ take_all max next.all (omega (arith, many, few)) ∙ after_nothing db p through next.all tied next.are
+
+pub stream_committed : (p : List Effect) (rows : List Row) → ((r : Row) → IsRowIn r rows → committed_version_of p r.key r.ts ≡ Some r.after) → AreCommitted p rows
+stream_committed p [] each = tt
+stream_committed p (r ∷ rows) each = (each r (inl refl), stream_committed p rows (λ q i. each q (inr i)))
+
+pub streamed_committed : (p : List Effect) (through : ℕ) → AreCommitted p (stream_of p all_keys 0 through)
+streamed_committed p through = stream_committed p (stream_of p all_keys 0 through) (λ r i. let s = (in_stream p all_keys 0 through r).0 i in both (is_committed p r.ts) (write_of p r.ts r.key) s.done s.wrote)
+  where
+    both : {a : After} (b : Bool) (o : Option After) → b ≡ true → o ≡ Some a → cond b o None ≡ Some a
+    both true o d w = w
+    both false o d w = cc
+
+pub mapped_ok : {A E : Type 0} (P Q : A → Type 0) (r : Result A E) → ((x : A) → P x → Q x) → IfOk r P → IfOk r Q
+mapped_ok P Q (Ok x) f p = f x p
+mapped_ok P Q (Err e) f p = tt
