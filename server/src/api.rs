@@ -19,6 +19,8 @@ pub mod keys;
 pub mod openapi;
 mod pages;
 mod plan;
+#[cfg(all(test, feature = "refusing"))]
+mod refusals;
 pub mod remembered;
 pub mod rows;
 mod run;

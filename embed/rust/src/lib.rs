@@ -46,6 +46,9 @@ mod looks;
 #[allow(unsafe_code)]
 mod raw;
 mod record;
+#[cfg(feature = "refusing")]
+#[allow(unsafe_code)]
+pub mod refusing;
 mod replica;
 mod several;
 mod typed;

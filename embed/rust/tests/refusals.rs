@@ -1,24 +1,9 @@
 //! The wrapper where the library finds no memory, over a library whose growths can be refused: `embed/test` runs this.
 
+use ripsawbean::refusing::{refuse_after, refuse_none};
 use ripsawbean::{
     CallError, CommandError, Database, Held, Message, NoMemory, OpenError, Refusal, Told, Unwritten, VersionError,
 };
-
-extern "C" {
-    fn refuse_after_growths(before: std::ffi::c_ulong);
-    fn refuse_no_growth() -> bool;
-}
-
-/// Has the library's growth behind `before` others be refused. The tests of this file are one, since all of them share
-/// this.
-fn refuse_after(before: u64) {
-    unsafe { refuse_after_growths(before) }
-}
-
-/// From here on none is refused. Whether one was.
-fn refuse_none() -> bool {
-    unsafe { refuse_no_growth() }
-}
 
 #[test]
 fn each_growth_is_refused_in_turn() {
