@@ -97,9 +97,7 @@ func (f *Feed) Next() (Message, error) {
 		err := f.step()
 		if _, again := isLost(err); again && f.ctx.Err() == nil {
 			f.Close()
-			if f.snapshot != nil && f.limit > 1 {
-				f.limit /= 2
-			}
+			f.limit = (f.limit + 1) / 2
 			f.tries.pause(f.ctx, 0)
 		} else if err != nil {
 			f.Close()
@@ -163,7 +161,7 @@ func (f *Feed) open() error {
 	}
 	if f.place == nil {
 		f.begin(nil)
-		f.snapshot = &Place{f.identity, f.cursor, f.generation}
+		f.snapshot, f.limit = &Place{f.identity, f.cursor, f.generation}, page
 		f.told = append(f.told, Message{Kind: Reset, Place: *f.snapshot, Timestamp: f.cursor})
 	}
 	f.lines = bufio.NewReaderSize(reply.Body, 1<<16)
@@ -176,7 +174,11 @@ func (f *Feed) notOpened(reply *http.Response) error {
 	if isAgain(reply.StatusCode) {
 		return &lost{refusal, true}
 	}
-	if f.options.Anew && f.place != nil && (errors.Is(refusal, OtherDatabase) || errors.Is(refusal, Gone)) {
+	mayBeAnew := f.options.Anew && (errors.Is(refusal, OtherDatabase) || errors.Is(refusal, Gone))
+	if f.name != "" && refusal.Name == "belowhorizon" { // a consumer's rows of the same database can be told again
+		mayBeAnew = true
+	}
+	if f.place != nil && mayBeAnew {
 		f.begin(nil)
 		return &lost{refusal, true}
 	}
@@ -219,14 +221,14 @@ func (f *Feed) change(row Message) {
 }
 
 func (f *Feed) reach(place Place) {
-	f.place, f.snapshot, f.limit = &place, nil, page
+	f.place, f.snapshot = &place, nil
 	if f.resolved == nil || place.Timestamp > *f.resolved {
 		f.resolved = &place.Timestamp
 		f.told = append(f.told, Message{Kind: Resolved, Place: place, Timestamp: place.Timestamp})
 	}
 }
 
-// restOfSnapshot reads one page of what a cut has left out. Smaller pages get through more cuts.
+// restOfSnapshot reads one page of what a cut has left out: half as long after a cut, else twice as long.
 func (f *Feed) restOfSnapshot() error {
 	lo, snapshot := f.options.Lo, *f.snapshot
 	if f.last != nil {
@@ -251,6 +253,9 @@ func (f *Feed) restOfSnapshot() error {
 		message := Message{Kind: Change, Key: row.Key, Value: row.Value, Timestamp: snapshot.Timestamp}
 		f.last = &message
 		f.told = append(f.told, message)
+	}
+	if f.limit *= 2; f.limit > page {
+		f.limit = page
 	}
 	if found.Next == nil {
 		f.reach(snapshot)

@@ -34,16 +34,16 @@ export class Feed {
   }
 
   async *messages() {
-    let pauses = new Pauses(), limit = PAGE;
+    let pauses = new Pauses();
     while (!this.signal?.aborted) {
       const { last, resolved } = this;
       try {
-        if (this.snapshot) yield* this.restOfSnapshot(limit);
+        if (this.snapshot) yield* this.restOfSnapshot();
         yield* this.stream();
       } catch (why) {
         if (!(why instanceof Lost)) throw why;
       }
-      limit = this.snapshot ? Math.max(1, limit >> 1) : PAGE;
+      this.limit = Math.max(1, this.limit >> 1);
       if (last !== this.last || resolved !== this.resolved) pauses = new Pauses();
       await sleep(pauses.next(), this.signal);
     }
@@ -61,7 +61,7 @@ export class Feed {
       if (!this.anew) this.client._pin(response);
       if (!this.place) {
         this.begin(null);
-        this.snapshot = { identity, timestamp: cursor };
+        [this.snapshot, this.limit] = [{ identity, timestamp: cursor }, PAGE];
         yield { type: "reset", ...this.snapshot };
       }
       for await (const line of linesOf(response.body, stop)) if (line) yield* this.take(identity, cursor, JSON.parse(line));
@@ -79,11 +79,16 @@ export class Feed {
     if (response.status === 200) return response;
     const error = refused(response.status, await response.text().catch(() => ""));
     if (AGAIN.includes(response.status)) throw new Lost(error);
-    if (this.anew && this.place && (error instanceof OtherDatabase || error instanceof Gone)) {
+    if (this.place && this.mayBeAnew(error)) {
       this.begin(null);
       throw new Lost(error);
     }
     throw error;
+  }
+
+  /** Whether the feed may begin anew where its place leads nowhere. */
+  mayBeAnew(why) {
+    return this.anew && (why instanceof OtherDatabase || why instanceof Gone);
   }
 
   /** A message of a stream that began at the cursor. */
@@ -114,11 +119,11 @@ export class Feed {
     yield { type: "resolved", ...place };
   }
 
-  /** The rows that a cut has left out, by pages of the same snapshot. Smaller pages get through more cuts. */
-  async *restOfSnapshot(limit) {
+  /** The rows that a cut has left out, by pages of the same snapshot: half as long after a cut, else twice as long. */
+  async *restOfSnapshot() {
     const { snapshot } = this;
     for (let lo = this.last ? behind(this.last.key) : this.lo; lo !== null; ) {
-      const page = await this.client._pageOnce(lo, this.hi, snapshot, limit, HOLD).catch((why) => {
+      const page = await this.client._pageOnce(lo, this.hi, snapshot, this.limit, HOLD).catch((why) => {
         if (!(why instanceof Gone || (why instanceof OtherDatabase && this.anew))) throw why;
         this.begin(null);
         throw new Lost(why);
@@ -127,7 +132,7 @@ export class Feed {
         this.last = { timestamp: snapshot.timestamp, id: percent(key), key };
         yield { type: "change", key, value, timestamp: snapshot.timestamp, ...(this.before && { before: null }) };
       }
-      lo = page.next;
+      [lo, this.limit] = [page.next, Math.min(PAGE, 2 * this.limit)];
     }
     yield* this.reach(snapshot);
   }
@@ -176,6 +181,10 @@ class Consumer extends Feed {
   constructor(client, name, lo, hi, options, store) {
     super(client, lo, hi, options, name);
     this.store = store;
+  }
+
+  mayBeAnew(why) {
+    return why.error === "belowhorizon" || super.mayBeAnew(why); // the rows of the same database can always be told again
   }
 
   async run(stored, load) {

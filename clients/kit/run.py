@@ -1,57 +1,32 @@
 #!/usr/bin/env python3
-"""Holds a client to the records of `records.jsonl`. The last line says how many cases passed.
+"""Holds a client, or the server, to the records of `records.jsonl`. The last line says how many cases passed.
 
     run.py client COMMAND..      plays the server to a client, which COMMAND drives; README.md says how a driver talks
+    run.py server                asks the server what clients ask
+    run.py live COMMAND..        has a client use the server, through a proxy that cuts connections
 
     --only WORDS                 cases with these words in their name
+
+SERVER names the program that serves, and server/run does where it doesn't.
 """
 
 from __future__ import annotations
 
 import argparse
 import json
-import subprocess
+import os
 import sys
-import threading
-from typing import Any, Dict, Iterator, List
+from typing import Iterator, List
 
 sys.dont_write_bytecode = True
 import records  # noqa: E402
+from driver import Driver  # noqa: E402
 from fake import Fake  # noqa: E402
+from live import live  # noqa: E402
+from real import check  # noqa: E402
 
-LONGEST = 60.0  # seconds for one call
-
-
-class Driver:
-    """A client's driver: calls go in as lines, and what they give comes back as lines."""
-
-    def __init__(self, command: List[str]):
-        self.child = subprocess.Popen(
-            command, stdin=subprocess.PIPE, stdout=subprocess.PIPE, text=True, encoding="utf-8"
-        )
-
-    def tell(self, line: Dict[str, Any]) -> None:
-        assert self.child.stdin
-        self.child.stdin.write(json.dumps(line) + "\n")
-        self.child.stdin.flush()
-
-    def ask(self, call: Dict[str, Any]) -> Any:
-        assert self.child.stdout
-        late = threading.Timer(LONGEST, self.child.kill)
-        late.start()
-        try:
-            self.tell(call)
-            line = self.child.stdout.readline()
-        finally:
-            late.cancel()
-        if not line:
-            raise SystemExit("the driver has ended, or was ended after %d seconds, at %s" % (LONGEST, json.dumps(call)))
-        return json.loads(line)
-
-    def close(self) -> None:
-        assert self.child.stdin
-        self.child.stdin.close()
-        self.child.wait(LONGEST)
+TOP = os.path.join(os.path.dirname(records.RECORDS), "..", "..")
+SERVER = os.environ.get("SERVER") or os.path.join(TOP, "server", "run")
 
 
 def faults_of_client(fake: Fake, driver: Driver, case: records.Case) -> Iterator[str]:
@@ -67,31 +42,35 @@ def faults_of_client(fake: Fake, driver: Driver, case: records.Case) -> Iterator
     yield from ("never asks %s" % record["ask"] for record in fake.left)
 
 
-def play(command: List[str], cases: List[records.Case]) -> int:
-    fake, driver, failed = Fake(), Driver(command), 0
-    for case in cases:
-        faults = list(faults_of_client(fake, driver, case))
-        failed += tell(case, faults)
+def play(command: List[str], only: str) -> Iterator[bool]:
+    fake, driver = Fake(), Driver(command)
+    for case in records.load(only):
+        yield told(case.name, list(faults_of_client(fake, driver, case)))
     driver.close()
-    return failed
 
 
-def tell(case: records.Case, faults: List[str]) -> int:
-    print("%s: %s" % (case.name, "FAILED" if faults else "passed"), flush=True)
+def told(name: str, faults: List[str]) -> bool:
+    """Tells how a case went: whether it passed."""
+    print("%s: %s" % (name, "FAILED" if faults else "passed"), flush=True)
     for fault in faults:
         print("    " + fault[:2000])
-    return 1 if faults else 0
+    return not faults
 
 
 def main() -> None:
     words = argparse.ArgumentParser(description=__doc__, formatter_class=argparse.RawDescriptionHelpFormatter)
-    words.add_argument("side", choices=("client",))
+    words.add_argument("side", choices=("client", "server", "live"))
     words.add_argument("--only", default="", metavar="WORDS")
     given, command = words.parse_known_args()
-    cases = records.load(given.only)
-    failed = play(command, cases)
-    print("kit: %d passed, %d failed" % (len(cases) - failed, failed))
-    sys.exit(1 if failed or not cases else 0)
+    if given.side == "client":
+        went = list(play(command, given.only))
+    elif given.side == "live":
+        went = [told(name, faults) for name, faults in live(SERVER, command, given.only)]
+    else:
+        cases = [case for case in records.load(given.only) if case.is_real]
+        went = [told(case.name, faults) for case, faults in check(SERVER, cases)]
+    print("kit: %d passed, %d failed" % (went.count(True), went.count(False)))
+    sys.exit(0 if went and all(went) else 1)
 
 
 if __name__ == "__main__":

@@ -117,6 +117,8 @@ func answer(db *Client, asked call) (any, error) {
 		return txn(ctx, db, asked)
 	case "transact":
 		return transact(ctx, db, asked)
+	case "count":
+		return count(ctx, db, asked.Key)
 	case "page":
 		found, err := db.Page(ctx, asked.Lo, asked.Hi, asked.At, asked.Limit)
 		return map[string]any{"timestamp": found.Timestamp, "rows": rowsOf(found.Rows), "next": bytesOf(found.Next)}, err
@@ -259,6 +261,18 @@ func transact(ctx context.Context, db *Client, asked call) (any, error) {
 		return nil
 	})
 	return found, err
+}
+
+func count(ctx context.Context, db *Client, key Bytes) (any, error) {
+	raised := 0
+	err := db.Transact(ctx, func(tx *Transaction) error {
+		found, err := tx.Get(key)
+		number, _ := strconv.Atoi(string(found))
+		raised = number + 1
+		tx.Put(key, Bytes(strconv.Itoa(raised)))
+		return err
+	})
+	return strconv.Itoa(raised), err
 }
 
 func feed(ctx context.Context, db *Client, asked call) (any, error) {

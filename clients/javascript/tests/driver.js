@@ -59,6 +59,12 @@ async function transact(db, call) {
   });
 }
 
+const count = (db, { key }) => db.transact(async (tx) => {
+  const raised = String(Number((await tx.get(key)) ?? 0) + 1);
+  tx.put(key, raised);
+  return raised;
+});
+
 async function all(iterator, most = Infinity) {
   const found = [];
   for await (const one of iterator) if (found.push(one) >= most) break;
@@ -75,6 +81,7 @@ const CALLS = {
   scan: (db, { lo, hi, at, page }) => all(db.scan(bytes(lo), bytes(hi), { at, page })),
   feed: async (db, { lo, hi, place, before, anew, take }) => (await all(db.feed(bytes(lo), bytes(hi), { place, before, anew }), take)).map(message),
   transact,
+  count,
   consume,
 };
 

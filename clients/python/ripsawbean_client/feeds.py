@@ -12,11 +12,11 @@ from __future__ import annotations
 import json
 import logging
 import time
-from typing import Any, Callable, List, Optional, Tuple
+from typing import Any, Callable, List, NoReturn, Optional, Tuple
 from urllib.parse import quote
 
 from .core import AGAIN, PAGE, Answer, Core, Follow, Pauses, Read, Run, Steps, Tell
-from .errors import Gone, Lost, OtherDatabase, Outrun, refused
+from .errors import Error, Gone, Lost, OtherDatabase, Outrun, refused
 from .values import Arguments, Batch, Change, Message, Place, Reset, Resolved, Text, bounds_of, of_base64, path_of
 
 ENOUGH = 1000  # rows that a consumer stores at once, where more are waiting
@@ -33,7 +33,7 @@ class Feed:
     def __init__(self, core: Core, lo: Optional[Text], hi: Optional[Text], place: Optional[Place], before: bool, anew: bool,
                  name: Optional[str] = None):
         self.core, self.lo, self.hi, self.before, self.anew, self.name = core, lo, hi, before, anew, name
-        self.generation = 0
+        self.generation, self.limit = 0, PAGE
         self.begin(place)
 
     def begin(self, place: Optional[Place]) -> None:
@@ -43,36 +43,39 @@ class Feed:
         self.resolved = place.timestamp if place else -1
 
     def steps(self) -> Steps[None]:
-        pauses, limit = Pauses(), PAGE
+        pauses, is_said = Pauses(), False
         while True:
             before = self.last, self.resolved
             try:
                 if self.snapshot:
-                    yield from self.rest_of_snapshot(self.snapshot, limit)
+                    yield from self.rest_of_snapshot(self.snapshot)
                 yield from self.stream()
             except Lost as why:
-                log.info("the feed goes on: %s", why)
-            limit = max(1, limit // 2) if self.snapshot else PAGE
-            pauses = pauses if before == (self.last, self.resolved) else Pauses()
-            pause = pauses.next()
+                lost = why
+            self.limit = max(1, self.limit // 2)
+            if before != (self.last, self.resolved):
+                pauses, is_said = Pauses(), False
+            log.log(logging.DEBUG if is_said else logging.INFO, "the feed was lost, and is opened again: %s", lost)
+            is_said, pause = True, pauses.next()
             if pause:
                 yield pause
 
-    def stream(self) -> Steps[None]:
-        """One stream, to its end."""
+    def stream(self) -> Steps[NoReturn]:
+        """One stream, until it is lost."""
         opened = yield from self.opened()
         identity, cursor = opened.header("Ripsawbean-Identity"), opened.number("Ripsawbean-From")
         self.generation = int(opened.headers.get("Ripsawbean-Generation") or 0)
+        log.info("the feed follows the database %s from %d", identity, cursor)
         if not self.anew:
             self.core._pin(opened)
         if self.place is None:
             self.begin(None)
-            self.snapshot = Place(identity, cursor, self.generation)
+            self.snapshot, self.limit = Place(identity, cursor, self.generation), PAGE
             yield from self.tell(Reset(*self.snapshot))
         while True:
             line = yield Read()
             if not line.endswith(b"\n"):  # the end, or half a line
-                return
+                raise Lost("it was cut")
             if line != b"\n":
                 yield from self.take(identity, cursor, json.loads(line))
 
@@ -86,11 +89,15 @@ class Feed:
         error = refused(answer.status, answer.body)
         if answer.status in AGAIN:
             raise Lost(error)
-        if isinstance(error, (OtherDatabase, Gone)) and self.anew and self.place:
+        if self.place and self.may_be_anew(error):
             log.warning("the feed begins anew: %s", error)
             self.begin(None)
             raise Lost(error)
         raise error
+
+    def may_be_anew(self, why: Error) -> bool:
+        """Whether the feed may begin anew where its place leads nowhere."""
+        return self.anew and isinstance(why, (OtherDatabase, Gone))
 
     def take(self, identity: str, cursor: int, told: Any) -> Steps[None]:
         """A message of a stream that began at the cursor."""
@@ -116,12 +123,12 @@ class Feed:
             self.resolved = place.timestamp
             yield from self.tell(place)
 
-    def rest_of_snapshot(self, snapshot: Place, limit: int) -> Steps[None]:
-        """The rows that a cut has left out, by pages of the same snapshot. Smaller pages get through more cuts."""
+    def rest_of_snapshot(self, snapshot: Place) -> Steps[None]:
+        """The rows that a cut has left out, by pages of the same snapshot: half as long after a cut, else twice as long."""
         lo: Optional[Text] = self.lo if self.last == NOTHING else self.last[1] + b"\0"
         while True:
             try:
-                page = yield from self.core._page_once(lo, self.hi, snapshot, limit, HOLD)
+                page = yield from self.core._page_once(lo, self.hi, snapshot, self.limit, HOLD)
             except (Gone, OtherDatabase) as why:
                 if isinstance(why, OtherDatabase) and not self.anew:
                     raise
@@ -133,7 +140,7 @@ class Feed:
                 yield from self.tell(Change(row.key, row.value, snapshot.timestamp))
             if page.next is None:
                 break
-            lo = page.next
+            lo, self.limit = page.next, min(PAGE, 2 * self.limit)
         yield from self.reach(Resolved(*snapshot))
 
     def tell(self, message: Message) -> Steps[None]:
@@ -164,6 +171,10 @@ class Consumer(Feed):
         self.stored: Optional[Place] = yield Run(self.load, ())
         self.is_reset, self.stored_at = False, 0.0
         self.begin(self.stored)
+
+    def may_be_anew(self, why: Error) -> bool:
+        # The rows of the same database can always be told again.
+        return why.error == "belowhorizon" or super().may_be_anew(why)
 
     def tell(self, message: Message) -> Steps[None]:
         if isinstance(message, Reset):

@@ -104,6 +104,8 @@ def answer(db, call):
     name = call["call"]
     if name == "txn":
         return db.txn(**txn_of(call))
+    if name == "count":
+        return db.transact(lambda tx: raised(tx, call["key"], tx.get(call["key"])))
     if name == "transact":
         return db.transact(lambda tx: [one for one in (work(tx, step) for step in call["work"]) if one is not work])
     arguments = given(call, *NAMES[name])
@@ -121,6 +123,13 @@ def answer(db, call):
     return getattr(db, name)(**arguments)
 
 
+def raised(tx, key, found):
+    """Work that raises a count."""
+    told = str(int(found or 0) + 1)
+    tx.put(key, told)
+    return told
+
+
 def work(tx, step):
     if "put" in step or "del" in step:
         parts = [of_json(step[name]) for name in ("put", "del", "value") if name in step]
@@ -135,6 +144,10 @@ async def answer_async(db, call):
     name = call["call"]
     if name == "txn":
         return await db.txn(**txn_of(call))
+    if name == "count":
+        async def count(tx):
+            return raised(tx, call["key"], await tx.get(call["key"]))
+        return await db.transact(count)
     if name == "transact":
         async def all_of(tx):
             found = []

@@ -1,0 +1,267 @@
+"""A client beside a real server, between which a proxy cuts connections again and again, wherever they are.
+
+What is counted and told has to be exact all the same. Each test is a function of a Ground.
+"""
+
+from __future__ import annotations
+
+import base64
+import contextlib
+import os
+import random
+import socket
+import subprocess
+import tempfile
+import threading
+import time
+from typing import Any, Callable, Dict, Iterator, List, Optional, Tuple
+
+from driver import Driver
+from real import Server
+
+TOKEN = "correct-horse-battery"
+
+
+class Cutter(threading.Thread):
+    """A proxy that ends each connection after a drawn number of bytes of answers: before, among or behind their headers."""
+
+    def __init__(self, server: str, least: float, most: float, seed: int = 1):
+        super().__init__(daemon=True)
+        self.server, self.range, self.dice, self.cuts = server, (least, most), random.Random(seed), 0
+        self.listener = socket.create_server(("127.0.0.1", 0))
+        self.host = "127.0.0.1:%d" % self.listener.getsockname()[1]
+        self.start()
+
+    def run(self) -> None:
+        with contextlib.suppress(OSError):
+            while True:
+                client = self.listener.accept()[0]
+                room = int(10 ** self.dice.uniform(*self.range))
+                threading.Thread(target=self.carry, args=(client, room), daemon=True).start()
+
+    def carry(self, client: socket.socket, room: int) -> None:
+        address, _, port = self.server.partition(":")
+        with client, contextlib.suppress(OSError), socket.create_connection((address, int(port))) as server:
+            threading.Thread(target=self.ask, args=(client, server), daemon=True).start()
+            while room > 0:
+                data = server.recv(min(room, 1 << 14))
+                if not data:
+                    return
+                client.sendall(data)
+                room -= len(data)
+            self.cuts += 1
+            for one in (client, server):
+                one.shutdown(socket.SHUT_RDWR)
+
+    def ask(self, client: socket.socket, server: socket.socket) -> None:
+        with contextlib.suppress(OSError):
+            while data := client.recv(1 << 16):
+                server.sendall(data.replace(self.host.encode(), self.server.encode()))
+
+
+class Ground:
+    """A server, and as many clients as a test wants."""
+
+    def __init__(self, program: str, command: List[str], *words: str):
+        self.command, self.server, self.drivers = command, Server(program, None, *words), []  # type: ignore[var-annotated]
+
+    def __enter__(self) -> "Ground":
+        return self
+
+    def __exit__(self, *_: object) -> None:
+        for one in self.drivers:
+            one.child.kill()
+            one.close()
+        self.server.close()
+
+    def client(self, host: Optional[str] = None, scheme: str = "http", environment: Dict[str, str] = {}, **options: Any) -> Driver:
+        """A client of the server, or of what stands at another address."""
+        driver = Driver(self.command, environment)
+        self.drivers.append(driver)
+        driver.tell({"connect": "%s://%s" % (scheme, host or self.server.host), "timeout": 30, **options})
+        return driver
+
+    def cutter(self, least: float, most: float) -> Cutter:
+        return Cutter(self.server.host, least, most)
+
+
+def gives(driver: Driver, call: str, **arguments: Any) -> Any:
+    told = driver.ask({"call": call, **arguments})
+    assert "gives" in told, (call, arguments, told)
+    return told["gives"]
+
+
+def raises(driver: Driver, kind: str, call: str, **arguments: Any) -> None:
+    told = driver.ask({"call": call, **arguments})
+    assert told.get("raises") == kind, (call, arguments, kind, told)
+
+
+def counts_through_cuts(ground: Ground) -> None:
+    """Four clients raise one count through a proxy that loses answers. Each raise counts once."""
+    proxy = ground.cutter(1.5, 3.5)
+    clients = [ground.client(proxy.host) for _ in range(4)]
+    failures: List[BaseException] = []
+
+    def work(client: Driver) -> None:
+        try:
+            for _ in range(25):
+                gives(client, "count", key="n")
+        except BaseException as why:
+            failures.append(why)
+
+    threads = [threading.Thread(target=work, args=(client,)) for client in clients]
+    for thread in threads:
+        thread.start()
+    for thread in threads:
+        thread.join()
+    assert not failures, failures
+    found = gives(ground.client(), "get", key="n")
+    assert found == "100" and proxy.cuts > 20, (found, proxy.cuts)
+
+
+def a_feed_through_cuts(ground: Ground) -> None:
+    """A feed that is cut every few rows tells each change once, in order, with what was there before."""
+    direct, dice = ground.client(), random.Random(2)
+    gives(direct, "put", key="z", value="0")
+    place = gives(direct, "feed", take=3)[-1]
+    wrote, rows = [], {}  # type: ignore[var-annotated]
+    for number in range(300):
+        key, value = "k%d" % dice.randrange(30), "v%d" % number
+        wrote.append({"key": key, "value": value, "timestamp": gives(direct, "put", key=key, value=value),
+                      "before": rows.get(key)})
+        rows[key] = value
+    proxy = ground.cutter(2.3, 3.5)
+    place = {"identity": place["identity"], "timestamp": place["resolved"]}
+    told = gives(ground.client(proxy.host), "feed", place=place, before=True, take=300 + 1)
+    assert [one for one in told if "key" in one] == wrote[: len([one for one in told if "key" in one])], told
+    assert proxy.cuts > 10, proxy.cuts
+
+
+def a_snapshot_through_cuts(ground: Ground) -> None:
+    """The first rows get through, although each connection has room for few of them."""
+    direct = ground.client()
+    keys = ["%04d" % number for number in range(2000)]
+    for at in range(0, len(keys), 500):
+        gives(direct, "txn", then=[{"put": key, "value": key * 20} for key in keys[at : at + 500]])
+    proxy = ground.cutter(3.2, 4.0)
+    told = gives(ground.client(proxy.host), "feed", take=2 + len(keys))
+    assert "reset" in told[0] and "resolved" in told[-1], (told[0], told[-1])
+    assert [one.get("key") for one in told[1:-1]] == keys
+    assert {one["value"] for one in told[1:-1]} == {key * 20 for key in keys} and proxy.cuts > 10, proxy.cuts
+
+
+def a_consumer_through_cuts(ground: Ground) -> None:
+    """A consumer that is stopped and cut at random has the rows of the database, and each change once."""
+    direct, dice, proxy = ground.client(), random.Random(3), ground.cutter(2.3, 4.0)
+    kept: Dict[str, str] = {}
+    place, last = None, 0
+    for turn in range(12):
+        for _ in range(20):
+            key = "k%d" % dice.randrange(25)
+            last = int(gives(direct, "delete", key=key) if dice.random() < 0.2 else
+                       gives(direct, "put", key=key, value="%d" % dice.randrange(10 ** 6)))
+        consumer = ground.client(proxy.host)
+        place = consume(consumer, place, kept, last)
+        consumer.close()
+        ground.drivers.remove(consumer)
+    rows = {row["key"]: row["value"] for row in gives(direct, "scan")}
+    assert kept == rows, (kept, rows)
+    assert proxy.cuts > 5, proxy.cuts
+
+
+def consume(driver: Driver, place: Any, kept: Dict[str, str], last: int) -> Any:
+    """Stores until all up to a timestamp is there. Its driver stops in each store, before that is acknowledged."""
+    while place is None or int(place["timestamp"]) < last:
+        for batch in gives(driver, "consume", name="c", place=place, stores=1):
+            assert batch["was"] == place, (batch, place)
+            if batch["reset"]:
+                kept.clear()
+            for change in batch["changes"]:
+                if change["value"] is None:
+                    kept.pop(change["key"], None)
+                else:
+                    kept[change["key"]] = change["value"]
+            place = batch["place"]
+    return place
+
+
+def a_later_consumer_ends_an_earlier_one(ground: Ground) -> None:
+    first, second = ground.client(), ground.client()
+    gives(second, "put", key="a", value="1")
+    raised: List[Any] = []
+    thread = threading.Thread(target=lambda: raised.append(first.ask({"call": "consume", "name": "c", "stores": 9})))
+    thread.start()
+    time.sleep(1)
+    gives(second, "consume", name="c", stores=1)
+    thread.join(20)
+    assert raised and raised[0].get("raises") == "Outrun", raised
+
+
+def a_server_that_was_killed(ground: Ground) -> None:
+    """The next one has another database, which no write of an old client gets into."""
+    client, other = ground.client(timeout=10), ground.client()
+    gives(client, "put", key="a", value="1")
+    place = gives(client, "feed", take=3)[-1]
+    place = {"identity": place["identity"], "timestamp": place["resolved"]}
+    ground.server.happen({"world": "restart"})
+    raises(client, "OtherDatabase", "put", key="a", value="2")
+    raises(client, "OtherDatabase", "get", key="a")
+    raises(client, "OtherDatabase", "feed", place=place, take=1)
+    gives(other, "put", key="a", value="3")
+    assert "reset" in gives(other, "feed", place=place, anew=True, take=1)[0]
+
+
+def nobody_there(ground: Ground) -> None:
+    """What was never sent is known not to have happened, and what was sent and not answered isn't."""
+    with socket.create_server(("127.0.0.1", 0)) as listener:
+        host = "127.0.0.1:%d" % listener.getsockname()[1]
+        raises(ground.client(host, timeout=1), "OutcomeUnknown", "put", key="a", value="1")
+        raises(ground.client(host, timeout=1), "Unreachable", "get", key="a")
+    raises(ground.client(host, timeout=1), "Unreachable", "put", key="a", value="1")
+
+
+def tls_and_token(program: str, command: List[str]) -> None:
+    """Over TLS with a certificate that the client trusts, and with a token; without either nothing is served."""
+    with tempfile.TemporaryDirectory() as folder:
+        certificate, key, token = (os.path.join(folder, name) for name in ("certificate", "key", "token"))
+        words = ["-newkey", "rsa:2048", "-nodes", "-days", "1", "-subj", "/CN=localhost",
+                 "-addext", "subjectAltName=DNS:localhost", "-keyout", key, "-out", certificate]
+        subprocess.run(["openssl", "req", "-x509", *words], check=True, capture_output=True)
+        with open(token, "w") as file:
+            file.write(TOKEN + "\n")
+        trusts = {"SSL_CERT_FILE": certificate, "NODE_EXTRA_CA_CERTS": certificate}
+        with Ground(program, command, "--token", token, "--tls-cert", certificate, "--tls-key", key) as ground:
+            host = "localhost:" + ground.server.host.rpartition(":")[2]
+            client = ground.client(host, "https", trusts, token=TOKEN)
+            gives(client, "put", key="a", value="1")
+            assert gives(client, "get", key="a") == "1"
+            told = gives(client, "feed", take=3)
+            assert "reset" in told[0] and told[1]["value"] == "1" and "resolved" in told[2], told
+            raises(ground.client(host, "https", trusts, token="x" * 16), "Unauthorized", "get", key="a")
+            raises(ground.client(host, "https", trusts), "Unauthorized", "put", key="a", value="2")
+            raises(ground.client(host, "https", token=TOKEN, timeout=1), "Unreachable", "get", key="a")
+
+
+TESTS: Tuple[Callable[[Ground], None], ...] = (
+    counts_through_cuts, a_feed_through_cuts, a_snapshot_through_cuts, a_consumer_through_cuts,
+    a_later_consumer_ends_an_earlier_one, a_server_that_was_killed, nobody_there,
+)
+
+
+def live(program: str, command: List[str], only: str) -> Iterator[Tuple[str, List[str]]]:
+    """Each test with its faults."""
+    for test in TESTS:
+        name = test.__name__.replace("_", " ")
+        if only in name:
+            with Ground(program, command, "--history", "60") as ground:
+                yield name, faults_of(lambda: test(ground))
+    if only in "tls and token":
+        yield "tls and token", faults_of(lambda: tls_and_token(program, command))
+
+
+def faults_of(test: Callable[[], None]) -> List[str]:
+    try:
+        test()
+    except (AssertionError, OSError, SystemExit) as why:
+        return ["%s: %.1500s" % (type(why).__name__, why)]
+    return []
