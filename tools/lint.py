@@ -244,7 +244,7 @@ def links(house):
                     yield path, number, "the link %s leads nowhere" % target
                 elif anchor and to.endswith(".md") and to in house.paths and anchor not in anchors(house.text(to)):
                     yield path, number, "%s has no heading #%s" % (to, anchor)
-            for named in re.findall(r"`((?:crates|docs|embed|examples|bench|server|web|arm64|tools)/[\w./-]+)`", line):
+            for named in re.findall(r"`((?:crates|docs|embed|examples|bench|server|clients|web|arm64|tools)/[\w./-]+)`", line):
                 to = named.rstrip("/")
                 if "/out" in to or re.search(r"\b[A-Z]+(?:/|$)", to.replace(".md", "")):
                     continue

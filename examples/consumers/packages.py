@@ -7,9 +7,11 @@ lost.
 """
 
 import argparse
-import asyncio
+import os
+import sys
 
-from writing import connect, transact
+sys.path.append(os.path.join(os.path.dirname(os.path.abspath(__file__)), "..", "..", "clients", "python"))
+from ripsawbean_client import connect  # noqa: E402
 
 STATUS = "/var/lib/dpkg/status"
 TOGETHER = 20
@@ -28,23 +30,23 @@ def descriptions(status=STATUS):
                 yield fields[b"Package"], fields[b"Description"]
 
 
-async def main(server):
+def main(server):
     found = list(descriptions())
-    async with connect(server) as session:
+    with connect(server) as database:
         for at in range(0, len(found), TOGETHER):
             some = found[at : at + TOGETHER]
 
-            async def put(session):
-                count = int((await session.ask("get", ".", b"packages")).value or b"0")
+            def put(transaction):
+                count = int(transaction.get("packages") or 0)
                 for name, about in some:
-                    await session.ask("put", ".", b"package/" + name, about)
-                await session.ask("put", ".", b"packages", b"%d" % (count + len(some)))
+                    transaction.put(b"package/" + name, about)
+                transaction.put("packages", str(count + len(some)))
 
-            await transact(session, put)
+            database.transact(put)
     print("%d packages" % len(found))
 
 
 if __name__ == "__main__":
     words = argparse.ArgumentParser(description=__doc__, formatter_class=argparse.RawDescriptionHelpFormatter)
     words.add_argument("server")
-    asyncio.run(main(words.parse_args().server))
+    main(words.parse_args().server)

@@ -11,17 +11,17 @@ needs Debian's python3-psycopg2.
 import psycopg2
 from psycopg2.extras import execute_values
 
-from following import ENOUGH, Outrun, Place, command_line, follow
+from following import Outrun, Place, command_line, follow
 
 TABLES = """
     CREATE TABLE IF NOT EXISTS ripsawbean (key bytea PRIMARY KEY, value bytea NOT NULL);
     CREATE TABLE IF NOT EXISTS ripsawbean_place
-        (one int PRIMARY KEY CHECK (one = 1), identity text, generation bigint, complete bigint);
+        (one int PRIMARY KEY CHECK (one = 1), identity text, timestamp bigint, generation bigint);
 """
 PUT = "INSERT INTO ripsawbean VALUES %s ON CONFLICT (key) DO UPDATE SET value = EXCLUDED.value"
 GONE = "DELETE FROM ripsawbean WHERE key = ANY (%s)"
 PLACE = ("INSERT INTO ripsawbean_place VALUES (1, %s, %s, %s) ON CONFLICT (one) DO UPDATE "
-         "SET identity = EXCLUDED.identity, generation = EXCLUDED.generation, complete = EXCLUDED.complete")
+         "SET identity = EXCLUDED.identity, timestamp = EXCLUDED.timestamp, generation = EXCLUDED.generation")
 
 
 class Table:
@@ -35,21 +35,21 @@ class Table:
             return self.stored(cursor)
 
     def stored(self, cursor):
-        cursor.execute("SELECT identity, generation, complete FROM ripsawbean_place")
+        cursor.execute("SELECT identity, timestamp, generation FROM ripsawbean_place")
         stored = cursor.fetchone()
         return Place(*stored) if stored else None
 
-    def store(self, rows, was, place, anew):
-        after = {row.key: row.after for row in rows}
+    def store(self, batch):
+        after = {change.key: change.value for change in batch.changes}
         with self.db, self.db.cursor() as cursor:  # commits at its end, and rolls back where something is raised
             cursor.execute("LOCK TABLE ripsawbean_place IN EXCLUSIVE MODE")  # readers aren't kept waiting
-            if self.stored(cursor) != was:
-                raise Outrun("another place is stored")
-            if anew:
+            if self.stored(cursor) != batch.was:
+                raise Outrun()
+            if batch.reset:
                 cursor.execute("DELETE FROM ripsawbean")
-            execute_values(cursor, PUT, [pair for pair in after.items() if pair[1] is not None], page_size=ENOUGH)
+            execute_values(cursor, PUT, [pair for pair in after.items() if pair[1] is not None], page_size=1000)
             cursor.execute(GONE, ([key for key, value in after.items() if value is None],))
-            cursor.execute(PLACE, place)
+            cursor.execute(PLACE, batch.place)
 
     def all(self):
         with self.db, self.db.cursor() as cursor:
@@ -62,4 +62,4 @@ class Table:
 
 if __name__ == "__main__":
     given = command_line(__doc__, "dsn")
-    follow(given.server, given.name, lambda: Table(given.dsn), given.lo, given.hi, (psycopg2.Error,))
+    follow(given, lambda: Table(given.dsn), (psycopg2.Error,))

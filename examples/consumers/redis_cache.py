@@ -22,22 +22,22 @@ class Cache:
         stored = (connection or self.redis).hmget(self.place, Place._fields)
         return None if None in stored else Place(stored[0].decode(), int(stored[1]), int(stored[2]))
 
-    def store(self, rows, was, place, anew):
-        after = {row.key: row.after for row in rows}
+    def store(self, batch):
+        after = {change.key: change.value for change in batch.changes}
         put = {key: value for key, value in after.items() if value is not None}
         gone = [key for key, value in after.items() if value is None]
         with self.redis.pipeline() as pipe:
             pipe.watch(self.place)  # EXEC does nothing where another consumer writes the place from here on
-            if self.load(pipe) != was:
-                raise Outrun("another place is stored")
+            if self.load(pipe) != batch.was:
+                raise Outrun()
             pipe.multi()
-            if anew:
+            if batch.reset:
                 pipe.delete(self.rows)
             if put:
                 pipe.hset(self.rows, mapping=put)
             if gone:
                 pipe.hdel(self.rows, *gone)
-            pipe.hset(self.place, mapping=place._asdict())
+            pipe.hset(self.place, mapping=batch.place._asdict())
             pipe.execute()
 
     def all(self):
@@ -49,4 +49,4 @@ class Cache:
 
 if __name__ == "__main__":
     given = command_line(__doc__, "redis")
-    follow(given.server, given.name, lambda: Cache(given.redis, given.name), given.lo, given.hi, (redis.RedisError,))
+    follow(given, lambda: Cache(given.redis, given.name), (redis.RedisError,))

@@ -17,7 +17,7 @@ from following import Outrun, Place, command_line, follow
 TABLES = """
     PRAGMA journal_mode = WAL;
     CREATE TABLE IF NOT EXISTS place
-        (one INTEGER PRIMARY KEY CHECK (one = 1), identity TEXT, generation INTEGER, complete INTEGER);
+        (one INTEGER PRIMARY KEY CHECK (one = 1), identity TEXT, timestamp INTEGER, generation INTEGER);
     CREATE TABLE IF NOT EXISTS document (id INTEGER PRIMARY KEY, key BLOB UNIQUE, value BLOB);
     CREATE VIRTUAL TABLE IF NOT EXISTS body USING fts5 (text);
 """
@@ -33,33 +33,33 @@ class Index:
         self.db.executescript(TABLES)
 
     def load(self):
-        stored = self.db.execute("SELECT identity, generation, complete FROM place").fetchone()
+        stored = self.db.execute("SELECT identity, timestamp, generation FROM place").fetchone()
         return Place(*stored) if stored else None
 
-    def store(self, rows, was, place, anew):
+    def store(self, batch):
         self.db.execute("BEGIN IMMEDIATE")
         try:
-            if self.load() != was:
-                raise Outrun("another place is stored")
-            if anew:
+            if self.load() != batch.was:
+                raise Outrun()
+            if batch.reset:
                 self.db.execute("DELETE FROM document")
                 self.db.execute("DELETE FROM body")
-            for row in rows:
-                self.take(row)
-            self.db.execute("INSERT OR REPLACE INTO place VALUES (1, ?, ?, ?)", place)
+            for change in batch.changes:
+                self.take(change)
+            self.db.execute("INSERT OR REPLACE INTO place VALUES (1, ?, ?, ?)", batch.place)
             self.db.execute("COMMIT")
         finally:
             if self.db.in_transaction:
                 self.db.execute("ROLLBACK")
 
-    def take(self, row):
-        known = self.db.execute("SELECT id FROM document WHERE key = ?", (row.key,)).fetchone()
+    def take(self, change):
+        known = self.db.execute("SELECT id FROM document WHERE key = ?", (change.key,)).fetchone()
         if known:
             self.db.execute("DELETE FROM body WHERE rowid = ?", known)
             self.db.execute("DELETE FROM document WHERE id = ?", known)
-        if row.after is not None:
-            at = self.db.execute("INSERT INTO document (key, value) VALUES (?, ?)", (row.key, row.after)).lastrowid
-            self.db.execute("INSERT INTO body (rowid, text) VALUES (?, ?)", (at, row.after.decode(errors="replace")))
+        if change.value is not None:
+            at = self.db.execute("INSERT INTO document (key, value) VALUES (?, ?)", change[:2]).lastrowid
+            self.db.execute("INSERT INTO body (rowid, text) VALUES (?, ?)", (at, change.value.decode(errors="replace")))
 
     def all(self):
         return dict(self.db.execute("SELECT key, value FROM document"))
@@ -78,4 +78,4 @@ if __name__ == "__main__":
             print(os.fsdecode(key), text.replace("\n", " "))
     else:
         given = command_line(__doc__, "file")
-        follow(given.server, given.name, lambda: Index(given.file), given.lo, given.hi, (sqlite3.Error,))
+        follow(given, lambda: Index(given.file), (sqlite3.Error,))

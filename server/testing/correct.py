@@ -88,7 +88,7 @@ class Load:
         if is_own:
             command = ("correct_consumer.py", str(self.port), name, file, *span, "events" if at % 4 == 0 else "lines")
         else:
-            command = ("ledger.py", self.url, name, file, *span)
+            command = ("ledger.py", self.url, name, file, *span, "--anew")
         return Consumer(name, file, span, command, self.room.start(self.room.script(name, *command)), is_own)
 
     # ---- kills
@@ -159,7 +159,7 @@ class Load:
             digest = 0
             for key, value in rows.items():
                 digest ^= digest_of(key, value)
-            consumer.stored.append((place.identity, place.generation, place.complete, "%016x" % digest))
+            consumer.stored.append((place.identity, place.generation, place.timestamp, "%016x" % digest))
 
     # ---- the end
 
@@ -220,7 +220,7 @@ def places_of(consumer: Consumer) -> list[tuple[str, int, int, str]]:
         return []
     with contextlib.closing(Ledger(consumer.file)) as ledger:
         place = ledger.load()
-    return consumer.stored + ([(place.identity, place.generation, place.complete, "")] if place else [])
+    return consumer.stored + ([(place.identity, place.generation, place.timestamp, "")] if place else [])
 
 
 def values_of(load: Load, streams: list[Stream], transactions: dict[str, dict[int, Transaction]], rows: dict[bytes, bytes]) -> set[str]:
@@ -300,9 +300,9 @@ class Verdict:
             return
         found = [(at, key.decode(), None if value is None else value.decode()) for at, key, value in told]
         model, began = self.models[place.identity], found[0][0]
-        later = [one for one in model.within(*consumer.span) if began < one[0] <= place.complete]
+        later = [one for one in model.within(*consumer.span) if began < one[0] <= place.timestamp]
         seed = [(began, *item) for item in sorted(model.map_at(began, *consumer.span).items())]
-        plain = [one for one in model.within(*consumer.span) if one[0] <= place.complete]
+        plain = [one for one in model.within(*consumer.span) if one[0] <= place.timestamp]
         if found not in (seed + later, plain):
             self.faults.append("%s was told %d rows, and not the %d of the model" % (consumer.name, len(found), len(seed + later)))
 

@@ -52,7 +52,7 @@ def settled(server, make):
     wait_for(has_all, "the consumer to have all")
     with contextlib.closing(make()) as target:
         place, rows = target.load(), target.all()
-    assert rows_at(server, place.complete) == rows
+    assert rows_at(server, place.timestamp) == rows
 
 
 def talk(work):
@@ -245,7 +245,7 @@ def test_full_disk(room, server):
         wait_for(lambda: "Error" in consumer.words()[said:], "the disk of %s to be full" % name)
         with contextlib.closing(make(file)) as target:
             place, rows = target.load(), target.all()
-        assert rows_at(server, place.complete) == rows and place.complete < server.closed()
+        assert rows_at(server, place.timestamp) == rows and place.timestamp < server.closed()
         assert not consumer.has_ended()
         resource.prlimit(consumer.child.pid, resource.RLIMIT_FSIZE, (resource.RLIM_INFINITY, resource.RLIM_INFINITY))
         settled(server, lambda: make(file))

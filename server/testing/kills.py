@@ -32,7 +32,7 @@ class Consumer:
 
     def __init__(self, room, server, name, script, target, span, make, log):
         self.name, self.span, self.make, self.log = name, span, make, log
-        self.program = room.start(room.script(name, script, server.url, name, target, *span))
+        self.program = room.start(room.script(name, script, server.url, name, target, *span, "--anew"))
         self.compared = 0
 
     def wait_for_write(self):
@@ -170,9 +170,9 @@ class Kills:
         place, rows, told = consumer.stored()
         if place is None or place.identity != self.life.identity:
             return
-        where = "%s at %d, generation %d" % (consumer.name, place.complete, place.generation)
+        where = "%s at %d, generation %d" % (consumer.name, place.timestamp, place.generation)
         if self.server.child:
-            scan = Event(self.server.call("scanat %d %s %s\n" % (place.complete, *consumer.span)))
+            scan = Event(self.server.call("scanat %d %s %s\n" % (place.timestamp, *consumer.span)))
             if scan.is_refusal:
                 self.fault("%s: scanat is answered %s" % (where, scan.answer))
             elif dict(scan.rows) != rows:
@@ -180,10 +180,10 @@ class Kills:
             consumer.compared += 1
             self.life.read()
         history = self.life.history
-        if place.complete > history.closed:  # its server died before the history was read so far
+        if place.timestamp > history.closed:  # its server died before the history was read so far
             return
         self.compared_with_history += 1
-        wanted = history.map_at(place.complete, *consumer.bounds())
+        wanted = history.map_at(place.timestamp, *consumer.bounds())
         if wanted != rows:
             self.fault("%s: other rows than the history: %s" % (where, different(wanted, rows)))
         if told is not None:
@@ -191,10 +191,10 @@ class Kills:
 
     def compare_told(self, where, place, told):
         """The rows of a snapshot, and then each version above it, once and in its order."""
-        history, began = self.life.history, told[0][0] if told else place.complete
+        history, began = self.life.history, told[0][0] if told else place.timestamp
         seed = [(began, key, value) for key, value in sorted(history.map_at(began).items())]
-        whole = seed + history.between(began, place.complete)
-        plain = history.between(0, place.complete)  # of a stream that began before there was anything
+        whole = seed + history.between(began, place.timestamp)
+        plain = history.between(0, place.timestamp)  # of a stream that began before there was anything
         self.told_rows += len(told)
         if told not in (whole, plain):
             sizes = (len(told), len(whole), len(plain))

@@ -13,7 +13,7 @@ from following import Outrun, Place, command_line, follow  # noqa: E402
 
 TABLES = """
     PRAGMA journal_mode = WAL;
-    CREATE TABLE IF NOT EXISTS place (one INTEGER PRIMARY KEY, identity TEXT, generation INTEGER, complete INTEGER);
+    CREATE TABLE IF NOT EXISTS place (one INTEGER PRIMARY KEY, identity TEXT, timestamp INTEGER, generation INTEGER);
     CREATE TABLE IF NOT EXISTS told (id INTEGER PRIMARY KEY, updated INTEGER, key BLOB, after BLOB);
 """
 
@@ -24,19 +24,19 @@ class Ledger:
         self.db.executescript(TABLES)
 
     def load(self):
-        stored = self.db.execute("SELECT identity, generation, complete FROM place").fetchone()
+        stored = self.db.execute("SELECT identity, timestamp, generation FROM place").fetchone()
         return Place(*stored) if stored else None
 
-    def store(self, rows, was, place, anew):
+    def store(self, batch):
         with self.db:
             self.db.execute("BEGIN IMMEDIATE")
-            if self.load() != was:
-                raise Outrun("another place is stored")
-            if anew:
+            if self.load() != batch.was:
+                raise Outrun()
+            if batch.reset:
                 self.db.execute("DELETE FROM told")
-            told = ((row.updated, row.key, row.after) for row in rows)
+            told = ((change.timestamp, change.key, change.value) for change in batch.changes)
             self.db.executemany("INSERT INTO told (updated, key, after) VALUES (?, ?, ?)", told)
-            self.db.execute("INSERT OR REPLACE INTO place VALUES (1, ?, ?, ?)", place)
+            self.db.execute("INSERT OR REPLACE INTO place VALUES (1, ?, ?, ?)", batch.place)
 
     def all(self):
         """The rows of the map, which the rows told make one after the other."""
@@ -52,4 +52,4 @@ class Ledger:
 
 if __name__ == "__main__":
     given = command_line(__doc__, "file")
-    follow(given.server, given.name, lambda: Ledger(given.file), given.lo, given.hi, (sqlite3.Error,))
+    follow(given, lambda: Ledger(given.file), (sqlite3.Error,))

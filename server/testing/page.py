@@ -1,8 +1,7 @@
 """Runs the pieces of docs/OPERATING.md as they stand there.
 
-    ```python ..            is run as a program, and has to end with status 0
-    From `FILE`: ```python  stands in that file, line by line
-    ``` $ COMMAND ..        is given to one shell, in the page's order; the lines below a command are its output
+    ```python ..      is run as a program, and has to end with status 0
+    ``` $ COMMAND ..  is given to one shell, in the page's order; the lines below a command are its output
 
 Ports and the program's name are those of the test, and it sleeps longer, since the machine may be busy with other
 things. A command that installs or builds is left out: it was done before.
@@ -14,11 +13,10 @@ import signal
 import subprocess
 import sys
 
-from machine import CONSUMERS, TOP, free_port
+from machine import TOP, free_port
 
 PAGE = os.path.join(TOP, "docs", "OPERATING.md")
 BLOCK = re.compile(r"^```(\w*)\n(.*?)^```$", re.M | re.S)
-EXCERPT = re.compile(r"From `([^`]*)`[^`]*\n\n\Z")
 DONE_BEFORE = re.compile(r"apt-get |server/install|server/build|embed/build")
 MARK = "--- this command has ended with"
 
@@ -28,9 +26,10 @@ class Page:
         self.folder, self.faults, self.pieces = folder, [], 0
         self.text = open(PAGE).read()
         self.replaced = {"7077": str(free_port()), "6400": str(free_port()), "./mvfeed": program, "sleep 1": "sleep 3"}
-        for name in ("server", "examples", "embed"):
+        for name in ("server", "examples", "embed", "clients"):
             os.symlink(os.path.join(TOP, name), os.path.join(folder, name))
-        self.environment = {**os.environ, "PYTHONPATH": ":".join((CONSUMERS, os.environ.get("PYTHONPATH", "")))}
+        clients = os.path.join(TOP, "clients", "python")
+        self.environment = {**os.environ, "PYTHONPATH": ":".join((clients, os.environ.get("PYTHONPATH", "")))}
         self.shell = subprocess.Popen(["sh"], cwd=folder, text=True, stdin=subprocess.PIPE, stdout=subprocess.PIPE,
                                       stderr=subprocess.STDOUT, start_new_session=True)
 
@@ -42,10 +41,7 @@ class Page:
     def run(self):
         for block in BLOCK.finditer(self.text):
             language, body = block.groups()
-            excerpt = EXCERPT.search(self.text[: block.start()])
-            if excerpt:
-                self.find(excerpt[1], body)
-            elif language == "python":
+            if language == "python":
                 self.run_program(body)
             elif body.startswith("$ "):
                 self.run_commands(body)
@@ -57,10 +53,6 @@ class Page:
         for written, there in self.replaced.items():
             text = text.replace(written, there)
         return text
-
-    def find(self, name, body):
-        if body not in open(os.path.join(TOP, name)).read():
-            self.faults.append("%s has no such lines: %s" % (name, body[:80]))
 
     def run_program(self, body):
         words = ["timeout", "120", sys.executable, "-c", self.fitted(body)]

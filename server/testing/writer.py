@@ -16,7 +16,7 @@ import aiohttp
 
 sys.path.append(os.path.join(os.path.dirname(os.path.abspath(__file__)), "..", "..", "examples", "consumers"))
 from packages import descriptions  # noqa: E402
-from writing import connect, transact  # noqa: E402
+from sessions import connect, transact  # noqa: E402
 
 WORDS, COUNTS = 400, 3
 

@@ -1,4 +1,4 @@
-"""Transactions over one WebSocket of the server: the loops for `toolate` and `blocked`.
+"""Transactions over one WebSocket of the server, which stay open between lines: the loops for `toolate` and `blocked`.
 
     async with connect("http://127.0.0.1:7077") as session:
 
