@@ -203,7 +203,7 @@ impl Core {
     }
 
     fn feed_beyond(&self) -> Option<u64> {
-        let (number, feed) = self.ledger.lowest_feeds().next()?;
+        let (number, feed) = self.ledger.lowest_feeds().find(|(number, _)| !self.exempt.contains(number))?;
         self.ledger.rows.above(feed.floor).exceeds(self.closing.most()).then_some(number)
     }
 

@@ -12,6 +12,8 @@
 use crate::api::holds::Holds;
 use crate::closing::Closing;
 use crate::door::Turn;
+use crate::journal::recovery::Recovered;
+use crate::journal::Journal;
 use crate::ledger::{Ledger, Reason};
 use crate::lines::Limits;
 use crate::log::Log;
@@ -21,6 +23,7 @@ use crate::outcome::{floor_after, Outcome, Words};
 use crate::seats::{Owner, Seats, Session};
 use crate::transcript::Transcript;
 use ripsawbean::{CallError, Command, Database, Event, OpenError, Refusal, VersionError};
+use std::collections::BTreeSet;
 use std::io::Write;
 use std::sync::Arc;
 use std::time::Instant;
@@ -36,6 +39,9 @@ pub struct Core {
     pub transcript: Transcript,
     pub names: Names,
     pub closing: Closing,
+    pub journal: Journal,
+    /// Feeds that aren't let go however far they lag.
+    pub exempt: BTreeSet<u64>,
     pub limits: Limits,
     /// Snapshots that requests hold for a while.
     pub holds: Holds,
@@ -67,23 +73,42 @@ struct Kept {
 }
 
 impl Core {
-    /// A new and empty database. Who starts the server draws its identity.
+    /// A new and empty database, of which nothing is kept. Who starts the server draws its identity.
     pub fn new(options: &Options, identity: String, log: Arc<Log>) -> Result<Core, OpenError> {
-        Ok(Core {
-            database: Database::open(options.ring)?,
+        Ok(Core::of(Database::open(options.ring)?, identity, options, log))
+    }
+
+    /// The database as its journal tells it.
+    pub fn recovered(recovered: Recovered, options: &Options, log: Arc<Log>) -> Core {
+        let Recovered { mut database, identity, names, generation, closed, horizon, commits, journal, .. } = recovered;
+        let next = database.last().map_or(0, |last| last.position + 1);
+        let mut core = Core::of(database, identity, options, log);
+        core.transcript.begin_at(next);
+        core.ledger.recover(closed, horizon, &commits);
+        core.recover_names(generation, names);
+        // From here on names are told to it.
+        core.journal = journal;
+        core
+    }
+
+    fn of(database: Database, identity: String, options: &Options, log: Arc<Log>) -> Core {
+        Core {
+            database,
             identity,
             ledger: Ledger::default(),
             seats: Seats::default(),
             transcript: Transcript::new(options.keep, options.keep_bytes),
             names: Names::new(options.max_consumers),
             closing: Closing::new(options),
+            journal: Journal::nothing(),
+            exempt: BTreeSet::new(),
             limits: Limits::of(options),
             holds: Holds::default(),
             shouts: 0,
             log,
             line: Vec::new(),
             spare: Vec::with_capacity(SPARE),
-        })
+        }
     }
 
     /// Makes the call of a session's line, which has its newline and no seat, and puts the event's text behind `out`.
@@ -100,7 +125,9 @@ impl Core {
             Err(error) => return Err(error),
         };
         let words = Words::Line(line.strip_suffix(b"\n").unwrap_or(line));
-        let outcome = self.note(Owner::Seat(session.seat), words, kept)?;
+        let outcome = self.note(Owner::Seat(session.seat), words, kept);
+        self.record(None);
+        let outcome = outcome?;
         if let Outcome::Started { ts } = outcome {
             session.last = Some(ts);
         }
@@ -213,13 +240,33 @@ impl Core {
     }
 
     fn make(&mut self, owner: Owner, command: Command<'_>, mut wanted: Wanted<'_>) -> Result<Outcome, CallError> {
+        if let Command::Begin { ts: at } | Command::Close { to: at } | Command::CloseHard { to: at } = command {
+            self.journal.cover_now(at);
+        }
         let kept = match self.database.make(owner.seat(), command) {
             Ok(event) => keep(&mut self.transcript, event, &mut wanted),
             Err(CallError::Unwritten) => self.keep_again(&mut wanted),
             Err(CallError::NoMemory) => return Ok(Outcome::Refused(Refusal::NoMemory)),
             Err(error) => return Err(error),
         };
-        self.note(owner, Words::Command(command), kept)
+        let outcome = self.note(owner, Words::Command(command), kept);
+        self.record(Some(command));
+        outcome
+    }
+
+    /// Tells the journal of the event of the call that was made last: of a command, or else of `line`. Each call of the
+    /// database ends in this, also where its text is lost.
+    fn record(&mut self, command: Option<Command<'_>>) {
+        if !self.journal.keeps() {
+            return;
+        }
+        let Some(record) = self.database.last() else { return };
+        if let Some(command) = command.filter(|_| self.journal.wants_line(&record)) {
+            self.line.clear();
+            // Writing to a vector can't fail.
+            let _ = writeln!(self.line, "{} {command}", record.seat);
+        }
+        self.journal.note(&record, &self.line, self.ledger.closed);
     }
 
     /// The last call was made, and there was no memory for its text.

@@ -13,6 +13,7 @@
 //! ```
 
 use crate::core::Core;
+use crate::journal::{Durable, Ticket};
 use parking_lot::Mutex;
 use std::time::{Duration, Instant};
 use tokio::sync::{watch, Notify};
@@ -25,17 +26,21 @@ const TURN: Duration = Duration::from_millis(5);
 pub enum Turn {
     Done,
     More,
+    /// It goes on once this is durable.
+    Until(Ticket),
 }
 
 pub struct Door {
     core: Mutex<Core>,
+    durable: Durable,
     moved: watch::Sender<u64>,
     due: Notify,
 }
 
 impl Door {
     pub fn new(core: Core) -> Door {
-        Door { core: Mutex::new(core), moved: watch::channel(0).0, due: Notify::new() }
+        let durable = core.journal.durable();
+        Door { core: Mutex::new(core), durable, moved: watch::channel(0).0, due: Notify::new() }
     }
 
     /// Takes the lock, works, settles (closes where that is due, wakes the streams), and gives the result. Work of more
@@ -61,9 +66,23 @@ impl Door {
 
     /// Work in turns, to its end.
     pub async fn turns(&self, mut work: impl FnMut(&mut Core, Instant) -> Turn) {
-        while self.turn(&mut work) == Turn::More {
-            tokio::task::yield_now().await;
+        loop {
+            match self.turn(&mut work) {
+                Turn::Done => return,
+                Turn::More => tokio::task::yield_now().await,
+                Turn::Until(ticket) => self.until(ticket).await,
+            }
         }
+    }
+
+    /// Waits until what something rests on is durable. Whoever tells it to anyone outside waits for this first.
+    pub async fn until(&self, ticket: Ticket) {
+        self.durable.until(ticket).await;
+    }
+
+    /// What rests on all that was done until now.
+    pub fn all(&self) -> Ticket {
+        self.core.lock().journal.all()
     }
 
     /// Changes after closed has moved or a feed of the server's own has ended, and each second. Who takes

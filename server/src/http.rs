@@ -16,6 +16,7 @@
 use crate::bodies::{Bodies, Held, FREE};
 use crate::connections::{Busy, Connection};
 use crate::gate::{Head, Who};
+use crate::journal::Ticket;
 use crate::refusal::Refusal;
 use crate::routes::{self, Server};
 use bytes::Bytes;
@@ -48,6 +49,8 @@ const BUFFER: usize = 1 << 16;
 const SWITCHING: u16 = 101;
 /// How much of a body that nobody wants is read away, and for how long.
 const LINGER_BYTES: usize = 64 << 20;
+/// The header that names the database. Each answer has it. A request that has it is refused by another database.
+const IDENTITY: &str = "ripsawbean-identity";
 const LINGER: Duration = Duration::from_secs(2);
 
 /// What a path is asked for with.
@@ -182,18 +185,20 @@ pub struct Response {
     pub status: u16,
     pub headers: Vec<(&'static str, String)>,
     body: Body,
+    /// What it rests on, where that is less than all that was done before.
+    rests: Option<Ticket>,
 }
 
 impl Response {
     /// An answer of status 200 with a whole body.
     pub fn whole(content_type: &'static str, body: impl Into<Bytes>) -> Response {
         let body = Body::new(Content::Whole(body.into()));
-        Response { status: 200, headers: vec![("content-type", content_type.into())], body }
+        Response { status: 200, headers: vec![("content-type", content_type.into())], body, rests: None }
     }
 
     /// An answer that has no body.
     pub fn empty(status: u16) -> Response {
-        Response { status, headers: Vec::new(), body: Body::new(Content::Whole(Bytes::new())) }
+        Response { status, headers: Vec::new(), body: Body::new(Content::Whole(Bytes::new())), rests: None }
     }
 
     /// An answer of status 200 whose body comes piece by piece.
@@ -201,7 +206,8 @@ impl Response {
         let (sender, pieces) = mpsc::channel(1);
         let shared = Arc::new(Shared::default());
         let body = Body::new(Content::Pieces(pieces, shared.clone()));
-        let response = Response { status: 200, headers: vec![("content-type", content_type.into())], body };
+        let response =
+            Response { status: 200, headers: vec![("content-type", content_type.into())], body, rests: None };
         (response, Sender { sender, shared })
     }
 
@@ -212,7 +218,7 @@ impl Response {
             ("connection", "Upgrade".to_string()),
             ("sec-websocket-accept", accept),
         ];
-        Response { status: SWITCHING, headers, body: Body::new(Content::Whole(Bytes::new())) }
+        Response { status: SWITCHING, headers, body: Body::new(Content::Whole(Bytes::new())), rests: None }
     }
 
     /// A refusal's answer: its line, as application/json.
@@ -227,6 +233,11 @@ impl Response {
     pub fn keeping(mut self, kept: OwnedSemaphorePermit) -> Response {
         self.body.kept = Some(kept);
         self
+    }
+
+    /// It is told once this is durable, and needn't wait for all that was done before.
+    pub fn resting_on(self, ticket: Ticket) -> Response {
+        Response { rests: Some(ticket), ..self }
     }
 
     pub fn with(mut self, name: &'static str, value: impl Into<String>) -> Response {
@@ -396,12 +407,24 @@ async fn answer(
     let (path, query) = (inner.uri().path().to_string(), inner.uri().query().unwrap_or("").to_string());
     let method = method_of(&inner);
     let request = Request { method, path, query, who, connection, bodies: server.bodies.clone(), inner };
-    let answered = routes::handle(&server, request).await;
+    let answered = match request.header(IDENTITY).is_none_or(|named| named == server.identity.as_bytes()) {
+        true => routes::handle(&server, request).await,
+        false => Err(other_database(&server, request).await),
+    };
     let response = answered.unwrap_or_else(|refusal| Response::refused(&refusal));
+    let response = response.with(IDENTITY, server.identity.as_str());
+    // Whatever an answer says rests on what was done before.
+    server.door.until(response.rests.unwrap_or_else(|| server.door.all())).await;
     if response.status != SWITCHING {
         busy.answers();
     }
     Ok(response.into_inner(Some(busy)))
+}
+
+/// Whoever still sends gets to read the refusal.
+async fn other_database(server: &Server, mut request: Request) -> Refusal {
+    let _ = tokio::time::timeout(LINGER, drain(request.inner.body_mut())).await;
+    Refusal::other_identity(&server.identity)
 }
 
 fn head_of(inner: &hyper::Request<hyper::Body>) -> Head<'_> {

@@ -166,6 +166,21 @@ impl Ledger {
         }
     }
 
+    /// The database was made from what its journal tells: nothing is undecided, and there is no feed and no protection.
+    /// Commits are rows and bytes by their timestamps, rising. So what is closed above each timestamp is known as before.
+    pub fn recover(&mut self, closed: u64, horizon: u64, commits: &[(u64, Amount)]) {
+        for &(ts, amount) in commits {
+            self.rows.commit(ts, amount);
+            self.written += amount.bytes + ROW * amount.rows;
+        }
+        // At or below the horizon no timestamp needs a place of its own.
+        self.rows.close(horizon);
+        commits.iter().filter(|(ts, _)| *ts > horizon).for_each(|(ts, _)| self.rows.close(*ts));
+        (self.closed, self.horizon, self.greatest) = (closed, horizon, closed);
+        let now = Instant::now();
+        self.closings.push_back(Closings { first: now, last: now, at: closed });
+    }
+
     /// A refusal or a fault, to be counted.
     pub fn refused(&mut self, name: &'static str) {
         *self.refusals.entry(name).or_default() += 1;

@@ -32,6 +32,7 @@ use crate::core::Core;
 use crate::door::Turn;
 use crate::faults::why;
 use crate::gate::Right;
+use crate::journal::Ticket;
 use crate::options::Options;
 use crate::outcome::Outcome;
 use crate::seats::{Owner, Session};
@@ -110,6 +111,8 @@ pub struct Lines {
     taken: usize,
     pub answers: Vec<u8>,
     pub told: Told,
+    /// What the answers rest on.
+    pub rests: Ticket,
 }
 
 /// What was told of some lines so far.
@@ -125,14 +128,25 @@ pub struct Told {
 
 impl Lines {
     pub fn new(data: Vec<u8>) -> Lines {
-        Lines { data, taken: 0, answers: Vec::new(), told: Told::default() }
+        Lines { data, taken: 0, answers: Vec::new(), told: Told::default(), rests: Ticket::NONE }
     }
 
-    /// Takes lines until this time, one at least. Once the answers are too long, no further call is made.
+    /// Takes lines until this time, one at least. Once the answers are too long, no further call is made. Where it gives
+    /// `Turn::Until`, the next line waits for that.
     pub fn turn(&mut self, core: &mut Core, session: &mut Session, until: Instant) -> Result<Turn, Lost> {
+        core.journal.begin();
+        let turn = self.take(core, session, until);
+        self.rests = self.rests.max(core.journal.needed());
+        turn
+    }
+
+    fn take(&mut self, core: &mut Core, session: &mut Session, until: Instant) -> Result<Turn, Lost> {
         while self.taken < self.data.len() {
             let rest = &self.data[self.taken..];
             let end = rest.iter().position(|&byte| byte == b'\n').map_or(rest.len(), |at| at + 1);
+            if let Err(ticket) = cover(core, &rest[..end]) {
+                return Ok(Turn::Until(ticket));
+            }
             session.lines += 1;
             let (line, out) = (&rest[..end], &mut self.answers);
             if out.len() < core.limits.max_reply {
@@ -178,6 +192,19 @@ fn take(core: &mut Core, session: &mut Session, line: &[u8], told: &mut Told, ou
         Err(CallError::Unwritten) => return Err(Lost),
     }
     Ok(())
+}
+
+/// Whether the timestamp that a line brings into the database is below the mark that outlives a crash.
+fn cover(core: &mut Core, line: &[u8]) -> Result<(), Ticket> {
+    let whole = line.strip_suffix(b"\n").unwrap_or(line);
+    let mut words = whole.splitn(2, |&byte| byte == b' ');
+    let timestamp = match (words.next(), words.next()) {
+        (Some(b"begin"), None) => Some(core.ledger.next_timestamp()),
+        // What is further ahead than it may be is refused.
+        (Some(b"begin" | b"close" | b"closehard"), Some(word)) if bound(core, word).is_ok() => number_in(word),
+        _ => None,
+    };
+    timestamp.map_or(Ok(()), |timestamp| core.journal.cover(timestamp))
 }
 
 impl Told {
@@ -384,7 +411,7 @@ fn is_number(word: &[u8]) -> bool {
 }
 
 /// A word as a number, if it is one of 64 bits.
-fn number_in(word: &[u8]) -> Option<u64> {
+pub fn number_in(word: &[u8]) -> Option<u64> {
     std::str::from_utf8(word).ok().filter(|_| is_number(word))?.parse().ok()
 }
 

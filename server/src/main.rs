@@ -12,6 +12,7 @@
 //! core          the one database makes the call, under the seat of the client's session
 //! outcome       what the event did, as a value
 //! ledger        what it did is noted: timestamps, transactions, feeds, protections, rows
+//! journal       what has to outlive a crash is recorded, and the answer waits for the disk where it rests on that
 //! closing       soon after, closed moves as far as transactions are decided
 //! streams       each feed that is followed is polled once closed has moved, and its messages are pushed
 //! ```
@@ -20,8 +21,9 @@
 //!
 //! Beside them: `door` (the lock, and turns), `seats` (the 64 seats), `consumers` and `names` (what consumers have
 //! stored, held while they are down), `lag` (rows closed above a timestamp), `transcript` (the events kept), `reports`,
-//! `metrics`, `connections` (how many, and which are silent or stuck), `bodies` (their bytes), `ws`, `query`, `refusal`,
-//! `options`, `tokens`, `tls`, `notify`, `log`, `page`, `before` (values before a feed's rows), `faults` (their words).
+//! `metrics`, `dump`, `connections` (how many, and which are silent or stuck), `bodies` (their bytes), `ws`, `query`,
+//! `refusal`, `options`, `tokens`, `tls`, `notify`, `log`, `page`, `before` (values before a feed's rows), `faults`
+//! (their words).
 //!
 //! Three rules hold everywhere. All calls are made under one lock, which no one holds over an await. The database alone
 //! decides: the ledger only follows its answers, and where an answer isn't as the ledger foretells, the server says so
@@ -36,6 +38,7 @@ mod connections;
 mod consumers;
 mod core;
 mod door;
+mod dump;
 mod faults;
 mod form;
 mod gate;
@@ -43,6 +46,7 @@ mod gate;
 mod guide;
 mod histogram;
 mod http;
+mod journal;
 mod json;
 mod lag;
 mod ledger;

@@ -13,12 +13,14 @@ use crate::consumers::told_of_all;
 use crate::core::Core;
 use crate::histogram::Histogram;
 use crate::http::{Request, Response};
+use crate::journal::{Counts, Ticket};
 use crate::names::Told;
 use crate::process;
 use crate::query::arguments;
 use crate::refusal::Refusal;
 use crate::routes::Server;
 use std::fmt::{Display, Write};
+use std::sync::atomic::Ordering::Relaxed;
 use std::sync::Arc;
 use std::time::{Duration, SystemTime, UNIX_EPOCH};
 
@@ -41,11 +43,18 @@ pub async fn metrics(server: &Arc<Server>, request: Request) -> Result<Response,
     arguments(&request.path, &request.query, &[])?;
     let names = told_of_all(&server.door).await;
     let mut text = Text::default();
-    server.door.run(|core| of_database(&mut text, core, server));
+    let counts = server.door.run(|core| {
+        of_database(&mut text, core, server);
+        core.journal.counts()
+    });
+    if let Some(counts) = counts {
+        of_journal(&mut text, &counts);
+    }
     of_names(&mut text, &names);
     of_server(&mut text, server);
     of_process(&mut text, server.metrics.started);
-    Ok(Response::whole("text/plain; version=0.0.4; charset=utf-8", text.text))
+    // Whoever looks why the disk is slow doesn't wait for it.
+    Ok(Response::whole("text/plain; version=0.0.4; charset=utf-8", text.text).resting_on(Ticket::NONE))
 }
 
 #[derive(Default)]
@@ -118,6 +127,20 @@ fn of_database(text: &mut Text, core: &Core, server: &Server) {
     text.labelled(("ripsawbean_refusals_total", "counter"), "Refusals and faults by name.", "name", refusals);
     let ends = ledger.ends.iter().map(|(reason, count)| (*reason, *count));
     text.labelled(("ripsawbean_stream_ends_total", "counter"), "Streams that have ended, by reason.", "reason", ends);
+}
+
+fn of_journal(text: &mut Text, counts: &Counts) {
+    let seconds = Duration::from_nanos(counts.nanoseconds.load(Relaxed)).as_secs_f64();
+    text.counter(
+        "ripsawbean_journal_bytes_total",
+        "Bytes that were written to the journal.",
+        counts.bytes.load(Relaxed),
+    );
+    text.counter("ripsawbean_journal_batches_total", "Batches that were synced.", counts.syncs.load(Relaxed));
+    text.counter("ripsawbean_journal_seconds_total", "Time that writing and syncing them took.", seconds);
+    let behind = counts.since_checkpoint.load(Relaxed);
+    text.gauge("ripsawbean_journal_bytes", "Bytes of the journal behind the last checkpoint.", behind);
+    text.counter("ripsawbean_checkpoints_total", "Checkpoints that were made.", counts.checkpoints.load(Relaxed));
 }
 
 fn of_names(text: &mut Text, names: &[Told]) {

@@ -18,6 +18,7 @@
 //!    reason, and change nothing.
 
 use crate::core::Core;
+use crate::journal::Kept;
 use crate::json::Object;
 use crate::lag::Amount;
 use crate::ledger::{Name, Reason};
@@ -42,6 +43,13 @@ struct Consumer {
     feed: Option<u64>,
     /// 0 before its first stream.
     generation: u64,
+}
+
+impl Consumer {
+    /// What a restart leaves of it.
+    fn kept(&self) -> Kept {
+        Kept { stored: self.stored, generation: self.generation, is_held: self.protection.is_some() }
+    }
 }
 
 /// All names. What needs the database is of `Core`.
@@ -116,7 +124,7 @@ impl Core {
         }
         self.names.generation += 1;
         consumer.generation = self.names.generation;
-        self.names.all.insert(name.clone(), consumer);
+        self.keep_name(name, consumer);
         Ok(self.names.generation)
     }
 
@@ -126,7 +134,7 @@ impl Core {
         self.check_stored(&consumer, stored, generation)?;
         if consumer.protection.is_none() || consumer.stored < Some(stored) {
             self.hold(name, &mut consumer, stored)?;
-            self.names.all.insert(name.clone(), consumer);
+            self.keep_name(name, consumer);
         }
         Ok(())
     }
@@ -150,6 +158,7 @@ impl Core {
 
     pub fn forget(&mut self, name: &Name) {
         let Some(mut consumer) = self.names.all.remove(name) else { return };
+        self.journal.no_name(name, self.names.generation);
         if let Some(feed) = consumer.feed {
             self.stop_feed(feed, Reason::Deleted);
         }
@@ -188,6 +197,43 @@ impl Core {
 
     fn consumer(&self, name: &Name) -> Consumer {
         self.names.all.get(name).cloned().unwrap_or_default()
+    }
+
+    // ---- what outlives a restart
+
+    fn keep_name(&mut self, name: &Name, consumer: Consumer) {
+        self.names.all.insert(name.clone(), consumer);
+        self.tell_journal(name);
+    }
+
+    fn tell_journal(&mut self, name: &Name) {
+        if let Some(consumer) = self.names.all.get(name) {
+            self.journal.name(name, consumer.kept());
+        }
+    }
+
+    /// The head of a new series of the journal.
+    pub fn journal_head(&self) -> Vec<u8> {
+        let names = self.names.all.iter().map(|(name, consumer)| (name.to_string(), consumer.kept()));
+        self.journal.head(&self.identity, self.names.generation, names)
+    }
+
+    /// Names as they were: those that were held are held again.
+    pub fn recover_names(&mut self, generation: u64, names: BTreeMap<String, Kept>) {
+        self.names.generation = generation;
+        for (name, Kept { stored, generation, is_held }) in names {
+            let name: Name = name.into();
+            let mut consumer = Consumer { stored, generation, ..Consumer::default() };
+            match stored.filter(|_| is_held).map(|stored| self.hold(&name, &mut consumer, stored)) {
+                Some(Err(_)) => self.shout(&format!("{name} isn't held any more at {stored:?}")),
+                Some(Ok(())) => {}
+                None => {
+                    let total = self.ledger.rows.total;
+                    consumer.below = stored.map_or(total, |stored| total - self.ledger.rows.above(stored));
+                }
+            }
+            self.names.all.insert(name, consumer);
+        }
     }
 
     // ---- protections that move
@@ -229,6 +275,7 @@ impl Core {
             if let Some(id) = self.names.all.get_mut(&name).and_then(|consumer| consumer.protection.take()) {
                 self.log.warn("name_let_go", &[("name", (&*name).into())]);
                 self.release(id);
+                self.tell_journal(&name);
             }
         }
         are_more

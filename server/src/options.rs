@@ -66,7 +66,7 @@ const fn file(name: &'static str, meaning: &'static str) -> Row {
 
 const MOST: u64 = 1 << 62;
 
-const TABLE: [Row; 33] = [
+const TABLE: [Row; 37] = [
     whole("port", 7077, 0, 65535, "the port; 0 takes a free one, which the first line of the output names"),
     whole("ring", 1024, 1, 65536, "rows that each feed keeps at hand; no answer depends on it"),
     whole("max-lag", 1_000_000, 1, MOST, "rows closed above a reader beyond which nothing is held for it any longer"),
@@ -81,6 +81,13 @@ const TABLE: [Row; 33] = [
     whole("max-consumers", 1024, 1, 1 << 20, "names"),
     whole("max-held", 1000, 1, 1 << 20, "transactions, protections and feeds that one session may hold, of each"),
     whole("max-memory", 0, 0, MOST, "resident bytes above which puts are refused; 0: no limit"),
+    whole(
+        "checkpoint-bytes",
+        64 << 20,
+        1,
+        MOST,
+        "bytes of the journal behind a checkpoint at which the next one is made",
+    ),
     seconds("close-every", 0.0, 0.0, "pause before decided transactions are closed; 0 closes at once"),
     seconds("max-age", 30.0, 0.01, "age at which an undecided transaction is aborted"),
     seconds("history", 5.0, 0.0, "how long a timestamp can be read after it was closed"),
@@ -91,6 +98,13 @@ const TABLE: [Row; 33] = [
     seconds("drain", 0.0, 0.0, "how long undecided transactions may go on when the server is told to end"),
     Row { name: "address", kind: Kind::Word("127.0.0.1"), meaning: "the address; another one needs a token" },
     Row { name: "host", kind: Kind::Names, meaning: "a further name by which the server may be called" },
+    file("data", "the folder, or the postgresql:// address, that keeps the database; nothing is kept without it"),
+    file("restore", "a file that GET /dump gave: a new database begins with it, in an empty --data"),
+    Row {
+        name: "moved",
+        kind: Kind::Switch,
+        meaning: "the folder of --data was moved, and nobody serves the other one",
+    },
     file("token", "a file whose first line every request has to show"),
     file("tokens", "a file with a line NAME RIGHTS LO HI TOKEN for each of several tokens"),
     file("tls-cert", "the certificate and those above it, as PEM; needs --tls-key"),
@@ -125,6 +139,10 @@ pub struct Options {
     pub max_held: usize,
     /// Bytes; 0: no limit.
     pub max_memory: u64,
+    pub checkpoint_bytes: u64,
+    pub data: Option<PathBuf>,
+    pub restore: Option<PathBuf>,
+    pub moved: bool,
     pub close_every: Duration,
     pub max_age: Duration,
     pub history: Duration,
@@ -185,6 +203,7 @@ pub enum Fault {
     },
     NoAddress(String),
     NeedsToken(IpAddr),
+    NeedsData,
     TwoTokens,
     HalfTls,
     Unreadable {
@@ -214,6 +233,7 @@ impl Display for Fault {
             Fault::NeedsToken(address) => {
                 write!(out, "--address {address} can be reached by others: it needs --token FILE")
             }
+            Fault::NeedsData => out.write_str("--restore and --moved say something of --data FOLDER: give it too"),
             Fault::TwoTokens => out.write_str("--token and --tokens are two ways to say it: give one of them"),
             Fault::HalfTls => out.write_str("--tls-cert and --tls-key belong together: give both"),
             Fault::Unreadable { file, why } => write!(out, "--config {}: {why}", file.display()),
@@ -267,6 +287,10 @@ fn options(given: &Given) -> Result<Options, Fault> {
         max_consumers: given.whole("max-consumers")?,
         max_held: given.whole("max-held")?,
         max_memory: given.whole("max-memory")?,
+        checkpoint_bytes: given.whole("checkpoint-bytes")?,
+        data: given.file("data")?,
+        restore: given.file("restore")?,
+        moved: given.switch("moved")?,
         close_every: given.seconds("close-every")?,
         max_age: given.seconds("max-age")?,
         history: given.seconds("history")?,
@@ -282,6 +306,9 @@ fn options(given: &Given) -> Result<Options, Fault> {
     };
     if !options.address.to_canonical().is_loopback() && options.tokens.is_none() {
         return Err(Fault::NeedsToken(options.address));
+    }
+    if options.data.is_none() && (options.restore.is_some() || options.moved) {
+        return Err(Fault::NeedsData);
     }
     Ok(options)
 }

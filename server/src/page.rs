@@ -6,6 +6,7 @@
 //! 1. A browser that shows the page takes scripts and answers from this server alone, and no other page may frame it.
 
 use crate::http::{Request, Response};
+use crate::journal::Ticket;
 use crate::json;
 use crate::query::arguments;
 use crate::refusal::Refusal;
@@ -36,7 +37,8 @@ pub async fn file(_: &Arc<Server>, request: Request) -> Result<Response, Refusal
     Ok(Response::whole(file.kind, file.body)
         .with("content-security-policy", POLICY)
         .with("referrer-policy", "no-referrer")
-        .with("cache-control", "no-cache"))
+        .with("cache-control", "no-cache")
+        .resting_on(Ticket::NONE))
 }
 
 /// `GET /page/examples`.

@@ -89,6 +89,12 @@ impl Refusal {
         Refusal::new(404, "path", "the server has no such path")
     }
 
+    /// A request names the database that it means.
+    pub fn other_identity(identity: &str) -> Refusal {
+        let why = "this is another database than the one that the request names: what was read there doesn't hold here";
+        Refusal::new(412, "identity", why).with("identity", identity)
+    }
+
     /// `allowed` are the methods of this path, as `GET, POST`.
     pub fn no_method(allowed: &str) -> Refusal {
         Refusal::new(405, "method", "this path takes other methods").with_header("Allow", allowed)

@@ -16,6 +16,7 @@ use crate::consumers::lines_of_all;
 use crate::core::Core;
 use crate::gate::Keys;
 use crate::http::{Request, Response, Sender};
+use crate::journal::Ticket;
 use crate::json::{self, Object};
 use crate::ledger::{Feed, Holder, Protection, Transaction};
 use crate::query::arguments;
@@ -93,13 +94,18 @@ async fn tell(server: Arc<Server>, from: u64, until: u64, sender: Sender) {
 pub async fn healthz(server: &Arc<Server>, request: Request) -> Result<Response, Refusal> {
     arguments(&request.path, &request.query, &[])?;
     match server.door.run(|core| fault_of(core)) {
-        None => Ok(Response::whole("text/plain; charset=utf-8", "ok\n").with("cache-control", "no-store")),
+        None => Ok(Response::whole("text/plain; charset=utf-8", "ok\n")
+            .with("cache-control", "no-store")
+            .resting_on(Ticket::NONE)),
         Some(why) => Err(Refusal::new(503, "unwell", why)),
     }
 }
 
 /// What is wrong. A closing that failed is tried again each second, so it may get well by itself.
 fn fault_of(core: &Core) -> Option<&'static str> {
+    if core.journal.is_stuck() {
+        return Some("the disk has taken no batch of the journal for 10 seconds, and answers wait for it");
+    }
     core.closing.has_failed().then_some("closing has failed, and no stream is told more: look at the log")
 }
 

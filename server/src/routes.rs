@@ -14,13 +14,15 @@ use crate::log::Log;
 use crate::options::Options;
 use crate::refusal::Refusal;
 use crate::tasks::Tasks;
-use crate::{consumers, metrics, page, reports, session, streams};
+use crate::{consumers, dump, metrics, page, reports, session, streams};
 use std::future::Future;
 use std::sync::Arc;
 use tokio::sync::{watch, Semaphore};
 
 /// The server's parts, put together. Each handler gets it.
 pub struct Server {
+    /// The database's identity.
+    pub identity: String,
     pub options: Options,
     pub door: Door,
     pub gate: Gate,
@@ -70,6 +72,7 @@ enum Place {
     State,
     Holders,
     Metrics,
+    Dump,
     Transcript,
     Health,
     Examples,
@@ -77,7 +80,7 @@ enum Place {
 }
 
 /// The paths that are one word. Beside them there are `/session/SEAT`, `/key/KEY`, `/consumer/NAME` and the page's files.
-const PATHS: [(&str, Place); 13] = [
+const PATHS: [(&str, Place); 14] = [
     ("/session", Place::Session),
     ("/call", Place::Call),
     ("/transact", Place::Transact),
@@ -88,6 +91,7 @@ const PATHS: [(&str, Place); 13] = [
     ("/state", Place::State),
     ("/holders", Place::Holders),
     ("/metrics", Place::Metrics),
+    ("/dump", Place::Dump),
     ("/transcript", Place::Transcript),
     ("/healthz", Place::Health),
     ("/page/examples", Place::Examples),
@@ -116,7 +120,7 @@ impl Place {
             Place::Call | Place::Transact => &[(Post, Right::Any)],
             Place::Key => &[(Get, Right::Read), (Head, Right::Read), (Put, Right::Write), (Delete, Right::Write)],
             Place::Seat => &[(Delete, Right::Operate)],
-            Place::Feed => &[(Get, Right::Read)],
+            Place::Feed | Place::Dump => &[(Get, Right::Read)],
             Place::Consumer => &[(Get, Right::Read), (Head, Right::Read), (Post, Right::Write), (Delete, Right::Write)],
             Place::Health => &[(Get, Right::Nobody), (Head, Right::Nobody)],
             _ => &[(Get, Right::Read), (Head, Right::Read)],
@@ -162,6 +166,7 @@ pub async fn handle(server: &Arc<Server>, request: Request) -> Result<Response, 
         (Place::State, _) => reports::state(server, request).await,
         (Place::Holders, _) => reports::holders(server, request).await,
         (Place::Metrics, _) => metrics::metrics(server, request).await,
+        (Place::Dump, _) => dump::dump(server, request).await,
         (Place::Transcript, _) => reports::transcript(server, request).await,
         (Place::Health, _) => reports::healthz(server, request).await,
         (Place::Examples, _) => page::examples(server, request).await,
@@ -190,6 +195,7 @@ mod tests {
             ("/state", "GET, HEAD"),
             ("/holders", "GET, HEAD"),
             ("/metrics", "GET, HEAD"),
+            ("/dump", "GET"),
             ("/transcript", "GET, HEAD"),
             ("/healthz", "GET, HEAD"),
             ("/", "GET, HEAD"),

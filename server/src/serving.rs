@@ -1,7 +1,7 @@
 //! The server's parts, put together, and its beginning and end.
 //!
 //! The first line of the output names the database and the address. SIGTERM and SIGINT end the server: transactions may
-//! go on for `--drain`, streams are told, sessions are closed, and the database is gone.
+//! go on for `--drain`, streams are told, sessions are closed, and the journal gets its last batch.
 //!
 //! 1. What is accepted is served within the limits of `connections`, or answered 503 and closed.
 //! 2. The work on the database never stops in silence: a panic in it ends the process.
@@ -14,6 +14,7 @@ use crate::core::Core;
 use crate::door::{Door, Turn};
 use crate::gate::Gate;
 use crate::http;
+use crate::journal::{self, checkpoint, recovery};
 use crate::ledger::Reason;
 use crate::log::Log;
 use crate::metrics::Metrics;
@@ -43,6 +44,7 @@ const FEWEST_FILES: u64 = 64; // for everything but connections
 const BACKLOG: u32 = 1024; // connections that the kernel keeps until they are taken
 const SEND_BUFFER: usize = 1 << 18; // bytes that the kernel may hold for one reader
 const END: Duration = Duration::from_secs(1); // how long connections have to end
+const LAST_BATCH: Duration = Duration::from_secs(10); // how long the journal has for it
 const PAUSE: Duration = Duration::from_millis(100); // after a connection that couldn't be taken
 
 /// Why the server doesn't serve.
@@ -50,6 +52,7 @@ const PAUSE: Duration = Duration::from_millis(100); // after a connection that c
 pub enum Failure {
     Listen(SocketAddr, io::Error),
     Open(OpenError),
+    Journal(recovery::Error),
     Tokens(tokens::Fault),
     Tls(tls::Fault),
     Random,
@@ -61,6 +64,7 @@ impl fmt::Display for Failure {
         match self {
             Failure::Listen(address, error) => write!(f, "{address} can't be listened to: {error}"),
             Failure::Open(error) => write!(f, "the database doesn't open: {error}"),
+            Failure::Journal(error) => write!(f, "{error}"),
             Failure::Tokens(fault) => write!(f, "{fault}"),
             Failure::Tls(fault) => write!(f, "{fault}"),
             Failure::Random => f.write_str("the system gives no random bytes for an identity"),
@@ -90,18 +94,22 @@ pub fn serve(options: Options) -> Result<(), Failure> {
 async fn run(mut options: Options) -> Result<(), Failure> {
     let log = Arc::new(Log::new(options.log_level, options.log_json));
     allow_files(&mut options, &log);
+    let (core, kept) = open(&options, log.clone()).await?;
     let listener = listener(SocketAddr::new(options.address, options.port))?;
     let address = listener.local_addr().map_err(Failure::System)?;
     let acceptor = options.tls.as_ref().map(Acceptor::read).transpose().map_err(Failure::Tls)?.map(Arc::new);
-    let server = Arc::new(put_together(options, address, log)?);
+    let server = Arc::new(put_together(core, options, address, log)?);
     warn_of_open_tokens(&server);
     let place = format!("{}://{address}", if acceptor.is_some() { "https" } else { "http" });
-    let identity = server.door.run(|core| core.identity.clone());
     // Signals are caught before anyone is told that the server is there.
     let signals = Signals::caught().map_err(Failure::System)?;
-    say_where(&identity, &place).map_err(Failure::System)?;
+    say_where(&server.identity, &place, &kept).map_err(Failure::System)?;
     let notify = Notify::from_environment();
     notify.ready(&place);
+    let (checkpoints, runtime) = (server.clone(), tokio::runtime::Handle::current());
+    let spawned =
+        std::thread::Builder::new().name("checkpoint".into()).spawn(move || checkpoint::run(&checkpoints, &runtime));
+    spawned.map_err(Failure::System)?;
     let works = [
         tokio::spawn(accept(server.clone(), listener, acceptor.clone())),
         tokio::spawn(close_when_due(server.clone())),
@@ -115,9 +123,25 @@ async fn run(mut options: Options) -> Result<(), Failure> {
     Ok(())
 }
 
-fn put_together(options: Options, address: SocketAddr, log: Arc<Log>) -> Result<Server, Failure> {
-    let core = Core::new(&options, identity()?, log.clone()).map_err(Failure::Open)?;
+/// The database, and a line that says what is kept of it.
+async fn open(options: &Options, log: Arc<Log>) -> Result<(Core, String), Failure> {
+    let identity = identity()?;
+    let Some(place) = options.data.clone() else {
+        let core = Core::new(options, identity, log).map_err(Failure::Open)?;
+        return Ok((core, "nothing is kept: this database ends with the server, and --data FOLDER keeps one".into()));
+    };
+    let asked = journal::Asked { place, restore: options.restore.clone(), is_moved: options.moved, ring: options.ring };
+    let began = Instant::now();
+    // It may take long, and waits for disks.
+    let opened = tokio::task::spawn_blocking(move || journal::open(&asked, &identity)).await;
+    let recovered = opened.map_err(|error| Failure::System(error.into()))?.map_err(Failure::Journal)?;
+    let line = format!("{recovered}, in {:.1} seconds", began.elapsed().as_secs_f64());
+    Ok((Core::recovered(recovered, options, log), line))
+}
+
+fn put_together(core: Core, options: Options, address: SocketAddr, log: Arc<Log>) -> Result<Server, Failure> {
     Ok(Server {
+        identity: core.identity.clone(),
         door: Door::new(core),
         gate: Gate::new(&options, address.port()).map_err(Failure::Tokens)?,
         connections: Connections::new(options.max_connections, options.patience),
@@ -150,9 +174,10 @@ fn listener(address: SocketAddr) -> Result<TcpListener, Failure> {
     listen().map_err(|error| Failure::Listen(address, error))
 }
 
-fn say_where(identity: &str, place: &str) -> io::Result<()> {
+fn say_where(identity: &str, place: &str, kept: &str) -> io::Result<()> {
     let mut out = io::stdout();
     writeln!(out, "ripsawbean {identity} on {place}")?;
+    writeln!(out, "{kept}")?;
     out.flush()
 }
 
@@ -291,6 +316,8 @@ async fn end(server: &Arc<Server>) {
     server.door.turns(stop_feeds).await;
     server.is_ending.send_replace(true);
     let _ = timeout(END, server.tasks.all_ended()).await;
+    let last = server.door.run(|core| core.journal.end(core.ledger.greatest.max(core.ledger.closed)));
+    let _ = timeout(LAST_BATCH, server.door.until(last)).await;
 }
 
 /// No transaction begins any more, and those that are undecided may go on for a while.

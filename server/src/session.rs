@@ -12,8 +12,9 @@ use crate::connections::Connection;
 use crate::door::Turn;
 use crate::gate::{Right, Who};
 use crate::http::{Request, Response};
+use crate::journal::Ticket;
 use crate::lines::{Lines, Lost, Told};
-use crate::query::{arguments, flag_in, number_of};
+use crate::query::{arguments, flag_in, number_of, Arguments};
 use crate::refusal::Refusal;
 use crate::routes::Server;
 use crate::seats::Session;
@@ -23,6 +24,8 @@ use std::sync::Arc;
 use std::time::{Duration, Instant};
 use tokio::sync::OwnedSemaphorePermit;
 
+/// Bytes of an answer that its connection has room for.
+const SHORT: usize = 1 << 16;
 /// How long a body may take.
 const BODY: Duration = Duration::from_secs(10);
 /// How long a connection may take to become a WebSocket.
@@ -55,16 +58,26 @@ impl Seated {
 impl Drop for Seated {
     fn drop(&mut self) {
         let seat = self.session.seat;
-        if self.server.door.turn(|core, until| core.end(seat, until)) == Turn::More {
+        if self.server.door.turn(|core, until| core.end(seat, until)) != Turn::Done {
             let server = self.server.clone();
             tokio::spawn(async move { server.door.turns(|core, until| core.end(seat, until)).await });
         }
     }
 }
 
+/// A browser's WebSocket can't send headers, so the query may name the database too.
+fn check_identity(server: &Server, arguments: &Arguments) -> Result<(), Refusal> {
+    match arguments.bytes("identity") {
+        Some(named) if named != server.identity.as_bytes() => Err(Refusal::other_identity(&server.identity)),
+        _ => Ok(()),
+    }
+}
+
 /// `POST /call`: lines in, events out.
 pub async fn call(server: &Arc<Server>, mut request: Request) -> Result<Response, Refusal> {
-    let is_strict = flag_in(&arguments(&request.path, &request.query, &["strict"])?, "strict")?;
+    let arguments = arguments(&request.path, &request.query, &["strict", "identity"])?;
+    check_identity(server, &arguments)?;
+    let is_strict = flag_in(&arguments, "strict")?;
     let (who, connection) = (request.who.clone(), request.connection.clone());
     let mut data = request.body(server.options.max_message, BODY).await?;
     if data.last() != Some(&b'\n') {
@@ -76,10 +89,16 @@ pub async fn call(server: &Arc<Server>, mut request: Request) -> Result<Response
     let mut seated = Seated::take(server, who, &connection)?;
     let mut lines = Lines::new(data);
     let told = answer(&mut seated, &mut lines).await;
+    // Seats are free while the answer waits for the disk, and so is the place of a short one.
     drop(seated);
+    let place = Some(place).filter(|_| lines.answers.len() > SHORT);
+    server.door.until(lines.rests).await;
     server.metrics.calls.note(start.elapsed());
     told?;
-    let mut response = Response::whole("text/plain; charset=utf-8", lines.answers).keeping(place);
+    let mut response = Response::whole("text/plain; charset=utf-8", lines.answers).resting_on(lines.rests);
+    if let Some(place) = place {
+        response = response.keeping(place);
+    }
     if is_strict {
         response.status = status_of(lines.told);
     }
@@ -116,6 +135,7 @@ async fn answer(seated: &mut Seated, lines: &mut Lines) -> Result<(), Refusal> {
                 return refused("ended", "an operator has ended the session: lines were taken, and others weren't")
             }
             Ok(Turn::More) => tokio::task::yield_now().await,
+            Ok(Turn::Until(ticket)) => server.door.until(ticket).await,
             Err(Lost) => return refused("unwritten", "lines were taken, and there is no memory for their answers"),
         }
     }
@@ -123,7 +143,9 @@ async fn answer(seated: &mut Seated, lines: &mut Lines) -> Result<(), Refusal> {
 
 /// `GET /session`: a WebSocket.
 pub async fn session(server: &Arc<Server>, mut request: Request) -> Result<Response, Refusal> {
-    let idle = idle_in(&request)?;
+    let arguments = arguments(&request.path, &request.query, &["idle", "identity"])?;
+    check_identity(server, &arguments)?;
+    let idle = idle_in(&arguments)?;
     let lists = ["upgrade", "connection", "sec-websocket-version", "sec-websocket-key"].map(|name| request.list(name));
     let [upgrade, connection, version, key] = &lists;
     let accept = ws::accept(&Asked { upgrade, connection, version, key })?;
@@ -145,12 +167,12 @@ pub async fn session(server: &Arc<Server>, mut request: Request) -> Result<Respo
         drop(busy);
     };
     server.spawn(task);
-    Ok(Response::switching(accept))
+    Ok(Response::switching(accept).resting_on(Ticket::NONE))
 }
 
 /// How long the session may be silent before its undecided transactions are aborted, where it says so.
-fn idle_in(request: &Request) -> Result<Option<Duration>, Refusal> {
-    match arguments(&request.path, &request.query, &["idle"])?.number("idle") {
+fn idle_in(arguments: &Arguments) -> Result<Option<Duration>, Refusal> {
+    match arguments.number("idle") {
         Some(0) => Err(Refusal::new(400, "number", "idle has to be a second at least")),
         seconds => Ok(seconds.map(Duration::from_secs)),
     }

@@ -15,6 +15,7 @@
 use crate::connections::Connection;
 use crate::door::Turn;
 use crate::http::Stream;
+use crate::journal::Ticket;
 use crate::lines::{Lines, Lost};
 use crate::session::Seated;
 use crate::ws::{code, encode, Decoder, Incoming, Outgoing};
@@ -50,6 +51,8 @@ pub struct Socket {
     /// Their bytes, with those that a message takes beside its text.
     ahead: usize,
     out: Vec<u8>,
+    /// What the answers among it rest on.
+    rests: Ticket,
     /// Why the session ends, once all that waits is answered.
     end: Option<End>,
 }
@@ -102,6 +105,7 @@ impl Socket {
             waiting: VecDeque::new(),
             ahead: 0,
             out: Vec::new(),
+            rests: Ticket::NONE,
             end: None,
         }
     }
@@ -114,6 +118,9 @@ impl Socket {
                 Err(end) => break end,
             }
         };
+        // What isn't durable isn't told at the end either.
+        let is_durable = timeout(LINGER, self.seated.server.door.until(self.rests)).await.is_ok();
+        let end = if is_durable { end } else { End::Gone };
         let Socket { stream, seated, out, connection, .. } = self;
         let over = [("seat", seated.session.seat.into()), ("why", end.why().into())];
         seated.server.log.info("session_over", &over);
@@ -221,9 +228,12 @@ impl Socket {
             if self.out.len() >= WRITE || turn == Turn::Done {
                 self.write().await?;
             }
-            if turn == Turn::More {
+            if turn != Turn::Done {
                 self.check_end()?;
                 self.look().await?;
+            }
+            if let Turn::Until(ticket) = turn {
+                self.until(ticket).await?;
             }
         }
         self.write().await
@@ -242,14 +252,16 @@ impl Socket {
 
     /// Answers messages until the turn is over, or there is enough to write.
     fn turn(&mut self) -> Result<Turn, Lost> {
-        let Socket { seated, waiting, ahead, out, .. } = self;
+        let Socket { seated, waiting, ahead, out, rests, .. } = self;
         let Seated { server, session } = seated;
         server.door.turn(|core, until| {
             core.seats.hears(session.seat);
             while let Some(first) = waiting.front_mut() {
-                if first.lines.turn(core, session, until)? == Turn::More {
-                    return Ok(Turn::More);
+                let turn = first.lines.turn(core, session, until)?;
+                if turn != Turn::Done {
+                    return Ok(turn);
                 }
+                *rests = (*rests).max(first.lines.rests);
                 encode(Outgoing::Text(&first.lines.answers), out);
                 server.metrics.calls.note(first.since.elapsed());
                 *ahead -= first.bytes;
@@ -266,6 +278,7 @@ impl Socket {
         if self.out.is_empty() {
             return Ok(());
         }
+        self.until(self.rests).await?;
         let written = tokio::select! {
             biased; // mostly it is written at once
             written = self.stream.write_all(&self.out) => written,
@@ -276,6 +289,18 @@ impl Socket {
         // A long answer isn't kept room for.
         self.out.shrink_to(WRITE);
         written.map_err(|_| End::Gone)
+    }
+}
+
+impl Socket {
+    /// Waits until it is durable, or the session has to end without it.
+    async fn until(&mut self, ticket: Ticket) -> Result<(), End> {
+        tokio::select! {
+            biased;
+            () = self.seated.server.door.until(ticket) => Ok(()),
+            () = self.connection.cut_off() => Err(End::Gone),
+            () = soon_after(self.seated.session.told_to_end()) => Err(End::Gone),
+        }
     }
 }
 

@@ -23,6 +23,7 @@ use crate::connections::Connection;
 use crate::core::Core;
 use crate::form::Form;
 use crate::http::{Gone, Sender};
+use crate::journal::Ticket;
 use crate::json::Object;
 use crate::ledger::Ended;
 use crate::outcome::Outcome;
@@ -81,6 +82,8 @@ struct Told {
     text: Vec<u8>,
     count: u64,
     next: Next,
+    /// What they rest on.
+    rests: Ticket,
 }
 
 enum Next {
@@ -147,6 +150,7 @@ impl Stream {
         if !told.text.is_empty() {
             let piece = self.form.messages(told.text.into());
             self.place.server().streams.tell(told.count, piece.len());
+            self.place.server().door.until(told.rests).await;
             self.send(piece).await?;
         }
         match told.next {
@@ -197,7 +201,9 @@ impl Stream {
             if self.seen == Some(closed) {
                 return Ok((Told::nothing(), closed));
             }
-            Ok((polled(core, self.feed, self.before, &mut self.pace), closed))
+            core.journal.begin();
+            let told = polled(core, self.feed, self.before, &mut self.pace);
+            Ok((Told { rests: core.journal.needed(), ..told }, closed))
         })?;
         self.waits = false;
         self.seen = matches!(told.next, Next::Wait).then_some(closed);
@@ -219,7 +225,7 @@ impl Stream {
 
 impl Told {
     fn nothing() -> Told {
-        Told { text: Vec::new(), count: 0, next: Next::Wait }
+        Told { text: Vec::new(), count: 0, next: Next::Wait, rests: Ticket::NONE }
     }
 }
 

@@ -65,7 +65,7 @@ impl Streams {
 }
 
 impl Place {
-    fn take(server: &Arc<Server>) -> Result<Place, Refusal> {
+    pub fn take(server: &Arc<Server>) -> Result<Place, Refusal> {
         let most = server.options.max_feeds;
         match server.streams.open.fetch_update(Relaxed, Relaxed, |open| (open < most).then_some(open + 1)) {
             Ok(_) => Ok(Place(server.clone())),
@@ -122,7 +122,6 @@ pub async fn feed(server: &Arc<Server>, request: Request) -> Result<Response, Re
         .with("cache-control", "no-store")
         // Proxies that gather an answer know this, and hand on each piece as it comes.
         .with("x-accel-buffering", "no")
-        .with("ripsawbean-identity", opened.identity.as_str())
         .with("ripsawbean-from", opened.from.to_string())
         .with("ripsawbean-feed", opened.feed.to_string());
     Ok(match opened.generation() {

@@ -7,6 +7,7 @@ use crate::connections::Connections;
 use crate::core::Core;
 use crate::door::{Door, Turn};
 use crate::gate::{Gate, Who};
+use crate::journal::Ticket;
 use crate::lines::Lines;
 use crate::log::{Level, Log};
 use crate::metrics::Metrics;
@@ -68,6 +69,7 @@ pub fn core(words: &[&str]) -> Core {
 pub fn server(words: &[&str]) -> Arc<Server> {
     let (options, (core, said)) = (options(words), core_and_log(words));
     Arc::new(Server {
+        identity: IDENTITY.into(),
         door: Door::new(core),
         gate: Gate::new(&options, options.port).expect("a gate"),
         log: Arc::new(Log::to(Level::Error, false, Box::new(said))),
@@ -97,8 +99,24 @@ pub fn end(core: &mut Core, session: &Session) {
 pub fn texts(core: &mut Core, session: &mut Session, text: &str) -> String {
     let mut lines = Lines::new(text.as_bytes().to_vec());
     let far = Instant::now() + Duration::from_secs(60);
-    assert_eq!(lines.turn(core, session, far), Ok(Turn::Done));
-    String::from_utf8(lines.answers).expect("text")
+    loop {
+        match lines.turn(core, session, far) {
+            Ok(Turn::Until(ticket)) => wait_for(core, ticket),
+            told => {
+                assert_eq!(told, Ok(Turn::Done));
+                return String::from_utf8(lines.answers).expect("text");
+            }
+        }
+    }
+}
+
+/// Waits until it is durable.
+pub fn wait_for(core: &Core, ticket: Ticket) {
+    let (durable, end) = (core.journal.durable(), Instant::now() + Duration::from_secs(60));
+    while !durable.has(ticket) {
+        assert!(Instant::now() < end, "it isn't durable");
+        std::thread::sleep(Duration::from_millis(1));
+    }
 }
 
 /// The same without what stands before each answer, and without a fault's sentence.
@@ -177,6 +195,14 @@ impl Dice {
             (0..100).for_each(|_| attempt(self));
         }
     }
+}
+
+/// An empty folder of a test's own. It stays in the system's temporary folder.
+pub fn folder() -> PathBuf {
+    let path = file(b"");
+    std::fs::remove_file(&path).expect("it is there");
+    std::fs::create_dir(&path).expect("it is made");
+    path
 }
 
 /// A file of a test's own, with this text. It stays in the system's temporary folder.

@@ -1,0 +1,56 @@
+//! `GET /dump`: the database as a script, while calls go on. It is a backup, which `--restore` takes, and
+//! `mvfeed run --format 2` runs.
+//!
+//! It has all that was committed at or below closed, as it stood when it was asked for. Its last line says that it is
+//! whole. Its feed holds the horizon meanwhile, so one that is read too slowly is cut as streams are.
+
+use crate::core::Core;
+use crate::http::{Request, Response, Sender};
+use crate::journal::copy::{Broken, Copy, Next};
+use crate::journal::DUMP;
+use crate::query::arguments;
+use crate::refusal::Refusal;
+use crate::routes::Server;
+use crate::streams::Place;
+use std::sync::Arc;
+
+pub async fn dump(server: &Arc<Server>, request: Request) -> Result<Response, Refusal> {
+    arguments(&request.path, &request.query, &[])?;
+    if !request.who.keys().is_all() {
+        return Err(Refusal::other_keys());
+    }
+    let place = Place::take(server)?;
+    let begin = |core: &mut Core| (Copy::begin(core, DUMP, core.ledger.closed), core.ledger.closed);
+    let (copy, closed) = server.door.run(begin);
+    let copy = copy.map_err(|Broken| Refusal::no_memory())?;
+    let (response, sender) = Response::stream("text/plain; charset=us-ascii");
+    server.spawn(run(place, copy, sender));
+    Ok(response.with("cache-control", "no-store").with("ripsawbean-closed", closed.to_string()))
+}
+
+async fn run(place: Place, mut copy: Copy, sender: Sender) {
+    let is_told = tell(&place, &mut copy, &sender).await.is_some();
+    place.server().door.run(|core| core.end_stream(copy.feed()));
+    if !is_told {
+        sender.cut();
+    }
+}
+
+/// `None` where it can't be told to its end.
+async fn tell(place: &Place, copy: &mut Copy, sender: &Sender) -> Option<()> {
+    let door = &place.server().door;
+    loop {
+        sender.room().await.ok()?;
+        let next = door.turn(|core, until| copy.turn(core, until)).ok()?;
+        if matches!(next, Next::Take | Next::Done) {
+            door.until(door.all()).await;
+            let piece = copy.take();
+            place.server().streams.tell(0, piece.len());
+            sender.send(piece.into()).await.ok()?;
+        }
+        if next == Next::Done {
+            return Some(());
+        }
+        tokio::task::yield_now().await;
+    }
+}

@@ -1,0 +1,166 @@
+//! Lines that tell what isn't the database's: who it is, where it stands, and the places of names.
+//!
+//! ```text
+//! 0 readat 18446744073709551615 database/1914d5866a08f6aa
+//! 0 readat 18446744073709551615 place/alder//srv/data
+//! 0 readat 18446744073709551615 generation/7
+//! 0 readat 18446744073709551615 name/prices/19/7/1
+//! 0 readat 18446744073709551615 noname/prices
+//! 0 readat 18446744073709551615 end
+//! ```
+
+use super::frame::CARRIER;
+use super::store::Place;
+use crate::lines::number_in;
+use ripsawbean::{unspell, Spelled};
+use std::fmt;
+
+/// Bytes of a host's name and of a folder's path that are told, at most: a key has 256.
+const LONGEST_HOST: usize = 64;
+const LONGEST_FOLDER: usize = 170;
+
+#[derive(Clone, Debug, PartialEq, Eq)]
+pub enum Note {
+    Database(String),
+    Place(Place),
+    /// The last generation that was given.
+    Generation(u64),
+    Name {
+        name: String,
+        kept: Kept,
+    },
+    NoName(String),
+    /// All that had to be written was written.
+    End,
+}
+
+/// A name's place.
+#[derive(Clone, Copy, Debug, PartialEq, Eq)]
+pub struct Kept {
+    pub stored: Option<u64>,
+    pub generation: u64,
+    pub is_held: bool,
+}
+
+impl Place {
+    /// As far as a note has room for it.
+    pub fn shortened(host: &str, folder: &[u8]) -> Place {
+        let host =
+            host.bytes()
+                .take(LONGEST_HOST)
+                .map(|byte| if byte.is_ascii_graphic() && byte != b'/' { byte } else { b'_' });
+        let folder = &folder[folder.len().saturating_sub(LONGEST_FOLDER)..];
+        let host = host.map(char::from).collect();
+        Place { host, folder: String::from_utf8_lossy(folder).into_owned() }
+    }
+}
+
+impl Note {
+    /// The note of a line with its newline.
+    pub fn of(line: &[u8]) -> Option<Note> {
+        let word = line.strip_prefix(CARRIER)?.strip_suffix(b"\n")?;
+        let text = String::from_utf8(unspell(std::str::from_utf8(word).ok()?)?).ok()?;
+        let (kind, rest) = text.split_once('/').unwrap_or((text.as_str(), ""));
+        let is_word = !rest.is_empty() && !rest.contains('/');
+        match kind {
+            "database" if is_word => Some(Note::Database(rest.into())),
+            "place" => {
+                let (host, folder) = rest.split_once('/')?;
+                Some(Note::Place(Place { host: host.into(), folder: folder.into() }))
+            }
+            "generation" => number_in(rest.as_bytes()).map(Note::Generation),
+            "name" => name_in(rest),
+            "noname" if is_word => Some(Note::NoName(rest.into())),
+            "end" if text == "end" => Some(Note::End),
+            _ => None,
+        }
+    }
+
+    fn words(&self) -> String {
+        match self {
+            Note::Database(identity) => format!("database/{identity}"),
+            Note::Place(Place { host, folder }) => format!("place/{host}/{folder}"),
+            Note::Generation(generation) => format!("generation/{generation}"),
+            Note::Name { name, kept: Kept { stored, generation, is_held } } => {
+                let stored = stored.map_or("none".to_string(), |stored| stored.to_string());
+                format!("name/{name}/{stored}/{generation}/{}", u8::from(*is_held))
+            }
+            Note::NoName(name) => format!("noname/{name}"),
+            Note::End => "end".to_string(),
+        }
+    }
+}
+
+fn name_in(rest: &str) -> Option<Note> {
+    let mut words = rest.split('/');
+    let name = words.next().filter(|name| !name.is_empty())?.to_string();
+    let stored = match words.next()? {
+        "none" => None,
+        word => Some(number_in(word.as_bytes())?),
+    };
+    let generation = number_in(words.next()?.as_bytes())?;
+    let is_held = match words.next()? {
+        "0" => false,
+        "1" => true,
+        _ => return None,
+    };
+    words.next().is_none().then_some(Note::Name { name, kept: Kept { stored, generation, is_held } })
+}
+
+/// The line, with its newline.
+impl fmt::Display for Note {
+    fn fmt(&self, f: &mut fmt::Formatter<'_>) -> fmt::Result {
+        let carrier = std::str::from_utf8(CARRIER).map_err(|_| fmt::Error)?;
+        writeln!(f, "{carrier}{}", Spelled(self.words().as_bytes()))
+    }
+}
+
+#[cfg(test)]
+mod tests {
+    use super::*;
+
+    #[test]
+    fn notes_come_back() {
+        let kept = Kept { stored: Some(19), generation: 7, is_held: true };
+        let longest = Place::shortened(&"h".repeat(100), "/\u{e4} b/".repeat(100).as_bytes());
+        for note in [
+            Note::Database("1914d5866a08f6aa".into()),
+            Note::Place(Place { host: "alder".into(), folder: "/srv/my data".into() }),
+            Note::Place(longest),
+            Note::Generation(7),
+            Note::Name { name: "a.b-c_9".into(), kept },
+            Note::Name { name: "a".into(), kept: Kept { stored: None, generation: 0, is_held: false } },
+            Note::NoName("a".into()),
+            Note::End,
+        ] {
+            let line = note.to_string();
+            assert_eq!(Note::of(line.as_bytes()), Some(note), "{line}");
+            assert_eq!(line.matches(['\n', ' ']).count(), 4, "{line}");
+        }
+    }
+
+    #[test]
+    fn other_lines_are_no_notes() {
+        for words in [
+            "",
+            "end/",
+            "ends",
+            "generation/07",
+            "generation/x",
+            "name/a/1/2",
+            "name/a/1/2/3",
+            "name/a/1/2/1/1",
+            "name//1/2/1",
+            "noname/",
+            "database/",
+            "database/a/b",
+            "place/host",
+            "batch/1/0/00000000/0/00000000",
+        ] {
+            let line = [CARRIER, words.as_bytes(), b"\n"].concat();
+            assert_eq!(Note::of(&line), None, "{words}");
+        }
+        assert_eq!(Note::of(b"0 readat 7 end\n"), None);
+        assert_eq!(Note::of(&[CARRIER, b"end"].concat()), None);
+    }
+}

@@ -1,0 +1,100 @@
+//! Where a journal stands: a few series of bytes that only grow. `folder` has each in a file, `postgres` in rows.
+//!
+//! ```text
+//! journal-1  journal-2                     what is recorded, one series after another
+//!            checkpoint-2                  the database as it was where journal-2 begins: what is older may go
+//! ```
+//!
+//! 1. What `append` was given is durable once it returns. After an error nobody knows, so the process has to end.
+//! 2. A checkpoint is there as a whole, or not at all.
+//! 3. One process writes at a time. Where another has taken its place, an append fails and writes nothing.
+
+use super::Failure;
+use std::fmt;
+use std::io::Read;
+
+#[derive(Clone, Copy, Debug, PartialEq, Eq, PartialOrd, Ord)]
+pub enum Kind {
+    Checkpoint,
+    Journal,
+}
+
+/// One series, by its number.
+#[derive(Clone, Copy, Debug, PartialEq, Eq, PartialOrd, Ord)]
+pub struct Series {
+    pub kind: Kind,
+    pub number: u64,
+}
+
+impl Series {
+    pub fn journal(number: u64) -> Series {
+        Series { kind: Kind::Journal, number }
+    }
+
+    pub fn checkpoint(number: u64) -> Series {
+        Series { kind: Kind::Checkpoint, number }
+    }
+}
+
+impl fmt::Display for Series {
+    fn fmt(&self, f: &mut fmt::Formatter<'_>) -> fmt::Result {
+        let kind = match self.kind {
+            Kind::Checkpoint => "checkpoint",
+            Kind::Journal => "journal",
+        };
+        write!(f, "{kind}-{:06}", self.number)
+    }
+}
+
+/// See the module.
+pub trait Store: Send {
+    /// All series, in no order.
+    fn all(&mut self) -> Result<Vec<Series>, Failure>;
+
+    /// The bytes of a series, from its beginning.
+    fn read(&mut self, series: Series) -> Result<Box<dyn Read + '_>, Failure>;
+
+    /// How messages call a series.
+    fn name(&self, series: Series) -> String;
+
+    /// Gives up what stands behind so many bytes of a series, and makes the rest durable.
+    fn cut(&mut self, series: Series, length: u64) -> Result<(), Failure>;
+
+    /// Appends to a series, which begins here where it isn't there.
+    fn append(&mut self, series: Series, bytes: &[u8]) -> Result<(), Failure>;
+
+    /// A checkpoint that isn't there until it is finished.
+    fn draft(&mut self, number: u64) -> Result<Box<dyn Draft>, Failure>;
+
+    /// Drops all series below this number, and drafts.
+    fn drop_below(&mut self, number: u64) -> Result<(), Failure>;
+
+    /// The host and the place where it stands, as far as that can be known: a copy stands elsewhere.
+    fn place(&self) -> Option<Place>;
+
+    /// Asks whether it can still be written, where that isn't sure. It is called where there is nothing to write.
+    fn beat(&mut self) -> Result<(), Failure> {
+        Ok(())
+    }
+}
+
+/// A checkpoint while it is written. Dropped, it leaves nothing that counts.
+pub trait Draft: Send {
+    fn write(&mut self, bytes: &[u8]) -> Result<(), Failure>;
+
+    /// Makes it durable and puts it in its place. What is older than it goes.
+    fn finish(self: Box<Self>) -> Result<(), Failure>;
+}
+
+/// Where a folder stands.
+#[derive(Clone, Debug, PartialEq, Eq)]
+pub struct Place {
+    pub host: String,
+    pub folder: String,
+}
+
+impl fmt::Display for Place {
+    fn fmt(&self, f: &mut fmt::Formatter<'_>) -> fmt::Result {
+        write!(f, "{} on host {}", self.folder, self.host)
+    }
+}

@@ -1,0 +1,353 @@
+//! The thread that writes. While it writes and syncs one batch, records gather in the next: group commit.
+//!
+//! ```text
+//! core     add add        add add add         add
+//! thread   [ batch 7    ] [ batch 8         ] [ batch 9 ..
+//! told                    what rests on 7     what rests on 8
+//! ```
+//!
+//! 1. One batch is on its way at a time. So what isn't durable is one batch, at the end of the last series.
+//! 2. Where a batch can't be written the process ends at once, before anyone is told of it.
+
+use super::frame::Chain;
+use super::store::{Draft, Series, Store};
+use super::Failure;
+use parking_lot::{Condvar, Mutex};
+use std::sync::atomic::{AtomicU64, Ordering::Relaxed};
+use std::sync::{mpsc, Arc};
+use std::time::{Duration, Instant};
+use tokio::sync::watch;
+
+/// Room that is kept for the lines of a batch.
+const ROOM: usize = 1 << 20;
+/// A batch that takes so long is told of.
+const STUCK: Duration = Duration::from_secs(10);
+/// Where nothing is to be written it is asked so often whether that is possible.
+const BEAT: Duration = Duration::from_secs(1);
+
+/// What something rests on: it is told once this batch is durable.
+#[derive(Clone, Copy, Debug, Default, PartialEq, Eq, PartialOrd, Ord)]
+#[must_use]
+pub struct Ticket(u64);
+
+impl Ticket {
+    /// It rests on nothing.
+    pub const NONE: Ticket = Ticket(0);
+}
+
+/// Who waits for tickets. Without a journal nobody has to.
+#[derive(Clone)]
+pub struct Durable(Option<watch::Receiver<u64>>);
+
+impl Durable {
+    pub const NOTHING: Durable = Durable(None);
+
+    /// Whether it need not be waited for.
+    pub fn has(&self, ticket: Ticket) -> bool {
+        self.0.as_ref().is_none_or(|durable| *durable.borrow() >= ticket.0)
+    }
+
+    /// Waits until the ticket's batch is durable.
+    pub async fn until(&self, ticket: Ticket) {
+        let Some(mut durable) = self.0.clone().filter(|_| !self.has(ticket)) else { return };
+        while *durable.borrow_and_update() < ticket.0 {
+            if durable.changed().await.is_err() {
+                // The thread has ended before it: so does the process, and nobody is told.
+                std::future::pending::<()>().await;
+            }
+        }
+    }
+}
+
+/// What the metrics tell of the writing.
+#[derive(Debug, Default)]
+pub struct Counts {
+    pub bytes: AtomicU64,
+    pub syncs: AtomicU64,
+    pub nanoseconds: AtomicU64,
+    /// Bytes since the last checkpoint was begun.
+    pub since_checkpoint: AtomicU64,
+    pub checkpoints: AtomicU64,
+}
+
+/// Where the writing goes on.
+#[derive(Clone, Copy, Debug, PartialEq, Eq)]
+pub struct Position {
+    pub series: Series,
+    /// The last batch, and how the series goes on behind it.
+    pub number: u64,
+    pub chain: Chain,
+    pub mark: u64,
+    /// Bytes behind the last checkpoint.
+    pub bytes: u64,
+}
+
+/// A checkpoint that is begun. That it can't be begun is no reason to end.
+pub type Drafted = Result<Box<dyn Draft>, Failure>;
+
+/// What follows goes to a new series, which begins with this head.
+struct Switch {
+    /// Where it came, in the lines of the batch.
+    at: usize,
+    head: Vec<u8>,
+    draft: mpsc::Sender<Drafted>,
+}
+
+struct Queue {
+    lines: Vec<u8>,
+    /// The number of the batch that gathers.
+    number: u64,
+    mark: u64,
+    /// Whether the mark was raised since a batch was taken.
+    is_raised: bool,
+    switch: Option<Switch>,
+    is_over: bool,
+    durable_mark: u64,
+    /// Since when a batch is on its way.
+    writing: Option<Instant>,
+}
+
+struct Shared {
+    queue: Mutex<Queue>,
+    /// There is something to write.
+    gathered: Condvar,
+    /// A batch was written.
+    written: Condvar,
+    durable_mark: AtomicU64,
+    durable: watch::Sender<u64>,
+    counts: Arc<Counts>,
+}
+
+/// The core's end.
+pub struct Writer {
+    shared: Arc<Shared>,
+}
+
+impl Writer {
+    /// Starts the thread behind what is there. It writes a batch at once: where the disk fails, that is found now.
+    pub fn start(
+        mut store: Box<dyn Store>,
+        identity: String,
+        mut position: Position,
+        lines: &[u8],
+    ) -> Result<Writer, Failure> {
+        let (number, mark) = (position.number + 1, position.mark);
+        let counts = Arc::new(Counts::default());
+        counts.since_checkpoint.store(position.bytes, Relaxed);
+        write(&mut *store, &mut position, number, mark, lines, &counts)?;
+        let queue = Queue {
+            lines: Vec::with_capacity(ROOM),
+            number: number + 1,
+            mark,
+            is_raised: false,
+            switch: None,
+            is_over: false,
+            durable_mark: mark,
+            writing: None,
+        };
+        let shared = Arc::new(Shared {
+            queue: Mutex::new(queue),
+            gathered: Condvar::new(),
+            written: Condvar::new(),
+            durable_mark: AtomicU64::new(mark),
+            durable: watch::channel(number).0,
+            counts,
+        });
+        let thread = Thread { shared: shared.clone(), store, identity, position };
+        let spawned = std::thread::Builder::new().name("journal".into()).spawn(move || thread.run());
+        spawned.map_err(|error| Failure::File("the journal's thread".into(), error))?;
+        Ok(Writer { shared })
+    }
+
+    pub fn durable(&self) -> Durable {
+        Durable(Some(self.shared.durable.subscribe()))
+    }
+
+    pub fn counts(&self) -> Arc<Counts> {
+        self.shared.counts.clone()
+    }
+
+    /// Whether a ticket's batch is durable.
+    pub fn has(&self, ticket: Ticket) -> bool {
+        *self.shared.durable.borrow() >= ticket.0
+    }
+
+    /// The mark that is durable.
+    pub fn durable_mark(&self) -> u64 {
+        self.shared.durable_mark.load(Relaxed)
+    }
+
+    /// Whether the disk takes far too long for a batch.
+    pub fn is_stuck(&self) -> bool {
+        self.shared.queue.lock().writing.is_some_and(|since| since.elapsed() > STUCK)
+    }
+
+    /// Adds lines to the batch that gathers.
+    pub fn add(&self, parts: &[&[u8]]) -> Ticket {
+        let mut queue = self.shared.queue.lock();
+        for part in parts {
+            queue.lines.extend_from_slice(part);
+        }
+        self.shared.gathered.notify_one();
+        Ticket(queue.number)
+    }
+
+    /// Raises the mark.
+    pub fn raise(&self, mark: u64) -> Ticket {
+        let mut queue = self.shared.queue.lock();
+        if mark > queue.mark {
+            queue.mark = mark;
+            queue.is_raised = true;
+            self.shared.gathered.notify_one();
+        }
+        // The batch that is on its way has the mark as it stood, unless it was raised since.
+        Ticket(if queue.is_raised { queue.number } else { queue.number - 1 })
+    }
+
+    /// Waits, and holds up its thread, until the mark is durable.
+    pub fn wait_for_mark(&self, timestamp: u64) {
+        let mut queue = self.shared.queue.lock();
+        while queue.durable_mark < timestamp {
+            self.shared.written.wait(&mut queue);
+        }
+    }
+
+    /// What is added from here on goes to a new series. Gives where its checkpoint comes from, once it has begun; there is
+    /// none while one switch is still on its way.
+    pub fn switch(&self, head: Vec<u8>) -> Option<mpsc::Receiver<Drafted>> {
+        let (draft, drafts) = mpsc::channel();
+        let mut queue = self.shared.queue.lock();
+        if queue.switch.is_some() || queue.is_over {
+            return None;
+        }
+        queue.switch = Some(Switch { at: queue.lines.len(), head, draft });
+        self.shared.gathered.notify_one();
+        Some(drafts)
+    }
+
+    /// The last batch, with the mark where it really stands. Nothing may be added any more.
+    pub fn end(&self, mark: u64, lines: &[u8]) -> Ticket {
+        let mut queue = self.shared.queue.lock();
+        queue.lines.extend_from_slice(lines);
+        queue.mark = mark;
+        queue.is_over = true;
+        self.shared.gathered.notify_one();
+        Ticket(queue.number)
+    }
+}
+
+/// What was taken from the queue.
+struct Work {
+    lines: Vec<u8>,
+    number: u64,
+    mark: u64,
+    switch: Option<Switch>,
+    is_last: bool,
+}
+
+struct Thread {
+    shared: Arc<Shared>,
+    store: Box<dyn Store>,
+    identity: String,
+    position: Position,
+}
+
+impl Thread {
+    fn run(mut self) {
+        let mut spare = Vec::with_capacity(ROOM);
+        loop {
+            let mut work = loop {
+                match self.take(&mut spare) {
+                    Some(work) => break work,
+                    None => self.store.beat().unwrap_or_else(|failure| give_up(&failure)),
+                }
+            };
+            if let Err(failure) = self.write(&mut work) {
+                give_up(&failure);
+            }
+            self.is_durable(&work);
+            if work.is_last {
+                return;
+            }
+            spare = work.lines;
+            spare.clear();
+            spare.shrink_to(ROOM);
+        }
+    }
+
+    /// Waits for something to write. `None` where nothing came for a while.
+    fn take(&self, spare: &mut Vec<u8>) -> Option<Work> {
+        let mut queue = self.shared.queue.lock();
+        while queue.lines.is_empty() && !queue.is_raised && queue.switch.is_none() && !queue.is_over {
+            if self.shared.gathered.wait_for(&mut queue, BEAT).timed_out() {
+                return None;
+            }
+        }
+        let number = queue.number;
+        queue.number += 1;
+        queue.is_raised = false;
+        queue.writing = Some(Instant::now());
+        Some(Work {
+            lines: std::mem::replace(&mut queue.lines, std::mem::take(spare)),
+            number,
+            mark: queue.mark,
+            switch: queue.switch.take(),
+            is_last: queue.is_over,
+        })
+    }
+
+    fn write(&mut self, work: &mut Work) -> Result<(), Failure> {
+        let Thread { shared, store, identity, position } = self;
+        let counts = &shared.counts;
+        let Some(switch) = work.switch.take() else {
+            return write(&mut **store, position, work.number, work.mark, &work.lines, counts);
+        };
+        write(&mut **store, position, work.number, work.mark, &work.lines[..switch.at], counts)?;
+        position.series.number += 1;
+        position.chain = Chain::new(identity, position.series);
+        counts.since_checkpoint.store(0, Relaxed);
+        let lines = [&switch.head, &work.lines[switch.at..]].concat();
+        write(&mut **store, position, work.number, work.mark, &lines, counts)?;
+        // Who asked for it may have ended.
+        let _ = switch.draft.send(store.draft(position.series.number));
+        Ok(())
+    }
+
+    fn is_durable(&self, work: &Work) {
+        let mut queue = self.shared.queue.lock();
+        queue.durable_mark = work.mark;
+        queue.writing = None;
+        drop(queue);
+        self.shared.durable_mark.store(work.mark, Relaxed);
+        self.shared.durable.send_replace(work.number);
+        self.shared.written.notify_all();
+    }
+}
+
+/// Writes one batch, and syncs it.
+fn write(
+    store: &mut dyn Store,
+    position: &mut Position,
+    number: u64,
+    mark: u64,
+    lines: &[u8],
+    counts: &Counts,
+) -> Result<(), Failure> {
+    let mut bytes = Vec::with_capacity(lines.len() + 160);
+    position.chain.add(number, mark, lines, &mut bytes);
+    let began = Instant::now();
+    store.append(position.series, &bytes)?;
+    let passed = u64::try_from(began.elapsed().as_nanos()).unwrap_or(u64::MAX);
+    counts.nanoseconds.fetch_add(passed, Relaxed);
+    counts.syncs.fetch_add(1, Relaxed);
+    counts.bytes.fetch_add(bytes.len() as u64, Relaxed);
+    counts.since_checkpoint.fetch_add(bytes.len() as u64, Relaxed);
+    position.number = number;
+    Ok(())
+}
+
+/// Ends the process: nothing that isn't durable may be told any more.
+fn give_up(failure: &Failure) -> ! {
+    eprintln!("ripsawbean-server: the journal can't be written: {failure}. Nothing was told that isn't durable.");
+    std::process::exit(1);
+}
