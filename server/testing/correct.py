@@ -18,6 +18,8 @@ import signal
 import socket
 import sqlite3
 import time
+from collections.abc import Callable
+from typing import Any
 
 from correct_consumer import OUTRUN, digest_of
 from correct_model import Digests, Model, Stream, Transaction, Version, check_stream, transactions_in
@@ -46,14 +48,18 @@ class Consumer:
     command: tuple[str, ...]
     program: Program
     is_own: bool  # by the page alone, and not over the repository's `follow`
+    make: Callable[[], Any] | None  # the target of one that isn't its own, as long as it is there
     stored: list[tuple[str, int, int, str]] = dataclasses.field(default_factory=list)  # of a ledger, at its kills
 
 
 class Load:
+    weights = 80, 10, 6, 4  # how often one of each of KINDS is killed
+    anew: tuple[str, ...] = ("--anew",)  # each start of the server is another database
+
     def __init__(self, room: Room, size: Size, seed: int, drops: int = 0):
         self.room, self.size, self.dice, self.kills = room, size, random.Random(seed), dict.fromkeys(KINDS, 0)
         self.faults: list[str] = []
-        self.server = room.start(Server(room.path, *OPTIONS))
+        self.server = room.start(self.make_server())
         self.url, self.port = self.server.url, self.server.port
         if drops:
             self.port = free_port()
@@ -70,6 +76,9 @@ class Load:
         for at in range(size.snapshots):
             words = (str(self.server.port), room.file("snapshot%d.told" % at), "snapshot", str(seed + at))
             room.start(room.script("snapshot%d" % at, "correct_watcher.py", *words))
+
+    def make_server(self) -> Server:
+        return Server(self.room.path, *OPTIONS)
 
     def listens(self) -> bool:
         with contextlib.suppress(OSError):
@@ -88,8 +97,9 @@ class Load:
         if is_own:
             command = ("correct_consumer.py", str(self.port), name, file, *span, "events" if at % 4 == 0 else "lines")
         else:
-            command = ("ledger.py", self.url, name, file, *span, "--anew")
-        return Consumer(name, file, span, command, self.room.start(self.room.script(name, *command)), is_own)
+            command = ("ledger.py", self.url, name, file, *span, *self.anew)
+        program = self.room.start(self.room.script(name, *command))
+        return Consumer(name, file, span, command, program, is_own, lambda: Ledger(file))
 
     # ---- kills
 
@@ -97,7 +107,7 @@ class Load:
         end = time.monotonic() + seconds
         while sum(self.kills.values()) < wanted and time.monotonic() < end:
             time.sleep(self.dice.uniform(0.02, 0.3))
-            kind = self.dice.choices(KINDS, (80, 10, 6, 4))[0]
+            kind = self.dice.choices(KINDS, self.weights)[0]
             getattr(self, "kill_" + kind)()
             self.kills[kind] += 1
             self.revive()
@@ -151,10 +161,10 @@ class Load:
 
     def note_stored(self, consumer: Consumer) -> None:
         """What a ledger has at its kill. A consumer of our own keeps a digest for each place by itself."""
-        if consumer.is_own:
+        if consumer.is_own or not consumer.make:
             return
-        with contextlib.closing(Ledger(consumer.file)) as ledger:
-            place, rows = ledger.load(), ledger.all()
+        with contextlib.closing(consumer.make()) as target:
+            place, rows = target.load(), target.all()
         if place:
             digest = 0
             for key, value in rows.items():
@@ -178,11 +188,14 @@ class Load:
         self.faults += ["%s has not all that there is: %s" % (one.name, one.program.tail().split("\n")[-1]) for one in late]
         lines = self.server.call("scanat %d - -\n" % closed).split("\n")[1:-1]
         time.sleep(1)
+        self.end_programs()
+        return {key.encode(): value.encode() for _, key, value in (line.split(" ") for line in lines)}
+
+    def end_programs(self) -> None:
         for program in reversed(self.room.programs):
             program.kill()
         for consumer in self.consumers:
             self.note_stored(consumer)
-        return {key.encode(): value.encode() for _, key, value in (line.split(" ") for line in lines)}
 
     def has_all(self, consumer: Consumer, closed: int) -> bool:
         self.revive()
@@ -218,8 +231,10 @@ def places_of(consumer: Consumer) -> list[tuple[str, int, int, str]]:
         with contextlib.closing(sqlite3.connect(consumer.file, timeout=30)) as db, contextlib.suppress(sqlite3.OperationalError):
             return db.execute("SELECT identity, generation, complete, digest FROM stored ORDER BY at").fetchall()
         return []
-    with contextlib.closing(Ledger(consumer.file)) as ledger:
-        place = ledger.load()
+    if not consumer.make:
+        return consumer.stored
+    with contextlib.closing(consumer.make()) as target:
+        place = target.load()
     return consumer.stored + ([(place.identity, place.generation, place.timestamp, "")] if place else [])
 
 
@@ -232,6 +247,8 @@ def values_of(load: Load, streams: list[Stream], transactions: dict[str, dict[in
         for read in one.reads:
             seen.update([read[1]] if len(read) == 2 else [row[1] for row in read[2]])
     for consumer in load.consumers:
+        if not consumer.file:
+            continue
         with contextlib.closing(sqlite3.connect(consumer.file)) as db, contextlib.suppress(sqlite3.OperationalError):
             column = "value FROM told" if consumer.is_own else "after FROM told WHERE after IS NOT NULL"
             seen.update(value.decode() for (value,) in db.execute("SELECT " + column))
@@ -255,7 +272,7 @@ class Verdict:
         self.check_streams()
         for consumer in load.consumers:
             self.check_places(consumer)
-            if not consumer.is_own:
+            if consumer.file and not consumer.is_own:
                 self.check_told(consumer)
         self.check_snapshots()
 
@@ -330,9 +347,9 @@ class Verdict:
                     and any(one.rows and one.resolved for one in self.all_streams))
 
 
-def judge(size: Size, kills: int, seed: int, seconds: float, drops: int = 0) -> Verdict:
+def judge(size: Size, kills: int, seed: int, seconds: float, drops: int = 0, make: type[Load] = Load) -> Verdict:
     with Room() as room:
-        load = Load(room, size, seed, drops)
+        load = make(room, size, seed, drops)
         time.sleep(2)
         load.run(kills, seconds)
         time.sleep(3)  # so that the last life has some transactions

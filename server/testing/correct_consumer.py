@@ -54,6 +54,8 @@ class Consumer:
         status, head, lines = self.ask_feed(place[0], place[2]) if place else (409, {}, iter(()))
         anew = status == 409
         if anew:
+            if place:
+                print("%s begins anew" % self.name, file=sys.stderr, flush=True)
             status, head, lines = self.ask_feed()
         if status != 200:
             raise Again(str(status))

@@ -1,6 +1,6 @@
 """The whole test: server/test hands over its options. The last line says how many passed.
 
-Where the first word is `attacks` or `correct`, those tests are run, and no others.
+Where the first word is `attacks`, `correct` or `durable`, those tests are run, and no others.
 """
 
 import argparse
@@ -14,6 +14,7 @@ import unittest
 
 import attacks
 import correct
+import durable
 import edges
 from kills import kill_and_compare
 from machine import TOP, Room, Server
@@ -22,7 +23,7 @@ from page import run_page
 from tally import Tally
 
 SERVED = ("test_served", "test_api", "test_plans", "test_openapi", "test_reference", "test_costs")
-OTHERS = {"attacks": attacks.main, "correct": correct.main}
+OTHERS = {"attacks": attacks.main, "correct": correct.main, "durable": durable.main}
 
 
 def try_edges(tally, only):

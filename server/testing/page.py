@@ -25,7 +25,8 @@ class Page:
     def __init__(self, folder, program):
         self.folder, self.faults, self.pieces = folder, [], 0
         self.text = open(PAGE).read()
-        self.replaced = {"7077": str(free_port()), "6400": str(free_port()), "./mvfeed": program, "sleep 1": "sleep 3"}
+        ports = {port: str(free_port()) for port in ("7077", "7078", "7079", "6400")}
+        self.replaced = {**ports, "./mvfeed": program, "sleep 1": "sleep 3"}
         for name in ("server", "examples", "embed", "clients"):
             os.symlink(os.path.join(TOP, name), os.path.join(folder, name))
         clients = os.path.join(TOP, "clients", "python")

@@ -1,0 +1,387 @@
+"""Whether data outlive any crash: `server/test durable`, in some five minutes.
+
+The load of `correct`, with the consumers of examples/consumers beside it, on a server that keeps its data. It is killed
+again and again by kill -9. Half of the time its disk loses what wasn't synced, tears what is being written, and forgets
+names of files (`powerless.c`, preloaded into the very program). All lives of the server are one history, and the serial
+model of `correct` judges it: each acknowledged commit, each answered read, each row told, in one order over all restarts.
+
+Then come controls. Each leaves out one rule, and has to be noticed: a disk whose syncs lie, and journals that are changed
+between two lives as if the mark, the places of names, or the last batch had never been written.
+"""
+
+import argparse
+import base64
+import contextlib
+import dataclasses
+import glob
+import json
+import os
+import random
+import signal
+import subprocess
+import time
+
+import correct
+from correct import Consumer, Load, Size, judge
+from journal_file import Batch, rewrite
+from ledger import Ledger
+from machine import HERE, TOP, Postgres, Program, Redis, Room, Server, wait_for
+from postgres_replica import Table
+from redis_cache import Cache
+from search_index import Index
+from tally import Tally
+
+# Checkpoints are made all the time, and what is old goes soon.
+OPTIONS = (*correct.OPTIONS, "--checkpoint-bytes", "60000")
+SMALL = Size(6, 4, 1, 2)
+
+
+def powerless(room: Room) -> str:
+    """The preloaded disk, built once for a room."""
+    library = room.file("powerless.so")
+    if not os.path.exists(library):
+        source = os.path.join(HERE, "powerless.c")
+        subprocess.run(["cc", "-O1", "-shared", "-fPIC", "-o", library, source, "-ldl"], check=True)
+    return library
+
+
+class DurableServer(Server):
+    """A server that keeps its data, and of which `env` may be another in each life."""
+
+    def __init__(self, room: Room, place: str, *options: str):
+        super().__init__(room.path, *options, "--data", place)
+        self.place = place
+
+    def loses_power(self, room: Room, **more: str) -> None:
+        self.more["env"] = {**os.environ, "LD_PRELOAD": powerless(room), "POWERLESS": os.path.realpath(self.place), **more}
+
+    def keeps_power(self) -> None:
+        self.more["env"] = dict(os.environ)
+
+    def fail(self) -> None:
+        self.kill()
+
+
+class Pair(DurableServer):
+    """A server over PostgreSQL, and a second one that waits. Once the first one is killed the second has its port."""
+
+    waiting: subprocess.Popen[bytes] | None = None
+
+    def start(self) -> None:
+        if self.waiting:
+            self.child, self.waiting = self.waiting, None
+        else:
+            Program.start(self)
+        self.identity = wait_for(self.told_identity, "the server")
+        first = self.child
+        Program.start(self)
+        self.child, self.waiting = first, self.child
+
+    def fail(self) -> None:
+        super().kill()
+
+    def kill(self, number: int = signal.SIGKILL) -> None:
+        for self.child in filter(None, (self.waiting, self.child)):
+            super().kill(number)
+        self.waiting = None
+
+
+class DurableLoad(Load):
+    weights = 30, 8, 2, 60
+    anew = ()
+    change = None  # what is done to the journal between two lives
+    lies = False
+
+    def make_server(self) -> Server:
+        self.identities: set[str] = set()
+        server = DurableServer(self.room, self.room.file("data"), *OPTIONS)
+        self.choose_disk(server)
+        return server
+
+    def choose_disk(self, server: DurableServer) -> None:
+        if self.lies:
+            server.loses_power(self.room, POWERLESS_LIES="1")
+        elif self.dice.random() < 0.5:
+            server.loses_power(self.room)
+        else:
+            server.keeps_power()
+
+    def kill_server(self) -> None:
+        self.identities.add(self.server.identity)
+        self.server.fail()
+        time.sleep(self.dice.uniform(0, 0.3))
+        if self.change:
+            rewrite(self.server.place, type(self).change)
+        self.choose_disk(self.server)
+        self.server.start()
+        self.identities.add(self.server.identity)
+        if self.change or self.lies:
+            self.revive_all()
+
+    def revive(self) -> None:
+        """No consumer has a reason to end: identity, places and generations are kept."""
+        for consumer in self.consumers:
+            if consumer.program.has_ended():
+                self.faults.append("%s has ended: %s" % (consumer.name, consumer.program.tail()))
+                consumer.program.start()
+        super().revive()
+
+    def revive_all(self) -> None:
+        """A control goes on whoever has ended."""
+        for program in [one.program for one in self.consumers] + self.writers:
+            if program.has_ended():
+                program.start()
+
+    def settle(self) -> dict[bytes, bytes]:
+        rows = super().settle()
+        if len(self.identities) != 1:
+            self.faults.append("identities of one folder: %s" % self.identities)
+        for consumer in self.consumers:
+            if "begins anew" in consumer.program.words():
+                self.faults.append("%s has begun anew: %s" % (consumer.name, consumer.program.tail()))
+        words = self.server.words()
+        if "panicked" in words or " shout " in words:
+            self.faults.append("the server wondered: " + self.server.tail())
+        return rows
+
+
+class WholeLoad(DurableLoad):
+    """With the cache, the index and the replica of examples/consumers, over Redis, SQLite and PostgreSQL."""
+
+    program = ""
+
+    def __init__(self, room: Room, size: Size, seed: int, drops: int = 0):
+        super().__init__(room, size, seed, drops)
+        redis, postgres, index = room.start(Redis(room.path)), room.start(Postgres(room.path)), room.file("index.db")
+        for name, script, target, make in (
+            ("cache", "redis_cache.py", redis.url, lambda: Cache(redis.url, "cache")),
+            ("index", "search_index.py", index, lambda: Index(index)),
+            ("replica", "postgres_replica.py", postgres.dsn, lambda: Table(postgres.dsn)),
+        ):
+            command = (script, self.url, name, target, "-", "-")
+            program = room.start(room.script(name, *command))
+            self.consumers.append(Consumer(name, "", ("-", "-"), command, program, False, make))
+
+    def end_programs(self) -> None:
+        """Targets are looked at before they end."""
+        for consumer in (one for one in self.consumers if not one.file):
+            consumer.program.kill()
+            self.note_stored(consumer)
+            consumer.make = None
+        super().end_programs()
+
+
+    def settle(self) -> dict[bytes, bytes]:
+        rows = super().settle()
+        self.check_history()
+        return rows
+
+    def check_history(self) -> None:
+        """The proved check judges what the folder has, over the rows that a ledger was told."""
+        consumer = next(one for one in self.consumers if one.file and not one.is_own)
+        file = self.room.file("rows.told")
+        with contextlib.closing(Ledger(consumer.file)) as ledger, open(file, "w") as out:
+            for updated, key, after in ledger.told():
+                told = None if after is None else base64.b64encode(after).decode()
+                out.write(json.dumps({"after": told, "key": base64.b64encode(key).decode(), "updated": str(updated)}) + "\n")
+        words = [os.path.join(TOP, "server", "check"), self.server.place, "--told", file, "--span", *consumer.span]
+        done = subprocess.run(words, env={**os.environ, "PROGRAM": self.program}, capture_output=True, text=True)
+        self.checked = (done.stdout + done.stderr).strip()
+        if done.returncode or not self.checked.split("\n")[-1].startswith("yes: "):
+            self.faults.append("server/check: " + self.checked)
+
+
+class StandbyLoad(DurableLoad):
+    """PostgreSQL keeps the journal, and a standby takes over."""
+
+    def make_server(self) -> Server:
+        self.identities = set()
+        postgres = self.room.start(Postgres(self.room.path))
+        return Pair(self.room, "postgresql://test@127.0.0.1:%d/postgres" % postgres.port, *OPTIONS)
+
+    def choose_disk(self, server: DurableServer) -> None:
+        pass
+
+
+# ---- controls
+
+def without_last_batch(batches: list[Batch]) -> list[Batch]:
+    """As if an answer hadn't waited for its batch."""
+    at = max((at for at, batch in enumerate(batches) if any(b" commit " in line for line in batch.lines)), default=0)
+    return batches[:at] or batches[:1]
+
+
+def with_low_mark(batches: list[Batch]) -> list[Batch]:
+    """As if the mark were the greatest timestamp that stands in the journal."""
+    mark = 0
+    for batch in batches:
+        mark = max([mark] + [int(line.split()[2]) for line in batch.lines if b" commit " in line or b" close " in line])
+        batch.mark = mark
+    return batches
+
+
+def without_names(batches: list[Batch]) -> list[Batch]:
+    return [dataclasses.replace(batch, lines=[line for line in batch.lines if b" name/" not in line and b" generation/" not in line])
+            for batch in batches]
+
+
+class Lying(DurableLoad):
+    lies = True
+
+
+class Forgetful(DurableLoad):
+    change = staticmethod(without_last_batch)
+
+
+class LowMark(DurableLoad):
+    change = staticmethod(with_low_mark)
+
+
+class Nameless(DurableLoad):
+    change = staticmethod(without_names)
+
+
+CONTROLS = {
+    "syncs that lie": Lying,
+    "a last batch that is missing": Forgetful,
+    "a mark that is no higher than the commits": LowMark,
+    "names that are not kept": Nameless,
+}
+
+
+# ---- damage, and a disk that fails
+
+def files_of(folder: str) -> dict[str, bytes]:
+    found = {}
+    for path in glob.glob(os.path.join(folder, "*.script")):
+        with open(path, "rb") as file:
+            found[path] = file.read()
+    return found
+
+
+def loaded(room: Room, server: Server, rows: int) -> None:
+    for number in range(rows):
+        server.call("begin\nput . key%d %d\ncommit .\n" % (number % 7, number))
+
+
+def refused(server: Server) -> str:
+    """What a server says that doesn't start."""
+    Program.start(server)
+    server.child.wait(60)
+    said, status = server.words(), server.child.returncode
+    server.child = None
+    return said if status == 1 else "status %d: %s" % (status, said)
+
+
+def test_flipped_bits(room: Room, dice: random.Random) -> list[str]:
+    """Each bit that is flipped is refused with its file, and changes nothing."""
+    server = room.start(DurableServer(room, room.file("data"), "--checkpoint-bytes", "100000000"))
+    loaded(room, server, 30)
+    server.kill()
+    faults = []
+    for path, data in files_of(server.place).items():
+        for _ in range(40):
+            at, bit = dice.randrange(len(data)), dice.randrange(8)
+            flipped = data[:at] + bytes([data[at] ^ 1 << bit]) + data[at + 1 :]
+            with open(path, "wb") as file:
+                file.write(flipped)
+            said = refused(server)
+            if "is damaged at byte" not in said or os.path.basename(path) not in said:
+                faults.append("bit %d of byte %d: %s" % (bit, at, said[-300:]))
+            if files_of(server.place)[path] != flipped:
+                faults.append("bit %d of byte %d: the file was changed" % (bit, at))
+        with open(path, "wb") as file:
+            file.write(data)
+    server.start()
+    if "=> value 29\n" not in server.call("begin\nget . key1\n"):
+        faults.append("the row that was written last isn't there")
+    return faults
+
+
+def test_failing_syncs(room: Room, dice: random.Random) -> list[str]:
+    """At a failed sync the server ends at once, and all that was acknowledged is there."""
+    server = DurableServer(room, room.file("data"))
+    faults = []
+    for turn in range(6):
+        server.loses_power(room, POWERLESS_FAILS=str(dice.randrange(8, 60)))
+        room.start(server)
+        last = -1
+        try:
+            for number in range(1000):
+                server.call("begin\nput . turn%d %d\ncommit .\n" % (turn, number))
+                last = number
+            faults.append("it went on behind a failed sync")
+        except (OSError, ConnectionError):
+            pass
+        wait_for(server.has_ended, "the server's end")
+        if server.child.returncode != 1 or "can't be written" not in server.words():
+            faults.append("status %s: %s" % (server.child.returncode, server.tail()))
+        server.keeps_power()
+        server.start()
+        told = server.call("begin\nget . turn%d\n" % turn).split("\n")[1].rpartition(" => ")[2]
+        if last >= 0 and told not in ("value %d" % last, "value %d" % (last + 1)):
+            faults.append("%d was acknowledged, and there is %s" % (last, told))
+        server.kill()
+    return faults
+
+
+def test_full_disk(room: Room, dice: random.Random) -> list[str]:
+    """Where the disk is full it ends, and while it is full it doesn't start."""
+    server = DurableServer(room, room.file("data"))
+    server.command = ["sh", "-c", 'trap "" XFSZ; ulimit -f 40; exec "$@"', "sh", *server.command]
+    room.start(server)
+    last = -1
+    try:
+        for number in range(10000):
+            server.call("begin\nput . key %d%s\ncommit .\n" % (number, "x" * 500))
+            last = number
+    except (OSError, ConnectionError):
+        pass
+    wait_for(server.has_ended, "the server's end")
+    faults = [] if 10 < last < 9999 else ["%d were acknowledged" % last]
+    if "can't be written" not in server.words():
+        faults.append(server.tail())
+    server.command[2] = server.command[2].replace("40", "20")  # what was torn was cut off, so there is room for a batch
+    if "File too large" not in refused(server):
+        faults.append("it starts on a full disk: " + server.tail())
+    server.command = server.command[4:]
+    server.start()
+    told = server.call("begin\nget . key\n").split("\n")[1].rpartition(" => ")[2].rstrip("x")
+    if told not in ("value %d" % last, "value %d" % (last + 1)):
+        faults.append("%d was acknowledged, and there is %s" % (last, told))
+    return faults
+
+
+TESTS = (test_flipped_bits, test_failing_syncs, test_full_disk)
+
+
+def main(words: list[str]) -> Tally:
+    parser = argparse.ArgumentParser(prog="server/test durable", description="Whether data outlive any crash.")
+    parser.add_argument("--kills", type=int, default=120, metavar="N", help="how many processes are killed (120)")
+    parser.add_argument("--seed", type=int, default=int(time.time()), metavar="N", help="draws what is killed when")
+    parser.add_argument("--controls", type=int, default=12, metavar="N", help="kills of each control; 0 leaves them out (12)")
+    parser.add_argument("--standbys", type=int, default=30, metavar="N", help="kills over PostgreSQL, with a standby (30)")
+    parser.add_argument("--only", default="", metavar="WORDS", help="parts with these words in their name")
+    parser.add_argument("program", metavar="MVFEED", help="the built program, which checks the journal")
+    given, tally = parser.parse_args(words), Tally("durable")
+    tally.say("durable: seed %d" % given.seed)
+    for test in TESTS:
+        name = test.__name__[len("test_") :].replace("_", " ")
+        if given.only in name:
+            with Room() as room:
+                tally.told(name, test(room, random.Random(given.seed)))
+    WholeLoad.program = given.program
+    if given.kills and given.only in "kills":
+        verdict = judge(Size(12, 8, 2, 4), given.kills, given.seed, 120 + 4 * given.kills, make=WholeLoad)
+        faults = verdict.faults + ["nothing was compared"] * verdict.is_empty()
+        tally.told("%d kills, compared with the serial model" % given.kills, faults, verdict.told())
+    if given.standbys and given.only in "standbys":
+        verdict = judge(SMALL, given.standbys, given.seed, 120 + 8 * given.standbys, make=StandbyLoad)
+        faults = verdict.faults + ["nothing was compared"] * verdict.is_empty()
+        tally.told("%d kills over PostgreSQL, with a standby" % given.standbys, faults, verdict.told())
+    for name, make in CONTROLS.items() if given.controls else ():
+        if given.only in "the control: " + name:
+            verdict = judge(SMALL, given.controls, given.seed + 1, 240, make=make)
+            tally.told("the control: " + name, [] if verdict.faults else ["nothing was noticed"],
+                       "%d faults, as %.200s" % (len(verdict.faults), verdict.faults[:1]))
+    return tally
