@@ -352,6 +352,22 @@ class Guard(unittest.IsolatedAsyncioTestCase):
             for headers in ({}, {"Origin": own}, *({"Host": host} for host in hosts)):
                 self.assertEqual((await client.post("/call", data="stats", headers=headers)).status, 200, headers)
 
+    async def test_a_request_may_name_the_database_that_it_means(self):
+        async with served() as client:
+            replies = [await client.get(path) for path in ("/holders", "/consumer/c", "/nothing", "/", "/dump")]
+            replies.append(await client.post("/call", data="stats"))
+            (identity,) = {reply.headers["Ripsawbean-Identity"] for reply in replies}
+            own, other = {"Ripsawbean-Identity": identity}, {"Ripsawbean-Identity": identity[::-1] + "0"}
+            self.assertEqual((await client.post("/call", data="begin", headers=own)).status, 200)
+            self.assertEqual((await client.post("/call?identity=" + identity, data="begin")).status, 200)
+            for path in ("/holders", "/feed", "/session", "/call?identity=x"):
+                self.assertEqual(await refusal(await client.post(path, headers=other, data="begin\n" * 1000)), (412, "identity"))
+            for path in ("/session?identity=x", "/call?identity=x"):
+                reply = await (client.get if "session" in path else client.post)(path, headers={
+                    "Connection": "Upgrade", "Upgrade": "websocket"} if "session" in path else {})
+                self.assertEqual(await refusal(reply), (412, "identity"), path)
+            self.assertIn(" begin 3 ", await (await client.post("/call", data="begin")).text())
+
     async def test_a_token_is_asked_of_every_request(self):
         with tempfile.NamedTemporaryFile("w") as file:
             file.write("a-token-of-many-bytes\n")

@@ -41,6 +41,18 @@ fn defaults_are_those_that_operators_know() {
 }
 
 #[test]
+fn what_is_kept_has_a_place() {
+    let options = options_of("", &[], "");
+    assert_eq!((options.data, options.restore, options.moved, options.checkpoint_bytes), (None, None, false, 64 << 20));
+    let address = "postgresql://keeper@localhost/kept?options=-c%20a%3Db";
+    let options = options_of("--moved --config server.conf", &[], &format!("data = {address}\nrestore = backup\n"));
+    assert_eq!((options.data, options.restore, options.moved), (Some(address.into()), Some("backup".into()), true));
+    for words in ["--moved", "--restore backup"] {
+        assert!(fault_of(words, &[], "").contains("--data FOLDER"), "{words}");
+    }
+}
+
+#[test]
 fn the_command_line_says_more_than_the_environment_and_that_more_than_the_file() {
     let file = "# a comment\n\n max-lag = 3 \nport=30\nring = 300\nhost = c.example\nhost = d.example\n";
     let environment = [("RIPSAWBEAN_MAX_LAG", "2"), ("RIPSAWBEAN_PORT", "20"), ("RIPSAWBEAN_KEEP", "")];
