@@ -45,7 +45,8 @@ impl Database {
     ) -> (usize, Result<(), VersionFault>)
         ensures { (h : List Event) → StandsFor self.now h → AreVersionsAt (effects_of h) t keys.now versions.old versions.new result.0 result.1 }
     {
-        if t < self.engine.horizon() {
+        let horizon = self.engine.horizon();
+        if t < horizon {
             return (0, Err(VersionFault::BelowHorizon));
         }
         let mut count = 0;

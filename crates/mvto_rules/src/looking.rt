@@ -19,7 +19,8 @@ impl Rules {
         let mut at = t;
         while let Some(version) = self.store.newest_at(key, at) {
             let ts = version.ts.get();
-            if version.committed {
+            let committed = version.committed;
+            if committed {
                 return value_at(version);
             }
             at = ts - 1;

@@ -12,6 +12,6 @@ loop-count-preserved c =
     record {
       within = key_within c.args.keys.now _ c.in-Some.key.now l.at l.invariant.within from c.in-Some.ensures;
       going = λ h held.
-          let high : horizon_of (effects_of h) ≤ c.args.t = omega (arith, c.horizon.ensures h held.stands, c.if-t-horizon.false) in
+          let high : horizon_of (effects_of h) ≤ c.args.t = omega (arith, c.horizon-horizon.ensures h held.stands, c.if-t-horizon.false) in
           told_more (effects_of h) c.args.t c.args.keys.now c.args.versions.now l.at l.count l.versions _ c.in-Some.key.now c.in-Ok.version (l.invariant.going h held) (omega (arith, c.loop-count-test.true, l.auto.versions)) from c.in-Some.ensures (c.in-Ok.ensures.ok h held high);
     }
