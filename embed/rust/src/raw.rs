@@ -446,9 +446,8 @@ impl Open {
     ) -> Result<(Answer, usize), Status> {
         let (mut answer, mut length) = (Answer::default(), 0);
         let (handle, out_at, room) = (&mut self.handle, out.as_mut_ptr(), out.len());
-        let status = unsafe {
-            ripsawbean_poll_within(handle, seat, feed, most, bytes, out_at, room, &mut length, &mut answer)
-        };
+        let status =
+            unsafe { ripsawbean_poll_within(handle, seat, feed, most, bytes, out_at, room, &mut length, &mut answer) };
         done(status, (answer, length))
     }
 

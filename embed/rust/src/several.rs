@@ -42,7 +42,8 @@ impl Database {
         while taken < lines.len() && end.is_none() {
             let first = self.notes.len();
             self.notes.resize(count.max(first + 1), Done::default());
-            let (now, status) = self.open.calls(&lines[taken..], &mut self.out[texts..], &mut self.notes[first..], most);
+            let (now, status) =
+                self.open.calls(&lines[taken..], &mut self.out[texts..], &mut self.notes[first..], most);
             self.notes.truncate(first + now.lines);
             taken += now.bytes;
             texts += now.length;

@@ -231,11 +231,11 @@ impl<'a> Rows<'a> {
     /// Where the scan ended: the high bound of its event's span, if that has one. It goes over the rows that are left.
     pub fn end(&self) -> Option<&'a [u8]> {
         let mut left = self.bytes;
-        while let Some((kind, key, _, rest)) = part_of(left) {
-            if kind == END {
-                return Some(key);
+        while let Some(part) = Part::of(left) {
+            if part.kind == END {
+                return Some(part.key);
             }
-            left = rest;
+            left = part.rest;
         }
         None
     }
@@ -245,12 +245,9 @@ impl<'a> Iterator for Rows<'a> {
     type Item = (&'a [u8], &'a [u8]);
 
     fn next(&mut self) -> Option<(&'a [u8], &'a [u8])> {
-        let (kind, key, value, rest) = part_of(self.bytes)?;
-        if kind != ROW {
-            return None;
-        }
-        self.bytes = rest;
-        Some((key, value))
+        let part = Part::of(self.bytes).filter(|part| part.kind == ROW)?;
+        self.bytes = part.rest;
+        Some((part.key, part.value))
     }
 }
 
@@ -258,15 +255,24 @@ impl<'a> Iterator for Rows<'a> {
 const ROW: u8 = 1;
 const END: u8 = 3;
 
-/// The first message of bytes: its kind, its key, its value and what stands behind it.
-fn part_of(bytes: &[u8]) -> Option<(u8, &[u8], &[u8], &[u8])> {
-    let (&kind, rest) = bytes.split_first()?;
-    let (_, rest) = rest.split_first_chunk::<8>()?;
-    let (key_length, rest) = rest.split_first_chunk()?;
-    let (value_length, rest) = rest.split_first_chunk()?;
-    let (key, rest) = rest.split_at_checked(size_of(*key_length)?)?;
-    let (value, rest) = rest.split_at_checked(size_of(*value_length)?)?;
-    Some((kind, key, value, rest))
+/// The first message of bytes, with what stands behind it.
+struct Part<'a> {
+    kind: u8,
+    key: &'a [u8],
+    value: &'a [u8],
+    rest: &'a [u8],
+}
+
+impl<'a> Part<'a> {
+    fn of(bytes: &'a [u8]) -> Option<Part<'a>> {
+        let (&kind, rest) = bytes.split_first()?;
+        let (_, rest) = rest.split_first_chunk::<8>()?;
+        let (key_length, rest) = rest.split_first_chunk()?;
+        let (value_length, rest) = rest.split_first_chunk()?;
+        let (key, rest) = rest.split_at_checked(size_of(*key_length)?)?;
+        let (value, rest) = rest.split_at_checked(size_of(*value_length)?)?;
+        Some(Part { kind, key, value, rest })
+    }
 }
 
 /// The same span, with bounds that have bytes: no key is below no bytes, as none is from a zero byte on and below it.

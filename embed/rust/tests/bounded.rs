@@ -50,7 +50,10 @@ fn scans() {
         assert!(event.contains(&format!(" 0 scan 10 - {} => rows {told}\n", end.unwrap_or("-"))), "{event}");
     }
     let span = Span { lo: b"b", hi: Some(b"d") };
-    assert_eq!(read(db.scan_within(0, 10, span, room(9, ALL)).expect("rows")), (rows[1..2].to_vec(), Some(b"d".to_vec())));
+    assert_eq!(
+        read(db.scan_within(0, 10, span, room(9, ALL)).expect("rows")),
+        (rows[1..2].to_vec(), Some(b"d".to_vec()))
+    );
     let none = Span { lo: b"b", hi: Some(b"") };
     assert_eq!(read(db.scan_within(0, 10, none, room(9, ALL)).expect("rows")).0, []);
     let long = [b'z'; 258];
