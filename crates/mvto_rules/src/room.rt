@@ -47,19 +47,25 @@ impl Rules {
     ) -> Option<&'a Key>
         ensures { Holds self.now (λ k. IsEnd k ts span.now rows bytes (option_copied result)) }
     {
-        let end = find_end(&self.store, span, ts, Room { rows, bytes });
+        keys_rise(&self.store, span);
         if ts < self.horizon {
             return None;
         }
-        end
+        find_end(&self.store, span, ts, Room { rows, bytes })
     }
+}
+
+/// The keys of a span rise, and each has a version. It goes to the first of them, and no further.
+fn keys_rise(store: &Store, span: &Span)
+    ensures rising { RisingKeys (keys_in store.now span.now) }
+    ensures filled { AreFilled (entries_of store.now span.now) }
+{
+    let _found = store.in_span(span);
 }
 
 /// The key at which a scan ends.
 fn find_end<'a>(store: &'a Store, span: &'a Span, ts: u64, room: Room) -> Option<&'a Key>
-    ensures end { option_copied result ≡ end_in store.now ts room.rows room.bytes (keys_in store.now span.now) }
-    ensures rising { RisingKeys (keys_in store.now span.now) }
-    ensures filled { AreFilled (entries_of store.now span.now) }
+    ensures { option_copied result ≡ end_in store.now ts room.rows room.bytes (keys_in store.now span.now) }
 {
     let mut room = room;
     for (key, chain) in store.in_span(span) {

@@ -11,14 +11,14 @@ loop-key-init c = let found = c.in_span-key-items.ensures in
     subst (λ es. IsEnding c.args.store.now c.args.ts c.args.span.now c.args.room.rows c.args.room.bytes es c.args.room) (sym c.into_iter-key-iterator.ensures.into_iter_gives)
     (ending_begins c.args.store.now c.args.ts c.args.span.now c.args.room.rows c.args.room.bytes c.in_span-key-items.result found.found found.rising)
 
-pub returns-then-stops-clause-end : goal.returns-then-stops-clause-end
-returns-then-stops-clause-end c =
+pub returns-then-stops : goal.returns-then-stops
+returns-then-stops c =
     let at = subst (λ es. IsEnding c.args.store.now c.args.ts c.args.span.now c.args.room.rows c.args.room.bytes es c.loop-key.room) c.in-Some.ensures.steps c.loop-key.invariant in
     let there = there_at c.args.store.now c.args.ts c.args.ts c.in-Some.key.now c.in-Some.chain.now c.newest_at-newest.result at.each.0.1 refl c.newest_at-newest.ensures.version c.is_named.ensures in
     ending_stops c.args.store.now c.args.ts c.args.span.now c.args.room.rows c.args.room.bytes c.in-Some.key.now c.in-Some.chain.now c.next.new.self c.loop-key.room (option_copied c.newest_at-newest.result) at there (sym c.stops.ensures ∙ c.if-stops.true)
 
-pub returns-then-not-take-clause-end : goal.returns-then-not-take-clause-end
-returns-then-not-take-clause-end c =
+pub returns-then-not-take : goal.returns-then-not-take
+returns-then-not-take c =
     let at = subst (λ es. IsEnding c.args.store.now c.args.ts c.args.span.now c.args.room.rows c.args.room.bytes es c.loop-key.room) c.in-Some.ensures.steps c.loop-key.invariant in
     let there = there_at c.args.store.now c.args.ts c.args.ts c.in-Some.key.now c.in-Some.chain.now c.newest_at-newest.result at.each.0.1 refl c.newest_at-newest.ensures.version c.is_named.ensures in
     ending_ends c.args.store.now c.args.ts c.args.span.now c.args.room.rows c.args.room.bytes c.in-Some.key.now c.in-Some.chain.now c.next.new.self c.loop-key.room (option_copied c.newest_at-newest.result) at there (sym c.stops.ensures ∙ c.if-stops.false) (sym c.take.ensures.fits ∙ c.if-not-take.true)
@@ -29,7 +29,7 @@ loop-key-preserved c =
     let there = there_at c.args.store.now c.args.ts c.args.ts c.in-Some.key.now c.in-Some.chain.now c.newest_at-newest.result at.each.0.1 refl c.newest_at-newest.ensures.version c.is_named.ensures in
     ending_goes_on c.args.store.now c.args.ts c.args.span.now c.args.room.rows c.args.room.bytes c.in-Some.key.now c.in-Some.chain.now c.next.new.self c.loop-key.room c.take.new.self (option_copied c.newest_at-newest.result) at there (sym c.stops.ensures ∙ c.if-stops.false) (sym c.take.ensures.fits ∙ c.if-not-take.false) (c.take.ensures.left c.if-not-take.false)
 
-pub returns-clause-end : goal.returns-clause-end
-returns-clause-end c =
+pub returns : goal.returns
+returns c =
     let none : c.loop-key.key-iterator ≡ [] = rest_all deref_pair _ _ _ c.in-None.is c.next.ensures.steps in
     (subst (λ es. IsEnding c.args.store.now c.args.ts c.args.span.now c.args.room.rows c.args.room.bytes es c.loop-key.room) none c.loop-key.invariant).ends

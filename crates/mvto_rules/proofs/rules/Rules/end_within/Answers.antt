@@ -12,11 +12,11 @@ returns-then-ts-self c = λ k.
     let r = c.args.self.now in
     let keys = keys_in r.store c.args.span.now in
     let low : nat_lt c.args.ts r.horizon ≡ true = grind (arith, nat_tests, c.if-ts-self.true) in
-    (keys, keys_are k r c.args.span.now c.find_end-end.ensures.rising c.find_end-end.ensures.filled, sym (ap (λ b. cond b None (end_seen (holding k r) c.args.ts c.args.rows c.args.bytes keys)) low))
+    (keys, keys_are k r c.args.span.now c.keys_rise.ensures.rising c.keys_rise.ensures.filled, sym (ap (λ b. cond b None (end_seen (holding k r) c.args.ts c.args.rows c.args.bytes keys)) low))
 
 pub returns : goal.returns
 returns c = λ k.
     let r = c.args.self.now in
     let keys = keys_in r.store c.args.span.now in
     let high : nat_lt c.args.ts r.horizon ≡ false = grind (arith, nat_tests, c.if-ts-self.false) in
-    (keys, keys_are k r c.args.span.now c.find_end-end.ensures.rising c.find_end-end.ensures.filled, c.find_end-end.ensures.end ∙ sym (ap (λ b. cond b None (end_seen (holding k r) c.args.ts c.args.rows c.args.bytes keys)) high))
+    (keys, keys_are k r c.args.span.now c.keys_rise.ensures.rising c.keys_rise.ensures.filled, c.find_end.ensures ∙ sym (ap (λ b. cond b None (end_seen (holding k r) c.args.ts c.args.rows c.args.bytes keys)) high))
