@@ -423,6 +423,7 @@ async fn answer(
 
 /// Whoever still sends gets to read the refusal.
 async fn other_database(server: &Server, mut request: Request) -> Refusal {
+    let _waits = request.connection.waits();
     let _ = tokio::time::timeout(LINGER, drain(request.inner.body_mut())).await;
     Refusal::other_identity(&server.identity)
 }

@@ -75,11 +75,12 @@ fn check_identity(server: &Server, arguments: &Arguments) -> Result<(), Refusal>
 
 /// `POST /call`: lines in, events out.
 pub async fn call(server: &Arc<Server>, mut request: Request) -> Result<Response, Refusal> {
+    // It is read before anything is refused, so that its connection can go on.
+    let mut data = request.body(server.options.max_message, BODY).await?;
     let arguments = arguments(&request.path, &request.query, &["strict", "identity"])?;
     check_identity(server, &arguments)?;
     let is_strict = flag_in(&arguments, "strict")?;
     let (who, connection) = (request.who.clone(), request.connection.clone());
-    let mut data = request.body(server.options.max_message, BODY).await?;
     if data.last() != Some(&b'\n') {
         data.push(b'\n');
     }

@@ -75,6 +75,28 @@ fn a_body_that_never_comes_is_refused_in_time() {
     assert_eq!(statuses(&told), [408]);
 }
 
+#[test]
+fn a_body_is_read_before_its_request_is_refused() {
+    let server = server(&[]);
+    let behind = format!("GET /healthz HTTP/1.1\r\n{OWN}\r\n");
+    for (path, header, status) in [
+        ("/call?identity=other", "", 412),
+        ("/call", "Ripsawbean-Identity: other\r\n", 412),
+        ("/call?other=1", "", 400),
+        ("/call?strict=maybe", "", 400),
+        ("/transact?other=1", "", 400),
+    ] {
+        let head = format!("POST {path} HTTP/1.1\r\n{OWN}{header}Content-Length: {MOST}\r\n\r\n");
+        let told = run(told(
+            &server,
+            &[head.as_bytes(), "stats\n".repeat(MOST).as_bytes().split_at(MOST).0, behind.as_bytes()],
+        ));
+        assert_eq!(statuses(&told), [status, 200], "{path} {header}");
+        assert_eq!(server.door.run(|core| core.ledger.calls), 0, "{path}: no line is taken");
+        assert!(is_at_rest(&server));
+    }
+}
+
 // ---- drawn bodies
 
 /// Some lines, and what they are answered.
@@ -88,6 +110,11 @@ fn lines(dice: &mut Dice) -> (String, String) {
     }
     // No line at all is one of no bytes.
     (text, if drawn.is_empty() { "fault 1 1 wordcount\n".into() } else { faults })
+}
+
+/// Faults by their first four words.
+fn without_sentences(faults: &str) -> String {
+    faults.lines().map(|line| line.splitn(5, ' ').take(4).collect::<Vec<_>>().join(" ") + "\n").collect()
 }
 
 /// A request with this body, in chunks or with its length.
@@ -137,8 +164,8 @@ fn bodies_are_taken_in_whatever_chunks_and_pieces_they_come() {
         }
         let told = run(told(&server, &pieces(dice, &sent)));
         let text = String::from_utf8(told).expect("text");
-        let bodies: Vec<&str> =
-            text.split("HTTP/1.1 200").skip(1).filter_map(|one| Some(one.split_once("\r\n\r\n")?.1)).collect();
+        let bodies = text.split("HTTP/1.1 200").skip(1).filter_map(|one| Some(one.split_once("\r\n\r\n")?.1));
+        let bodies: Vec<String> = bodies.map(without_sentences).collect();
         assert_eq!(bodies, expected, "{sent:?}");
         assert!(is_at_rest(&server));
     });
