@@ -17,6 +17,7 @@ const FAULTS = {
   notyours: "The server streams this feed, or holds this protection for a name: it is the server's own.",
   ahead: "The timestamp lies more than --ahead above all others: it would end the database for everyone.",
   replytoolong: "The answers to this message are longer than --max-reply. This line made no call.",
+  answertoolong: "The answers to this message would be longer than --max-answer. Ask for a part of the span.",
   full: "The server's memory has reached --max-memory, so a put makes no call. Delete, or collect first.",
   skipped: "A line before it in this message failed, so commit . aborts. It made no call.",
   toomany: "The session holds as many transactions, protections or feeds as it may. End some first.",

@@ -19,7 +19,7 @@ use crate::lines::Limits;
 use crate::log::Log;
 use crate::names::Names;
 use crate::options::Options;
-use crate::outcome::{floor_after, Outcome, Words};
+use crate::outcome::{Outcome, Words};
 use crate::seats::{Owner, Seats, Session};
 use crate::transcript::Transcript;
 use ripsawbean::{CallError, Command, Database, Event, OpenError, Refusal, VersionError};
@@ -64,14 +64,6 @@ enum Wanted<'a> {
     Event(&'a mut dyn FnMut(Event<'_>)),
 }
 
-/// What became of an event's text.
-struct Kept {
-    /// The floor that it tells.
-    floor: Option<u64>,
-    /// Whether what is wanted of it was told.
-    is_told: bool,
-}
-
 impl Core {
     /// A new and empty database, of which nothing is kept. Who starts the server draws its identity.
     pub fn new(options: &Options, identity: String, log: Arc<Log>) -> Result<Core, OpenError> {
@@ -111,21 +103,27 @@ impl Core {
         }
     }
 
-    /// Makes the call of a session's line, which has its newline and no seat, and puts the event's text behind `out`.
-    /// After an error no call was made, but for `Unwritten`: the call was made, and its text is lost.
+    /// Makes the call of a session's line, which has its newline and no seat, and puts the event's text behind `out`,
+    /// where all answers to a message have `--max-answer` bytes. After an error no call was made, but for `Unwritten`:
+    /// the call was made, and its text is lost.
     pub fn call(&mut self, session: &mut Session, line: &[u8], out: &mut Vec<u8>) -> Result<Outcome, CallError> {
+        let most = self.limits.max_answer.saturating_sub(out.len()) as u64;
         let mut wanted = Wanted::Text(out);
         self.line.clear();
         // Writing to a vector can't fail.
         let _ = write!(self.line, "{} ", session.seat);
         self.line.extend_from_slice(line);
-        let kept = match self.database.call(&self.line) {
+        let called = match may_be_long(line) {
+            true => self.database.calls_within(&self.line, most).next().expect("a line has a result"),
+            false => self.database.call(&self.line),
+        };
+        let is_told = match called {
             Ok(event) => keep(&mut self.transcript, event, &mut wanted),
             Err(CallError::Unwritten) => self.keep_again(&mut wanted),
             Err(error) => return Err(error),
         };
         let words = Words::Line(line.strip_suffix(b"\n").unwrap_or(line));
-        let outcome = self.note(Owner::Seat(session.seat), words, kept);
+        let outcome = self.note(Owner::Seat(session.seat), words, is_told);
         self.record(None);
         let outcome = outcome?;
         if let Outcome::Started { ts } = outcome {
@@ -165,7 +163,7 @@ impl Core {
         }
         if end == Err(CallError::Unwritten) {
             self.ledger.note(&mut self.seats, Owner::Server, &Outcome::Nothing);
-            return if self.keep_again(&mut wanted).is_told { Ok(()) } else { end };
+            return if self.keep_again(&mut wanted) { Ok(()) } else { end };
         }
         end
     }
@@ -243,13 +241,13 @@ impl Core {
         if let Command::Begin { ts: at } | Command::Close { to: at } | Command::CloseHard { to: at } = command {
             self.journal.cover_now(at);
         }
-        let kept = match self.database.make(owner.seat(), command) {
+        let is_told = match self.database.make(owner.seat(), command) {
             Ok(event) => keep(&mut self.transcript, event, &mut wanted),
             Err(CallError::Unwritten) => self.keep_again(&mut wanted),
             Err(CallError::NoMemory) => return Ok(Outcome::Refused(Refusal::NoMemory)),
             Err(error) => return Err(error),
         };
-        let outcome = self.note(owner, Words::Command(command), kept);
+        let outcome = self.note(owner, Words::Command(command), is_told);
         self.record(Some(command));
         outcome
     }
@@ -269,8 +267,8 @@ impl Core {
         self.journal.note(&record, &self.line, self.ledger.closed);
     }
 
-    /// The last call was made, and there was no memory for its text.
-    fn keep_again(&mut self, wanted: &mut Wanted<'_>) -> Kept {
+    /// The last call was made, and there was no memory for its text: whether it could be told after all.
+    fn keep_again(&mut self, wanted: &mut Wanted<'_>) -> bool {
         for give in [Core::give_spare, Core::give_transcript] {
             give(self);
             if let Ok(Some(event)) = self.database.text() {
@@ -279,15 +277,14 @@ impl Core {
         }
         self.transcript.begin_at(self.transcript.next() + 1);
         self.shout("an event's text found no memory: the transcript begins behind it");
-        Kept { floor: None, is_told: false }
+        false
     }
 
-    /// Notes the last event in the ledger, also where its text is lost: it then misses a feed's floor at most.
-    fn note(&mut self, owner: Owner, words: Words<'_>, kept: Kept) -> Result<Outcome, CallError> {
-        let record = self.database.last().expect("a call was made");
-        let outcome = Outcome::of(&record, words, kept.floor);
+    /// Notes the last event in the ledger, also where its text is lost.
+    fn note(&mut self, owner: Owner, words: Words<'_>, is_told: bool) -> Result<Outcome, CallError> {
+        let outcome = Outcome::of_last(&mut self.database, words);
         self.ledger.note(&mut self.seats, owner, &outcome);
-        if kept.is_told {
+        if is_told {
             Ok(outcome)
         } else {
             Err(CallError::Unwritten)
@@ -315,15 +312,21 @@ impl Core {
     }
 }
 
-/// Adds an event to the transcript, and tells what is wanted of it.
-fn keep(transcript: &mut Transcript, event: Event<'_>, wanted: &mut Wanted<'_>) -> Kept {
-    let (text, floor) = (event.text(), floor_after(event.text()));
+/// Whether a line's answer has no bound of its own.
+fn may_be_long(line: &[u8]) -> bool {
+    let command = line.split(|&byte| byte == b' ').next();
+    matches!(command, Some(b"scan" | b"scanat" | b"poll"))
+}
+
+/// Adds an event to the transcript, and tells what is wanted of it: whether there was memory for that.
+fn keep(transcript: &mut Transcript, event: Event<'_>, wanted: &mut Wanted<'_>) -> bool {
+    let text = event.text();
     transcript.add(text);
     let (out, told) = match wanted {
-        Wanted::Nothing => return Kept { floor, is_told: true },
+        Wanted::Nothing => return true,
         Wanted::Event(look) => {
             look(event);
-            return Kept { floor, is_told: true };
+            return true;
         }
         Wanted::Text(out) => (out, text),
         Wanted::Messages(out) => (out, text.split_once('\n').map_or("", |(_, lines)| lines)),
@@ -332,5 +335,5 @@ fn keep(transcript: &mut Transcript, event: Event<'_>, wanted: &mut Wanted<'_>) 
     if is_told {
         out.extend_from_slice(told.as_bytes());
     }
-    Kept { floor, is_told }
+    is_told
 }

@@ -57,6 +57,9 @@ pub fn why(name: &str, line: &[u8]) -> String {
         "notyours" => "the server holds it for a stream, a consumer or a request",
         "ahead" => "this timestamp lies more than --ahead above all others",
         "replytoolong" => "the answers to this message are longer than --max-reply",
+        "answertoolong" => {
+            "the answers to this message would be longer than --max-answer: ask for less, or in another message"
+        }
         "full" => "memory is full: keys can be deleted, and not put",
         "toomany" => "the session holds as many of these as it may",
         "noright" => "the token has no right to this, or is for other keys",
@@ -108,7 +111,7 @@ mod tests {
     fn each_fault_has_words_of_its_own() {
         for name in
             "wordcount unknowncommand number keylength valuelength nonewline linetoolong badbyte nomemory spent notyours \
-             ahead replytoolong full toomany noright draining skipped"
+             ahead replytoolong answertoolong full toomany noright draining skipped"
                 .split_whitespace()
         {
             let words = why(name, b"put 1 a 1\n");

@@ -322,11 +322,10 @@ impl Ledger {
         }
     }
 
-    fn told(&mut self, number: u64, count: u64, floor: Option<u64>) {
+    fn told(&mut self, number: u64, count: u64, floor: u64) {
         self.catch_up(number);
         let Some(feed) = self.feeds.get_mut(&number) else { return };
         feed.told += count;
-        let floor = floor.unwrap_or(feed.floor);
         if floor > feed.floor {
             self.floors.remove(&(feed.floor, number));
             self.floors.insert((floor, number));

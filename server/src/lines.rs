@@ -48,6 +48,7 @@ const MOST_POLLED: u64 = 128; // messages: at their longest 12 MB of text
 pub struct Limits {
     ahead: u64,
     pub max_reply: usize,
+    pub max_answer: usize,
     max_held: usize,
     /// The server ends, and no transaction begins any more.
     pub is_draining: bool,
@@ -55,7 +56,8 @@ pub struct Limits {
 
 impl Limits {
     pub fn of(options: &Options) -> Limits {
-        Limits { ahead: options.ahead, max_reply: options.max_reply, max_held: options.max_held, is_draining: false }
+        let Options { ahead, max_reply, max_answer, max_held, .. } = *options;
+        Limits { ahead, max_reply, max_answer, max_held, is_draining: false }
     }
 }
 

@@ -65,8 +65,10 @@ const fn file(name: &'static str, meaning: &'static str) -> Row {
 }
 
 const MOST: u64 = 1 << 62;
+/// Bytes of the longest row: its key and its value, and 17 more.
+const LONGEST_ROW: u64 = 17 + 256 + 65_536;
 
-const TABLE: [Row; 37] = [
+const TABLE: [Row; 38] = [
     whole("port", 7077, 0, 65535, "the port; 0 takes a free one, which the first line of the output names"),
     whole("ring", 1024, 1, 65536, "rows that each feed keeps at hand; no answer depends on it"),
     whole("max-lag", 1_000_000, 1, MOST, "rows closed above a reader beyond which nothing is held for it any longer"),
@@ -76,6 +78,7 @@ const TABLE: [Row; 37] = [
     whole("keep-bytes", 64 << 20, 0, MOST, "bytes of text kept for it"),
     whole("max-message", 1 << 20, 1, 1 << 30, "bytes of a message or body"),
     whole("max-reply", 16 << 20, 1, 1 << 30, "bytes of answers to one message beyond which no further call is made"),
+    whole("max-answer", 16 << 20, LONGEST_ROW, 1 << 30, "bytes of rows or messages that no answer is longer than"),
     whole("max-connections", 1000, 8, 1 << 20, "connections at once"),
     whole("max-feeds", 256, 1, 1 << 20, "streams at once"),
     whole("max-consumers", 1024, 1, 1 << 20, "names"),
@@ -133,6 +136,7 @@ pub struct Options {
     pub keep_bytes: usize,
     pub max_message: usize,
     pub max_reply: usize,
+    pub max_answer: usize,
     pub max_connections: usize,
     pub max_feeds: usize,
     pub max_consumers: usize,
@@ -282,6 +286,7 @@ fn options(given: &Given) -> Result<Options, Fault> {
         keep_bytes: given.whole("keep-bytes")?,
         max_message: given.whole("max-message")?,
         max_reply: given.whole("max-reply")?,
+        max_answer: given.whole("max-answer")?,
         max_connections: given.whole("max-connections")?,
         max_feeds: given.whole("max-feeds")?,
         max_consumers: given.whole("max-consumers")?,

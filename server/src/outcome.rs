@@ -6,10 +6,8 @@
 //! 2 63 close 9 => closed 9 0        Closed { at: 9, aborted: 0 }
 //! 3 0 get 12 a => blocked 11        Refused(Blocked(11))
 //! ```
-//!
-//! A record has all of it but a feed's floor, which `floor_after` reads from the messages that were told.
 
-use ripsawbean::{Closed, Command, Outcome as Answer, Record, Refusal};
+use ripsawbean::{Closed, Command, Database, Outcome as Answer, Refusal};
 use std::fmt;
 
 /// What one event did.
@@ -46,11 +44,11 @@ pub enum Outcome {
         cursor: u64,
         command: String,
     },
-    /// A poll told so many messages. After them the feed's floor is this, where it told one.
+    /// A poll told so many messages, and then the feed's floor is this.
     Messages {
         feed: u64,
         count: u64,
-        floor: Option<u64>,
+        floor: u64,
     },
     Cancelled {
         feed: u64,
@@ -95,8 +93,9 @@ impl Words<'_> {
 }
 
 impl Outcome {
-    /// What the event of this record did, whose command has these words. `floor` is that of `floor_after`.
-    pub fn of(record: &Record, words: Words<'_>, floor: Option<u64>) -> Outcome {
+    /// What the last event did, whose command has these words.
+    pub fn of_last(database: &mut Database, words: Words<'_>) -> Outcome {
+        let record = database.last().expect("a call was made");
         let at = record.at;
         match record.outcome {
             Answer::None | Answer::Value(_) | Answer::Rows(_) | Answer::Stats { .. } => Outcome::Nothing,
@@ -106,7 +105,9 @@ impl Outcome {
             Answer::Aborted => Outcome::Aborted { ts: at },
             Answer::Closed(Closed { at, aborted }) => Outcome::Closed { at, aborted },
             Answer::Opened(feed) => Outcome::Opened { feed, cursor: at, command: words.text() },
-            Answer::Messages(count) => Outcome::Messages { feed: at, count, floor },
+            Answer::Messages(count) => {
+                Outcome::Messages { feed: at, count, floor: database.places(Some(at)).floor.unwrap_or(0) }
+            }
             Answer::Cancelled => Outcome::Cancelled { feed: at },
             Answer::Protected(id) => Outcome::Protected { id, at },
             Answer::Released => Outcome::Released { id: at },
@@ -137,14 +138,6 @@ impl fmt::Display for Outcome {
             Outcome::Refused(refusal) => refusal.fmt(f),
         }
     }
-}
-
-/// The floor of a feed after the messages that an event's text tells: T after `resolved` T, T - 1 after a row of T. `None`
-/// where it tells none. This alone is read from a text, because no record says it.
-pub fn floor_after(text: &str) -> Option<u64> {
-    let (_, last) = text.trim_end_matches('\n').rsplit_once('\n')?;
-    let timestamp: u64 = last.strip_prefix('{')?.rsplit('"').nth(1)?.parse().ok()?;
-    timestamp.checked_sub(u64::from(!last.starts_with("{\"resolved\"")))
 }
 
 /// The name of a refusal: the first word of its answer.
@@ -178,11 +171,9 @@ mod tests {
         let mut database = Database::open(16).expect("it opens");
         let mut last = None;
         for line in lines {
-            let event = database.call(format!("{line}\n")).expect("a call");
-            let floor = floor_after(event.text());
+            database.call(format!("{line}\n")).expect("a call");
             let (_, words) = line.split_once(' ').expect("a seat");
-            let record = database.last().expect("a call was made");
-            last = Some(Outcome::of(&record, Words::Line(words.as_bytes()), floor));
+            last = Some(Outcome::of_last(&mut database, Words::Line(words.as_bytes())));
         }
         last.expect("there is a line")
     }
@@ -219,18 +210,10 @@ mod tests {
         let opened = Outcome::Opened { feed: 1, cursor: 0, command: "open - b 0".into() };
         assert_eq!(last_of(&["0 open - b 0"]), opened);
         let polled = |lines: &[&str]| after_writing(&[&["0 open - - 0"], lines].concat());
-        assert_eq!(polled(&["0 poll 1 9"]), Outcome::Messages { feed: 1, count: 0, floor: None });
-        assert_eq!(polled(&["0 close 9", "0 poll 1 9"]), Outcome::Messages { feed: 1, count: 3, floor: Some(9) });
-        assert_eq!(polled(&["0 close 9", "0 poll 1 2"]), Outcome::Messages { feed: 1, count: 2, floor: Some(6) });
+        assert_eq!(polled(&["0 poll 1 9"]), Outcome::Messages { feed: 1, count: 0, floor: 0 });
+        assert_eq!(polled(&["0 close 9", "0 poll 1 9"]), Outcome::Messages { feed: 1, count: 3, floor: 9 });
+        assert_eq!(polled(&["0 close 9", "0 poll 1 2"]), Outcome::Messages { feed: 1, count: 2, floor: 6 });
         assert_eq!(polled(&["1 cancel 1"]), Outcome::Cancelled { feed: 1 });
-    }
-
-    #[test]
-    fn a_text_without_messages_tells_no_floor() {
-        for text in ["", "0 0 stats => stats 0 0 0 0 0\n", "1 0 scan 7 - - => rows 1\nrow {\"7\" \"9\"\n"] {
-            assert_eq!(floor_after(text), None, "{text}");
-        }
-        assert_eq!(floor_after("1 0 poll 1 9 => messages 1\n{\"resolved\":\"9\"}\n"), Some(9));
     }
 
     #[test]

@@ -124,6 +124,40 @@ fn beyond_the_longest_reply_no_call_is_made() {
 }
 
 #[test]
+fn an_answer_that_would_be_too_long_makes_no_call() {
+    let mut core = core(&["--max-answer", "65809"]);
+    let mut one = session(&mut core);
+    let value = "v".repeat(30_000);
+    answers(&mut core, &mut one, &format!("begin\nput . a {value}\nput . b {value}\nput . c {value}\ncommit .\n"));
+    answers(&mut core, &mut one, "close 1\nopen - - 0\n");
+    let calls = core.ledger.calls;
+    for line in ["scan . - -", "scanat 1 - -", "poll 1 3"] {
+        let told = texts(&mut core, &mut one, &format!("begin\n{line}\nstats\n"));
+        assert!(told.contains(" 25 answertoolong the answers to this message would be longer"), "{line}: {told:.200}");
+        assert!(told.contains(" stats => stats "), "the session goes on");
+    }
+    // Each `begin` and each `stats` made a call.
+    assert_eq!(core.ledger.calls, calls + 6);
+    assert_eq!(core.ledger.refusals.get("answertoolong"), Some(&3));
+    // What asks for less is answered, and the feed has told nothing before.
+    for line in ["begin\nscan . a c", "scanat 1 b -", "poll 1 2"] {
+        let told = texts(&mut core, &mut one, &format!("{line}\n"));
+        assert!(told.contains("=> rows 2\n") || told.contains("=> messages 2\n"), "{line}: {told:.200}");
+    }
+}
+
+#[test]
+fn the_answers_before_count_too() {
+    let mut core = core(&["--max-answer", "65809"]);
+    let mut one = session(&mut core);
+    answers(&mut core, &mut one, &format!("begin\nput . a {}\ncommit .\nclose 1\n", "v".repeat(40_000)));
+    let told = answers(&mut core, &mut one, "scanat 1 - -\nscanat 1 - -\nscanat 1 b -\n");
+    assert_eq!((told[0].as_str(), told.last().map(String::as_str)), ("rows 1", Some("rows 0")));
+    assert!(told.iter().any(|answer| answer.ends_with(" 25 answertoolong")), "{:?}", told.len());
+    assert_eq!(answers(&mut core, &mut one, "scanat 1 - -\n")[0], "rows 1");
+}
+
+#[test]
 fn a_session_holds_so_many_of_each() {
     let mut core = core(&["--max-held", "2"]);
     let mut one = session(&mut core);
