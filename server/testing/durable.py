@@ -1,4 +1,4 @@
-"""Whether data outlive any crash: `server/test durable`, in some five minutes.
+"""Whether data outlive any crash: `server/test durable`.
 
 The load of `correct`, with the consumers of examples/consumers beside it, on a server that keeps its data. It is killed
 again and again by kill -9. Half of the time its disk loses what wasn't synced, tears what is being written, and forgets
