@@ -76,6 +76,8 @@ pub fn run(server: &Server, runtime: &Handle) {
                 counts.checkpoints.fetch_add(1, Relaxed);
             }
             Err(Error::Ending) => return,
+            // Its feed was ended with all others.
+            Err(_) if server.door.run(|core| core.limits.is_draining) => return,
             Err(error) => server.log.error("checkpoint_failed", &[("why", error.to_string().into())]),
         }
     }

@@ -39,6 +39,8 @@ pub struct Copy {
     writes: Option<u64>,
     lines: Vec<u8>,
     told: Vec<u8>,
+    /// Where closed stood when all was told.
+    seen: Option<u64>,
 }
 
 /// What comes next.
@@ -70,7 +72,7 @@ impl Copy {
         let lines = Note::Database(core.identity.clone()).to_string().into_bytes();
         let chain = Chain::new(&core.identity, series);
         let greatest = greatest.max(core.ledger.closed);
-        Ok(Copy { feed, horizon, greatest, chain, number: 0, writes: None, lines, told: Vec::new() })
+        Ok(Copy { feed, horizon, greatest, chain, number: 0, writes: None, lines, told: Vec::new(), seen: None })
     }
 
     pub fn feed(&self) -> u64 {
@@ -88,12 +90,16 @@ impl Copy {
     }
 
     fn step(&mut self, core: &mut Core) -> Result<Next, Broken> {
+        if self.seen == Some(core.ledger.closed) {
+            return Ok(Next::Wait);
+        }
         self.told.clear();
         let count = match core.poll(self.feed, ROWS, &mut self.told) {
             Ok(Outcome::Messages { count, .. }) => count,
             _ => return Err(Broken),
         };
         core.ledger.set_waits(self.feed, true);
+        self.seen = (count < ROWS).then_some(core.ledger.closed);
         let told = std::mem::take(&mut self.told);
         let is_over = self.take_messages(&told)?;
         self.told = told;
