@@ -120,7 +120,8 @@ class Runs(unittest.TestCase):
         self.write("../bin/rt", PLAYER)
         os.chmod(os.path.join(self.room.name, "bin/rt"), 0o755)
         os.mkdir(os.path.join(self.top, "tools"))
-        for path in ("wrong-bodies", *("tools/%s.py" % it for it in ("wrong_bodies", "body_edits", "side_by_side"))):
+        scripts = ("wrong_bodies", "body_edits", "side_by_side", "origin")
+        for path in ("wrong-bodies", *("tools/%s.py" % it for it in scripts)):
             shutil.copy2(os.path.join(os.path.dirname(HERE), path), os.path.join(self.top, path))
         self.git("init", "-q")
         self.commit()
