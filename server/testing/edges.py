@@ -94,9 +94,11 @@ def test_connections_that_are_cut(room, server):
     """Nothing of a session outlives its connection, however that ends: closed, or reset in the middle of a line."""
     async def work(client):
         for is_reset in (False, True):
+            await asyncio.to_thread(wait_for, lambda: is_closed(server), "closing")
+            closed = server.closed()  # the horizon may stand there by now
             sockets = [await client.ws_connect(server.url + "/session") for _ in range(20)]
             for at, one in enumerate(sockets):
-                told = (await asked(one, "begin\nput . cut/%d x\nopen - - 0\nprotect 0\n" % at)).data
+                told = (await asked(one, "begin\nput . cut/%d x\nopen - - %d\nprotect %d\n" % (at, closed, closed))).data
                 assert "=> started" in told and "=> opened" in told and "=> protected" in told, told
             for one in sockets:
                 if is_reset:
@@ -114,6 +116,11 @@ def reset(transport):
     transport.write(b"\x81\xfe")
     transport.get_extra_info("socket").setsockopt(socket.SOL_SOCKET, socket.SO_LINGER, struct.pack("ii", 1, 0))
     transport.abort()
+
+
+def is_closed(server):
+    (one,) = server.holders("server")
+    return one["closed"] == one["greatest"]
 
 
 def left(server):
