@@ -17,7 +17,7 @@ mod bytes;
 pub mod holds;
 pub mod keys;
 pub mod openapi;
-mod pages;
+pub mod pages;
 mod plan;
 #[cfg(all(test, feature = "refusing"))]
 mod refusals;

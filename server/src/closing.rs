@@ -285,11 +285,10 @@ impl Core {
 type Step = fn(&mut Core, Instant) -> Turn;
 
 /// What is done each second, one after another.
-pub const STEPS: [Step; 10] = [
+pub const STEPS: [Step; 9] = [
     Core::close_again,
     Core::abort_old,
     Core::abort_idle,
-    Core::cancel_pages,
     Core::let_go_holds,
     Core::let_go_names,
     Core::let_go_feeds,

@@ -10,6 +10,7 @@
 //!    is a new history.
 
 use crate::api::holds::Holds;
+use crate::api::pages::Page;
 use crate::closing::Closing;
 use crate::door::Turn;
 use crate::journal::recovery::Recovered;
@@ -20,9 +21,9 @@ use crate::log::Log;
 use crate::names::Names;
 use crate::options::Options;
 use crate::outcome::{Outcome, Words};
-use crate::seats::{Owner, Seats, Session};
+use crate::seats::{Owner, Seats, Session, OWN_SEAT};
 use crate::transcript::Transcript;
-use ripsawbean::{CallError, Command, Database, Event, OpenError, Refusal, VersionError};
+use ripsawbean::{CallError, Command, CommandError, Database, Event, OpenError, Refusal, Room, VersionError};
 use std::collections::BTreeSet;
 use std::io::Write;
 use std::sync::Arc;
@@ -166,6 +167,27 @@ impl Core {
             return if self.keep_again(&mut wanted) { Ok(()) } else { end };
         }
         end
+    }
+
+    /// Makes a scan of the server's own, as far as its rows find room: the first rows of its span.
+    pub fn scan(&mut self, command: Command<'_>, room: Room) -> Result<Page, CommandError> {
+        let (scanned, span) = match command {
+            Command::Scan { ts, span } => (self.database.scan_within(OWN_SEAT, ts, span, room), span),
+            Command::ScanAt { t, span } => (self.database.scan_at_within(OWN_SEAT, t, span, room), span),
+            _ => unreachable!("{command} is no scan"),
+        };
+        let page = scanned.map(|rows| Page::of(rows, span));
+        if matches!(page, Err(CommandError::Call(error)) if error != CallError::Unwritten) {
+            return page;
+        }
+        let is_told = match self.database.text() {
+            Ok(Some(event)) => keep(&mut self.transcript, event, &mut Wanted::Nothing),
+            _ => self.keep_again(&mut Wanted::Nothing),
+        };
+        // Where its text is lost, the rows aren't.
+        let _ = self.note(Owner::Server, Words::Command(command), is_told);
+        self.record(Some(command));
+        page
     }
 
     /// The version of each key: the timestamp of its newest committed value at or below a timestamp, or `None` where it

@@ -376,7 +376,7 @@ fn has_room(core: &Core, session: &Session, kind: Kind) -> Prepared {
 fn poll(core: &Core, line: &[u8], rest: &[u8]) -> Prepared {
     let mut words = rest.split(|&byte| byte == b' ');
     let Some(number) = words.next().and_then(number_in) else { return Ok(None) };
-    if core.ledger.feeds.get(&number).is_some_and(|feed| matches!(feed.owner, Owner::Server | Owner::Page)) {
+    if core.ledger.feeds.get(&number).is_some_and(|feed| feed.owner == Owner::Server) {
         return Err(Fault::NotYours);
     }
     let most = words.next().and_then(number_in).filter(|&most| most > MOST_POLLED);
@@ -397,7 +397,7 @@ fn cancel(core: &Core, session: &Session, rest: &[u8]) -> Prepared {
 fn release(core: &Core, session: &Session, rest: &[u8]) -> Prepared {
     let Some(id) = number_in(rest) else { return Ok(None) };
     match core.ledger.protections.get(&id).map(|protection| protection.owner) {
-        Some(Owner::Server | Owner::Page) => return Err(Fault::NotYours),
+        Some(Owner::Server) => return Err(Fault::NotYours),
         Some(owner) if owner != Owner::Seat(session.seat) => {
             check(session, Right::Operate)?;
             audit(core, session, "release", id);

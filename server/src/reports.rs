@@ -209,7 +209,7 @@ fn is_within(keys: &Keys, opened: &str) -> bool {
 /// The seat of a session; what is the server's has none.
 fn seat_of(owner: Owner) -> Option<u64> {
     match owner {
-        Owner::Server | Owner::Page => None,
+        Owner::Server => None,
         Owner::Seat(seat) => Some(u64::from(seat)),
     }
 }

@@ -22,8 +22,6 @@ pub const OWN_SEAT: u8 = SEATS - 1;
 pub enum Owner {
     /// The server's: it streams the feed, or a name or a request has the protection.
     Server,
-    /// The server's for one page of rows: the feed is cancelled before anyone else is served.
-    Page,
     /// That of the session with this seat.
     Seat(u8),
 }
@@ -32,7 +30,7 @@ impl Owner {
     /// The seat by which its calls are made.
     pub fn seat(self) -> u8 {
         match self {
-            Owner::Server | Owner::Page => OWN_SEAT,
+            Owner::Server => OWN_SEAT,
             Owner::Seat(seat) => seat,
         }
     }
@@ -156,7 +154,7 @@ impl Seats {
     /// The session of an owner, where it is one.
     pub fn of_mut(&mut self, owner: Owner) -> Option<&mut Taken> {
         match owner {
-            Owner::Server | Owner::Page => None,
+            Owner::Server => None,
             Owner::Seat(seat) => self.taken_mut(seat),
         }
     }

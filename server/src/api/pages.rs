@@ -1,26 +1,18 @@
 //! The first rows of a span at a closed timestamp, at the cost of what is told and not of the span.
 //!
-//! `scanat` reads a whole span. So a page is a feed that begins with the rows of the span: it is opened at the page's
-//! first key, polled, and cancelled before anyone else is served.
-//!
 //! ```text
-//! page(a .. -, 7, 2)     openinitial a - 7, poll, cancel     rows a, b     next c
-//! page(c .. -, 7, 2)     openinitial c - 7, poll, cancel     rows c        next none
+//! page(a .. -, 7, 2)     scanat 7 a c     rows a, b     next c
+//! page(c .. -, 7, 2)     scanat 7 c -     rows c        next none
 //! ```
 //!
 //! 1. The rows are those of the span at that timestamp, keys rising, up to `next`, or all of them where there is none.
-//! 2. No poll tells more than `Pace` allows, and a page ends once it has `MOST_BYTES` of text.
+//! 2. A page has `MOST_BYTES` at most.
 
 use crate::core::Core;
-use crate::door::Turn;
-use crate::outcome::Outcome;
-use crate::pace::Pace;
-use crate::seats::Owner;
-use ripsawbean::{Command, Message, Refusal, Row, Span};
-use std::time::Instant;
+use ripsawbean::{Command, CommandError, Refusal, Room, Span};
 
-/// Bytes of messages at which a page ends.
-const MOST_BYTES: usize = 4 << 20;
+/// Bytes of a page: each row has those of its key and its value, and 17 more.
+pub const MOST_BYTES: u64 = 4 << 20;
 
 /// Keys and their values.
 pub type Rows = Vec<(Vec<u8>, Vec<u8>)>;
@@ -47,61 +39,19 @@ impl Core {
         if at == 0 || span.hi.is_some_and(|hi| span.lo >= hi) {
             return Ok(Page::default());
         }
-        let feed = match self.ask(Owner::Page, Command::OpenInitial { span, cursor: at }) {
-            Ok(Outcome::Opened { feed, .. }) => feed,
-            Ok(Outcome::Refused(Refusal::BelowHorizon(horizon))) => return Err(Unread::BelowHorizon(horizon)),
-            Ok(Outcome::Refused(Refusal::NoMemory)) | Err(_) => return Err(Unread::NoMemory),
-            Ok(outcome) => {
-                self.shout(&format!("a page at {at} => {outcome}, and not opened"));
-                return Err(Unread::NoMemory);
-            }
-        };
-        let page = self.first_of(feed, at, most);
-        // Where there is no memory for it, `cancel_pages` does it.
-        let _ = self.ask(Owner::Page, Command::Cancel { feed });
-        page
+        let room = Room { rows: most as u64, bytes: MOST_BYTES };
+        self.scan(Command::ScanAt { t: at, span }, room).map_err(|error| match error {
+            CommandError::Refused(Refusal::BelowHorizon(horizon)) => Unread::BelowHorizon(horizon),
+            _ => Unread::NoMemory,
+        })
     }
+}
 
-    fn first_of(&mut self, feed: u64, at: u64, most: usize) -> Result<Page, Unread> {
-        let (mut page, mut pace, mut bytes) = (Page::default(), Pace::default(), 0);
-        while page.rows.len() <= most {
-            let want = pace.most().min((most + 1 - page.rows.len()) as u64);
-            let (mut size, mut is_over) = (0, false);
-            let polled = self.show(Owner::Page, Command::Poll { feed, max: want }, &mut |event| {
-                size = event.text().len();
-                for message in event.messages() {
-                    match message {
-                        Message::Row(Row { key, after: Some(value), updated }) if updated == at && !is_over => {
-                            page.rows.push((key, value));
-                        }
-                        // Resolved, or a change above the snapshot.
-                        _ => is_over = true,
-                    }
-                }
-            });
-            let Ok(Outcome::Messages { count, .. }) = polled else { return Err(Unread::NoMemory) };
-            if is_over || count < want {
-                return Ok(page);
-            }
-            pace.told(count, size);
-            bytes += size;
-            if bytes >= MOST_BYTES && page.rows.len() <= most {
-                page.next = page.rows.last().map(|(key, _)| [key, &b"\0"[..]].concat());
-                return Ok(page);
-            }
-        }
-        page.next = page.rows.pop().map(|(key, _)| key);
-        Ok(page)
-    }
-
-    /// Cancels what a page has left for want of memory: the work of each second.
-    pub fn cancel_pages(&mut self, _until: Instant) -> Turn {
-        let left = |(&feed, one): (&u64, &crate::ledger::Feed)| (one.owner == Owner::Page).then_some(feed);
-        let feeds: Vec<u64> = self.ledger.feeds.iter().filter_map(left).collect();
-        for feed in feeds {
-            let _ = self.ask(Owner::Page, Command::Cancel { feed });
-        }
-        Turn::Done
+impl Page {
+    /// Rows of a span, and where they end before it.
+    pub fn of(rows: ripsawbean::Rows<'_>, span: Span<'_>) -> Page {
+        let next = rows.end().filter(|end| span.hi != Some(end)).map(<[u8]>::to_vec);
+        Page { rows: rows.map(|(key, value)| (key.to_vec(), value.to_vec())).collect(), next }
     }
 }
 
@@ -177,7 +127,7 @@ mod tests {
             say(&mut core, &mut one, &format!("begin\nput . {row:02} {value}\ncommit .\n"));
         }
         let page = core.page(Span::ALL, 80, 1000).expect("a page");
-        assert!((40..60).contains(&page.rows.len()), "{} rows", page.rows.len());
+        assert_eq!(page.rows.len(), (4 << 20) / (17 + 2 + 65_536));
         let next = page.next.expect("there are more");
         let rest = core.page(Span { lo: &next, hi: None }, 80, 1000).expect("a page");
         assert_eq!((page.rows.len() + rest.rows.len(), rest.next), (80, None));
@@ -192,14 +142,5 @@ mod tests {
         tidy(&mut core);
         assert_eq!(core.page(Span::ALL, 1, 9), Err(Unread::BelowHorizon(2)));
         assert_eq!(keys(&core.page(Span::ALL, 2, 9).expect("a page")), ["a"]);
-    }
-
-    #[test]
-    fn what_a_page_has_left_is_cancelled() {
-        let mut core = core(&[]);
-        core.ask(Owner::Page, Command::Open { span: Span::ALL, cursor: 0 }).expect("a call");
-        core.ask(Owner::Server, Command::Open { span: Span::ALL, cursor: 0 }).expect("a call");
-        tidy(&mut core);
-        assert_eq!(core.ledger.feeds.keys().copied().collect::<Vec<_>>(), [2]);
     }
 }

@@ -7,21 +7,20 @@
 //! commit TS                     or abort TS
 //! ```
 //!
-//! A part of a span that is read is found by a page of the last closed timestamp first, so a scan of ten rows reads ten
-//! rows, whatever the span holds. It conflicts with what it has read, and no further.
+//! A scan of ten rows reads ten rows, whatever the span holds. It conflicts with what it has read, and no further.
 //!
 //! 1. All its calls are made under one lock, at a timestamp above all that began. So no write of it comes too late, and
 //!    no two plans block each other. A session's undecided write may block a read of it: then nothing was changed.
 //! 2. When `run` returns, the transaction is decided. Where there was no memory to abort it, --max-age does it.
 //! 3. It reads at most `MOST_READ` rows, and tells at most --max-reply bytes.
 
-use super::pages::{Rows, Unread};
+use super::pages::{Page, Unread, MOST_BYTES};
 use super::plan::{Bounds, Condition, Plan, Step};
 use crate::core::Core;
 use crate::outcome::Outcome;
 use crate::refusal::Refusal;
 use crate::seats::Owner;
-use ripsawbean::{CallError, Command, Refusal as Refused, Span};
+use ripsawbean::{CallError, Command, CommandError, Refusal as Refused, Room, Span};
 use std::borrow::Cow;
 use std::collections::BTreeSet;
 use tokio::sync::watch;
@@ -297,63 +296,42 @@ impl<'p> Running<'_, 'p> {
     }
 
     fn scan(&mut self, span: &Bounds<'_>, limit: usize) -> Result<Told<'p>, Stop> {
-        let (mut rows, mut lo, closed) = (Rows::new(), span.lo.to_vec(), self.core.ledger.closed);
-        let more = loop {
-            let (part, want) = (Span { lo: &lo, hi: span.hi.as_deref() }, limit + 1 - rows.len());
-            let page = self.core.page(part, closed, want)?;
-            // A page that ends early has some 4 MB.
-            let is_long = page.rows.len() < want;
-            let hi = page.next.as_deref().or(span.hi.as_deref());
-            self.read(Span { lo: &lo, hi }, page.rows.len(), &mut rows)?;
-            match page.next {
-                _ if rows.len() > limit => break true,
-                None => break false,
-                Some(_) if is_long => break true,
-                Some(next) => lo = next,
-            }
-        };
-        rows.truncate(limit);
+        let Page { rows, next } = self.read(span.span(), limit)?;
         self.count(rows.iter().map(|(key, value)| key.len() + value.len() + ROW_BYTES).sum())?;
         let rows = rows.into_iter().map(|(key, value)| self.row(Cow::Owned(key), Some(value))).collect();
-        Ok(Told::Rows { rows, more })
+        Ok(Told::Rows { rows, more: next.is_some() })
     }
 
     /// Whether the rows of a span are those of a snapshot: the values, and not only the keys.
     fn is_unchanged(&mut self, span: &Bounds<'_>, since: u64) -> Result<bool, Stop> {
-        let (mut lo, closed) = (span.lo.to_vec(), self.core.ledger.closed);
+        let mut lo = span.lo.to_vec();
         loop {
-            let part = Span { lo: &lo, hi: span.hi.as_deref() };
-            let mut then = self.core.page(part, since, PART)?;
-            let now = if since == closed { None } else { self.core.page(part, closed, PART)?.next };
-            // Both are known up to the nearer end.
-            let next = match (then.next.take(), now) {
-                (Some(then), Some(now)) => Some(then.min(now)),
-                (then, now) => then.or(now),
-            };
-            let (hi, paged) = (next.as_deref().or(span.hi.as_deref()), then.rows.len());
-            then.rows.retain(|(key, _)| hi.is_none_or(|hi| key.as_slice() < hi));
-            let mut rows = Rows::new();
-            self.read(Span { lo: &lo, hi }, paged, &mut rows)?;
-            match next {
-                _ if rows != then.rows => return Ok(false),
+            let then = self.core.page(Span { lo: &lo, hi: span.hi.as_deref() }, since, PART)?;
+            let hi = then.next.as_deref().or(span.hi.as_deref());
+            // One row more would be a change.
+            let now = self.read(Span { lo: &lo, hi }, then.rows.len() + 1)?;
+            if now.rows != then.rows || now.next.is_some() {
+                return Ok(false);
+            }
+            match then.next {
                 Some(next) => lo = next,
                 None => return Ok(true),
             }
         }
     }
 
-    /// The rows of a span as the transaction sees them. A page of so many rows has found the span.
-    fn read(&mut self, span: Span<'_>, paged: usize, rows: &mut Rows) -> Result<(), Stop> {
-        let before = rows.len();
+    /// The first rows of a span as the transaction sees them.
+    fn read(&mut self, span: Span<'_>, most: usize) -> Result<Page, Stop> {
         let command = Command::Scan { ts: self.timestamp, span };
-        match self.core.show(Owner::Server, command, &mut |event| rows.extend(event.rows())) {
-            Ok(Outcome::Nothing) => {}
-            other => return Err(self.stop("scan", other)),
-        }
-        self.read += paged.max(rows.len() - before);
+        let room = Room { rows: most as u64, bytes: MOST_BYTES };
+        let page = self.core.scan(command, room).map_err(|error| match error {
+            CommandError::Refused(refusal) => self.stop("scan", Ok(Outcome::Refused(refusal))),
+            CommandError::Call(error) => self.stop("scan", Err(error)),
+        })?;
+        self.read += page.rows.len();
         match self.read > MOST_READ {
             true => Err(Stop::TooMuch),
-            false => Ok(()),
+            false => Ok(page),
         }
     }
 

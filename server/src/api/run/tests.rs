@@ -255,8 +255,8 @@ fn a_transaction_is_bounded() {
     let (mut core, _) = with_rows(11_000);
     let scans =
         |count: usize| format!(r#"{{"then":[{}]}}"#, vec![r#"{"scan":[null,null],"limit":10000}"#; count].join(","));
-    assert!(run(&mut core, &plan(&scans(9))).is_ok());
-    assert_eq!(stopped(&mut core, &scans(10)), (422, "toomuch"));
+    assert!(run(&mut core, &plan(&scans(10))).is_ok());
+    assert_eq!(stopped(&mut core, &scans(11)), (422, "toomuch"));
     let mut core = crate::testing::core(&["--max-reply", "1000"]);
     committed(&mut core, &format!(r#"{{"then":[{{"put":"a","value":"{}"}}]}}"#, "x".repeat(600)));
     assert_eq!(
