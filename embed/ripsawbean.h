@@ -34,7 +34,8 @@
 // of two up to 16 that divides its size. Want of memory is a status or an answer, never an end of the program: see
 // RIPSAWBEAN_NOMEMORY. ripsawbean_close gives all of it back.
 //
-// THE PROCESSOR is one of x86-64-v2, with SSE4.2 and POPCNT, as those since 2009 are. No function tests it.
+// THE PROCESSOR is one of x86-64-v2, with SSE4.2 and POPCNT, as those since 2009 are. On another one no handle opens: see
+// RIPSAWBEAN_PROCESSOR.
 #ifndef RIPSAWBEAN_H
 #define RIPSAWBEAN_H
 

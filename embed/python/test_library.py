@@ -33,10 +33,10 @@ class Library(unittest.TestCase):
         return ran.stdout.strip() or ran.stderr.strip().splitlines()[-1]
 
     def telling(self, version):
-        """A library of another version."""
+        """A library of another version, or of none."""
         path = os.path.join(self.room, "other.so")
         words = [os.environ.get("CC", "gcc"), "-shared", "-fPIC", "-x", "c", "-o", path, "-"]
-        subprocess.run(words, input=OTHER % version, text=True, check=True)
+        subprocess.run(words, input=OTHER % version if version else "", text=True, check=True)
         return path
 
     def test_the_systems_library_is_found_by_its_abi(self):
@@ -55,6 +55,10 @@ class Library(unittest.TestCase):
             other = (*OWN[:place], OWN[place] + 1, *OWN[place + 1 :])
             told = self.imported(RIPSAWBEAN_LIBRARY=self.telling(other))
             self.assertRegex(told, "^OSError: .*other.so is of version %d.%d.%d, and this module of " % other)
+
+    def test_a_library_that_tells_no_version_is_refused(self):
+        told = self.imported(RIPSAWBEAN_LIBRARY=self.telling(None))
+        self.assertRegex(told, "^OSError: .*other.so tells no version, and this module is of ")
 
     def test_one_of_this_version_passes(self):
         told = self.imported(RIPSAWBEAN_LIBRARY=self.telling(OWN))

@@ -43,8 +43,8 @@ def _load() -> ctypes.CDLL:
 
 def _refuse_another(library: ctypes.CDLL) -> None:
     """Refuses a library of another version than this module, because they may not agree on what a call takes."""
-    if not hasattr(library, "ripsawbean_version"):  # one that can't tell it
-        return
+    if not hasattr(library, "ripsawbean_version"):
+        raise OSError("%s tells no version, and this module is of %s" % (library._name, VERSION))
     library.ripsawbean_version.restype = ctypes.c_uint32
     told = library.ripsawbean_version()
     version = "%d.%d.%d" % (told >> 16, told >> 8 & 255, told & 255)
