@@ -70,7 +70,7 @@ func (c *consumer) take(message Message) error {
 		c.told, c.whole, c.reached, c.isReset = nil, nil, nil, true
 		return nil
 	}
-	if c.feed.place != nil && c.feed.place != c.reached && c.isBelow(message) {
+	if message.Kind != nothing && c.feed.place != nil && c.feed.place != c.reached && c.isBelow(message) {
 		c.whole, c.told, c.reached = append(c.whole, c.told...), nil, c.feed.place
 	}
 	if message.Kind == Change {
@@ -82,10 +82,19 @@ func (c *consumer) take(message Message) error {
 		c.told = append(c.told, message)
 		return nil
 	}
-	if len(c.whole) > 0 || c.isReset || time.Since(c.storedAt) > idle {
+	if c.isDue() {
 		return c.keep()
 	}
 	return nil
+}
+
+// isDue says whether to store: rows at once, and a place without rows after a while.
+func (c *consumer) isDue() bool {
+	if c.reached == nil {
+		return false
+	}
+	isNew := c.was == nil || c.reached.Timestamp > c.was.Timestamp
+	return len(c.whole) > 0 || c.isReset || isNew && time.Since(c.storedAt) > idle
 }
 
 // isBelow says whether the feed's place was reached by this message, and not by one that it took ahead.

@@ -26,6 +26,7 @@ const (
 	Reset    Kind = iota // forget all rows: those of the database at Place come next
 	Change               // a committed row
 	Resolved             // all changes up to Place were told: a feed may go on from there
+	nothing              // that is new has come for a while: told to a consumer alone
 )
 
 // Message of a feed. A change has a nil Value where it was deleted, and a nil Before where it was absent.
@@ -124,6 +125,9 @@ func (f *Feed) step() error {
 	}
 	if len(line) > 1 {
 		return f.take(line)
+	}
+	if f.name != "" {
+		f.told = append(f.told, Message{Kind: nothing})
 	}
 	return nil
 }

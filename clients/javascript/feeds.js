@@ -64,7 +64,9 @@ export class Feed {
         [this.snapshot, this.limit] = [{ identity, timestamp: cursor }, PAGE];
         yield { type: "reset", ...this.snapshot };
       }
-      for await (const line of linesOf(response.body, stop)) if (line) yield* this.take(identity, cursor, JSON.parse(line));
+      for await (const line of linesOf(response.body, stop)) {
+        yield* line ? this.take(identity, cursor, JSON.parse(line)) : this.idle();
+      }
     } finally {
       this.signal?.removeEventListener("abort", stop);
       stop();
@@ -85,6 +87,9 @@ export class Feed {
     }
     throw error;
   }
+
+  /** Nothing new has come for a while. */
+  *idle() {}
 
   /** Whether the feed may begin anew where its place leads nowhere. */
   mayBeAnew(why) {
@@ -187,6 +192,10 @@ class Consumer extends Feed {
     return why.error === "belowhorizon" || super.mayBeAnew(why); // the rows of the same database can always be told again
   }
 
+  *idle() {
+    yield { type: "idle" };
+  }
+
   async run(stored, load) {
     let told = []; // rows of a timestamp that isn't known to be complete
     let whole = [], reached = this.place; // rows below, and their place
@@ -196,6 +205,9 @@ class Consumer extends Feed {
       await this.keep({ changes: whole, place, was: stored, reset }, load);
       [stored, whole, reset, storedAt] = [place, [], false, Date.now()];
     };
+    // Rows are stored at once, and a place without rows after a while.
+    const isNew = () => !stored || isAbove(reached.timestamp, stored.timestamp);
+    const isDue = () => reached && (whole.length || reset || (isNew() && Date.now() - storedAt > IDLE));
     for await (const message of this.messages()) {
       if (message.type === "reset") [told, whole, reached, reset] = [[], [], null, true];
       else {
@@ -204,7 +216,7 @@ class Consumer extends Feed {
         if (type === "change") {
           if (whole.length >= ENOUGH) await keep();
           told.push(change);
-        } else if (whole.length || reset || Date.now() - storedAt > IDLE) await keep();
+        } else if (isDue()) await keep();
       }
     }
   }

@@ -12,6 +12,7 @@ import http.server
 import json
 import socketserver
 import threading
+import time
 from typing import Any, Dict, List
 
 from records import Case, Keys, different
@@ -89,7 +90,10 @@ class Handler(http.server.BaseHTTPRequestHandler):
         self.close_connection = True
         self.wfile.write(self.head(record, **{"Transfer-Encoding": "chunked"}))
         for line in record["stream"]:
-            self.chunk(text_of(line) + b"\n")
+            if isinstance(line, dict) and "pause" in line:
+                time.sleep(line["pause"])
+            else:
+                self.chunk(text_of(line) + b"\n")
         if "half" in record:
             self.chunk(record["half"].encode())
         if record.get("ends") == "end":

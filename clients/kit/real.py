@@ -253,7 +253,7 @@ class Stream:
         self.connection.close()
 
     def compare(self, names: Names) -> None:
-        recorded = [line for line in self.line["stream"] if line]
+        recorded = [line for line in self.line["stream"] if line and "pause" not in line]
         rows = [line for line in recorded if "resolved" not in line]
         told: List[Any] = []
         while len(told) < len(rows):

@@ -76,7 +76,9 @@ class Feed:
             line = yield Read()
             if not line.endswith(b"\n"):  # the end, or half a line
                 raise Lost("it was cut")
-            if line != b"\n":
+            if line == b"\n":
+                yield from self.idle()
+            else:
                 yield from self.take(identity, cursor, json.loads(line))
 
     def opened(self) -> Steps[Answer]:
@@ -146,6 +148,10 @@ class Feed:
     def tell(self, message: Message) -> Steps[None]:
         yield Tell(message)
 
+    def idle(self) -> Steps[None]:
+        """Nothing new has come for a while."""
+        yield from ()
+
 
 class Consumer(Feed):
     """A feed with a name, whose rows and place are stored together. The server holds for it what follows its place."""
@@ -186,7 +192,18 @@ class Consumer(Feed):
             if len(self.whole) >= ENOUGH:
                 yield from self.keep()
             self.told.append(message)
-        elif self.whole or self.is_reset or time.monotonic() - self.stored_at > IDLE:
+        else:
+            yield from self.keep_if_due()
+
+    def idle(self) -> Steps[None]:
+        yield from self.keep_if_due()
+
+    def keep_if_due(self) -> Steps[None]:
+        """Stores rows at once, and a place without rows after a while."""
+        if self.reached is None:
+            return
+        is_new = self.stored is None or self.reached.timestamp > self.stored.timestamp
+        if self.whole or self.is_reset or is_new and time.monotonic() - self.stored_at > IDLE:
             yield from self.keep()
 
     def keep(self) -> Steps[None]:
