@@ -288,8 +288,10 @@ func (c *Client) call(ctx context.Context, method, path string, body []byte, hea
 		} else if err != nil && !isLost {
 			return answer{}, err
 		}
+		// The server has ended, and the next one may not know the write's key.
+		isDown := wasSent && isLost && !failed.wasSent && method != "GET"
 		wasSent = wasSent || (isLost && failed.wasSent)
-		if tries.pause(ctx, time.Duration(seconds)*time.Second) {
+		if !isDown && tries.pause(ctx, time.Duration(seconds)*time.Second) {
 			continue
 		}
 		if !isLost {

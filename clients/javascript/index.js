@@ -120,7 +120,7 @@ export class Client {
     const pauses = new Pauses(this.timeout);
     let wasSent = false;
     for (;;) {
-      let least = 0, busy, lost;
+      let least = 0, isDown = false, busy, lost;
       try {
         const answer = await this._once(method, path, body, headers, Math.max(pauses.left(), 1));
         if (!AGAIN.includes(answer.status)) return this._pin(answer), answer;
@@ -130,9 +130,10 @@ export class Client {
       } catch (why) {
         if (!(why instanceof Lost)) throw why;
         lost = why;
+        isDown = wasSent && !why.wasSent && method !== "GET"; // the server has ended: the next one may not know the write's key
         wasSent ||= why.wasSent;
       }
-      const pause = pauses.next(least);
+      const pause = isDown ? undefined : pauses.next(least);
       if (pause === undefined && busy) throw busy;
       if (pause === undefined) {
         const kind = wasSent && method !== "GET" ? OutcomeUnknown : Unreachable;

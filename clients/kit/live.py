@@ -220,6 +220,23 @@ def nobody_there(ground: Ground) -> None:
     raises(ground.client(host, timeout=1), "Unreachable", "put", key="a", value="1")
 
 
+def a_write_that_is_lost_with_its_server(ground: Ground) -> None:
+    """The next server may not know its key, so it isn't sent to that one."""
+    listener = socket.create_server(("127.0.0.1", 0))
+    host = "127.0.0.1:%d" % listener.getsockname()[1]
+
+    def end() -> None:
+        client = listener.accept()[0]
+        client.recv(1 << 16)
+        listener.close()
+        client.close()
+
+    threading.Thread(target=end, daemon=True).start()
+    began = time.monotonic()
+    raises(ground.client(host, timeout=60), "OutcomeUnknown", "put", key="a", value="1")
+    assert time.monotonic() - began < 40, "it was sent again and again"
+
+
 def tls_and_token(program: str, command: List[str]) -> None:
     """Over TLS with a certificate that the client trusts, and with a token; without either nothing is served."""
     with tempfile.TemporaryDirectory() as folder:
@@ -244,7 +261,7 @@ def tls_and_token(program: str, command: List[str]) -> None:
 
 TESTS: Tuple[Callable[[Ground], None], ...] = (
     counts_through_cuts, a_feed_through_cuts, a_snapshot_through_cuts, a_consumer_through_cuts,
-    a_later_consumer_ends_an_earlier_one, a_server_that_was_killed, nobody_there,
+    a_later_consumer_ends_an_earlier_one, a_server_that_was_killed, nobody_there, a_write_that_is_lost_with_its_server,
 )
 
 

@@ -160,7 +160,10 @@ class Core:
                     raise Lost("the proxy answers %d" % answer.status)
             except Lost as why:
                 lost, last = why, None
+                is_down = was_sent and not why.was_sent
                 was_sent = was_sent or why.was_sent
+                if is_down and method != "GET":  # the server has ended, and the next one may not know the write's key
+                    break
             pause = pauses.next(least)
             if pause is None:
                 break
