@@ -92,7 +92,7 @@ def ask_without_reading(server: Server, line: str, count: int) -> list[Session]:
 
 
 def test_answers_that_nobody_reads(room: Room, scale: Scale) -> str:
-    """A scan of 130 MB that five sessions ask for is no 650 MB: --max-reply bounds the answer to each line."""
+    """A scan of 130 MB that five sessions ask for is no 650 MB: --max-answer bounds each answer."""
     server = started(room)
     fill(Session(server.port), "large/", 2000, LARGEST)
     before = resident(server)
