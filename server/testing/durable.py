@@ -55,6 +55,12 @@ class DurableServer(Server):
     def loses_power(self, room: Room, **more: str) -> None:
         self.more["env"] = {**os.environ, "LD_PRELOAD": powerless(room), "POWERLESS": os.path.realpath(self.place), **more}
 
+    def start(self) -> None:
+        super().start()
+        if "POWERLESS" in self.more.get("env", ()):
+            with open("/proc/%d/maps" % self.child.pid) as maps:
+                assert "powerless.so" in maps.read(), "the server is a static program, which takes no preloaded disk"
+
     def keeps_power(self) -> None:
         self.more["env"] = dict(os.environ)
 
