@@ -124,7 +124,7 @@ one_last (x ∷ steps) t none (b ∷ before) behind s is missing = let rest : st
 
 -- what was taken by steps that end so are the calls of the lines
 pub calls_of : (most : ℕ) (h : List Event) (lines : List ℕ) (old : Database) (out : List ℕ) (notes : List Done) (steps : List Step) (taken : Taken) (out' : List ℕ) (notes' : List Done) (new : Database) (result : Result (Unit {0}) CallError)
-    → (g : HaveTaken most h lines old out notes steps taken out' notes' new) → taken.bytes ≤ length lines → EndsBy g.after new (drop taken.bytes lines) steps (length notes) result → LastMissing steps result
+    → (g : HaveTaken most h lines old out notes steps taken out' notes' new) → taken.bytes ≤ length lines → EndsBy most g.after new (drop taken.bytes lines) steps (length notes) result → LastMissing steps result
     → HaveBeenCalled most h lines old out out' notes notes' taken result new
 calls_of most h lines old out notes steps taken out' notes' new result g within ends last =
     let bytes : taken.bytes ≡ length lines - length (drop taken.bytes lines) = omega (arith, length-drop taken.bytes lines, within) in
@@ -182,7 +182,7 @@ ends_missing most h lines old out notes steps taken out' notes' d d' line part r
 -- no line behind them was taken
 ends_before : (most : ℕ) (h : List Event) (lines : List ℕ) (old : Database) (out : List ℕ) (notes : List Done) (steps : List Step) (taken : Taken) (out' : List ℕ) (notes' : List Done) (d d' : Database) (part room : List ℕ) (error : CallError)
     → (g : HaveTaken most h lines old out notes steps taken out' notes' d) → NoneMissing steps → room ≡ drop taken.length out' → taken.bytes ≤ length lines
-    → EndsBy g.after d (drop taken.bytes lines) steps (length notes) (Err error) → part ≡ room → d' ≡ d
+    → EndsBy most g.after d (drop taken.bytes lines) steps (length notes) (Err error) → part ≡ room → d' ≡ d
     → HaveBeenCalled most h lines old out (put_mid taken.length (length out' - taken.length) out' part) notes notes' taken (Err error) d'
 ends_before most h lines old out notes steps taken out' notes' d d' part room error g none room_is within ends part_is same =
     let there : HaveBeenCalled most h lines old out out' notes notes' taken (Err error) d = calls_of most h lines old out notes steps taken out' notes' d (Err error) g within ends (none_last steps (Err error) none) in
@@ -195,9 +195,9 @@ pub ends_refused : (most : ℕ) (h : List Event) (lines : List ℕ) (old : Datab
     → IsTaken most g.after line d room part (Err error) d'
     → HaveBeenCalled most h lines old out (put_mid taken.length (length out' - taken.length) out' part) notes notes' taken (Err error) d'
 ends_refused most h lines old out notes steps taken out' notes' d d' line part rest room NoMemory g none rest_is first room_is within low t =
-    ends_before most h lines old out notes steps taken out' notes' d d' part room NoMemory g none room_is within (omega (arith, g.count, low), subst (λ (l : List ℕ). IsUncalled g.after l d NoMemory) (first ∙ ap first_line rest_is) t.2) t.0 t.1
+    ends_before most h lines old out notes steps taken out' notes' d d' part room NoMemory g none room_is within (omega (arith, g.count, low), subst (λ (l : List ℕ). IsUncalled most g.after l d NoMemory) (first ∙ ap first_line rest_is) t.2) t.0 t.1
 ends_refused most h lines old out notes steps taken out' notes' d d' line part rest room Spent g none rest_is first room_is within low t =
-    ends_before most h lines old out notes steps taken out' notes' d d' part room Spent g none room_is within (omega (arith, g.count, low), subst (λ (l : List ℕ). IsUncalled g.after l d Spent) (first ∙ ap first_line rest_is) t.2) t.0 t.1
+    ends_before most h lines old out notes steps taken out' notes' d d' part room Spent g none room_is within (omega (arith, g.count, low), subst (λ (l : List ℕ). IsUncalled most g.after l d Spent) (first ∙ ap first_line rest_is) t.2) t.0 t.1
 ends_refused most h lines old out notes steps taken out' notes' d d' line part rest room (Fault f) g none rest_is first room_is within low t = absurd t
 ends_refused most h lines old out notes steps taken out' notes' d d' line part rest room Unwritten g none rest_is first room_is within low t = absurd t
 

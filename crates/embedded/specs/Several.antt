@@ -85,13 +85,18 @@ IsStep room most h d s h' d' = (IsCall room h d s h' d' × IsLetThrough most h s
 abbrev pub IsPollCmd : Cmd → Type 0
 IsPollCmd cmd = (f : ℕ) × (max : ℕ) × (cmd ≡ command.Poll f max)
 
--- a line can't be called: as by itself, or where it is a poll's, and the look at its messages finds no memory
-abbrev pub IsPollLine : List ℕ → Type 0
-IsPollLine line = (x : ℕ × Cmd) × (command_at Two table 64 line ≡ Ok x) × IsPollCmd x.1
+-- the command is a poll whose messages are looked at first, because not all are let through
+abbrev pub IsLookedAt : (most : ℕ) → Cmd → Type 0
+IsLookedAt most cmd = IsPollCmd cmd × (most ≡ 18446744073709551615 → ⊥)
 
-abbrev pub IsUncalled : List Event → List ℕ → Database → CallError → Type 0
-IsUncalled h line d NoMemory = Called h line d (Err NoMemory) d ⊎ IsPollLine line
-IsUncalled h line d error = Called h line d (Err error) d
+-- the line of such a poll
+abbrev pub IsPollLine : (most : ℕ) → List ℕ → Type 0
+IsPollLine most line = (x : ℕ × Cmd) × (command_at Two table 64 line ≡ Ok x) × IsLookedAt most x.1
+
+-- a line can't be called: as by itself, or where it is such a poll's, and the look finds no memory
+abbrev pub IsUncalled : (most : ℕ) → List Event → List ℕ → Database → CallError → Type 0
+IsUncalled most h line d NoMemory = Called h line d (Err NoMemory) d ⊎ IsPollLine most line
+IsUncalled most h line d error = Called h line d (Err error) d
 
 -- a line was taken by a step, whose text stands at the front of the room; or it can't be called, and all is as it was
 abbrev pub IsTaken : (most : ℕ) → List Event → List ℕ → (old : Database) (out out' : List ℕ) → Result Done CallError → Database → Type 0
@@ -100,7 +105,7 @@ IsTaken most h line old out out' (Ok note) new =
     × (out' ≡ s.shown ++ drop (length s.shown) out)
 IsTaken most h line old out out' (Err (Fault f)) new = ⊥
 IsTaken most h line old out out' (Err Unwritten) new = ⊥
-IsTaken most h line old out out' (Err error) new = (out' ≡ out) × (new ≡ old) × IsUncalled h line old error
+IsTaken most h line old out out' (Err error) new = (out' ≡ out) × (new ≡ old) × IsUncalled most h line old error
 
 -- the same of a line that makes its call
 abbrev pub IsTakenBy : List Event → List ℕ → (old : Database) (out out' : List ℕ) → Result Done CallError → Database → Type 0
@@ -125,11 +130,11 @@ AreSteps room most h d bytes (s ∷ steps) left h' d' =
     × AreSteps (room - length s.shown) most h1 d1 (drop (length s.line) bytes) steps left h' d'
 
 -- why no further line was taken: none is left, or no room for its note; or the last one's text wasn't shown; or the next one's note has room, and it can't be called
-abbrev pub EndsBy : List Event → Database → (left : List ℕ) → (steps : List Step) → (room : ℕ) → Result (Unit {0}) CallError → Type 0
-EndsBy h d left steps room (Ok _) = (left ≡ []) ⊎ (length steps ≡ room)
-EndsBy h d left steps room (Err Unwritten) = (before : List Step) × (s : Step) × (steps ≡ before ++ s ∷ []) × (s.note.status ≡ 14)
-EndsBy h d left steps room (Err (Fault f)) = ⊥
-EndsBy h d left steps room (Err error) = (length steps < room) × IsUncalled h (first_line left) d error
+abbrev pub EndsBy : (most : ℕ) → List Event → Database → (left : List ℕ) → (steps : List Step) → (room : ℕ) → Result (Unit {0}) CallError → Type 0
+EndsBy most h d left steps room (Ok _) = (left ≡ []) ⊎ (length steps ≡ room)
+EndsBy most h d left steps room (Err Unwritten) = (before : List Step) × (s : Step) × (steps ≡ before ++ s ∷ []) × (s.note.status ≡ 14)
+EndsBy most h d left steps room (Err (Fault f)) = ⊥
+EndsBy most h d left steps room (Err error) = (length steps < room) × IsUncalled most h (first_line left) d error
 
 -- the calls of several lines on a database that holds h: what was noted and shown, how far they were taken, and why no further
 pub record HaveBeenCalled (most : ℕ) (h : List Event) (lines : List ℕ) (old : Database) (out out' : List ℕ) (notes notes' : List Done) (taken : Taken) (result : Result (Unit {0}) CallError) (new : Database) : Type 0 where
@@ -138,7 +143,7 @@ pub record HaveBeenCalled (most : ℕ) (h : List Event) (lines : List ℕ) (old 
   pub after : List Event
   pub called : AreSteps (length out) most h old lines steps left after new
   pub stands : StandsFor new after
-  pub ends : EndsBy after new left steps (length notes) result
+  pub ends : EndsBy most after new left steps (length notes) result
   -- only the last text may be missing, and then that is told
   pub whole : (before behind : List Step) (s : Step) → steps ≡ before ++ s ∷ behind → s.note.status ≡ 14 → (behind ≡ []) × (result ≡ Err Unwritten)
   pub counted : taken ≡ record { lines = length steps; bytes = length lines - length left; length = length (flat_map (λ s. s.shown) steps) }

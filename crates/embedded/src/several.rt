@@ -18,7 +18,7 @@ ghost use Rattle.text_format.specs.declared.Format.TheVariants.{Two};
 ghost use Rattle.word_lines.specs.Commands.{command_line};
 ghost use Rattle.word_lines.specs.Reading.{command_at};
 ghost use Rattle.word_lines.specs.Table.{table};
-ghost use Rattle.embedded.specs.Several.{HaveBeenCalled, IsPollCmd, IsTaken, IsTakenBy, IsShown, first_line, is_long, is_too_long};
+ghost use Rattle.embedded.specs.Several.{HaveBeenCalled, IsLookedAt, IsTaken, IsTakenBy, IsShown, first_line, is_long, is_too_long};
 
 use crate::database::{CallError, Database};
 use memchr::memchr;
@@ -59,9 +59,9 @@ impl Database {
     /// Makes the calls of lines, one after another, shows their texts one behind another, and notes each line.
     ///
     /// A faulty line is noted, and the next one taken; so is a scan or a poll whose answer would have more than `most`
-    /// bytes of rows or messages, where `most` is not the greatest number. No further line is taken where none is left, where there is no
-    /// room for a note, behind a call whose text found no room or no memory (`Unwritten`: [`Database::write`] and
-    /// [`Database::copy_text`] show it), and before a line that finds no memory or no position.
+    /// bytes of rows or messages, where `most` is not the greatest number. No further line is taken where none is left,
+    /// where there is no room for a note, behind a call whose text found no room or no memory (`Unwritten`:
+    /// [`Database::write`] and [`Database::copy_text`] show it), and before a line that finds no memory or no position.
     pub fn call_lines(
         &mut self,
         lines: &[u8],
@@ -162,7 +162,7 @@ impl Database {
     /// number. Only a look at messages takes memory.
     fn is_too_long(&self, cmd: &Cmd, most: u64) -> Result<bool, AllocError>
         ensures long { (h : List Event) → StandsFor self.now h → IfOk result (λ long. is_too_long (effects_of h) most cmd.now ≡ long) }
-        ensures memory { OnErr result (IsPollCmd cmd.now) }
+        ensures memory { OnErr result (IsLookedAt most cmd.now) }
     {
         if most == u64::MAX {
             return Ok(false);
