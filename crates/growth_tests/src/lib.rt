@@ -6,8 +6,8 @@
 //! again at once, and then its reply and all later ones are the transcript's: so a refused growth has changed nothing.
 //! Memory is refused at most once in both turns. So an engine that answers `nomemory` unasked in both fails. Of two
 //! races one at most finds no memory, and what the other leaves is a whole history that the checker finds right. Of two
-//! followers of one feed one at most finds none, and has told a beginning of what the other tells. Nothing depends on
-//! this crate.
+//! followers of one feed one at most finds none, and has told a beginning of what the other tells. Of two dumps one at most
+//! finds none, and has written nothing. Nothing depends on this crate.
 //!
 //! ```text
 //!                      the growth that is refused is this call's      and the reply again

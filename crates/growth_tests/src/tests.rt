@@ -1,10 +1,12 @@
-//! Scripts, a race and a feed in which a growth may be refused.
+//! Scripts, a race, a feed and a dump in which a growth may be refused.
 
+mod dumping;
 mod following;
 mod playing;
 mod racing;
 mod scripts;
 
+use dumping::dump_twice;
 use following::follow_twice;
 use playing::play_twice;
 use racing::race_twice;
@@ -29,5 +31,12 @@ fn refused_growths_stop_a_race_at_most(rt: HostRuntime) {
 #[test]
 fn refused_growths_end_a_follower_at_most(rt: HostRuntime) {
     let wanting = follow_twice(rt.alloc());
+    assert!(rt; matches!(wanting, Some(0 | 1)));
+}
+
+// A dump whose growth was refused writes nothing, and the next one is whole.
+#[test]
+fn refused_growths_end_a_dump_at_most(rt: HostRuntime) {
+    let wanting = dump_twice(rt.alloc());
     assert!(rt; matches!(wanting, Some(0 | 1)));
 }
