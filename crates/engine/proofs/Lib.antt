@@ -10,3 +10,4 @@ pub mod Versions
 pub mod Progress
 pub mod Ending
 pub mod Counting
+pub mod RowsLeft

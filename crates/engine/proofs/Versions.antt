@@ -27,7 +27,7 @@ not_dead p x j a is = by_test (is_dead p (version_name x j))
     (λ isnt. isnt)
 
 -- a committed version is kept unless it is dead
-left_is : (k : Kept) (p : List Effect) → AllAllowed p → IsKeptOf k p → (x : List ℕ) (j : ℕ) → kept_committed k x j ≡ left_version_of p x j
+pub left_is : (k : Kept) (p : List Effect) → AllAllowed p → IsKeptOf k p → (x : List ℕ) (j : ℕ) → kept_committed k x j ≡ left_version_of p x j
 left_is k p all fits x j = by_kept (k.version x j) refl
   where
     by_kept : (o : Option After) → k.version x j ≡ o → kept_committed k x j ≡ left_version_of p x j

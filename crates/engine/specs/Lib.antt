@@ -5,5 +5,6 @@ pub mod Served
 pub mod Engine
 pub mod Runs
 pub mod Looking
+pub mod Dumping
 pub mod Progress
 pub mod Room

@@ -39,6 +39,7 @@
 //! - `poll`: O(log n), and its messages; from the store the searches of `catch_up`
 //! - `stats`, `steps`, `closed`, `behind`, `places`, `horizon`, `floor`: O(log n)
 //! - `version_at`: O(log n + log v log b), for each undecided version above it too
+//! - `next_left`: the same for each undecided version that it passes over too, and a copy of the row
 //! - `report`: O(log n) for each undecided transaction, each protection and each feed
 //! - `scan_end`: O(log n), and as a `readat` for each key up to the end
 //! - `poll_count`: O(log n), and the messages of a ring that find room; from the store as a few polls, of up to twice as
@@ -65,6 +66,7 @@ ghost use Rattle.engine.specs.Room.{poll_count, scan_end};
 
 mod closings;
 mod collections;
+mod dumping;
 mod holding;
 mod layers;
 mod looking;

@@ -9,7 +9,7 @@
 //! texts       texts that are read, with their faults, and texts that are written
 //! replicas    which messages a replica takes, and the rows, keys and timestamp that it then has
 //! engines     where each feed is served from, after each line of a script; a run of a list of calls; how far looks
-//!             find room
+//!             find room; which row a dump has still to write
 //! ```
 //!
 //! **Words.** A case of `spans_of_keys` takes the keys b and d out of a span, and asks which keys the parts hold, of a,

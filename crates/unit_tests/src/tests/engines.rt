@@ -1,9 +1,11 @@
 //! Cases, and what is asked of each; and a run of calls.
 mod cases;
+mod dumping;
 mod rooms;
 mod running;
 mod serving;
 
+use dumping::{HISTORIES, tells};
 use rooms::{CLOSED, OPEN, POLLS, SCANS, find_room};
 use running::{FIRST, READER, steps};
 use serving::is_served;
@@ -25,6 +27,13 @@ fn feeds_are_served_from_where_they_should_be(rt: HostRuntime) {
 fn a_run_gives_the_events_of_a_transcript(rt: HostRuntime) {
     assert!(rt; steps(rt.alloc(), READER) == Some(5));
     assert!(rt; steps(rt.alloc(), FIRST) == Some(10));
+}
+
+#[test]
+fn a_dump_is_told_its_rows_one_by_one(rt: HostRuntime) {
+    for history in HISTORIES {
+        assert!(rt; tells(rt.alloc(), history) == Some(true), "{history}");
+    }
 }
 
 #[test]

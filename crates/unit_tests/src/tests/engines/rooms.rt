@@ -1,4 +1,5 @@
 //! How far scans and polls of an engine find room.
+use super::running::play;
 use engine::Engine;
 use script::scripts::read_script;
 use spans::calls::Cmd;
@@ -101,14 +102,8 @@ fn engine_of(alloc: Global, ring: u32, script: &str) -> Option<Engine> {
     if ring == 0 || ring > 65536 {
         return None;
     }
-    let calls = read_script(alloc, script.as_bytes(), 3, Format::One).ok()?;
     let mut engine = Engine::new(alloc, ring);
-    for (seat, cmd) in &calls {
-        if engine.steps() == u64::MAX {
-            return None;
-        }
-        engine.step(*seat, cmd);
-    }
+    play(alloc, &mut engine, script)?;
     Some(engine)
 }
 

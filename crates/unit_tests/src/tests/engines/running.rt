@@ -1,5 +1,6 @@
-//! An engine that runs the calls of a transcript, one after the other.
+//! An engine that answers the calls of a script or a transcript, one after the other.
 use engine::Engine;
+use script::scripts::read_script;
 use script::transcripts::read_transcript;
 use spans::calls::{Cmd, Event};
 use std::alloc::{AllocError, Global};
@@ -26,6 +27,18 @@ pub(super) const FIRST: &str = "0 0 begin 10 => started
 8 0 put 15 apple 4 => toolate
 9 1 commit 20 => committed 0
 ";
+
+/// Lets an engine answer each line of a script.
+pub(super) fn play(alloc: Global, engine: &mut Engine, script: &str) -> Option<()> {
+    let calls = read_script(alloc, script.as_bytes(), 3, Format::One).ok()?;
+    for (seat, cmd) in &calls {
+        if engine.steps() == u64::MAX {
+            return None;
+        }
+        engine.step(*seat, cmd);
+    }
+    Some(())
+}
 
 /// How many steps the engine has made that ran a transcript's calls, if exactly the transcript came of them.
 pub(super) fn steps(alloc: Global, transcript: &str) -> Option<u64> {

@@ -1,0 +1,142 @@
+-- The first row that a dump has still to write is that of the store's next committed version.
+use Rattle.std.proofs.Common.{Bool, List, None, Option, Some, [], ap, cond, false, inl, inr, not, refl, subst, sym, true, ℕ, ◌&&◌, ◌<◌, ◌==◌, ◌∙◌, ◌∷◌, ◌≡◌, ◌≤◌}
+use Rattle.std.specs.Prelude.{filter, is_some, ◌↔◌}
+use Rattle.std.proofs.lemmas.Bool.{and_from, and_parts, both_ways, eqb-true, false_from_ne_true}
+use Rattle.timestamps.specs.declared.row.Row.{Row}
+use Rattle.spans.specs.Collection.{is_dead, version_name}
+use Rattle.spans.specs.Effects.{After, Begins, Effect, effects_of}
+use Rattle.spans.specs.Promises.{left_version_of}
+use Rattle.spans.specs.Streams.{row_lt, stream_of}
+use Rattle.spans.specs.Transactions.{is_committed, owner_of}
+use Rattle.spans.specs.Versions.{committed_version_of, write_of}
+use Rattle.spans.specs.declared.calls.events.Event.{Event}
+use Rattle.spans.proofs.Copies.{AllAllowed}
+use Rattle.spans.proofs.Dead.{committed_is}
+use Rattle.spans.proofs.Legal.{legal_allowed}
+use Rattle.spans.proofs.Steps.{by_test}
+use Rattle.spans.proofs.StreamOrder.{IsRowIn, RisingRows, in_stream, stream_rises}
+use Rattle.kept.specs.Finding.{kept_committed}
+use Rattle.kept.specs.StandsFor as keeping
+use Rattle.restarts.specs.Rows.{all_keys, is_left}
+use Rattle.restarts.proofs.Alike.{committed_begun}
+use Rattle.version_chain.specs.Following.{IsFirstAfter, IsLeft, is_after_place}
+use Rattle.version_chain.specs.Stores.{Stored, is_committed_in, version_in}
+use Rattle.version_chain.specs.declared.chain.Version.{Version}
+use Rattle.mvto_rules.specs.Holding.{versions_of}
+use Rattle.engine.specs.Dumping.{IsNextRow, first_row, next_left}
+use Rattle.engine.specs.Layers.{kept_of}
+use Rattle.engine.specs.declared.layers.Layers.{Layers}
+use Rattle.engine.proofs.Versions.{left_is}
+
+-- ---- the first that a filter leaves
+
+filter_twice : (q q' : Row → Bool) (rows : List Row) → filter q' (filter q rows) ≡ filter (λ r. q r && q' r) rows
+filter_twice q q' [] = refl
+filter_twice q q' (r ∷ rows) = let more = filter_twice q q' rows in by_test (q r)
+    (λ on. rw on (by_test (q' r) (λ on'. rw on' (ap (λ l. r ∷ l) more)) (λ off'. rw off' more)))
+    (λ off. rw off more)
+
+filter_none : (q : Row → Bool) (rows : List Row) → ((r : Row) → IsRowIn r rows → q r ≡ false) → filter q rows ≡ []
+filter_none q [] none = refl
+filter_none q (r ∷ rows) none = rw (none r (inl refl)) (filter_none q rows (λ s i. none s (inr i)))
+
+-- of rising rows it is the one that has none before it
+filter_first : (q : Row → Bool) (rows : List Row) (r : Row) → RisingRows rows → IsRowIn r rows → q r ≡ true
+    → ((s : Row) → IsRowIn s rows → q s ≡ true → row_lt s r ≡ false) → first_row (filter q rows) ≡ Some r
+filter_first q [] r rising i on least = absurd i
+filter_first q (s ∷ rows) r rising i on least = by_test (q s)
+    (λ is. rw is (elim i [
+      | inl here ↦ ap Some here
+      | inr there ↦ absurd (both_ways _ (least s (inl refl) is) (rising.0 r there))
+    ]))
+    (λ isnt. rw isnt (elim i [
+      | inl here ↦ absurd (both_ways _ isnt (subst (λ v. q v ≡ true) (sym here) on))
+      | inr there ↦ filter_first q rows r rising.1 there on (λ v j. least v (inr j))
+    ]))
+
+-- ---- one row
+
+-- what began is above 0
+begun_above : (p : List Effect) → AllAllowed p → (t : ℕ) → is_some (owner_of p t) ≡ true → 0 < t
+begun_above [] all t is = cc
+begun_above (Begins k seat ∷ p) all t is = by_test (k == t)
+    (λ same. subst (λ n. 0 < n) (eqb-true k t same) all.0.2)
+    (λ other. begun_above p all.1 t (rw other at is))
+begun_above (_ ∷ p) all t is = begun_above p all.1 t is
+
+joined : {a : After} (b : Bool) (o : Option After) → b ≡ true → o ≡ Some a → cond b o None ≡ Some a
+joined true o on is = is
+joined false o on is = cc
+
+parted : {a : After} (b : Bool) (o : Option After) → cond b o None ≡ Some a → (b ≡ true) × (o ≡ Some a)
+parted true o is = (refl, is)
+parted false o is = cc
+
+joined_live : {a : After} (b : Bool) (o : Option After) → not b ≡ true → o ≡ Some a → cond b None o ≡ Some a
+joined_live true o live is = cc
+joined_live false o live is = is
+
+parted_live : {a : After} (b : Bool) (o : Option After) → cond b None o ≡ Some a → (not b ≡ true) × (o ≡ Some a)
+parted_live true o is = cc
+parted_live false o is = (refl, is)
+
+-- a row is left where it is a version that is committed and not dead
+abbrev IsLeftRow : List Effect → ℕ → Row → Type 0
+IsLeftRow p through r = (left_version_of p r.key r.ts ≡ Some r.after) × (r.ts ≤ through)
+
+row_left : (p : List Effect) → AllAllowed p → (through : ℕ) (r : Row) → (IsRowIn r (stream_of p all_keys 0 through) × (is_left p r ≡ true)) ↔ IsLeftRow p through r
+row_left p all through r = (
+  λ i. let s = (in_stream p all_keys 0 through r).0 i.0 in
+      (joined_live (is_dead p (version_name r.key r.ts)) (committed_version_of p r.key r.ts) i.1 (joined (is_committed p r.ts) (write_of p r.ts r.key) s.done s.wrote), s.low),
+  λ i. let live = parted_live (is_dead p (version_name r.key r.ts)) (committed_version_of p r.key r.ts) i.0 in
+      let is = committed_is p r.key r.ts r.after live.1 in
+      let above : 0 < r.ts = begun_above p all r.ts (committed_begun p all r.ts is.0) in
+      ((in_stream p all_keys 0 through r).1 (record { above = above; low = i.1; done = is.0; inside = refl; wrote = is.1 }), live.0),
+)
+
+-- ---- all of them
+
+module _ (e : Layers) (h : List Event) (stands : keeping.StandsFor (kept_of e) h) (ts : ℕ) (key : Option (List ℕ)) (through : ℕ) where
+  abbrev s : Stored
+  s = versions_of e.rules
+
+  abbrev p : List Effect
+  p = effects_of h
+
+  all : AllAllowed p
+  all = legal_allowed h stands.legal
+
+  abbrev rows : List Row
+  rows = stream_of p all_keys 0 through
+
+  abbrev is_due : Row → Bool
+  is_due r = is_left p r && is_after_place ts key r.key r.ts
+
+  -- the store has the versions of the rows that are left
+  due_is : (r : Row) → (IsRowIn r rows × (is_due r ≡ true)) ↔ ((version_in s r.key r.ts ≡ Some r.after) × IsLeft s ts key through r.key r.ts)
+  due_is r = (
+    λ i. let both = and_parts (is_left p r) _ i.1 in
+        let left = (row_left p all through r).0 (i.0, both.0) in
+        let here : kept_committed (kept_of e) r.key r.ts ≡ Some r.after = left_is (kept_of e) p all stands.fits r.key r.ts ∙ left.0 in
+        let kept = parted (is_committed_in s r.key r.ts) (version_in s r.key r.ts) here in
+        (kept.1, record { committed = kept.0; later = both.1; low = left.1 }),
+    λ i. let here : kept_committed (kept_of e) r.key r.ts ≡ Some r.after = joined (is_committed_in s r.key r.ts) (version_in s r.key r.ts) i.1.committed i.0 in
+        let left : left_version_of p r.key r.ts ≡ Some r.after = sym (left_is (kept_of e) p all stands.fits r.key r.ts) ∙ here in
+        let row = (row_left p all through r).1 (left, i.1.low) in
+        (row.0, and_from _ _ row.1 i.1.later),
+  )
+
+  pub next_is : (row : Option Row) → IsNextRow s ts key through row → row ≡ next_left p ts key through
+  next_is None none = sym (ap first_row (
+      filter_twice (is_left p) (λ r. is_after_place ts key r.key r.ts) rows
+      ∙ filter_none is_due rows (λ r i. false_from_ne_true _ (λ is. none r.key r.ts ((due_is r).0 (i, is)).1))))
+  next_is (Some r) first =
+      let here = (due_is r).1 (first.version, first.left) in
+      sym (ap first_row (filter_twice (is_left p) (λ q. is_after_place ts key q.key q.ts) rows)
+      ∙ filter_first is_due rows r (stream_rises p all_keys 0 through) here.0 here.1 (λ q i is. first.first q.key q.ts ((due_is q).0 (i, is)).1))
+
+-- ---- a copy of what was found
+
+pub copied : (s : Stored) (ts : ℕ) (key : Option (List ℕ)) (through : ℕ) (x x' : List ℕ) (v : Version) (a : After) → IsFirstAfter s ts key through x v → x' ≡ x → a ≡ v.after
+    → IsNextRow s ts key through (Some (record { ts = v.ts; key = x'; after = a }))
+copied s ts key through x x' v a first same_key same_value = rw (same_key, same_value) (record { left = first.left; version = first.version; committed = refl; first = first.first })

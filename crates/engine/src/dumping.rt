@@ -1,0 +1,61 @@
+//! The rows that a dump of the database has still to write, one after the other. Each takes memory for itself alone.
+//!
+//! ```text
+//! 10 wrote a, 20 a and b; 30 deleted b and wrote c; 25 wrote a and is undecided; closed and the horizon are 20
+//!
+//! behind          through 99                          through 29
+//! 0               20 a, because 10 a is dead          20 a
+//! a at 20         20 b                                20 b
+//! b at 20, or 20  30 b, a delete above the horizon    none, because 25 a is undecided
+//! b at 30         30 c                                none
+//! ```
+ghost use Rattle.std.specs.Prelude.{◌≡◌, IfOk, List};
+ghost use Rattle.std.specs.Option.{option_copied};
+ghost use Rattle.spans.specs.declared.calls.events.Event.{Event};
+ghost use Rattle.spans.specs.Effects.{effects_of};
+ghost use Rattle.engine.specs.Dumping.{IsNextRow, next_left};
+
+use crate::Engine;
+use std::alloc::AllocError;
+use timestamps::key::Key;
+use timestamps::row::{Row, copy_after};
+use version_chain::Store;
+
+impl Engine {
+    ghost use Rattle.engine.specs.Engine.{StandsFor};
+
+    /// The first row that is left behind a place, at or below `through`: of the committed versions that aren't dead, by
+    /// timestamp and then by key. The place is that of `key` at `ts`; without a key it is behind all keys of `ts`.
+    pub fn next_left(
+        &self,
+        ts: u64,
+        key: Option<&Key>,
+        through: u64,
+    ) -> Result<Option<Row>, AllocError>
+        ensures { (h : List Event) → StandsFor self.now h → IfOk result (λ row. row ≡ next_left (effects_of h) ts (option_copied key.entry) through) }
+    {
+        next_row(self.layers.rules.versions(), ts, key, through)
+    }
+}
+
+/// The first committed version behind a place, as a row. The store has none that is dead.
+fn next_row(
+    store: &Store,
+    ts: u64,
+    key: Option<&Key>,
+    through: u64,
+) -> Result<Option<Row>, AllocError>
+    ensures { IfOk result (IsNextRow store.now ts (option_copied key.entry) through) }
+{
+    let mut committed = store.committed_after(ts, key, through);
+    let Some((key, version)) = committed.next() else {
+        return Ok(None);
+    };
+    let key = key.copy()?;
+    let after = copy_after(&version.after)?;
+    Ok(Some(Row {
+        ts: version.ts,
+        key,
+        after,
+    }))
+}
