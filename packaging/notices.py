@@ -1,10 +1,11 @@
 #!/usr/bin/env python3
-"""Writes the notices of what is linked in beside Ripsawbean itself: `notices.py library OUT` of the program and the
-library, `notices.py server OUT` of the server, which has the library within.
+"""`notices.py FOLDER` writes the notices of what is linked in beside Ripsawbean itself: of the library, of the server,
+of the `programs`, which are the library and mvfeed, and of `all`, each as a file of that name.
 
-The first are crates of Rattle's kit, as crates.txt and the sources of the kit's crates name them. The second are crates
-of Rust from Debian's packages, as cargo names them. Each has its licences beside its sources or in Debian's file of
-copyrights, or the notice says that none is known.
+Into the library and mvfeed crates of Rattle's kit are linked, as crates.txt and the sources of the kit's crates name
+them. Into the server crates of Rust from Debian's packages are, as cargo names them, and the C library, because it is
+one static program. Each has its licences beside its sources or in Debian's file of copyrights, or the notice says that
+none is known.
 """
 
 import os
@@ -20,6 +21,17 @@ USED = re.compile(r"^\s*(?:pub(?:\([a-z]+\))? )?use (?:::)?([a-z_0-9]+)(?:::|;)|
 AFTER = re.compile(r"[Cc]rate `([\w-]+)` (\d[\d.]*\d)(?: \(([^()`;]*?)[;,]? ?[;`)])?")
 LICENCE = re.compile("LICEN[CS]E|COPYING|NOTICE|UNLICENSE")
 LINE = "=" * 100
+EXCEPTION = "GPL-3.0-or-later with the GCC Runtime Library Exception"
+STARTS = "LGPL-2.1-or-later with an exception for programs that are linked with them"
+# What is linked into the server of Debian's packages for C, and what becomes of it.
+STATIC = """\
+ripsawbean-server is one static program, so it has parts of the GNU C Library within: of libc.a and of its start files,
+from Debian's package libc6-dev %(version)s. Their source is Debian's source package %(source)s, which
+`apt-get source %(source)s=%(version)s` fetches where sources.list has a line `deb-src`. The library's licence is
+LGPL-2.1-or-later, and some files have others; both stand below. Whoever wants the server over another version of that
+library builds it anew: by server/build, in the repository at the commit that build-record.json names, on a system whose
+libc.a is of that version. RIPSAWBEAN_LIB names the folder of libripsawbean.a, which this release has, so nothing is
+proved for that. server/install names the packages."""
 
 
 @dataclass
@@ -110,6 +122,27 @@ def of_rust() -> Dict[str, str]:
     return {}
 
 
+def of_c() -> Iterator[Part]:
+    """What the server has of Debian's packages for C: of the C library, and of the compiler's own."""
+    compiler = "libgcc-%s-dev" % told("gcc", "-dumpversion").split(".")[0].strip()
+    for package, licence, text in (("libc6-dev", "LGPL-2.1-or-later", "LGPL-2.1"), (compiler, EXCEPTION, "GPL-3")):
+        version = told("dpkg-query", "-W", "-f", "${Version}", package)
+        yield Part("%s %s" % (package, version), licence, {"copyright": copyright_of(package), text: common(text)})
+
+
+def copyright_of(package: str) -> str:
+    return Path("/usr/share/doc", package, "copyright").read_text(errors="replace")
+
+
+def common(licence: str) -> str:
+    return Path("/usr/share/common-licenses", licence).read_text(errors="replace")
+
+
+def said_of_c() -> str:
+    asked = told("dpkg-query", "-W", "-f", "${source:Package} ${source:Version}", "libc6-dev").split()
+    return STATIC % dict(zip(("source", "version"), asked))
+
+
 def written(heads: Dict[str, List[Part]]) -> str:
     """The notices: under each head its parts, and behind them each text once."""
     out, texts = [], {}
@@ -124,19 +157,24 @@ def written(heads: Dict[str, List[Part]]) -> str:
     return "\n".join(out)
 
 
-def main(what: str, out: str) -> None:
+def main(out: str) -> None:
     program, library = list(of_kit("mvfeed")), list(of_kit("ripsawbean"))
     names = {it.name for it in library}
-    heads = {"Linked into libripsawbean are these crates of Rattle's kit, many of them ports of Rust crates.": library}
-    if what == "server":
-        crates = "Beside libripsawbean these crates of Rust are linked into ripsawbean-server, or used to build it."
-        heads[crates] = list(of_server())
-    else:
-        more = [it for it in program if it.name not in names]
-        heads["Linked into mvfeed are the same, and these."] = more
-        exception = "GPL with the GCC Runtime Library Exception"
-        heads["Linked into both are start files and parts of libgcc: %s." % exception] = []
-    Path(out).write_text(written(heads))
+    of_library = {
+        "Linked into libripsawbean are these crates of Rattle's kit, many of them ports of Rust crates.": library,
+        "Linked into its shared library are parts of libgcc: %s." % EXCEPTION: [],
+    }
+    of_program = {
+        "Linked into mvfeed are the same crates, and these.": [it for it in program if it.name not in names],
+        "It has start files of the GNU C Library: %s." % STARTS: [],
+        "It has parts of libgcc: %s." % EXCEPTION: [],
+    }
+    crates = "Beside libripsawbean these crates of Rust are linked into ripsawbean-server, or used to build it."
+    server = {crates: list(of_server()), said_of_c(): list(of_c())}
+    texts = {"library": of_library, "programs": {**of_library, **of_program}, "server": {**of_library, **server}}
+    texts["all"] = {**of_library, **of_program, **server}
+    for name, heads in texts.items():
+        Path(out, name).write_text(written(heads))
 
 
 if __name__ == "__main__":

@@ -4,13 +4,15 @@
     record.py [--draft] --version V --program FILE --embed FOLDER --server FILE DIST > build-record.json
 
 The form is an in-toto statement whose predicate is SLSA's provenance, version 1, so that tools can read it. A check of
-docs/LAST-RUN.md that failed, that wasn't run, or whose sources have changed since stops it, but for a draft.
+the commit's docs/LAST-RUN.md that failed, that wasn't run or left something out, or whose sources have changed since
+stops it, but for a draft.
 """
 
 import argparse
 import importlib.machinery
 import importlib.util
 import json
+import re
 import subprocess
 import sys
 from pathlib import Path
@@ -25,6 +27,8 @@ COLUMNS = ("check", "result", "counted", "seconds", "commit", "date", "machine")
 # Checks that say how something is, and not whether a release is right.
 OPTIONAL = ("slow-proofs",)
 OWN = ("build-record.json", "SHA256SUMS")
+# What a check counts that tried only some of what it is of.
+PART = re.compile(r"\b[1-9]\d* crates left| of those changed since ")
 
 
 def said(*words: str) -> str:
@@ -59,6 +63,8 @@ def faults(found: Dict[str, Dict[str, str]], house: Any) -> Iterator[str]:
             yield "%s wasn't run" % check.name
         elif row["result"] != "passed":
             yield "%s %s" % (check.name, row["result"])
+        elif PART.search(row["counted"]):
+            yield "%s left something out: %s" % (check.name, row["counted"])
         elif " and changes" in row["commit"]:
             yield "%s passed with changes that weren't committed" % check.name
         elif house.marked(row["commit"], check).endswith(house.CHANGED):
@@ -81,6 +87,8 @@ def statement(its: argparse.Namespace, checked: List[Dict[str, str]]) -> Dict[st
         made_of("libripsawbean.so, as linked and tested", its.embed / "libripsawbean.so"),
         made_of("ripsawbean-server, as built and tested", its.server),
     ]
+    if its.arm:
+        materials.append(made_of("ARM64's libripsawbean.a, as built, and tested under an emulator", its.arm))
     tools = {it: said(it, "--version").splitlines()[0] for it in ("gcc", "ld", "cargo", "rustc", "dpkg-deb", "npm")}
     return {
         "_type": "https://in-toto.io/Statement/v1",
@@ -106,10 +114,11 @@ def main() -> None:
     parser.add_argument("--version", required=True)
     for name in ("program", "embed", "server"):
         parser.add_argument("--" + name, required=True, type=Path)
+    parser.add_argument("--arm", type=Path)
     parser.add_argument("--draft", action="store_true")
     parser.add_argument("dist", type=Path)
     its = parser.parse_args()
-    checked = list(rows((TOP / "docs" / "LAST-RUN.md").read_text()))
+    checked = list(rows(said("git", "show", "HEAD:docs/LAST-RUN.md")))
     against = list(faults({it["check"]: it for it in checked}, checks_of_house()))
     if against and not its.draft:
         sys.exit("release: docs/LAST-RUN.md has no passed check of these sources: " + "; ".join(against))

@@ -233,11 +233,12 @@ class Checks(unittest.TestCase):
             self.assertEqual(told, ["| %s |" % " | ".join(it) for it in wanted])
 
     def test_a_row_says_where_what_it_is_of_changed_since(self):
-        check = checks.Check("one", "a check", [], crates=("mvfeed",), places=("server",))
+        check = checks.Check("one", "a check", [], crates=("mvfeed",), parts=("src", "specs"), places=("server",))
         files = {
             "crates/low/src/deep/one.rt": "fn one() {}\n    fn two() {}\n",
             "crates/low/src/gone.rt": "fn gone() {}\n",
             "crates/low/specs/One.antt": "one\n",
+            "crates/low/proofs/One.antt": "proof\n",
             "crates/other/src/lib.rt": "fn other() {}\n",
             "server/run": "#!/bin/sh\nrun\n",
         }
@@ -249,7 +250,8 @@ class Checks(unittest.TestCase):
             ],
             "crates/low/src/gone.rt": [(None, True)],
             "crates/low/src/new.rt": [("fn new() {}\n", True)],
-            "crates/low/specs/One.antt": [("two\n", False)],
+            "crates/low/specs/One.antt": [("-- Why.\none\n", False), ("two\n", True), ("one\n - 1\n", True)],
+            "crates/low/proofs/One.antt": [("another\n", False)],
             "crates/other/src/lib.rt": [("fn others() {}\n", False)],
             "server/run": [("#!/bin/sh\n# Why.\nrun\n", False), ("#!/bin/sh\nrun -v\n", True)],
             "server/README.md": [("A server.\n", False)],
@@ -292,6 +294,12 @@ class Checks(unittest.TestCase):
             for part in check.parts if check.crates else ():
                 self.assertTrue(checks.having(part), (check.name, part))
             self.assertEqual("crates.txt" in checks.sources(check), bool(check.crates))
+
+    def test_wrong_bodies_of_some_crates_say_so(self):
+        for since, said in ((None, ""), ("abc", "of those changed since abc")):
+            given = checks.argparse.Namespace(minutes=1, is_bounded=False, since=since)
+            found = next(it for it in checks.checks_of(given) if it.name == "wrong-bodies")
+            self.assertEqual(found.counts[1], said)
 
     def test_each_name_stands_once(self):
         given = checks.argparse.Namespace(minutes=1, is_bounded=False, since=None)
