@@ -19,6 +19,7 @@ LONGEST_CLAUSE = 160
 MOST_LINES = 600
 LONGEST_LINE = 120
 MOST_WORDS = 26000
+MOST_WORDS_OF_README = 1300
 # The page that the rules of words and figures leave alone, because a script writes it.
 WRITTEN = "docs/LAST-RUN.md"
 UNITS = """zero one two three four five six seven eight nine ten eleven twelve thirteen fourteen fifteen sixteen
@@ -415,10 +416,22 @@ def pictures(house):
 
 @rule
 def words(house):
-    """The pages have at most 26,000 words together; a word has a letter or a digit."""
-    count = sum(len(re.findall(r"\S*\w\S*", house.text(it))) for it in house.pages() if it != WRITTEN)
-    if count > MOST_WORDS:
-        yield "docs", 1, "the pages have %d words" % count
+    """README has at most 1,300 words, and the pages have 26,000 together; a word has a letter or a digit."""
+    counts = {it: len(re.findall(r"\S*\w\S*", house.text(it))) for it in house.pages() if it != WRITTEN}
+    if counts["README.md"] > MOST_WORDS_OF_README:
+        yield "README.md", 1, "it has %d words" % counts["README.md"]
+    if sum(counts.values()) > MOST_WORDS:
+        yield "docs", 1, "the pages have %d words" % sum(counts.values())
+
+
+@rule
+def measured(house):
+    """A figure above 999 in a table of README stands in PERFORMANCE too."""
+    known = house.text("docs/PERFORMANCE.md") if "docs/PERFORMANCE.md" in house.paths else ""
+    for number, line in house.lines("README.md"):
+        for told in re.findall(r"(?<![\d,.])\d{1,3}(?:,\d{3})+(?![\d,])", line) if line.startswith("|") else ():
+            if not re.search(r"(?<![\d,.])%s(?![\d,])" % told, known):
+                yield "README.md", number, "no table of docs/PERFORMANCE.md has %s" % told
 
 
 def main(names):

@@ -18,7 +18,8 @@ import lint  # noqa: E402
 KIT = "rattle-kit-1a logic 00ff"
 SOUND = {
     "README.md": "# House\n\nFor readers. It has 12 crates and eleven commands; [more](docs/GUIDE.md#first-steps).\n\n"
-    "Kit: %s\n" % KIT,
+    "| server | 33,737 |\n\nKit: %s\n" % KIT,
+    "docs/PERFORMANCE.md": "# Performance\n\nFor askers. It makes 33,737.\n",
     "docs/GUIDE.md": "# Guide\n\nFor users.\n\n## First steps\n\n"
     "See `crates/low/src/lib.rt`, 12 must-fail edits and `kept`'s two public functions.\n",
     "crates.txt": "low: # the lowest\n" + "".join("c%d: low\n" % n for n in range(11)),
@@ -149,17 +150,25 @@ PLANTED = {
     "pictures": [
         ("docs/pictures/one.txt", "", "layers One\nrow: box\n"),
     ],
-    "words": [("docs/GUIDE.md", "For users.", "For users." + "\nword" * 500)],
+    "words": [
+        ("docs/GUIDE.md", "For users.", "For users." + "\nword" * 500),
+        ("README.md", "For readers.", "For readers." + "\nword" * 200),
+    ],
+    "measured": [
+        ("README.md", "33,737", "33,738"),
+        ("README.md", "33,737", "3,737"),
+        ("docs/PERFORMANCE.md", "33,737", "33,7370"),
+    ],
 }
 
 
 class Rules(unittest.TestCase):
     def setUp(self):
-        self.most = lint.MOST_WORDS
-        lint.MOST_WORDS = 400
+        self.most = lint.MOST_WORDS, lint.MOST_WORDS_OF_README
+        lint.MOST_WORDS, lint.MOST_WORDS_OF_README = 400, 200
 
     def tearDown(self):
-        lint.MOST_WORDS = self.most
+        lint.MOST_WORDS, lint.MOST_WORDS_OF_README = self.most
 
     def test_a_sound_house_breaks_none(self):
         self.assertEqual(breaches(SOUND), [])

@@ -4,6 +4,7 @@ import assert from "node:assert/strict";
 import { readdirSync } from "node:fs";
 import test from "node:test";
 import { Axis } from "../picture/axis.mjs";
+import { drawn as drawnOfReadme } from "../../docs/pictures/history.mjs";
 import { drawingOf } from "../picture/drawing.mjs";
 import { markup } from "../picture/markup.mjs";
 import { historyOf, reasonOf, stateOf, stateText } from "../picture/picture.mjs";
@@ -26,6 +27,10 @@ test("the state of each worked transcript, byte for byte", () => {
     const state = read(`web/tests/states/${name.replace("transcript", "state")}`);
     assert.equal(stateText(last(historyOf(read(`web/tests/states/${name}`)))), state, name);
   }
+});
+
+test("the README's picture is that of its transcript", () => {
+  assert.equal(drawnOfReadme(), read("docs/pictures/history.svg"));
 });
 
 test("a state's text as objects", () => {
