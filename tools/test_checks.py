@@ -147,16 +147,26 @@ class Checks(unittest.TestCase):
         for told, result in {of_run: "passed", of_run + "mvfeed: low was proved before, none left\n": "failed"}.items():
             self.assertEqual(self.from_nothing(told, "the same"), (result, "1 crates"))
 
-    def test_a_program_of_other_bytes_fails_the_proof_from_nothing(self):
-        self.assertEqual(self.from_nothing("mvfeed: 1 crates, on 2 processors\n", "another"), ("failed", "1 crates"))
+    def test_other_bytes_fail_the_proof_from_nothing(self):
+        told = "mvfeed: 1 crates, on 2 processors\n"
+        self.assertEqual(self.from_nothing(told, "another"), ("failed", "1 crates"))
+        self.assertEqual(self.from_nothing(told, "the same", "another archive"), ("failed", "1 crates"))
+        self.assertEqual(self.from_nothing(told, "the same", made="exit 1")[0], "failed")
 
-    def from_nothing(self, told, program):
-        """What the check comes to where a build in a fresh clone tells this, and makes the same as a program or not."""
-        files = {"lines": told, "mvfeed": "#!/bin/sh\ncat\ncat lines >&2\n", "crates/mvfeed/out/mvfeed": "the same"}
-        with tempfile.NamedTemporaryFile("w") as before:
-            before.write(program)
-            before.flush()
-            with mock.patch.dict(os.environ, PROGRAM=before.name):
+    def from_nothing(self, told, program, library="the archive", made="exit 0"):
+        """What the check comes to where a build in a fresh clone tells this, and makes the same files or others."""
+        files = {
+            "lines": told,
+            "mvfeed": "#!/bin/sh\ncat\ncat lines >&2\n",
+            "crates/mvfeed/out/mvfeed": "the same",
+            "tools/side_by_side.py": "#!/bin/sh\necho 'ripsawbean: 3 crates, on 2 processors' >&2\n%s\n" % made,
+            "crates/ripsawbean/out/libripsawbean.a": "the archive",
+        }
+        with tempfile.TemporaryDirectory() as room:
+            put(room, "program", program)
+            put(room, "library", library)
+            given = {name.upper(): os.path.join(room, name) for name in ("program", "library")}
+            with mock.patch.dict(os.environ, given):
                 return self.in_a_house(checks.FROM_NOTHING, files, (r"(\d+) crates, on", "crates"))[:2]
 
     def test_a_first_answer_is_in_time_and_right_and_the_checker_says_so(self):
