@@ -1,11 +1,12 @@
 #!/usr/bin/env python3
 """Writes the record of a release: what it is made of, by what, what was checked, and the checksum of each file.
 
-    record.py [--draft] --version V --program FILE --embed FOLDER --server FILE DIST > build-record.json
+    record.py --check
+    record.py [--draft] --version V --program FILE --embed FOLDER --server FILE [--arm FILE] DIST > build-record.json
 
-The form is an in-toto statement whose predicate is SLSA's provenance, version 1, so that tools can read it. A check of
-the commit's docs/LAST-RUN.md that failed, that wasn't run or left something out, or whose sources have changed since
-stops it, but for a draft.
+The form is an in-toto statement whose predicate is SLSA's provenance, version 1, so that tools can read it. The first
+form says which check of the commit's docs/LAST-RUN.md failed, wasn't run or left something out, or whose sources have
+changed since, and its status is then 1.
 """
 
 import argparse
@@ -110,6 +111,10 @@ def statement(its: argparse.Namespace, checked: List[Dict[str, str]]) -> Dict[st
 
 
 def main() -> None:
+    checked = list(rows(said("git", "show", "HEAD:docs/LAST-RUN.md")))
+    if sys.argv[1:] == ["--check"]:
+        against = list(faults({it["check"]: it for it in checked}, checks_of_house()))
+        sys.exit("docs/LAST-RUN.md has no passed check of these sources: " + "; ".join(against) if against else 0)
     parser = argparse.ArgumentParser(description=__doc__, formatter_class=argparse.RawDescriptionHelpFormatter)
     parser.add_argument("--version", required=True)
     for name in ("program", "embed", "server"):
@@ -118,12 +123,6 @@ def main() -> None:
     parser.add_argument("--draft", action="store_true")
     parser.add_argument("dist", type=Path)
     its = parser.parse_args()
-    checked = list(rows(said("git", "show", "HEAD:docs/LAST-RUN.md")))
-    against = list(faults({it["check"]: it for it in checked}, checks_of_house()))
-    if against and not its.draft:
-        sys.exit("release: docs/LAST-RUN.md has no passed check of these sources: " + "; ".join(against))
-    if against:
-        print("release: a draft, although " + "; ".join(against), file=sys.stderr)
     print(json.dumps(statement(its, checked), indent=1))
 
 
