@@ -350,8 +350,13 @@ class TypedCalls(unittest.TestCase):
             self.assertEqual((db.text().rows, db.data()), (answer.rows, answer.data))
         self.assertEqual(db.scan_within(10, b"d d", rows=1).rows, rows[2:])
         self.assertEqual((db.scan_within(10, b"a", b"").rows, db.scan_within(10, b"a", b"").end), ([], b"\0"))
-        self.assertEqual(db.scan_within(11).answer, "notxn")
-        self.assertEqual((db.scan_at_within(10).answer, db.scan_at_within(10).rows, db.scan_at_within(10).end), ("notclosed 0", [], None))
+        for scan, told in ((lambda: db.scan_within(11), "notxn"), (lambda: db.scan_at_within(10), "notclosed 0")):
+            with self.assertRaises(Refused) as raised:
+                scan()
+            for ask in (lambda answer: answer.rows, lambda answer: answer.end):
+                with self.assertRaises(Refused) as again:
+                    ask(raised.exception.event)
+                self.assertEqual((raised.exception.answer, again.exception.answer), (told, told))
         db.commit(10)
         db.close_to(10)
         answer = db.scan_at_within(10, bytes=23)

@@ -68,7 +68,7 @@ class Database(Opened):
     def begin(self, timestamp: int, seat: int = 0) -> Answer:
         """Begins a transaction. This and what follows are the calls of `make` without a text: an Answer, which may be a refusal.
 
-        A read that is refused raises Refused, so that nobody takes it for an absent key.
+        A read that is refused raises Refused, so that nobody takes it for an absent key or an empty span.
         """
         return self._timed(_database.begin, timestamp, seat)
 
@@ -159,7 +159,7 @@ class Database(Opened):
                 self._at, seat, timestamp, first, len(first), last, len(last), high is not None, rows, bytes,
                 self._out_at, self._room, self._length_at, self._answer_at,
             )
-            return self._shown_answer()
+            return self._read_answer()
 
     def data(self) -> bytes:
         """The bytes of the last event's answer once more, a value, messages or rows, also where a line made its call. It makes no call."""
@@ -232,7 +232,10 @@ class Database(Opened):
             raise _out_of_range(seat)
         with self._turn:
             call(self._at, seat, timestamp, key, len(key), self._out_at, self._room, self._length_at, self._answer_at)
-            answer = self._shown_answer()
+            return self._read_answer()
+
+    def _read_answer(self) -> Answer:
+        answer = self._shown_answer()
         if answer.is_refusal:
             raise Refused(answer)
         return answer

@@ -206,13 +206,14 @@ class Answer(NamedTuple):
 
     @property
     def rows(self) -> List[Tuple[bytes, bytes]]:
-        """The rows of a scan, keys rising."""
-        return [(key, value) for kind, key, value in _parts_of(self.data) if kind == 1] if self.kind == 9 else []
+        """The rows of a scan, keys rising. A refusal raises Refused."""
+        parts = _parts_of(self.data) if self._not_refused().kind == 9 else ()
+        return [(key, value) for kind, key, value in parts if kind == 1]
 
     @property
     def end(self) -> Optional[bytes]:
-        """Where a scan ended: the high bound of its event's span, or None where that has none."""
-        ends = [key for kind, key, _ in _parts_of(self.data) if kind == 3] if self.kind == 9 else []
+        """Where a scan ended: the high bound of its event's span, or None where that has none. A refusal raises Refused."""
+        ends = [key for kind, key, _ in _parts_of(self.data) if kind == 3] if self._not_refused().kind == 9 else []
         return ends[0] if ends else None
 
 
