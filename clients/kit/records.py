@@ -1,16 +1,17 @@
 """The records: cases of what a program calls, what its client asks for that, and what the server answers.
 
-README.md says what the lines of `records.jsonl` have. Here they are read, and requests are compared with them.
+README.md says what the lines of `recorded/` have. Here they are read, and requests are compared with them.
 """
 
 from __future__ import annotations
 
 import json
 import os
-from typing import Any, Dict, Iterator, List, NamedTuple, Optional, Tuple
+from typing import Any, Dict, Iterable, Iterator, List, NamedTuple, Optional, Tuple
 from urllib.parse import unquote_to_bytes
 
-RECORDS = os.path.join(os.path.dirname(os.path.abspath(__file__)), "records.jsonl")
+HERE = os.path.dirname(os.path.abspath(__file__))
+FOLDER = os.path.join(HERE, "recorded")
 # Headers that a request has exactly where its record has them.
 NAMED = ("authorization", "idempotency-key", "ripsawbean-identity")
 
@@ -25,16 +26,27 @@ class Case(NamedTuple):
         return [line for line in self.lines if "ask" in line]
 
 
-def load(words: str = "", path: str = RECORDS) -> List[Case]:
-    """The cases with these words in their name."""
+def load(words: str = "", folder: str = FOLDER) -> List[Case]:
+    """The cases with these words in their name, file by file."""
     cases: List[Case] = []
-    with open(path, encoding="utf-8") as file:
-        for line in map(json.loads, file):
-            if "case" in line:
-                cases.append(Case(line["case"], line.get("options", {}), line.get("server", True), []))
-            else:
-                cases[-1].lines.append(line)
+    for name in sorted(os.listdir(folder)):
+        with open(os.path.join(folder, name), encoding="utf-8") as file:
+            cases += cases_of(map(json.loads, file))
     return [case for case in cases if words in case.name]
+
+
+def cases_of(lines: Iterable[Dict[str, Any]]) -> Iterator[Case]:
+    case: Optional[Case] = None
+    for line in lines:
+        if "case" in line:
+            if case:
+                yield case
+            case = Case(line["case"], line.get("options", {}), line.get("server", True), [])
+        else:
+            assert case, "a file begins with a case"
+            case.lines.append(line)
+    if case:
+        yield case
 
 
 def path_and_query(target: str) -> Tuple[bytes, List[Tuple[str, bytes]]]:

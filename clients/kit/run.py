@@ -1,5 +1,5 @@
 #!/usr/bin/env python3
-"""Holds a client, or the server, to the records of `records.jsonl`. The last line says how many cases passed.
+"""Holds a client, or the server, to the records of `recorded/`. The last line says how many cases passed.
 
     run.py client COMMAND..      plays the server to a client, which COMMAND drives; README.md says how a driver talks
     run.py server                asks the server what clients ask
@@ -25,7 +25,7 @@ from fake import Fake  # noqa: E402
 from live import live  # noqa: E402
 from real import check  # noqa: E402
 
-TOP = os.path.join(os.path.dirname(records.RECORDS), "..", "..")
+TOP = os.path.join(records.HERE, "..", "..")
 SERVER = os.environ.get("SERVER") or os.path.join(TOP, "server", "run")
 
 

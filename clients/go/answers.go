@@ -1,0 +1,169 @@
+package ripsawbean
+
+import (
+	"bytes"
+	"context"
+	"encoding/json"
+	"errors"
+	"fmt"
+	"io"
+	"math"
+	mathrand "math/rand"
+	"net"
+	"net/http"
+	"strconv"
+	"strings"
+	"time"
+)
+
+// What is sent, what an answer means, and what is done where none comes.
+
+const (
+	short = 2 * time.Millisecond // the longest first pause between two tries
+	long  = 500 * time.Millisecond
+)
+
+type answer struct {
+	status int
+	header http.Header
+	body   []byte
+}
+
+func (a answer) json(into any) error {
+	if json.Unmarshal(a.body, into) != nil {
+		return nonsense(a.status, "is no JSON of this kind")
+	}
+	return nil
+}
+
+func (a answer) number(name string) (Timestamp, error) {
+	number, err := strconv.ParseUint(strings.Trim(a.header.Get(name), "\""), 10, 64)
+	if err != nil {
+		return 0, nonsense(a.status, fmt.Sprintf("has %q as its %s", a.header.Get(name), name))
+	}
+	return Timestamp(number), nil
+}
+
+func (a answer) page() (Page, error) {
+	var told struct {
+		Timestamp Timestamp
+		Rows      []Row
+		Next      *string
+	}
+	if err := a.json(&told); err != nil {
+		return Page{}, err
+	}
+	found := Page{told.Timestamp, told.Rows, nil}
+	if told.Next != nil && len(told.Rows) > 0 {
+		found.Next = behind(told.Rows[len(told.Rows)-1].Key)
+	}
+	return found, nil
+}
+
+func isAgain(status int) bool {
+	return status == 408 || status == 502 || status == 503 || status == 504
+}
+
+// pauses are drawn, and grow until the time is over.
+type pauses struct {
+	until   time.Time
+	longest time.Duration
+}
+
+func (p *pauses) pause(ctx context.Context, least time.Duration) bool {
+	p.longest = time.Duration(math.Max(float64(p.longest), float64(short)))
+	wait := time.Duration(mathrand.Int63n(int64(p.longest)))
+	if wait < least {
+		wait = least
+	}
+	p.longest = time.Duration(math.Min(float64(2*p.longest), float64(long)))
+	if !p.until.IsZero() && time.Now().Add(wait).After(p.until) {
+		return false
+	}
+	select {
+	case <-ctx.Done():
+		return false
+	case <-time.After(wait):
+		return true
+	}
+}
+
+// call gives an answer, asked for again while it is lost or the server is busy, until the time is over.
+func (c *Client) call(ctx context.Context, method, path string, body []byte, headers map[string]string) (answer, error) {
+	tries := pauses{until: time.Now().Add(c.options.Timeout)}
+	wasSent := false
+	for {
+		found, err := c.once(ctx, method, path, body, headers, time.Until(tries.until))
+		if err == nil && !isAgain(found.status) {
+			c.pin(found.header)
+			return found, nil
+		}
+		seconds, _ := strconv.Atoi(found.header.Get("Retry-After"))
+		failed, isLost := isLost(err)
+		if err == nil && (found.status == 502 || found.status == 504) {
+			failed, isLost = &lost{fmt.Errorf("the proxy answers %d", found.status), true}, true
+		} else if err != nil && !isLost {
+			return answer{}, err
+		}
+		// The server has ended, and the next one may not know the write's key.
+		isDown := wasSent && isLost && !failed.wasSent && method != "GET"
+		wasSent = wasSent || (isLost && failed.wasSent)
+		if !isDown && tries.pause(ctx, time.Duration(seconds)*time.Second) {
+			continue
+		}
+		if !isLost {
+			return answer{}, refused(found.status, found.body)
+		}
+		kind := Unreachable
+		if wasSent && method != "GET" {
+			kind = OutcomeUnknown
+		}
+		return answer{}, &Error{kind, 0, "unreachable", failed.Error(), "", nil}
+	}
+}
+
+// once is one try. The answer may be busy; what else is refused is an error.
+func (c *Client) once(ctx context.Context, method, path string, body []byte, headers map[string]string, timeout time.Duration) (answer, error) {
+	ctx, cancel := context.WithTimeout(ctx, timeout)
+	defer cancel()
+	reply, err := c.send(ctx, method, path, body, c.Identity(), headers)
+	if err != nil {
+		return answer{}, err
+	}
+	defer reply.Body.Close()
+	data, err := io.ReadAll(reply.Body)
+	if err != nil {
+		return answer{}, &lost{err, true}
+	}
+	found := answer{reply.StatusCode, reply.Header, data}
+	if found.status == 200 || isAgain(found.status) {
+		return found, nil
+	}
+	refusal := refused(found.status, data)
+	if found.status == 404 && refusal.Name == "none" {
+		return found, nil
+	}
+	return answer{}, refusal
+}
+
+func (c *Client) send(ctx context.Context, method, path string, body []byte, identity string, headers map[string]string) (*http.Response, error) {
+	request, err := http.NewRequestWithContext(ctx, method, c.url+path, bytes.NewReader(body))
+	if err != nil {
+		return nil, err
+	}
+	if c.options.Token != "" {
+		request.Header.Set("Authorization", "Bearer "+c.options.Token)
+	}
+	if identity != "" {
+		request.Header.Set("Ripsawbean-Identity", identity)
+	}
+	for name, value := range headers {
+		request.Header.Set(name, value)
+	}
+	reply, err := c.http.Do(request)
+	if err != nil {
+		var dialed *net.OpError
+		return nil, &lost{err, !(errors.As(err, &dialed) && dialed.Op == "dial")}
+	}
+	return reply, nil
+}
