@@ -66,7 +66,7 @@ impl Held {
         let mut counted = self.bodies.counted.lock();
         let of_one = counted.of.get(&self.network).copied().unwrap_or(0) + more;
         if counted.all + more > self.bodies.all || of_one > self.bodies.of_one {
-            return Err(Refusal::new(503, "bodies", "bodies that are on their way take as much memory as they may"));
+            return Err(Refusal::busy("bodies", "bodies that are on their way take as much memory as they may"));
         }
         counted.all += more;
         counted.of.insert(self.network, of_one);

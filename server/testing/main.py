@@ -22,7 +22,7 @@ from mixed import run_mixed
 from page import run_page
 from tally import Tally
 
-SERVED = ("test_served", "test_api", "test_plans", "test_openapi", "test_reference", "test_costs")
+SERVED = ("test_served", "test_api", "test_plans", "test_openapi", "test_reference", "test_refusals", "test_costs")
 OTHERS = {"attacks": attacks.main, "correct": correct.main, "durable": durable.main}
 
 

@@ -277,8 +277,9 @@ class Rows(unittest.IsolatedAsyncioTestCase):
         async with served() as client:
             for at in range(257):
                 await client.put("/key/a", data="%d" % at)
-            statuses = [(await client.get("/key/a?hold=300&at=%d" % at)).status for at in range(1, 258)]
-            self.assertEqual((statuses[:256], statuses[256]), ([200] * 256, 503))
+            statuses = [(await client.get("/key/a?hold=300&at=%d" % at)).status for at in range(1, 257)]
+            self.assertEqual(statuses, [200] * 256)
+            self.assertEqual(await refusal(await client.get("/key/a?hold=300&at=257")), (503, "holds"))
 
     async def test_a_hold_without_a_timestamp_is_of_what_was_read(self):
         async with served("--history", "0") as client, undecided(client, "begin\nput . other 1\n") as socket:

@@ -14,15 +14,14 @@ import tempfile
 import unittest
 
 import jsonschema
+from multidict import CIMultiDict
 
 sys.path[:0] = [os.path.dirname(os.path.abspath(__file__))]
 from test_served import served  # noqa: E402
 
 TOKEN = "0123456789abcdef"
 BODIES = 3000
-# Statuses that aren't got here: a body that takes ten seconds, and the identity of another database.
-NOT_SEEN = {("/transact", "POST", 408), ("/key/{key}", "PUT", 408), ("/transact", "POST", 412), ("/key/{key}", "GET", 412),
-            ("/rows", "GET", 412)}
+SLOW = 60  # seconds that the answer to a body may take, of which the server lets pass ten
 
 
 class Documented:
@@ -39,20 +38,38 @@ class Documented:
         if shown:
             headers["Authorization"] = "Bearer " + shown
         reply = await self.client.request(method, path, data=body, headers=headers)
-        data, place = await reply.read(), path.partition("?")[0]
+        data = await reply.read()
+        self.compare(method, path, reply.status, reply.headers, data)
+        return reply.status, data
+
+    async def ask_slowly(self, method, path):
+        """Sends less of a body than it says, and waits for the answer."""
+        reader, writer = await asyncio.open_connection("127.0.0.1", self.client.port)
+        head = "%s %s HTTP/1.1\r\nHost: 127.0.0.1:%d\r\nAuthorization: Bearer %s\r\nContent-Length: 9\r\n\r\nx"
+        writer.write((head % (method, path, self.client.port, TOKEN)).encode())
+        first, *lines = (await asyncio.wait_for(reader.readuntil(b"\r\n\r\n"), SLOW)).decode().split("\r\n")[:-2]
+        headers = CIMultiDict(tuple(line.split(": ", 1)) for line in lines)
+        data = await reader.readexactly(int(headers["Content-Length"]))
+        self.compare(method, path, int(first.split(" ")[1]), headers, data)
+        writer.close()
+
+    def compare(self, method, path, status, headers, data):
+        """Notes an answer, which has to be a documented one."""
+        place = path.partition("?")[0]
         place = "/key/{key}" if place.startswith("/key/") else place
-        self.seen.add((place, method, reply.status))
-        said = self.document["paths"][place][method.lower()]["responses"].get(str(reply.status))
-        assert said is not None, (method, path, reply.status, data[:200])
+        self.seen.add((place, method, status))
+        said = self.document["paths"][place][method.lower()]["responses"].get(str(status))
+        assert said is not None, (method, path, status, data[:200])
+        if "$ref" in said:
+            said = self.document["components"]["responses"][said["$ref"].rpartition("/")[2]]
         if data:
-            kinds = said.get("content", {})
-            assert reply.content_type in kinds, (method, path, reply.status, reply.content_type)
-            schema = kinds[reply.content_type].get("schema")
+            kind, kinds = headers["Content-Type"].partition(";")[0], said.get("content", {})
+            assert kind in kinds, (method, path, status, kind)
+            schema = kinds[kind].get("schema")
             if schema:
                 self.schemas[schema["$ref"].rpartition("/")[2]].validate(json.loads(data))
         for name in said.get("headers", {}):
-            assert name in reply.headers or name == "Link", (method, path, reply.status, name)
-        return reply.status, data
+            assert name in headers or name == "Link", (method, path, status, name)
 
     def documented(self):
         return {(path, method.upper(), int(status)) for path, methods in self.document["paths"].items()
@@ -79,10 +96,12 @@ async def see_transact(ask):
 
 
 async def see_keys(ask):
-    for path in ("/key/a", "/key/none", "/key/a?at=x", "/key/a?at=1", "/key/a?at=999999"):
-        await ask("GET", path)
     _, data = await ask("GET", "/key/a", Accept="application/json")
-    await ask("GET", "/key/a", If_None_Match='"%s"' % json.loads(data)["version"])
+    tag = '"%s"' % json.loads(data)["version"]
+    for method in ("GET", "HEAD"):
+        for path in ("/key/a", "/key/none", "/key/a?at=x", "/key/a?at=1", "/key/a?at=999999"):
+            await ask(method, path)
+        await ask(method, "/key/a", If_None_Match=tag)
     await ask("PUT", "/key/a", "x", If_Match='"1"')
     await ask("PUT", "/key/a", "x", If_Match="1")
     await ask("PUT", "/key/a", "x" * 70_000)
@@ -94,7 +113,7 @@ async def see_keys(ask):
     await ask("PUT", "/key/a", "y", Idempotency_Key="q")
     await ask("DELETE", "/key/a", Idempotency_Key="q")
     await ask("DELETE", "/key/a")
-    for method in ("GET", "PUT", "DELETE"):
+    for method in ("GET", "HEAD", "PUT", "DELETE"):
         await ask(method, "/key/a", shown=None)
         await ask(method, "/key/a", Origin="http://x")
 
@@ -102,10 +121,27 @@ async def see_keys(ask):
 async def see_rows(ask):
     for at in range(3):
         await ask("PUT", "/key/a%d" % at, b"\xff")
-    for query in ("?limit=2", "", "?limit=0", "?at=1", "?at=99999"):
-        await ask("GET", "/rows" + query)
-    await ask("GET", "/rows", shown=None)
-    await ask("GET", "/rows", Origin="http://x")
+    for method in ("GET", "HEAD"):
+        for query in ("?limit=2", "", "?limit=0", "?at=1", "?at=99999"):
+            await ask(method, "/rows" + query)
+        await ask(method, "/rows", shown=None)
+        await ask(method, "/rows", Origin="http://x")
+
+
+async def see_identity(ask):
+    """Another database is named: nothing is done."""
+    for method, path, body in (
+        ("POST", "/transact", '{"then":[{"put":"other","value":"1"}]}'), ("PUT", "/key/other", "1"),
+        ("DELETE", "/key/a", None), ("GET", "/key/a", None), ("HEAD", "/key/a", None), ("GET", "/rows", None),
+        ("HEAD", "/rows", None),
+    ):
+        status, _ = await ask(method, path, body, Ripsawbean_Identity="of another database")
+        assert status == 412, (method, path, status)
+    assert (await ask("GET", "/key/other"))[0] == 404
+
+
+async def see_slow(ask_slowly):
+    await asyncio.gather(ask_slowly("POST", "/transact"), ask_slowly("PUT", "/key/a"))
 
 
 async def see_blocked(client, ask):
@@ -113,11 +149,13 @@ async def see_blocked(client, ask):
         await session.send_str("begin\nput . a1 2\n")
         await session.receive()
         await ask("POST", "/transact?wait=0", '{"then":[{"get":"a1"}]}')
-        await ask("GET", "/key/a1?wait=0")
+        for method in ("GET", "HEAD"):
+            await ask(method, "/key/a1?wait=0")
         await ask("PUT", "/key/a1?wait=0", "x", If_Match="*")
         await ask("DELETE", "/key/a1?wait=0")
         _, data = await ask("PUT", "/key/q", "x")
-        await ask("GET", "/rows?wait=0&at=" + json.loads(data)["timestamp"])
+        for method in ("GET", "HEAD"):
+            await ask(method, "/rows?wait=0&at=" + json.loads(data)["timestamp"])
 
 
 class Bodies:
@@ -178,8 +216,10 @@ class OpenApi(unittest.IsolatedAsyncioTestCase):
                 await see_transact(asking.ask)
                 await see_keys(asking.ask)
                 await see_rows(asking.ask)
+                await see_identity(asking.ask)
                 await see_blocked(client, asking.ask)
-                self.assertEqual(asking.documented() - asking.seen - NOT_SEEN, set())
+                await see_slow(asking.ask_slowly)
+                self.assertEqual(asking.documented() - asking.seen, set())
                 await self.compare_bodies(asking)
 
     async def compare_bodies(self, asking):

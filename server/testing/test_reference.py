@@ -18,6 +18,14 @@ BLOCK = re.compile(r"^```\n(.*?)^```$", re.M | re.S)
 REFUSAL = re.compile(r"Refusal::(?:new\(\s*(\d+)|(busy)\()\s*,?\s*\"(\w+)\"")
 
 
+def listed():
+    """Statuses and names of the table of refusals."""
+    with open(PAGE) as page:
+        rows = [line.split("|")[1:3] for line in page if re.match(r"\| [\d, ]+ \|", line)]
+    return {(int(status), name) for statuses, names in rows for status in statuses.split(",")
+            for name in re.findall(r"`(\w+)`", names)}
+
+
 class Reference(unittest.IsolatedAsyncioTestCase):
     async def test_each_request_is_answered_as_it_says(self):
         with open(PAGE) as page:
@@ -35,17 +43,13 @@ class Reference(unittest.IsolatedAsyncioTestCase):
         self.assertGreater(count, 25)
 
     def test_each_refusal_of_the_modules_is_in_its_table(self):
-        with open(PAGE) as page:
-            rows = [line.split("|")[1:3] for line in page if re.match(r"\| [\d, ]+ \|", line)]
-        listed = {(int(status), name) for statuses, names in rows for status in statuses.split(",")
-                  for name in re.findall(r"`(\w+)`", names)}
         folder, found = os.path.join(TOP, "server", "src", "api"), set()
         for path in [os.path.join(at, name) for at, _, names in os.walk(folder) for name in names] + [folder + ".rs"]:
             with open(path) as source:
                 for status, _, name in REFUSAL.findall(source.read().partition("#[cfg(test)]")[0]):
                     found.add((int(status or 503), name))
         self.assertGreater(len(found), 20)
-        self.assertEqual(found - listed, set())
+        self.assertEqual(found - listed(), set())
 
 
 if __name__ == "__main__":
