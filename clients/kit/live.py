@@ -211,6 +211,42 @@ def a_server_that_was_killed(ground: Ground) -> None:
     assert "reset" in gives(other, "feed", place=place, anew=True, take=1)[0]
 
 
+def a_server_that_keeps_its_data(program: str, command: List[str]) -> None:
+    """It is killed by kill -9 every few writes. A client, a feed and a consumer go on, and are told each change once."""
+    with tempfile.TemporaryDirectory() as folder:
+        data = os.path.join(folder, "data")
+        with Ground(program, command, "--data", data, "--history", "60") as ground:
+            writer, follower, consumer = (ground.client() for _ in range(3))
+            gives(writer, "put", key="z", value="0")
+            place = gives(follower, "feed", take=3)[-1]
+            place = {"identity": place["identity"], "timestamp": place["resolved"]}
+            stored = gives(consumer, "consume", name="c", stores=1)[0]["place"]
+            told, batches = [], []  # type: ignore[var-annotated]
+            threads = [
+                threading.Thread(target=lambda: told.extend(gives(follower, "feed", place=place, take=20))),
+                threading.Thread(target=lambda: batches.extend(gives(consumer, "consume", name="c", place=stored, stores=8))),
+            ]
+            for thread in threads:
+                thread.start()
+            wrote = written_through_restarts(ground.server, writer, threads)
+            for found in (told, [change for batch in batches for change in batch["changes"]]):
+                found = [one for one in found if "key" in one]
+                assert found and found == wrote[: len(found)], (found, wrote)
+            assert gives(writer, "get", key="k0") == [one["value"] for one in wrote if one["key"] == "k0"][-1]
+
+
+def written_through_restarts(server: Server, writer: Driver, threads: List[threading.Thread]) -> List[Dict[str, Any]]:
+    """Writes as long as one of the threads waits for more. A server that is killed has answered all that it was asked."""
+    wrote: List[Dict[str, Any]] = []
+    while any(thread.is_alive() for thread in threads) and len(wrote) < 200:
+        key, value = "k%d" % (len(wrote) % 3), str(len(wrote))
+        at = gives(writer, "put", key=key, value=value)
+        wrote.append({"key": key, "value": value, "timestamp": at, "before": None})
+        if len(wrote) % 5 == 0:
+            server.happen({"world": "restart"})
+    return wrote
+
+
 def nobody_there(ground: Ground) -> None:
     """What was never sent is known not to have happened, and what was sent and not answered isn't."""
     with socket.create_server(("127.0.0.1", 0)) as listener:
@@ -272,8 +308,10 @@ def live(program: str, command: List[str], only: str) -> Iterator[Tuple[str, Lis
         if only in name:
             with Ground(program, command, "--history", "60") as ground:
                 yield name, faults_of(lambda: test(ground))
-    if only in "tls and token":
-        yield "tls and token", faults_of(lambda: tls_and_token(program, command))
+    for alone in (a_server_that_keeps_its_data, tls_and_token):
+        name = alone.__name__.replace("_", " ")
+        if only in name:
+            yield name, faults_of(lambda: alone(program, command))
 
 
 def faults_of(test: Callable[[], None]) -> List[str]:
