@@ -4,5 +4,6 @@ Each peer is a class with the same few measurements. All are asked over loopback
 faster than what they ask: `server/load` for this server, Redis and etcd, pgbench for PostgreSQL. None waits for a disk.
 The work is a transaction that begins, puts a row, reads it and commits; in Redis MULTI, SET, GET, EXEC, in etcd a
 transaction of a put and a range, in PostgreSQL an upsert and a select. Rates are of transactions, because that is what
-all four have. Latency is from sending the row to a reader's having it.
+all four have. Latency is from sending the row to a reader's having it. Pages of rows and feeds with the values before
+are of this server alone.
 """

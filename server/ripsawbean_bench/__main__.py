@@ -11,6 +11,8 @@ from .postgres import Postgres
 # What is sent: the words for it, the way to ask, clients, transactions in all, transactions a message, messages ahead.
 WORKS = (
     ("16 clients, a request at a time (`POST /call`)", "requests", 16, 40_000, 1, 1),
+    ("the same by `POST /transact`", "transactions", 16, 40_000, 1, 1),
+    ("the same, each with an Idempotency-Key", "keyed", 16, 40_000, 1, 1),
     ("64 clients, a request at a time", "requests", 64, 40_000, 1, 1),
     ("1 client, a transaction at a time in one message", "messages", 1, 5_000, 1, 1),
     ("64 clients, the same", "messages", 64, 40_000, 1, 1),
@@ -22,6 +24,8 @@ WORKS = (
 PUSHES = ((1, 400, 0.005), (100, 100, 0.05))  # readers, rows, seconds between two
 FLOOD = (100, 10_000)  # readers, rows
 FIRST = 100_000  # rows
+PAGES = ((1, 1000), (1, 10_000), (4, 1000))  # readers, rows of a page
+WALKS = 5  # times that all rows are walked for one figure
 LEAST = 100  # rows, however small a part is asked for
 HEAD_OF_WORKS = """
 | Transactions a second | Ripsawbean | us of its processor | Redis | etcd | PostgreSQL |
@@ -32,6 +36,9 @@ HEAD_OF_LATENCIES = """
 HEAD_OF_READERS = """
 | Rows a second | Ripsawbean | Redis | etcd | PostgreSQL |
 |---|---|---|---|---|"""
+HEAD_OF_ROWS = """
+| Rows a second | Ripsawbean | us of its processor |
+|---|---|---|"""
 Peers = tuple[Ours, Redis, Etcd, Postgres]
 SHORTER = {"etcd": 10}  # what is slow gets less to do: rates don't depend on it
 
@@ -47,6 +54,7 @@ def main(scale: float) -> None:
             print("| %s | %s |" % (name, " | ".join(one.told_latency() for one in found)))
         pushes(peers, scale)
         readers(peers, scale)
+        rows(peers[0], scale)
         print("load at the end: %.1f" % os.getloadavg()[0], flush=True)
     finally:
         for peer in peers:
@@ -89,6 +97,21 @@ def readers(peers: Peers, scale: float) -> None:
     print("| commits told to each of %d readers | %s |" % (many, " | ".join(one.told_rate() for one in found)), flush=True)
     found = ask(peers, lambda peer, _: peer.first(scaled(FIRST, scale)))
     print("| a first read of %d rows | %s |" % (scaled(FIRST, scale), " | ".join(one.told_rate() for one in found)), flush=True)
+
+
+def rows(ours: Ours, scale: float) -> None:
+    """What this server alone has: pages of one snapshot, and feeds with the values before."""
+    count = scaled(FIRST, scale)
+    ours.fill(count)
+    print(HEAD_OF_ROWS, flush=True)
+    for readers, limit in PAGES:
+        found = [ours.pages(readers, limit, count) for _ in range(WALKS)]
+        middle = sorted(found, key=lambda one: one.rate or 0)[WALKS // 2]
+        name = "%d reader%s, pages of %s rows" % (readers, "s" * (readers > 1), "{:,}".format(limit))
+        print("| %s | %s | %s |" % (name, middle.told_rate(), middle.told_processor()), flush=True)
+    feeds = ours.feeds(count)
+    print("| a feed that goes on from before %s rows | %s | |" % ("{:,}".format(count), feeds.told_rate()))
+    print("| the same with `before` | %s | |" % Found(feeds.before).told_rate(), flush=True)
 
 
 main(float(sys.argv[1]) if len(sys.argv) > 1 else 1.0)

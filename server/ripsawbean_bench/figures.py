@@ -14,6 +14,7 @@ class Found:
     p50: float | None = None
     p99: float | None = None
     processor: float | None = None
+    before: float | None = None  # rows a second with the values before
 
     def told_rate(self) -> str:
         return "-" if self.rate is None else "{:,.0f}".format(self.rate)

@@ -63,7 +63,8 @@ class Loaded:
             raise SystemExit("bench: %s: %s: %s" % (self.name, " ".join(map(str, command)), done.stderr))
         used = processor_seconds(self.process.pid) - used
         found = json.loads(done.stdout)
-        return Found(found.get("rate"), found.get("p50"), found.get("p99"), used / found["rows"] * 1e6)
+        processor = used / found["rows"] * 1e6
+        return Found(found.get("rate"), found.get("p50"), found.get("p99"), processor, found.get("before"))
 
     def transactions(self, way: str, clients: int, count: int, rows: int, ahead: int) -> Found:
         return self.load(way, "transactions", clients, max(count // clients, rows), rows, ahead)
@@ -77,10 +78,21 @@ class Loaded:
     def first(self, count: int) -> Found:
         return self.load("messages", "first", count)
 
+    def fill(self, count: int) -> Found:
+        return self.load("messages", "fill", count)
+
+    def pages(self, readers: int, limit: int, count: int) -> Found:
+        """The rows of `fill`."""
+        return self.load("messages", "pages", readers, limit, count)
+
+    def feeds(self, count: int) -> Found:
+        """The rows of `fill`, which are written anew: its rate, and that with the values before."""
+        return self.load("messages", "feeds", count)
+
 
 class Ours(Loaded):
     name = "Ripsawbean"
-    kinds = {"requests": "call", "messages": "session", "lines": "lines"}
+    kinds = {"requests": "call", "transactions": "transact", "keyed": "keyed", "messages": "session", "lines": "lines"}
 
     def __init__(self) -> None:
         port = free_port()
@@ -89,7 +101,7 @@ class Ours(Loaded):
 
 class Redis(Loaded):
     name = "Redis"
-    kinds = {"requests": "redis", "messages": "redis"}
+    kinds = {"requests": "redis", "transactions": "redis", "messages": "redis"}
 
     def __init__(self) -> None:
         port = free_port()
@@ -101,7 +113,7 @@ class Etcd(Loaded):
     """Asked by its gateway of HTTP, which costs it a translation: gRPC is faster."""
 
     name = "etcd"
-    kinds = {"requests": "etcd", "messages": "etcd"}
+    kinds = {"requests": "etcd", "transactions": "etcd", "messages": "etcd"}
 
     def __init__(self) -> None:
         port, peers = free_port(), "http://127.0.0.1:%d" % free_port()

@@ -62,7 +62,7 @@ class Postgres:
 
     def transactions(self, way: str, clients: int, count: int, rows: int, ahead: int) -> Found:
         """By pgbench: one at a time, or so many in one pipeline of each client."""
-        if way == "lines":
+        if way in ("lines", "keyed"):
             return NOTHING
         script, each = pathlib.Path(self.folder) / "script", rows * ahead
         pipeline = "\\startpipeline\n%s\\endpipeline\n" % (ROW * each)

@@ -5,8 +5,14 @@ use crate::peer::Wire;
 use std::io::{self, BufRead, Read};
 
 pub fn request(method: &str, port: u16, path: &str, body: &str) -> Vec<u8> {
+    request_with(method, port, path, "", body)
+}
+
+/// The same with further headers, each with its end.
+pub fn request_with(method: &str, port: u16, path: &str, headers: &str, body: &str) -> Vec<u8> {
     let length = body.len();
-    format!("{method} {path} HTTP/1.1\r\nHost: 127.0.0.1:{port}\r\nContent-Length: {length}\r\n\r\n{body}").into_bytes()
+    let head = format!("{method} {path} HTTP/1.1\r\nHost: 127.0.0.1:{port}\r\nContent-Length: {length}\r\n");
+    format!("{head}{headers}\r\n{body}").into_bytes()
 }
 
 /// How the body of an answer is sent.
@@ -18,6 +24,11 @@ pub enum Body {
 
 /// Reads the head of an answer that has to be 200.
 pub fn head(wire: &mut Wire) -> Result<Body, Failure> {
+    head_with(wire, |_, _| {})
+}
+
+/// The same, and hands over each header's name and value, in small letters.
+pub fn head_with(wire: &mut Wire, mut take: impl FnMut(&str, &str)) -> Result<Body, Failure> {
     let mut line = Vec::new();
     read_line(wire, &mut line)?;
     if line.get(9..12) != Some(b"200") {
@@ -29,11 +40,12 @@ pub fn head(wire: &mut Wire) -> Result<Body, Failure> {
         line.clear();
         read_line(wire, &mut line)?;
         let text = String::from_utf8_lossy(&line).to_ascii_lowercase();
-        match text.trim_end().split_once(": ") {
-            None => return Ok(body),
-            Some(("content-length", size)) => body = Body::Sized(size.parse().map_err(|_| refused(&line))?),
-            Some(("transfer-encoding", "chunked")) => body = Body::Chunked,
-            Some(_) => {}
+        let Some((name, value)) = text.trim_end().split_once(": ") else { return Ok(body) };
+        take(name, value);
+        match (name, value) {
+            ("content-length", size) => body = Body::Sized(size.parse().map_err(|_| refused(&line))?),
+            ("transfer-encoding", "chunked") => body = Body::Chunked,
+            _ => {}
         }
     }
 }

@@ -34,10 +34,7 @@ impl Ours {
     }
 
     fn feed(&self) -> Result<Feed, Failure> {
-        let mut wire = Wire::new(self.port)?;
-        wire.send(&http::request("GET", self.port, "/feed", ""))?;
-        http::head(&mut wire)?;
-        Ok(Feed { wire, held: Vec::new() })
+        Feed::open(self.port, "/feed")
     }
 }
 
@@ -136,14 +133,21 @@ fn is_taken(answer: &[u8]) -> bool {
         })
 }
 
-struct Feed {
+pub struct Feed {
     wire: Wire,
     held: Vec<u8>,
 }
 
 impl Feed {
+    pub fn open(port: u16, path: &str) -> Result<Feed, Failure> {
+        let mut wire = Wire::new(port)?;
+        wire.send(&http::request("GET", port, path, ""))?;
+        http::head(&mut wire)?;
+        Ok(Feed { wire, held: Vec::new() })
+    }
+
     /// Reads a chunk, hands over each row's line, and tells whether `resolved` has come.
-    fn lines(&mut self, mut take: impl FnMut(&[u8])) -> Result<bool, Failure> {
+    pub fn lines(&mut self, mut take: impl FnMut(&[u8])) -> Result<bool, Failure> {
         if http::chunk(&mut self.wire, &mut self.held)? == 0 {
             return Err(refused(b"the feed has ended"));
         }

@@ -45,14 +45,20 @@ pub fn flood(peer: &dyn Peer, readers: usize, count: usize) -> Result<String, Fa
     Ok(figures.latencies(told.waited()).told())
 }
 
-/// A reader that begins with nothing.
-pub fn first(peer: &dyn Peer, count: usize) -> Result<String, Failure> {
+/// Writes so many rows, or writes them anew.
+pub fn fill(peer: &dyn Peer, count: usize) -> Result<(), Failure> {
     let mut client = peer.client()?;
     for at in (0..count).step_by(ROWS_A_FILLING) {
         let until = count.min(at + ROWS_A_FILLING);
         client.send(&peer.filled(at..until))?;
         client.receive(peer.answers_to_filling(until - at))?;
     }
+    Ok(())
+}
+
+/// A reader that begins with nothing.
+pub fn first(peer: &dyn Peer, count: usize) -> Result<String, Failure> {
+    fill(peer, count)?;
     let began = Instant::now();
     let told = peer.read_first()?;
     if told < count {
