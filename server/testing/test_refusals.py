@@ -76,7 +76,10 @@ async def see_what_fails(ask):
     """Statuses 409, 410 and 412. What is collected takes a while."""
     for value in range(3):
         await ask("PUT", "/key/a", str(value))
-    await asyncio.sleep(2.3)
+    for _ in range(200):
+        if await ask("GET", "/key/a?at=1") != (200, None):
+            break
+        await asyncio.sleep(0.1)
     for method, path, body, headers, wanted in (
         ("POST", "/transact", '{"if":[{"key":"a","value":"x"}]}', {}, (409, "condition")),
         ("POST", "/transact", '{"if":[{"span":[null,null],"unchanged":"9999"}]}', {}, (409, "notclosed")),
