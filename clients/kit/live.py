@@ -221,7 +221,8 @@ def a_server_that_keeps_its_data(program: str, command: List[str]) -> None:
             place = gives(follower, "feed", take=3)[-1]
             place = {"identity": place["identity"], "timestamp": place["resolved"]}
             stored = gives(consumer, "consume", name="c", stores=1)[0]["place"]
-            told, batches = [], []  # type: ignore[var-annotated]
+            told: List[Any] = []
+            batches: List[Any] = []
             threads = [
                 threading.Thread(target=lambda: told.extend(gives(follower, "feed", place=place, take=20))),
                 threading.Thread(target=lambda: batches.extend(gives(consumer, "consume", name="c", place=stored, stores=8))),
