@@ -25,7 +25,7 @@ use crate::ledger::Reason;
 use crate::memory::{Memory, ROW};
 use crate::options::Options;
 use crate::outcome::Outcome;
-use crate::seats::Owner;
+use crate::seats::{EndedBy, Owner};
 use ripsawbean::Command;
 use std::time::{Duration, Instant};
 
@@ -264,7 +264,7 @@ impl Core {
             self.seats
                 .all()
                 .filter(|(_, taken)| taken.heard.elapsed() > age)
-                .for_each(|(_, taken)| taken.tell_to_end());
+                .for_each(|(_, taken)| taken.tell_to_end(EndedBy::Silence));
         }
         Turn::Done
     }

@@ -36,6 +36,14 @@ impl Owner {
     }
 }
 
+/// Who ends a session that would go on.
+#[derive(Clone, Copy, Debug, PartialEq, Eq)]
+pub enum EndedBy {
+    Operator,
+    /// It was silent for longer than `--seat-age`.
+    Silence,
+}
+
 /// What a connection knows of its session. What it has in the database is in `Seats`.
 #[derive(Debug)]
 pub struct Session {
@@ -45,21 +53,24 @@ pub struct Session {
     /// The timestamp that it began last: what `.` stands for.
     pub last: Option<u64>,
     pub who: Who,
-    /// Whether an operator, or its age, ends the session.
-    end: watch::Receiver<bool>,
+    end: watch::Receiver<Option<EndedBy>>,
 }
 
 impl Session {
-    pub fn is_told_to_end(&self) -> bool {
+    /// Who has told it to end, where anyone has.
+    pub fn ended_by(&self) -> Option<EndedBy> {
         *self.end.borrow()
     }
 
-    /// Waits until it is told to end.
-    pub async fn told_to_end(&self) {
+    /// Waits until it is told to end. While the session has its seat it may be told at any time.
+    pub async fn told_to_end(&self) -> EndedBy {
         let mut end = self.end.clone();
-        while !*end.borrow_and_update() {
+        loop {
+            if let Some(by) = *end.borrow_and_update() {
+                return by;
+            }
             if end.changed().await.is_err() {
-                return;
+                return EndedBy::Operator;
             }
         }
     }
@@ -78,13 +89,13 @@ pub struct Taken {
     pub begun: BTreeSet<u64>,
     pub feeds: BTreeSet<u64>,
     pub protections: BTreeSet<u64>,
-    end: watch::Sender<bool>,
+    end: watch::Sender<Option<EndedBy>>,
 }
 
 impl Taken {
     /// Tells its connection to end the session.
-    pub fn tell_to_end(&self) {
-        self.end.send_replace(true);
+    pub fn tell_to_end(&self, by: EndedBy) {
+        self.end.send_replace(Some(by));
     }
 }
 
@@ -108,7 +119,7 @@ impl Seats {
             return None;
         }
         let seat = self.free.pop_front()?;
-        let (now, (tell, end)) = (Instant::now(), watch::channel(false));
+        let (now, (tell, end)) = (Instant::now(), watch::channel(None));
         self.taken[usize::from(seat)] = Some(Taken {
             since: now,
             heard: now,
@@ -198,11 +209,11 @@ mod tests {
     async fn a_session_that_is_told_to_end_knows_it_from_then_on() {
         let mut seats = Seats::default();
         let [one, other] = [0, 0].map(|kept| seats.take("peer".into(), Who::anyone(), kept).expect("a seat"));
-        assert!(!one.is_told_to_end());
-        seats.taken(one.seat).expect("it is taken").tell_to_end();
-        one.told_to_end().await;
-        one.told_to_end().await;
-        assert!(one.is_told_to_end() && !other.is_told_to_end());
+        assert_eq!(one.ended_by(), None);
+        seats.taken(one.seat).expect("it is taken").tell_to_end(EndedBy::Silence);
+        assert_eq!(one.told_to_end().await, EndedBy::Silence);
+        assert_eq!(one.told_to_end().await, EndedBy::Silence);
+        assert_eq!((one.ended_by(), other.ended_by()), (Some(EndedBy::Silence), None));
     }
 
     #[test]

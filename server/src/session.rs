@@ -17,7 +17,7 @@ use crate::lines::{Lines, Lost, Told};
 use crate::query::{arguments, flag_in, number_of, Arguments};
 use crate::refusal::Refusal;
 use crate::routes::Server;
-use crate::seats::Session;
+use crate::seats::{EndedBy, Session};
 use crate::socket::Socket;
 use crate::ws::{self, Asked};
 use std::sync::Arc;
@@ -132,7 +132,7 @@ async fn answer(seated: &mut Seated, lines: &mut Lines) -> Result<(), Refusal> {
         });
         match turn {
             Ok(Turn::Done) => return Ok(()),
-            Ok(Turn::More) if session.is_told_to_end() => {
+            Ok(Turn::More) if session.ended_by().is_some() => {
                 return refused("ended", "an operator has ended the session: lines were taken, and others weren't")
             }
             Ok(Turn::More) => tokio::task::yield_now().await,
@@ -162,8 +162,12 @@ pub async fn session(server: &Arc<Server>, mut request: Request) -> Result<Respo
     ];
     server.log.info("session_opened", &opened);
     let task = async move {
-        if let Ok(Some(stream)) = tokio::time::timeout(UPGRADE, upgraded).await {
-            Socket::new(stream, connection, seated).run().await;
+        match tokio::time::timeout(UPGRADE, upgraded).await {
+            Ok(Some(stream)) => Socket::new(stream, connection, seated).run().await,
+            _ => {
+                let over = [("seat", seated.session.seat.into()), ("why", "it became no WebSocket".into())];
+                seated.server.log.info("session_over", &over);
+            }
         }
         drop(busy);
     };
@@ -186,7 +190,7 @@ pub async fn end(server: &Arc<Server>, request: Request) -> Result<Response, Ref
     let seat = number_of(word.as_bytes()).and_then(|seat| u8::try_from(seat).ok()).ok_or_else(no_session)?;
     let peer = server.door.run(|core| {
         let taken = core.seats.taken(seat).ok_or_else(no_session)?;
-        taken.tell_to_end();
+        taken.tell_to_end(EndedBy::Operator);
         Ok(taken.peer.clone())
     })?;
     let by: &Who = &request.who;

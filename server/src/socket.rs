@@ -8,9 +8,12 @@
 //! 2. Between two turns whatever has come is read, so pings are answered and a client that is gone is found out: lines
 //!    that wait behind are then not taken any more.
 //! 3. What is read ahead, and what waits to be written, has a bound, and so has the number of messages that wait.
-//! 4. A client that says nothing is asked by a ping after `--heartbeat`, and cut where it says nothing for half as long
-//!    again.
+//! 4. A client that says nothing is asked by a ping after `--heartbeat`, and let go where it says nothing for half as
+//!    long again.
 //! 5. Whoever ends the session waits for one turn, and for a slow reader no longer than `LINGER`.
+//! 6. The client is told why its session ends, wherever it can be told: see `end`.
+
+mod end;
 
 use crate::connections::Connection;
 use crate::door::Turn;
@@ -18,8 +21,9 @@ use crate::http::Stream;
 use crate::journal::Ticket;
 use crate::lines::{Lines, Lost};
 use crate::session::Seated;
-use crate::ws::{code, encode, Decoder, Incoming, Outgoing};
+use crate::ws::{encode, Decoder, Incoming, Outgoing};
 use bytes::BytesMut;
+use end::{say_goodbye, End, LINGER};
 use std::collections::VecDeque;
 use std::future::Future;
 use std::sync::Arc;
@@ -33,12 +37,6 @@ const READ: usize = 1 << 16;
 const AHEAD: usize = 1 << 16;
 /// Bytes of answers beyond which they are written before the next message is taken.
 const WRITE: usize = 1 << 16;
-/// Codes of a close frame beside those of `ws`: an operator ends the session, or memory was wanting.
-const POLICY: u16 = 1008;
-const INTERNAL: u16 = 1011;
-/// How long a client may take to read why the session ends, and how much it may send meanwhile.
-const LINGER: Duration = Duration::from_secs(2);
-const LINGER_BYTES: usize = 64 << 20;
 
 pub struct Socket {
     stream: Box<dyn Stream>,
@@ -62,30 +60,6 @@ struct Waiting {
     bytes: usize,
     since: Instant,
 }
-
-/// Why a session ends.
-#[derive(Clone, Debug, PartialEq, Eq)]
-enum End {
-    /// A close frame says so.
-    Closed(u16, &'static str),
-    /// The client has closed, with this code.
-    ByClient(Option<u16>),
-    /// The connection is gone: nobody can be told.
-    Gone,
-}
-
-impl End {
-    fn why(&self) -> &'static str {
-        match self {
-            End::Closed(_, why) => why,
-            End::ByClient(_) => "closed by the client",
-            End::Gone => "the connection is gone",
-        }
-    }
-}
-
-const TOLD_TO_END: End = End::Closed(POLICY, "ended by an operator, or for its silence");
-const SHUTDOWN: End = End::Closed(code::AWAY, "shutdown");
 
 /// What woke a session that rests.
 enum Woken {
@@ -120,10 +94,9 @@ impl Socket {
         };
         // What isn't durable isn't told at the end either.
         let is_durable = timeout(LINGER, self.seated.server.door.until(self.rests)).await.is_ok();
-        let end = if is_durable { end } else { End::Gone };
         let Socket { stream, seated, out, connection, .. } = self;
-        let over = [("seat", seated.session.seat.into()), ("why", end.why().into())];
-        seated.server.log.info("session_over", &over);
+        let (out, end) = if is_durable { (out, end) } else { (Vec::new(), end.without_answers()) };
+        end.tell(&seated.server.log, seated.session.seat, &connection.peer.to_string());
         // The seat is free before the client reads that the session has ended.
         drop(seated);
         tokio::select! {
@@ -151,7 +124,7 @@ impl Socket {
             match self.woken(patience).await {
                 Woken::Read => return self.decode(),
                 Woken::End(end) => return Err(end),
-                Woken::Silence if is_asked => return Err(End::Gone),
+                Woken::Silence if is_asked => return Err(End::HEARTBEAT),
                 Woken::Silence => {
                     encode(Outgoing::Ping(b""), &mut self.out);
                     self.write().await?;
@@ -164,13 +137,14 @@ impl Socket {
     async fn woken(&mut self, patience: Duration) -> Woken {
         self.buffer.reserve(READ);
         tokio::select! {
+            biased; // after a while in which the server stood still, what has come goes before silence
+            () = self.seated.server.ending() => Woken::End(End::SHUTDOWN),
+            by = self.seated.session.told_to_end() => Woken::End(End::by(by)),
+            () = self.connection.cut_off() => Woken::End(End::Stuck),
             read = self.stream.read_buf(&mut self.buffer) => match read {
                 Ok(count) if count > 0 => Woken::Read,
-                _ => Woken::End(End::Gone),
+                _ => Woken::End(self.lost()),
             },
-            () = self.seated.server.ending() => Woken::End(SHUTDOWN),
-            () = self.seated.session.told_to_end() => Woken::End(TOLD_TO_END),
-            () = self.connection.cut_off() => Woken::End(End::Gone),
             () = sleep(patience) => Woken::Silence,
         }
     }
@@ -186,13 +160,21 @@ impl Socket {
         let read = tokio::select! {
             biased;
             read = self.stream.read_buf(&mut self.buffer) => Some(read),
-            () = self.connection.cut_off() => return Err(End::Gone),
+            () = self.connection.cut_off() => return Err(End::Stuck),
             () = tokio::task::yield_now() => None,
         };
         match read {
             None => Ok(()),
             Some(Ok(count)) if count > 0 => self.decode(),
-            Some(_) => Err(End::Gone),
+            Some(_) => Err(self.lost()),
+        }
+    }
+
+    /// Why nothing more can be read or written.
+    fn lost(&self) -> End {
+        match self.connection.is_cut() {
+            true => End::Stuck,
+            false => End::Gone,
         }
     }
 
@@ -207,7 +189,7 @@ impl Socket {
                 Ok(Some(Incoming::Ping(data))) => encode(Outgoing::Pong(&data), &mut self.out),
                 Ok(Some(Incoming::Pong(_))) => {}
                 Ok(Some(Incoming::Close { code, .. })) => self.end = Some(End::ByClient(code)),
-                Err(ended) => self.end = Some(End::Closed(ended.code, ended.why)),
+                Err(ended) => self.end = Some(End::Broken(ended)),
             }
         }
         Ok(())
@@ -224,7 +206,7 @@ impl Socket {
     /// Answers all messages that wait, in turns.
     async fn answer_all(&mut self) -> Result<(), End> {
         while !self.waiting.is_empty() {
-            let turn = self.turn().map_err(|Lost| End::Closed(INTERNAL, "no memory for an answer"))?;
+            let turn = self.turn().map_err(|Lost| End::UNWRITTEN)?;
             if self.out.len() >= WRITE || turn == Turn::Done {
                 self.write().await?;
             }
@@ -241,11 +223,11 @@ impl Socket {
 
     /// Whether someone ends the session, whose client may send on and on.
     fn check_end(&self) -> Result<(), End> {
-        if self.seated.session.is_told_to_end() {
-            return Err(TOLD_TO_END);
+        if let Some(by) = self.seated.session.ended_by() {
+            return Err(End::by(by));
         }
         match *self.seated.server.is_ending.borrow() {
-            true => Err(SHUTDOWN),
+            true => Err(End::SHUTDOWN),
             false => Ok(()),
         }
     }
@@ -282,13 +264,13 @@ impl Socket {
         let written = tokio::select! {
             biased; // mostly it is written at once
             written = self.stream.write_all(&self.out) => written,
-            () = self.connection.cut_off() => return Err(End::Gone),
-            () = soon_after(self.seated.session.told_to_end()) => return Err(End::Gone),
+            () = self.connection.cut_off() => return Err(End::Stuck),
+            _ = soon_after(self.seated.session.told_to_end()) => return Err(End::Stuck),
         };
         self.out.clear();
         // A long answer isn't kept room for.
         self.out.shrink_to(WRITE);
-        written.map_err(|_| End::Gone)
+        written.map_err(|_| self.lost())
     }
 }
 
@@ -298,108 +280,17 @@ impl Socket {
         tokio::select! {
             biased;
             () = self.seated.server.door.until(ticket) => Ok(()),
-            () = self.connection.cut_off() => Err(End::Gone),
-            () = soon_after(self.seated.session.told_to_end()) => Err(End::Gone),
+            () = self.connection.cut_off() => Err(End::Stuck),
+            by = soon_after(self.seated.session.told_to_end()) => Err(End::by(by)),
         }
     }
 }
 
-async fn soon_after(told: impl Future<Output = ()>) {
-    told.await;
+async fn soon_after<T>(told: impl Future<Output = T>) -> T {
+    let told = told.await;
     sleep(LINGER).await;
-}
-
-/// Tells the client why its session ends, and reads away what it still sends, so that it gets to read that.
-async fn say_goodbye(mut stream: Box<dyn Stream>, mut out: Vec<u8>, end: End) {
-    match end {
-        End::Gone => return,
-        End::Closed(code, why) => encode(Outgoing::Close(Some((code, why))), &mut out),
-        End::ByClient(code) => encode(Outgoing::Close(code.map(|code| (code, ""))), &mut out),
-    }
-    let goodbye = async {
-        stream.write_all(&out).await?;
-        stream.shutdown().await?;
-        let mut left = LINGER_BYTES;
-        let mut buffer = BytesMut::with_capacity(READ);
-        while left > 0 {
-            let count = stream.read_buf(&mut buffer).await?;
-            if count == 0 {
-                break;
-            }
-            left = left.saturating_sub(count);
-            buffer.clear();
-        }
-        Ok::<(), std::io::Error>(())
-    };
-    // Where it fails the client is gone.
-    let _ = timeout(LINGER, goodbye).await;
+    told
 }
 
 #[cfg(test)]
-mod tests {
-    use super::*;
-    use crate::testing::server;
-    use tokio::io::{duplex, DuplexStream};
-
-    /// A session's socket, and its client's end.
-    fn socket(words: &[&str]) -> (Socket, DuplexStream) {
-        let (ours, client) = duplex(1 << 20);
-        let server = server(words);
-        let peer = ([127, 0, 0, 1], 1).into();
-        let connection = server.connections.come(peer).expect("a place");
-        let session = server.door.run(crate::testing::session);
-        (Socket::new(Box::new(ours), connection, Seated { server, session }), client)
-    }
-
-    /// A text of these lines in a frame whose mask is 0.
-    fn frame(text: &str) -> Vec<u8> {
-        let length = u16::try_from(text.len()).expect("it is short").to_be_bytes();
-        [&[0x81, 0xfe, length[0], length[1], 0, 0, 0, 0], text.as_bytes()].concat()
-    }
-
-    #[tokio::test]
-    async fn messages_of_no_bytes_wait_in_the_connection_too() {
-        let (mut socket, mut client) = socket(&[]);
-        socket.wait(b"stats\n".to_vec());
-        client.write_all(&[0x81, 0x80, 0, 0, 0, 0].repeat(100_000)).await.expect("there is room");
-        for _ in 0..1000 {
-            socket.look().await.expect("the client is there");
-        }
-        // Those of one read, behind which nothing more is read.
-        assert!(socket.waiting.len() <= 1 + READ / 6, "{}", socket.waiting.len());
-    }
-
-    #[tokio::test]
-    async fn a_session_whose_client_sends_on_and_on_can_be_ended() {
-        let (socket, client) = socket(&[]);
-        let (mut answers, mut client) = tokio::io::split(client);
-        let flood = async {
-            let lines = frame(&"stats\n".repeat(1000));
-            while client.write_all(&lines).await.is_ok() {}
-        };
-        let mut told = Vec::new();
-        tokio::join!(flood, answers.read_to_end(&mut told), ended_soon(socket)).1.expect("it is read");
-        let close = [&POLICY.to_be_bytes()[..], b"ended by an operator, or for its silence"].concat();
-        assert!(told.ends_with(&close), "{:?}", &told[told.len() - 60..]);
-    }
-
-    #[tokio::test(start_paused = true)]
-    async fn a_session_whose_client_reads_nothing_can_be_ended() {
-        let (socket, mut client) = socket(&[]);
-        let flood = async {
-            let lines = frame(&"stats\n".repeat(1000));
-            while client.write_all(&lines).await.is_ok() {}
-        };
-        tokio::join!(flood, ended_soon(socket));
-    }
-
-    /// Runs a socket, and ends its session after a while.
-    async fn ended_soon(socket: Socket) {
-        let (server, seat) = (socket.seated.server.clone(), socket.seated.session.seat);
-        let running = tokio::spawn(socket.run());
-        sleep(Duration::from_millis(50)).await;
-        server.door.run(|core| core.seats.taken(seat).expect("it is taken").tell_to_end());
-        timeout(4 * LINGER, running).await.expect("it ends").expect("it doesn't panic");
-        assert_eq!(server.door.run(|core| core.seats.count()), 0);
-    }
-}
+mod tests;

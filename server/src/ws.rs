@@ -23,9 +23,7 @@ mod handshake;
 mod tests;
 
 pub use decoder::{Decoder, Incoming};
-#[cfg(test)]
-pub use frames::Ended;
-pub use frames::{encode, Outgoing};
+pub use frames::{encode, Ended, Outgoing};
 pub use handshake::{accept, Asked};
 
 /// Why a connection ends, as a close frame says it.
