@@ -77,7 +77,7 @@ mod tests {
     use crate::outcome::Outcome;
     use crate::seats::Owner;
     use crate::testing::{core, say, session, tidy, Dice};
-    use ripsawbean::{Command, Message, Span};
+    use ripsawbean::{Command, Message, Room, Span};
     use std::collections::HashMap;
 
     fn opened(core: &mut Core, command: Command<'_>) -> u64 {
@@ -89,7 +89,7 @@ mod tests {
 
     fn polled(core: &mut Core, feed: u64, most: u64, initial: Option<u64>) -> String {
         let mut text = Vec::new();
-        core.poll(feed, most, &mut text).expect("a poll");
+        core.poll(feed, Room { rows: most, bytes: u64::MAX }, &mut text).expect("a poll");
         let text = with_before(core, &text, initial).expect("values");
         String::from_utf8(text).expect("text")
     }

@@ -180,10 +180,7 @@ impl Core {
         if matches!(page, Err(CommandError::Call(error)) if error != CallError::Unwritten) {
             return page;
         }
-        let is_told = match self.database.text() {
-            Ok(Some(event)) => keep(&mut self.transcript, event, &mut Wanted::Nothing),
-            _ => self.keep_again(&mut Wanted::Nothing),
-        };
+        let is_told = self.keep_last(&mut Wanted::Nothing);
         // Where its text is lost, the rows aren't.
         let _ = self.note(Owner::Server, Words::Command(command), is_told);
         self.record(Some(command));
@@ -207,10 +204,19 @@ impl Core {
         }
     }
 
-    /// Polls a feed of the server's own, and puts its messages behind `out`, a line of JSON each. After `Unwritten`
-    /// messages are lost, and the stream has to be cut.
-    pub fn poll(&mut self, feed: u64, most: u64, out: &mut Vec<u8>) -> Result<Outcome, CallError> {
-        self.make(Owner::Server, Command::Poll { feed, max: most }, Wanted::Messages(out))
+    /// Polls a feed of the server's own, as far as its messages find room, and puts them behind `out`, a line of JSON
+    /// each. After `Unwritten` messages are lost, and the stream has to be cut.
+    pub fn poll(&mut self, feed: u64, room: Room, out: &mut Vec<u8>) -> Result<Outcome, CallError> {
+        match self.database.poll_within(OWN_SEAT, feed, room.rows, room.bytes).map(drop) {
+            Err(CommandError::Call(CallError::NoMemory)) => return Ok(Outcome::Refused(Refusal::NoMemory)),
+            Err(CommandError::Call(error)) if error != CallError::Unwritten => return Err(error),
+            _ => {}
+        }
+        let is_told = self.keep_last(&mut Wanted::Messages(out));
+        let command = Command::Poll { feed, max: room.rows };
+        let outcome = self.note(Owner::Server, Words::Command(command), is_told);
+        self.record(Some(command));
+        outcome
     }
 
     /// Cancels a feed where it lives, so that what streams it ends for this reason.
@@ -287,6 +293,14 @@ impl Core {
             let _ = writeln!(self.line, "{} {command}", record.seat);
         }
         self.journal.note(&record, &self.line, self.ledger.closed);
+    }
+
+    /// The last call was made by its parts: adds its event to the transcript, and tells whether there was memory for that.
+    fn keep_last(&mut self, wanted: &mut Wanted<'_>) -> bool {
+        match self.database.text() {
+            Ok(Some(event)) => keep(&mut self.transcript, event, wanted),
+            _ => self.keep_again(wanted),
+        }
     }
 
     /// The last call was made, and there was no memory for its text: whether it could be told after all.

@@ -66,7 +66,7 @@ const fn file(name: &'static str, meaning: &'static str) -> Row {
 
 const MOST: u64 = 1 << 62;
 /// Bytes of the longest row: its key and its value, and 17 more.
-const LONGEST_ROW: u64 = 17 + 256 + 65_536;
+pub const LONGEST_ROW: u64 = 17 + 256 + 65_536;
 
 const TABLE: [Row; 38] = [
     whole("port", 7077, 0, 65535, "the port; 0 takes a free one, which the first line of the output names"),

@@ -1,89 +1,101 @@
-//! How many messages a stream's next poll asks for.
+//! How much a poll of the server's own asks for, and whether it has told all.
 //!
-//! A poll is bounded by messages alone, and a message has up to 87 kB of text. So a stream begins with few, and asks for
-//! more only after a poll that was full and short. After one that wasn't full it begins anew: what comes next may be of
-//! another size.
+//! A poll is bounded in messages and in bytes, so what it takes is known before it is made, however long the rows are
+//! that come next. A short one has told all that is due, or the next message found no room.
 //!
 //! ```text
-//! rows of 60 bytes     4, 8, 16, 32, 64, 64 ..      full and short each
-//! rows of 87 kB        4, 2, 1, 1 ..                full and long
+//! 15 rows of 60 bytes               full: there may be more
+//! 3 rows of 60 bytes, resolved      short, and a row of the greatest length had room: that was all
+//! 1 row of 65 kB                    short, and the next one may be as long: there may be more
 //! ```
 //!
-//! 1. `most` is 1 to `MOST`.
+//! 1. A poll tells one message at least, where any is due.
+//! 2. Where `is_all` says so, nothing is due until closed moves.
 
-/// Messages of a poll at first. With the longest values they are some 350 kB.
-const FEWEST: u64 = 4;
-/// Messages of a poll at most. More are hardly faster, and rows may grow longer from one poll to the next.
-const MOST: u64 = 64;
-/// Bytes of a poll: after a full one that gave less or more, the next asks for more or fewer messages.
-const SHORT: usize = 1 << 15;
-const LONG: usize = 1 << 17;
+use crate::options::LONGEST_ROW;
+use ripsawbean::Room;
 
-/// See the module.
-pub struct Pace {
-    most: u64,
-}
+/// What a poll may tell. The library looks at 15 messages at once to see whether they find room.
+pub const PLAIN: Room = Room { rows: 15, bytes: 2 * LONGEST_ROW };
+/// The same where each row comes with the value before, which may be as long as the row and isn't counted.
+pub const WITH_BEFORE: Room = Room { rows: 4, bytes: 2 * LONGEST_ROW };
 
-impl Default for Pace {
-    fn default() -> Pace {
-        Pace { most: FEWEST }
-    }
-}
-
-impl Pace {
-    /// How many messages to ask for.
-    pub fn most(&self) -> u64 {
-        self.most
-    }
-
-    /// Notes what the poll told: whether it was full, so that there may be more.
-    pub fn told(&mut self, count: u64, bytes: usize) -> bool {
-        let is_full = count == self.most;
-        self.most = match bytes {
-            _ if !is_full => FEWEST,
-            0..SHORT => (self.most * 2).min(MOST),
-            SHORT..=LONG => self.most,
-            _ => (self.most / 2).max(1),
-        };
-        is_full
-    }
+/// Whether a poll of so much room, which told so many messages with so many bytes of text, has told all.
+pub fn is_all(room: Room, count: u64, text: usize) -> bool {
+    // As text no message is shorter than what it counts.
+    count < room.rows && text as u64 <= room.bytes - LONGEST_ROW
 }
 
 #[cfg(test)]
 mod tests {
     use super::*;
+    use crate::core::Core;
+    use crate::outcome::Outcome;
+    use crate::seats::Owner;
+    use crate::testing::{core, say, session, Dice};
+    use ripsawbean::{Command, Message, Span};
 
-    /// What polls ask for where each is full, and a message has so many bytes.
-    fn asked(pace: &mut Pace, bytes: usize, polls: usize) -> Vec<u64> {
-        let ask = |_| {
-            let most = pace.most();
-            assert!(pace.told(most, most as usize * bytes));
-            most
-        };
-        (0..polls).map(ask).collect()
+    fn opened(core: &mut Core) -> u64 {
+        match core.ask(Owner::Server, Command::OpenInitial { span: Span::ALL, cursor: 0 }) {
+            Ok(Outcome::Opened { feed, .. }) => feed,
+            other => panic!("{other:?}"),
+        }
+    }
+
+    fn polled(core: &mut Core, feed: u64, room: Room) -> (u64, String) {
+        let mut text = Vec::new();
+        match core.poll(feed, room, &mut text) {
+            Ok(Outcome::Messages { count, .. }) => (count, String::from_utf8(text).expect("text")),
+            other => panic!("{other:?}"),
+        }
     }
 
     #[test]
-    fn short_rows_are_asked_for_by_the_dozen_and_long_ones_alone() {
-        assert_eq!(asked(&mut Pace::default(), 60, 6), [4, 8, 16, 32, 64, 64]);
-        assert_eq!(asked(&mut Pace::default(), 87_000, 4), [4, 2, 1, 1]);
-        assert_eq!(asked(&mut Pace::default(), 5_000, 4), [4, 8, 8, 8]);
+    fn no_message_counts_more_than_its_text() {
+        let (mut core, mut dice) = (core(&[]), Dice::new(5));
+        let mut one = session(&mut core);
+        let feed = opened(&mut core);
+        for at in 0..200 {
+            let value = "v".repeat(dice.below(9) as usize);
+            let line = if dice.one_in(3) { format!("del . k{at}\n") } else { format!("put . k{at} {value}\n") };
+            say(&mut core, &mut one, &format!("begin\n{line}commit .\n"));
+        }
+        let (count, text) = polled(&mut core, feed, Room { rows: 1000, bytes: u64::MAX });
+        assert!(count > 200);
+        for line in text.lines() {
+            let counted = match Message::of(line).expect("a message") {
+                Message::Resolved(_) => 17,
+                Message::Row(row) => 17 + row.key.len() + row.after.map_or(0, |after| after.len()),
+            };
+            assert!(counted <= line.len() + 1, "{line}");
+        }
     }
 
+    /// Rows of drawn lengths, from none to the greatest.
     #[test]
-    fn rows_that_grow_longer_are_soon_alone() {
-        let mut pace = Pace::default();
-        asked(&mut pace, 60, 9);
-        assert_eq!(asked(&mut pace, 87_000, 8), [64, 32, 16, 8, 4, 2, 1, 1]);
-    }
-
-    #[test]
-    fn after_a_poll_that_was_not_full_it_begins_anew() {
-        for count in [0, 3, 63] {
-            let mut pace = Pace::default();
-            asked(&mut pace, 60, 9);
-            assert!(!pace.told(count, count as usize * 60));
-            assert_eq!(pace.most(), 4);
+    fn all_is_told_once_and_no_poll_takes_more_than_it_may() {
+        for (seed, room) in [(1, PLAIN), (2, PLAIN), (3, WITH_BEFORE)] {
+            let (mut core, mut dice) = (core(&["--keep", "10"]), Dice::new(seed));
+            let mut one = session(&mut core);
+            let feed = opened(&mut core);
+            let (mut rows, mut told) = (0, 0);
+            for _ in 0..30 {
+                let puts: String = (0..dice.below(40))
+                    .map(|at| format!("put . k{at} {}\n", "v".repeat(1 << dice.below(17))))
+                    .collect();
+                rows += puts.lines().count();
+                say(&mut core, &mut one, &format!("begin\n{puts}commit .\n"));
+                loop {
+                    let (count, text) = polled(&mut core, feed, room);
+                    assert!(text.len() < 190_000, "{count} messages, {} bytes", text.len());
+                    told += text.matches("{\"after\"").count();
+                    if is_all(room, count, text.len()) {
+                        break;
+                    }
+                }
+                assert_eq!(polled(&mut core, feed, room), (0, String::new()));
+                assert_eq!(told, rows);
+            }
         }
     }
 }

@@ -1,6 +1,6 @@
 //! The life of one stream: it polls its feed alone, and pushes what is told.
 //!
-//! It polls once closed has moved, and again where a poll was full. While a piece waits for its reader it doesn't poll,
+//! It polls once closed has moved, and again where there may be more. While a piece waits for its reader it doesn't poll,
 //! so a slow reader costs what the horizon keeps for it and no buffers. Its last message says why it ends:
 //!
 //! ```text
@@ -27,7 +27,7 @@ use crate::journal::Ticket;
 use crate::json::Object;
 use crate::ledger::Ended;
 use crate::outcome::Outcome;
-use crate::pace::Pace;
+use crate::pace;
 use crate::streams::Place;
 use bytes::Bytes;
 use ripsawbean::Refusal as Refused;
@@ -54,7 +54,6 @@ pub struct Stream {
     sender: Sender,
     connection: Arc<Connection>,
     moved: watch::Receiver<u64>,
-    pace: Pace,
     /// Where closed stood when all was told.
     seen: Option<u64>,
     /// Whether the ledger says that its reader has no room.
@@ -107,7 +106,6 @@ impl Stream {
             form,
             sender,
             connection,
-            pace: Pace::default(),
             seen: None,
             waits: false,
             written: Instant::now(),
@@ -202,7 +200,7 @@ impl Stream {
                 return Ok((Told::nothing(), closed));
             }
             core.journal.begin();
-            let told = polled(core, self.feed, self.before, &mut self.pace);
+            let told = polled(core, self.feed, self.before);
             Ok((Told { rests: core.journal.needed(), ..told }, closed))
         })?;
         self.waits = false;
@@ -230,16 +228,18 @@ impl Told {
 }
 
 /// Polls until there is enough for a piece, or all is told.
-fn polled(core: &mut Core, feed: u64, before: Option<Before>, pace: &mut Pace) -> Told {
+fn polled(core: &mut Core, feed: u64, before: Option<Before>) -> Told {
+    let room = if before.is_some() { pace::WITH_BEFORE } else { pace::PLAIN };
     let mut told = Told::nothing();
     loop {
         let start = told.text.len();
-        let count = match core.poll(feed, pace.most(), &mut told.text) {
+        let count = match core.poll(feed, room, &mut told.text) {
             Ok(Outcome::Messages { count, .. }) => count,
             Ok(Outcome::Refused(Refused::NoMemory)) => return Told { next: Next::Pause, ..told },
             Ok(_) => return told,
             Err(_) => return Told { next: Next::Cut, ..told },
         };
+        let is_all = pace::is_all(room, count, told.text.len() - start);
         if let Some(Before { initial }) = before {
             match with_before(core, &told.text.split_off(start), initial) {
                 Ok(text) => told.text.extend(text),
@@ -247,7 +247,7 @@ fn polled(core: &mut Core, feed: u64, before: Option<Before>, pace: &mut Pace) -
             }
         }
         told.count += count;
-        if !pace.told(count, told.text.len() - start) {
+        if is_all {
             return told;
         }
         if told.text.len() >= ENOUGH {
@@ -276,11 +276,11 @@ mod tests {
     fn rows_are_lines_of_json_and_resolved_comes_last() {
         let (mut core, mut session, feed) = with_feed();
         put(&mut core, &mut session, &[("a", "1")]);
-        let told = polled(&mut core, feed, None, &mut Pace::default());
+        let told = polled(&mut core, feed, None);
         let text = "{\"after\":\"MQ==\",\"key\":\"YQ==\",\"updated\":\"1\"}\n{\"resolved\":\"1\"}\n";
         assert_eq!((String::from_utf8(told.text).as_deref(), told.count), (Ok(text), 2));
         assert!(matches!(told.next, Next::Wait));
-        assert!(polled(&mut core, feed, None, &mut Pace::default()).text.is_empty());
+        assert!(polled(&mut core, feed, None).text.is_empty());
     }
 
     #[test]
@@ -290,10 +290,10 @@ mod tests {
             let value = "v".repeat(length);
             let puts: String = (0..count).map(|row| format!("put . {row} {value}\n")).collect();
             say(&mut core, &mut session, &format!("begin\n{puts}commit .\n"));
-            let (mut rows, mut pace) = (0, Pace::default());
+            let mut rows = 0;
             loop {
-                let told = polled(&mut core, feed, None, &mut pace);
-                assert!(told.text.len() < 400_000, "{} bytes at once", told.text.len());
+                let told = polled(&mut core, feed, None);
+                assert!(told.text.len() < 220_000, "{} bytes at once", told.text.len());
                 rows += told.text.split(|byte| *byte == b'\n').filter(|line| line.starts_with(b"{\"after\"")).count();
                 if matches!(told.next, Next::Wait) {
                     break;
@@ -309,7 +309,7 @@ mod tests {
         let (mut core, mut session, feed) = with_feed();
         put(&mut core, &mut session, &[("a", "1")]);
         core.end_stream(feed);
-        assert!(polled(&mut core, feed, None, &mut Pace::default()).text.is_empty());
+        assert!(polled(&mut core, feed, None).text.is_empty());
         assert_eq!(core.ledger.take_end(feed), None);
     }
 }

@@ -239,7 +239,7 @@ fn closing_waits_for_streams_that_are_behind_and_not_for_slow_readers() {
     assert_eq!(commit(&mut core), 1);
     assert_eq!((commit(&mut core), core.ledger.behind), (1, 2));
     let mut out = Vec::new();
-    core.poll(1, 9, &mut out).expect("a poll");
+    core.poll(1, crate::pace::PLAIN, &mut out).expect("a poll");
     core.settle(Instant::now());
     assert_eq!((core.ledger.closed, core.ledger.behind), (1, 1));
     core.ledger.set_waits(2, true);

@@ -19,13 +19,12 @@ use super::note::Note;
 use super::store::Series;
 use crate::core::Core;
 use crate::outcome::Outcome;
+use crate::pace;
 use crate::seats::Owner;
 use ripsawbean::{Command, Message, Row, Span};
 use std::io::Write;
 use std::time::Instant;
 
-/// Rows of one poll.
-const ROWS: u64 = 128;
 /// Bytes of lines that are one batch.
 const ENOUGH: usize = 1 << 20;
 
@@ -94,22 +93,23 @@ impl Copy {
             return Ok(Next::Wait);
         }
         self.told.clear();
-        let count = match core.poll(self.feed, ROWS, &mut self.told) {
+        let count = match core.poll(self.feed, pace::PLAIN, &mut self.told) {
             Ok(Outcome::Messages { count, .. }) => count,
             _ => return Err(Broken),
         };
         core.ledger.set_waits(self.feed, true);
-        self.seen = (count < ROWS).then_some(core.ledger.closed);
+        let is_all = pace::is_all(pace::PLAIN, count, self.told.len());
+        self.seen = is_all.then_some(core.ledger.closed);
         let told = std::mem::take(&mut self.told);
         let is_over = self.take_messages(&told)?;
         self.told = told;
-        if is_over || (count < ROWS && core.ledger.closed >= self.greatest) {
+        if is_over || (is_all && core.ledger.closed >= self.greatest) {
             self.finish();
             return Ok(Next::Done);
         }
         Ok(match () {
             () if self.lines.len() >= ENOUGH => Next::Take,
-            () if count < ROWS => Next::Wait,
+            () if is_all => Next::Wait,
             () => Next::More,
         })
     }
