@@ -11,15 +11,20 @@ use crate::ledger::Name;
 use crate::names::{name_in, Told};
 use crate::query::{arguments, percent_decoded, Arguments};
 use crate::refusal::Refusal;
+use crate::reports::Report;
 use crate::routes::Server;
 use std::sync::Arc;
 
 /// Names that are told while the lock is held.
 const NAMES_A_TURN: usize = 500;
+/// Bytes that a name takes in the metrics at most: two samples, and what they are made of.
+const BYTES_IN_METRICS: usize = 300;
 
 pub async fn list(server: &Arc<Server>, request: Request) -> Result<Response, Refusal> {
     arguments(&request.path, &request.query, &[])?;
-    Ok(json::lines(lines_of_all(&server.door).await))
+    let mut report = Report::begin(server, &request);
+    lines_of_all(&server.door, &mut report).await?;
+    Ok(report.told())
 }
 
 pub async fn get(server: &Arc<Server>, request: Request) -> Result<Response, Refusal> {
@@ -80,31 +85,42 @@ impl Core {
 
 // ---- all of them
 
-/// Takes all names in turns: `each` puts those of one turn behind its list.
-async fn in_turns<T>(door: &Door, each: impl Fn(&Core, &Name) -> T) -> Vec<T> {
-    let (mut found, mut last) = (Vec::new(), None);
+/// Takes all names in turns: `each` is given those of one turn.
+async fn in_turns(
+    door: &Door,
+    mut each: impl FnMut(&Core, &[Name]) -> Result<(), Refusal>,
+) -> Result<(), Refusal> {
+    let mut last = None;
     loop {
         let names = door.run(|core| {
             let names = core.names.behind(last.as_ref(), NAMES_A_TURN);
-            found.extend(names.iter().map(|name| each(core, name)));
-            names
-        });
+            each(core, &names).map(|()| names)
+        })?;
         if names.len() < NAMES_A_TURN {
-            return found;
+            return Ok(());
         }
         last = names.last().cloned();
         tokio::task::yield_now().await;
     }
 }
 
-/// What is known of each name, as lines.
-pub async fn lines_of_all(door: &Door) -> String {
-    in_turns(door, Core::line_of).await.concat()
+/// What is known of each name, as lines of a report.
+pub async fn lines_of_all(door: &Door, report: &mut Report) -> Result<(), Refusal> {
+    in_turns(door, |core, names| {
+        report.add(names.iter().map(|name| core.line_of(name)).collect())
+    })
+    .await
 }
 
-/// What `metrics` tells of each name.
-pub async fn told_of_all(door: &Door) -> Vec<Told> {
-    in_turns(door, Core::told_of).await
+/// What `metrics` tells of each name, for a report which is to hold it.
+pub async fn told_of_all(door: &Door, report: &mut Report) -> Result<Vec<Told>, Refusal> {
+    let mut found = Vec::new();
+    in_turns(door, |core, names| {
+        found.extend(names.iter().map(|name| core.told_of(name)));
+        report.will_have(found.len() * BYTES_IN_METRICS)
+    })
+    .await?;
+    Ok(found)
 }
 
 #[cfg(test)]

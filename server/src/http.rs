@@ -8,12 +8,12 @@
 //! let (response, sender) = Response::stream(..)              a body that comes piece by piece
 //! ```
 //!
-//! 1. A body has a limit of bytes and of time, and so have all together that aren't whole (`bodies`). What is too long
+//! 1. A body has a limit of bytes and of time, and so have all together that aren't whole (`budget`). What is too long
 //!    is read away for a while, so that its client, which still sends, gets to read the answer.
 //! 2. A piece is handed over once the one before was taken, so at most two wait beside what the socket holds.
 //! 3. A connection that serves a request is busy until its answer was handed to the socket, but for `BUFFER` bytes.
 
-use crate::bodies::{Bodies, Held, FREE};
+use crate::budget::{Budget, Held, FREE};
 use crate::connections::{Busy, Connection};
 use crate::gate::{Head, Who};
 use crate::journal::Ticket;
@@ -35,7 +35,7 @@ use std::sync::Arc;
 use std::task::{Context, Poll};
 use std::time::{Duration, Instant};
 use tokio::io::{AsyncRead, AsyncWrite};
-use tokio::sync::{mpsc, OwnedSemaphorePermit};
+use tokio::sync::mpsc;
 
 /// The number of what the server and its clients agree on, which each answer tells. It rises where a client of the one
 /// before would break.
@@ -90,7 +90,7 @@ pub struct Request {
     pub query: String,
     pub who: Who,
     pub connection: Arc<Connection>,
-    bodies: Arc<Bodies>,
+    bodies: Arc<Budget>,
     inner: hyper::Request<hyper::Body>,
 }
 
@@ -230,8 +230,8 @@ impl Response {
     }
 
     /// Keeps something until the answer was handed to the socket.
-    pub fn keeping(mut self, kept: OwnedSemaphorePermit) -> Response {
-        self.body.kept = Some(kept);
+    pub fn keeping(mut self, kept: impl Send + Sync + 'static) -> Response {
+        self.body.kept = Some(Kept(Box::new(kept)));
         self
     }
 
@@ -269,7 +269,16 @@ impl Response {
 struct Body {
     content: Content,
     busy: Option<Busy>,
-    kept: Option<OwnedSemaphorePermit>,
+    kept: Option<Kept>,
+}
+
+/// Whatever ends with the body.
+struct Kept(#[allow(dead_code)] Box<dyn Send + Sync>);
+
+impl fmt::Debug for Kept {
+    fn fmt(&self, f: &mut fmt::Formatter<'_>) -> fmt::Result {
+        f.write_str("Kept")
+    }
 }
 
 #[derive(Debug)]

@@ -21,7 +21,7 @@
 //!
 //! Beside them: `door` (the lock, and turns), `seats` (the 64 seats), `consumers` and `names` (what consumers have
 //! stored, held while they are down), `lag` (rows closed above a timestamp), `transcript` (the events kept), `reports`,
-//! `metrics`, `dump`, `connections` (how many, and which are silent or stuck), `bodies` (their bytes), `ws`, `query`,
+//! `metrics`, `dump`, `connections` (how many, and which are silent or stuck), `budget` (bytes that wait), `ws`, `query`,
 //! `refusal`, `options`, `tokens`, `tls`, `notify`, `log`, `page`, `before` (values before a feed's rows), `faults`
 //! (their words).
 //!
@@ -32,7 +32,7 @@
 
 mod api;
 mod before;
-mod bodies;
+mod budget;
 mod closing;
 mod connections;
 mod consumers;

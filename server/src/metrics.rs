@@ -18,6 +18,7 @@ use crate::names::Told;
 use crate::process;
 use crate::query::arguments;
 use crate::refusal::Refusal;
+use crate::reports::Report;
 use crate::routes::Server;
 use std::fmt::{Display, Write};
 use std::sync::atomic::Ordering::Relaxed;
@@ -41,7 +42,8 @@ impl Default for Metrics {
 
 pub async fn metrics(server: &Arc<Server>, request: Request) -> Result<Response, Refusal> {
     arguments(&request.path, &request.query, &[])?;
-    let names = told_of_all(&server.door).await;
+    let mut report = Report::begin(server, &request);
+    let names = told_of_all(&server.door, &mut report).await?;
     let mut text = Text::default();
     let counts = server.door.run(|core| {
         of_database(&mut text, core, server);
@@ -53,8 +55,9 @@ pub async fn metrics(server: &Arc<Server>, request: Request) -> Result<Response,
     of_names(&mut text, &names);
     of_server(&mut text, server);
     of_process(&mut text, server.metrics.started);
+    report.add(text.text)?;
     // Whoever looks why the disk is slow doesn't wait for it.
-    Ok(Response::whole("text/plain; version=0.0.4; charset=utf-8", text.text).resting_on(Ticket::NONE))
+    Ok(report.told_as("text/plain; version=0.0.4; charset=utf-8").resting_on(Ticket::NONE))
 }
 
 #[derive(Default)]

@@ -119,6 +119,14 @@ impl Refusal {
         Refusal::new(503, "seats", "all 64 seats are taken")
     }
 
+    pub fn too_many_bodies() -> Refusal {
+        Refusal::busy("bodies", "bodies that are on their way take as much memory as they may")
+    }
+
+    pub fn too_many_reports() -> Refusal {
+        Refusal::busy("reports", "reports that their readers haven't taken need as much memory as they may")
+    }
+
     pub fn no_memory() -> Refusal {
         Refusal::new(503, "nomemory", "try again")
     }

@@ -8,10 +8,12 @@
 //!
 //! `GET /transcript` has the events that are kept. `GET /healthz` says whether the server is well, to everyone.
 //!
-//! 1. The lock is held for a few milliseconds at a time, however much there is to tell.
-//! 2. A transcript is whole from its first event to below `Ripsawbean-Next`, or its connection is cut.
-//! 3. Who may see some keys alone is told of no others: no transcript, no state, and no bounds of a wider feed.
+//! 1. The lock is held for a few milliseconds at a time, however much there is to tell, but for a state of many holders.
+//! 2. Reports that their readers don't take have a bound of bytes together: `UNREAD`. Beyond it they are refused.
+//! 3. A transcript is whole from its first event to below `Ripsawbean-Next`, or its connection is cut.
+//! 4. Who may see some keys alone is told of no others: no transcript, no state, and no bounds of a wider feed.
 
+use crate::budget::Held;
 use crate::consumers::lines_of_all;
 use crate::core::Core;
 use crate::gate::Keys;
@@ -27,6 +29,8 @@ use bytes::Bytes;
 use std::sync::Arc;
 use std::time::Instant;
 
+/// Bytes that all reports may have which their readers haven't taken.
+pub const UNREAD: usize = 64 << 20;
 /// Lines of each kind: those that stand lowest.
 const MOST_LINES: usize = 1000;
 /// Bytes of a transcript that are taken at a time: two pieces wait for a slow reader.
@@ -37,18 +41,72 @@ const HEADER: &[u8] = b"mvfeed 2\n";
 pub async fn state(server: &Arc<Server>, request: Request) -> Result<Response, Refusal> {
     check_keys(&request)?;
     arguments(&request.path, &request.query, &[])?;
-    server.door.run(Core::state).map(json::lines).ok_or_else(Refusal::no_memory)
+    let mut report = Report::begin(server, &request);
+    let text = server.door.run(|core| {
+        report.will_have(most_of_state(core))?;
+        core.state().ok_or_else(Refusal::no_memory)
+    })?;
+    report.add(text)?;
+    Ok(report.told())
 }
 
 pub async fn holders(server: &Arc<Server>, request: Request) -> Result<Response, Refusal> {
     arguments(&request.path, &request.query, &[])?;
-    let mut text = String::new();
+    let mut report = Report::begin(server, &request);
     for each in [sessions, transactions, protections, feeds] {
-        text.push_str(&server.door.run(|core| each(core, request.who.keys())));
+        report.add(server.door.run(|core| each(core, request.who.keys())))?;
         tokio::task::yield_now().await;
     }
-    text.push_str(&lines_of_all(&server.door).await);
-    Ok(json::lines(text))
+    lines_of_all(&server.door, &mut report).await?;
+    Ok(report.told())
+}
+
+/// A report that is made in parts. Its bytes count until its client has taken them.
+pub struct Report {
+    text: String,
+    held: Held,
+}
+
+impl Report {
+    pub fn begin(server: &Server, request: &Request) -> Report {
+        Report { text: String::new(), held: server.reports.begin(request.connection.peer.ip()) }
+    }
+
+    /// It will have so many bytes at most.
+    pub fn will_have(&mut self, bytes: usize) -> Result<(), Refusal> {
+        self.held.grow(bytes)
+    }
+
+    pub fn add(&mut self, text: String) -> Result<(), Refusal> {
+        self.held.grow(self.text.len() + text.len())?;
+        match self.text.is_empty() {
+            true => self.text = text,
+            false => self.text.push_str(&text),
+        }
+        Ok(())
+    }
+
+    /// The answer, of lines of JSON.
+    pub fn told(self) -> Response {
+        json::lines(self.text).keeping(self.held)
+    }
+
+    /// The answer, of another form.
+    pub fn told_as(self, content_type: &'static str) -> Response {
+        Response::whole(content_type, self.text).keeping(self.held)
+    }
+}
+
+/// Bytes that the database's own report has at most. A bound in it is base64, and was spelled where its feed was opened.
+fn most_of_state(core: &Core) -> usize {
+    const DATABASE: usize = 400;
+    const HOLDER: usize = 128;
+    // With the greatest numbers, and the key of the row that was told last.
+    const FEED: usize = 900;
+    let ledger = &core.ledger;
+    let bounds: usize = ledger.feeds.values().map(|feed| 4 * feed.opened.len().div_ceil(3)).sum();
+    let holders = ledger.undecided.len() + ledger.protections.len();
+    DATABASE + HOLDER * holders + FEED * ledger.feeds.len() + bounds
 }
 
 /// The events kept, as a transcript of format two.
@@ -286,6 +344,41 @@ mod tests {
         say(&mut core, &mut one, &"begin\nprotect 0\n".repeat(1100));
         assert_eq!(transactions(&core, &ALL).lines().count(), 1000);
         assert_eq!(protections(&core, &ALL).lines().count(), 1000);
+    }
+
+    #[test]
+    fn a_state_has_no_more_bytes_than_foretold() {
+        let mut core = core(&[]);
+        let mut one = session(&mut core);
+        let (key, far) = ("k".repeat(256), u64::MAX >> 1);
+        put(&mut core, &mut one, &[(&key, "1"), ("l", "2")]);
+        for _ in 0..20 {
+            let (lo, hi) = ("a".repeat(257), "z".repeat(257));
+            say(&mut core, &mut one, &format!("begin\nprotect 0\nopeninitialevery {lo} {hi} 1 {far}\nopen - - 0\n"));
+        }
+        for feed in [1, 2, 3, 4] {
+            say(&mut core, &mut one, &format!("poll {feed} 1\n"));
+        }
+        let (most, state) = (most_of_state(&core), core.state().expect("a state"));
+        assert!(state.len() > 20_000 && state.len() <= most, "{} bytes, and not {most}", state.len());
+        let longest = state.lines().filter(|line| line.contains("\"kind\":\"feed\"")).map(str::len).max();
+        assert!(longest > Some(1200), "{longest:?}");
+    }
+
+    #[tokio::test]
+    async fn reports_that_are_not_taken_have_a_bound() {
+        let server = crate::testing::server(&[]);
+        let report = |last: u8| {
+            let client = [192, 0, 2, last].into();
+            let mut report = Report { text: String::new(), held: server.reports.begin(client) };
+            report.add("x".repeat(10 << 20)).map(|()| report.told())
+        };
+        let held: Vec<_> = [1, 1, 1, 2, 2, 2].map(report).into_iter().map(|it| it.expect("there is room")).collect();
+        let refused = |last| report(last).map_err(|refusal| (refusal.status, refusal.error)).err();
+        assert_eq!([1, 2, 3].map(refused), [Some((503, "reports")); 3]);
+        drop(held);
+        assert_eq!([1, 2, 3].map(refused), [None; 3]);
+        assert!(server.reports.is_empty());
     }
 
     #[test]

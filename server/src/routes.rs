@@ -5,7 +5,7 @@
 //! and gives.
 
 use crate::api::{keys, openapi, remembered, rows, transact};
-use crate::bodies::Bodies;
+use crate::budget::Budget;
 use crate::connections::Connections;
 use crate::door::Door;
 use crate::gate::{Gate, Right};
@@ -28,7 +28,10 @@ pub struct Server {
     pub gate: Gate,
     pub log: Arc<Log>,
     pub connections: Arc<Connections>,
-    pub bodies: Arc<Bodies>,
+    /// Bytes of bodies that aren't whole yet.
+    pub bodies: Arc<Budget>,
+    /// Bytes of reports that aren't taken yet.
+    pub reports: Arc<Budget>,
     pub streams: streams::Streams,
     pub metrics: metrics::Metrics,
     pub remembered: remembered::Remembered,

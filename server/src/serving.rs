@@ -7,7 +7,7 @@
 //! 2. The work on the database never stops in silence: a panic in it ends the process.
 
 use crate::api::remembered::Remembered;
-use crate::bodies::Bodies;
+use crate::budget::Budget;
 use crate::closing;
 use crate::connections::Connections;
 use crate::core::Core;
@@ -21,6 +21,8 @@ use crate::metrics::Metrics;
 use crate::notify::Notify;
 use crate::options::Options;
 use crate::process;
+use crate::refusal::Refusal;
+use crate::reports;
 use crate::routes::Server;
 use crate::seats::SEATS;
 use crate::streams::Streams;
@@ -145,7 +147,8 @@ fn put_together(core: Core, options: Options, address: SocketAddr, log: Arc<Log>
         door: Door::new(core),
         gate: Gate::new(&options, address.port()).map_err(Failure::Tokens)?,
         connections: Connections::new(options.max_connections, options.patience),
-        bodies: Bodies::new(options.max_message),
+        bodies: Budget::new(options.max_message.saturating_mul(usize::from(SEATS)), Refusal::too_many_bodies),
+        reports: Budget::new(reports::UNREAD, Refusal::too_many_reports),
         streams: Streams::default(),
         metrics: Metrics::default(),
         remembered: Remembered::new(options.remember),

@@ -1,7 +1,7 @@
 //! What tests share: a core without sockets, and numbers that are drawn.
 
 use crate::api::remembered::Remembered;
-use crate::bodies::Bodies;
+use crate::budget::Budget;
 use crate::closing;
 use crate::connections::Connections;
 use crate::core::Core;
@@ -12,6 +12,8 @@ use crate::lines::Lines;
 use crate::log::{Level, Log};
 use crate::metrics::Metrics;
 use crate::options::{self, Asked, Options};
+use crate::refusal::Refusal;
+use crate::reports;
 use crate::routes::Server;
 use crate::seats::{Session, SEATS};
 use crate::streams::Streams;
@@ -74,7 +76,8 @@ pub fn server(words: &[&str]) -> Arc<Server> {
         gate: Gate::new(&options, options.port).expect("a gate"),
         log: Arc::new(Log::to(Level::Error, false, Box::new(said))),
         connections: Connections::new(options.max_connections, options.patience),
-        bodies: Bodies::new(options.max_message),
+        bodies: Budget::new(options.max_message.saturating_mul(usize::from(SEATS)), Refusal::too_many_bodies),
+        reports: Budget::new(reports::UNREAD, Refusal::too_many_reports),
         streams: Streams::default(),
         metrics: Metrics::default(),
         remembered: Remembered::new(options.remember),

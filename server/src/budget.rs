@@ -1,26 +1,27 @@
-//! How many bytes the bodies may take that aren't whole yet.
+//! How many bytes may wait for clients: of bodies that aren't whole yet, and of reports that aren't taken yet.
 //!
-//! `http` asks for each piece of a body. A body has `FREE` bytes by itself, so small ones are never refused. What is
-//! beyond counts until the body is whole, or its request is over.
+//! `http` asks for each piece of a body, and `reports` for each part of a report. Each has `FREE` bytes by itself, so
+//! small ones are never refused. What is beyond counts until the body is whole, or the report was handed to its socket.
 //!
-//! 1. All together count no more than `SEATS` whole bodies, and those of one network no more than half as many.
-//! 2. A network without such bodies takes no memory here.
+//! 1. All together count no more than the budget, and those of one network no more than half of it.
+//! 2. A network that has nothing waiting takes no memory here.
 
 use crate::connections::network_of;
 use crate::refusal::Refusal;
-use crate::seats::SEATS;
 use parking_lot::Mutex;
 use std::collections::HashMap;
 use std::net::IpAddr;
 use std::sync::Arc;
 
-/// Bytes of a body that aren't counted.
+/// Bytes of a body or a report that aren't counted.
 pub const FREE: usize = 1 << 16;
 
-pub struct Bodies {
+pub struct Budget {
     /// What all may count, and what those of one network may.
     all: usize,
     of_one: usize,
+    /// What is beyond is refused so.
+    full: fn() -> Refusal,
     counted: Mutex<Counted>,
 }
 
@@ -30,18 +31,16 @@ struct Counted {
     of: HashMap<IpAddr, usize>,
 }
 
-/// What one body counts, as long as it is there.
+/// What one body or report counts, as long as it is there.
 pub struct Held {
-    bodies: Arc<Bodies>,
+    budget: Arc<Budget>,
     network: IpAddr,
     bytes: usize,
 }
 
-impl Bodies {
-    /// Each body has so many bytes at most.
-    pub fn new(most: usize) -> Arc<Bodies> {
-        let all = most.saturating_mul(usize::from(SEATS));
-        Arc::new(Bodies { all, of_one: all / 2, counted: Mutex::default() })
+impl Budget {
+    pub fn new(all: usize, full: fn() -> Refusal) -> Arc<Budget> {
+        Arc::new(Budget { all, of_one: all / 2, full, counted: Mutex::default() })
     }
 
     #[cfg(test)]
@@ -50,9 +49,9 @@ impl Bodies {
         counted.all == 0 && counted.of.is_empty()
     }
 
-    /// A body of a client, which is of no bytes yet.
-    pub fn begin(self: &Arc<Bodies>, client: IpAddr) -> Held {
-        Held { bodies: self.clone(), network: network_of(client), bytes: 0 }
+    /// Something of a client, which is of no bytes yet.
+    pub fn begin(self: &Arc<Budget>, client: IpAddr) -> Held {
+        Held { budget: self.clone(), network: network_of(client), bytes: 0 }
     }
 }
 
@@ -63,10 +62,10 @@ impl Held {
         if more == 0 {
             return Ok(());
         }
-        let mut counted = self.bodies.counted.lock();
-        let of_one = counted.of.get(&self.network).copied().unwrap_or(0) + more;
-        if counted.all + more > self.bodies.all || of_one > self.bodies.of_one {
-            return Err(Refusal::busy("bodies", "bodies that are on their way take as much memory as they may"));
+        let mut counted = self.budget.counted.lock();
+        let of_one = counted.of.get(&self.network).copied().unwrap_or(0).saturating_add(more);
+        if counted.all.saturating_add(more) > self.budget.all || of_one > self.budget.of_one {
+            return Err((self.budget.full)());
         }
         counted.all += more;
         counted.of.insert(self.network, of_one);
@@ -80,7 +79,7 @@ impl Drop for Held {
         if self.bytes == 0 {
             return;
         }
-        let mut counted = self.bodies.counted.lock();
+        let mut counted = self.budget.counted.lock();
         counted.all -= self.bytes;
         if let Some(of_one) = counted.of.get_mut(&self.network) {
             *of_one -= self.bytes;
@@ -103,7 +102,7 @@ mod tests {
 
     #[test]
     fn those_of_one_network_and_all_together_have_a_bound() {
-        let bodies = Bodies::new(MOST);
+        let bodies = Budget::new(64 * MOST, Refusal::too_many_bodies);
         let begun = |client| {
             let mut body = bodies.begin(client);
             body.grow(FREE + MOST).map(|()| body)
@@ -120,7 +119,7 @@ mod tests {
 
     #[test]
     fn a_small_body_is_never_refused() {
-        let bodies = Bodies::new(MOST);
+        let bodies = Budget::new(64 * MOST, Refusal::too_many_bodies);
         let held: Vec<Held> = (0..40)
             .map(|_| {
                 let mut body = bodies.begin(client(1));
