@@ -11,6 +11,7 @@ from .browser import tab_of
 from .load import load
 from .scene import scene
 from .steps import expect
+from .strangers import strangers
 
 SERVER = pathlib.Path(__file__).resolve().parent.parent
 RUN = os.environ.get("SERVER", SERVER / "run")
@@ -80,6 +81,7 @@ def no_complaints(tab):
 async def main():
     await in_quiet()
     await under_load()
+    await strangers(Server)
 
 
 asyncio.run(main())

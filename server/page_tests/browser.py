@@ -102,10 +102,10 @@ class Tab:
 
 
 @contextlib.asynccontextmanager
-async def tab_of(address):
+async def tab_of(address, *flags):
     home = tempfile.mkdtemp()
     process = subprocess.Popen(
-        ["chromium", *FLAGS, "--user-data-dir=" + home, "about:blank"],
+        ["chromium", *FLAGS, *flags, "--user-data-dir=" + home, "about:blank"],
         stdout=subprocess.DEVNULL, stderr=subprocess.PIPE, text=True, start_new_session=True)
     try:
         found = (re.search(r"ws://127.0.0.1:(\d+)/", line) for line in process.stderr)

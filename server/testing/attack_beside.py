@@ -47,6 +47,18 @@ def test_scans_of_a_hundred_thousand_rows(room: Room, scale: Scale) -> str:
     return beside(room, "scans", "100000")
 
 
+def test_scans_of_a_hundred_thousand_rows_without_a_pause(room: Room, scale: Scale) -> str:
+    return beside(room, "scans_on_and_on", "100000")
+
+
+def test_scans_that_are_longer_than_an_answer_may_be(room: Room, scale: Scale) -> str:
+    return beside(room, "scans", scale.of(600_000, 1_000_000))
+
+
+def test_commits_of_which_a_hundred_readers_are_told(room: Room, scale: Scale) -> str:
+    return beside(room, "told_commits", "100")
+
+
 def test_scans_of_deleted_rows(room: Room, scale: Scale) -> str:
     return beside(room, "deleted_scans", scale.of(50_000, 300_000))
 

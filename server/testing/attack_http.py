@@ -3,13 +3,18 @@
 Each function is a test. It gets a room, and how heavy the load is to be.
 """
 
+import base64
 import contextlib
 import gzip
 import json
 import os
+import queue
 import random
+import re
 import signal
+import socket
 import subprocess
+import threading
 import time
 from collections.abc import Callable
 
@@ -17,8 +22,9 @@ from attack_beside import Scale
 from attack_limits import compare_reports
 from attack_memory import peak, started
 from attack_slow import head, honest
+from attack_wire import refused_start
 from handmade import HANDSHAKE, PING, TEXT, Cut, Ended, Session, Wire, fill, framed
-from machine import SERVER, Room, Server, wait_for
+from machine import LONGEST, SERVER, Room, Server, wait_for
 
 WRITE = b"begin\nput . smuggled x\ncommit .\n"
 SIZE = b"%x\r\n" % len(WRITE)
@@ -80,6 +86,34 @@ def test_requests_that_are_odd(room: Room, scale: Scale) -> str:
             wire.send(2 * request)
             assert statuses(wire) == [200, 200], (request, bytes(wire.held))
     return "%d, and %d that are taken" % (len(asked), len(LENIENT))
+
+
+def test_hosts_that_are_not_its_own(room: Room, scale: Scale) -> str:
+    """A name that leads here by another one's will is refused, however near it comes to its own."""
+    server = started(room)
+    own = "127.0.0.1:%d" % server.port
+    wrong = ("evil.example", "evil.example:%d" % server.port, "127.0.0.1", "127.0.0.1:1", own + ".evil.example", "127.0.0.1.evil.example:%d" % (
+        server.port), "", "0.0.0.0:%d" % server.port, "[::ffff:127.0.0.1]:%d" % server.port, own + ":80", "user@" + own, own + "/")
+    for host in wrong:
+        assert server.ask("GET", "/holders", None, {"Host": host})[0] in (400, 403), host
+    for lines in (b"GET /holders HTTP/1.0\r\n", b"GET /holders HTTP/1.1\r\n", b"GET /holders HTTP/1.1\r\n" + 2 * b"Host: %s\r\n" % own.encode()):
+        with contextlib.closing(Wire(server.port)) as wire:
+            wire.send(lines + b"\r\n")
+            assert statuses(wire)[0] in (400, 403), lines
+    assert server.ask("GET", "/holders")[0] == 200
+    return "%d, and none, and two" % len(wrong)
+
+
+def test_addresses_that_others_reach(room: Room, scale: Scale) -> str:
+    """They need a token. Without one there is no start, and neither with a file that has none."""
+    for address in ("0.0.0.0", "::", "192.0.2.1", "::ffff:192.0.2.1", "::ffff:0.0.0.0", "localhost"):
+        refused_start(room, "--address", address)
+    refused_start(room, "--address", "0.0.0.0", "--token", "/dev/null")
+    server = started(room, "--address", "127.0.0.1")
+    with contextlib.suppress(OSError):
+        socket.create_connection(("127.0.0.2", server.port)).close()
+        raise AssertionError("it listens at another address too")
+    return "six"
 
 
 def test_methods_and_paths_that_are_not_there(room: Room, scale: Scale) -> str:
@@ -226,6 +260,83 @@ def test_a_server_that_was_stopped(room: Room, scale: Scale) -> str:
     assert "=> ended\n" in session.call("commit .\n") and "=> committed 1\n" in session.call("begin\nput . awake x\ncommit .\n")
     feed.until(b'"updated":')
     return "6 s"
+
+
+def test_sessions_beside_a_server_that_was_stopped(room: Room, scale: Scale) -> str:
+    """Forty that are idle, and answer pings, all stand after a sleep that is longer than two heartbeats."""
+    server = started(room, "--heartbeat", "4")
+    sessions, told = [Session(server.port) for _ in range(40)], queue.Queue()
+
+    def stay(session: Session) -> None:
+        try:
+            told.put(session.told())
+        except OSError as why:
+            told.put(repr(why))
+    threads = [threading.Thread(target=stay, args=(one,)) for one in sessions]
+    for thread in threads:
+        thread.start()
+    for seconds in (3, 9):
+        time.sleep(seconds / 2)
+        server.child.send_signal(signal.SIGSTOP)
+        time.sleep(seconds)
+        server.child.send_signal(signal.SIGCONT)
+    time.sleep(7)
+    for one in sessions:
+        with contextlib.suppress(OSError):
+            one.tell("stats\n")
+    found = [told.get(timeout=LONGEST) for _ in sessions]
+    for thread in threads:
+        thread.join()
+    lost = [one for one in found if "=> stats" not in one]
+    assert not lost, "%d of 40 are lost: %s" % (len(lost), lost[:3])
+    return "40"
+
+
+def cut_events(server: Server, last: str, most: int) -> tuple[list[bytes], str]:
+    """Rows of a stream of events that is cut after so many bytes, up to its last id, and that id."""
+    with contextlib.closing(Wire(server.port)) as wire:
+        wire.ask("GET", "/feed", "Accept: text/event-stream\r\n" + ("Last-Event-ID: %s\r\n" % last if last else ""))
+        with contextlib.suppress(TimeoutError):
+            wire.socket.settimeout(0.3)
+            while len(wire.held) < most:
+                wire.read()
+        data = bytes(wire.held)[:most]
+    rows, whole = [], []
+    for event in re.sub(rb"\r\n[0-9a-f]+\r\n", b"", data.partition(b"\r\n\r\n")[2]).split(b"\n\n")[:-1]:
+        lines = event.split(b"\n")
+        rows += [line[6:] for line in lines if line.startswith(b'data: {"after"')]
+        for line in lines:
+            if line.startswith(b"id: "):
+                whole, rows, last = whole + rows, [], line[4:].decode()
+    return whole, last
+
+
+def test_events_that_are_cut(room: Room, scale: Scale) -> str:
+    """Three hundred cuts, each at a drawn byte: by its last id a reader goes on, and is told each row once."""
+    server, dice, written = started(room, "--history", "600"), random.Random(11), threading.Event()
+    session = Session(server.port)
+    session.call("begin\nput . first x\ncommit .\n")
+    wait_for(lambda: server.closed() == 1, "closing")
+    rows, last = cut_events(server, "", 2000)
+
+    def write() -> None:
+        for at in range(1500):
+            session.call("begin\nput . k%d %s\nput . l%d x\ncommit .\n" % (at % 50, "v" * dice.randrange(200), at % 7))
+            time.sleep(0.002)
+        written.set()
+    writer = threading.Thread(target=write)
+    writer.start()
+    cuts, drawn = 0, random.Random(12)
+    while cuts < 300 or not written.is_set():
+        more, last = cut_events(server, last, int(10 ** drawn.uniform(2.2, 4.5)))
+        rows, cuts = rows + more, cuts + 1
+    writer.join()
+    wait_for(lambda: server.closed() == 1501, "closing")
+    more, last = cut_events(server, last, 10_000_000)
+    found = [(int(one["updated"]), base64.b64decode(one["key"]).decode()) for one in map(json.loads, rows + more)]
+    wanted = [(1, "first")] + [row for at in range(1500) for row in ((at + 2, "k%d" % (at % 50)), (at + 2, "l%d" % (at % 7)))]
+    assert found == wanted, "%d rows, and not %d: %s" % (len(found), len(wanted), [one for one in zip(found, wanted) if one[0] != one[1]][:2])
+    return "%d cuts, %d rows" % (cuts, len(found))
 
 
 def test_a_second_server_of_a_port(room: Room, scale: Scale) -> str:

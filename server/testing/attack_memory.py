@@ -5,6 +5,7 @@ Each function is a test. It gets a room, and how heavy the load is to be.
 
 import contextlib
 import itertools
+import json
 import threading
 import time
 from collections.abc import Callable, Iterator
@@ -80,6 +81,45 @@ def test_a_large_transaction_and_sixty_readers(room: Room, scale: Scale) -> str:
         found = peak(server)
     figures = "peak %d MB, told after %.1f s, small call: %s, quiet %s" % (found >> 20, took, told[0], quiet)
     assert found < MOST, figures
+    return figures
+
+
+def test_long_rows_behind_short_ones(room: Room, scale: Scale) -> str:
+    """Two hundred readers that stop, of rows that are short at first: what waits for each is bounded in bytes."""
+    server = started(room)
+    session = Session(server.port)
+    fill(session, "a", 2000)
+    fill(session, "b", 300, LARGEST)
+    before = peak(server)
+    with stopped_feeds(server, 200):
+        wait_for(lambda: all(one["waits"] for one in server.holders("feed")), "each reader to have no room")
+        found = peak(server) - before
+    assert found < 160 * MEGABYTE, "%d MB more" % (found >> 20)
+    return "%d MB more" % (found >> 20)
+
+
+def test_reports_that_nobody_reads(room: Room, scale: Scale) -> str:
+    """Those of thousands of holders are refused by name once they take as much memory as they may."""
+    server = started(room)
+    holders, bound = [Session(server.port) for _ in range(10)], "b" * 250
+    for one in holders:
+        told = one.call("begin\n" * 1000 + "protect 0\n" * 1000 + ("open %s - 0\n" % bound) * 1000)
+        assert told.count("=> opened ") == 1000 and not faults(told), told[-300:]
+    before, wires = peak(server), []
+    for at in range(400):
+        wires.append(Wire(server.port, little=True, timeout=20))
+        wires[-1].ask("GET", ("/state", "/holders", "/metrics", "/consumer")[at % 4])
+    latency = measure(server, 2.0, "get")
+    statuses = [one.head()[0] for one in wires]
+    found = peak(server) - before
+    assert set(statuses) == {200, 503} and set(statuses[2::4] + statuses[3::4]) == {200}, statuses
+    wire = next(wire for wire, status in zip(wires, statuses) if status == 503)
+    assert b'"error":"reports"' in wire.until(b"\n"), bytes(wire.held)
+    for one in wires:
+        one.reset()
+    wait_for(lambda: server.ask("GET", "/state")[0] == 200, "room for a report")
+    figures = "%d MB more, %d of 400 told, others: %s" % (found >> 20, statuses.count(200), latency)
+    assert found < 192 * MEGABYTE, figures
     return figures
 
 
@@ -169,6 +209,22 @@ def test_a_session_holds_no_more_than_it_may(room: Room, scale: Scale) -> str:
         session.say_goodbye()
         wait_for(lambda: not any(server.holders(kind) for kind in ("transaction", "protection", "feed")), "its end")
     return "of transactions, protections and feeds"
+
+
+def test_streams_have_a_limit(room: Room, scale: Scale) -> str:
+    """Beyond --max-feeds one more is 503 `feeds`, and there is room again once one has ended."""
+    server = started(room, "--max-feeds", "5")
+    with stopped_feeds(server, 5) as feeds:
+        status, told = server.ask("GET", "/feed")
+        assert status == 503 and json.loads(told)["error"] == "feeds", (status, told)
+        feeds[2].reset()
+
+        def is_told() -> bool:
+            with contextlib.closing(Wire(server.port)) as one:
+                one.ask("GET", "/feed")
+                return one.head()[0] == 200
+        wait_for(is_told, "room for a stream")
+    return "five"
 
 
 def test_memory_has_a_limit(room: Room, scale: Scale) -> str:

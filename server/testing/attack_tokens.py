@@ -159,6 +159,21 @@ def test_tokens_read_anew(room: Room, scale: Scale) -> str:
     return "twice"
 
 
+def test_a_token_stays_where_it_is(room: Room, scale: Scale) -> str:
+    """It is taken from the header alone, and stands neither in the log nor in what others see of the process."""
+    with with_tokens(room) as (server, path):
+        for asked in ("/metrics?token=" + READ, "/metrics?authorization=Bearer%20" + READ, "/metrics?" + READ):
+            status, told = server.ask("GET", asked, None, {"Authorization": ""})
+            assert status == 401, (asked, status, told)
+        assert server.ask("GET", "/metrics", None, {"Authorization": "", "Cookie": "token=" + READ})[0] == 401
+        assert server.ask("GET", "/metrics", None, shown(READ))[0] == 200
+        for name in ("cmdline", "environ"):
+            with open("/proc/%d/%s" % (server.child.pid, name), "rb") as file:
+                assert READ.encode() not in file.read(), name
+        assert READ not in server.words()
+    return "four ways"
+
+
 def test_wrong_token_files(room: Room, scale: Scale) -> str:
     path = room.file("wrong")
     good = "a read - - %s\n" % READ

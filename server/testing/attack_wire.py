@@ -6,16 +6,18 @@ Each function is a test. It gets a room, and how heavy the load is to be.
 import contextlib
 import json
 import os
+import queue
 import random
 import signal
 import subprocess
+import threading
 import time
 from collections.abc import Callable
 
 from attack_beside import Scale
 from attack_memory import started
 from attack_slow import head
-from handmade import HANDSHAKE, PING, PONG, TEXT, Cut, Ended, Refused, Session, Wire, fill, framed
+from handmade import CLOSE, HANDSHAKE, PING, PONG, TEXT, Cut, Ended, Refused, Session, Wire, fill, framed
 from machine import LONGEST, SERVER, Room, wait_for
 
 SEATS = 64
@@ -36,6 +38,54 @@ def test_half_frames(room: Room, scale: Scale) -> str:
         assert one.ends_within(10)
     assert "=> none\n" in server.call("begin\nget . half\n")
     return "20 ended"
+
+
+def test_who_answers_no_ping_is_told_why(room: Room, scale: Scale) -> str:
+    """It is let go with 1008 `heartbeat`, which is in the log. Who answers pings stays, however long it is silent."""
+    server = started(room, "--heartbeat", "1")
+    stays, silent, told = Session(server.port), Session(server.port), queue.Queue()
+    thread = threading.Thread(target=lambda: told.put(stays.told()))
+    thread.start()
+    silent.call("begin\n")
+    opcode, data = silent.frame()
+    assert opcode == PING, (opcode, data)
+    while opcode == PING:
+        opcode, data = silent.frame()
+    assert (opcode, data) == (CLOSE, (1008).to_bytes(2, "big") + b"heartbeat"), (opcode, data)
+    wait_for(lambda: not server.holders("transaction"), "its transaction to be aborted")
+    time.sleep(4)
+    stays.tell("stats\n")
+    assert "=> stats" in told.get(timeout=LONGEST)
+    thread.join()
+    lines = [line for line in server.words().splitlines() if " session_let_go " in line]
+    assert len(lines) == 1 and "why=heartbeat" in lines[0], server.words()
+    return "and who answers stays"
+
+
+def test_who_takes_no_answers_is_let_go(room: Room, scale: Scale) -> str:
+    """After --patience its seat is free, and the log says why: a close frame would stand within its answer."""
+    server = started(room, "--patience", "1")
+    fill(Session(server.port), "much/", 2000, "x" * 900)
+    stuck = Session(server.port, little=True)
+    stuck.tell("begin\n" + "scan . - -\n" * 8)
+    wait_for(lambda: " session_let_go " in server.words(), "the session to be let go")
+    assert 'why="the client takes nothing"' in server.words(), server.words()
+    wait_for(lambda: not server.holders("transaction"), "its transaction to be aborted")
+    assert stuck.ends_within(10)
+    return "after a second"
+
+
+def test_a_session_that_is_silent_for_too_long(room: Room, scale: Scale) -> str:
+    """With --seat-age it ends with 1008 `silent`, also where its client answers pings."""
+    server = started(room, "--seat-age", "2", "--heartbeat", "0.5")
+    silent = Session(server.port)
+    silent.call("begin\n")
+    try:
+        raise AssertionError("it is told " + silent.told())
+    except Ended as end:
+        assert str(end) == "1008 silent", end
+    assert not server.holders("session")
+    return "after two seconds"
 
 
 def test_requests_behind_a_feed(room: Room, scale: Scale) -> str:
@@ -87,7 +137,7 @@ def test_a_client_that_takes_all_seats(room: Room, scale: Scale) -> str:
 def test_names_that_no_client_can_ask_for(room: Room, scale: Scale) -> str:
     """`.` and `..` are no names: a client's own path has no place for them, so they'd stand for ever."""
     server = started(room)
-    for name in (".", "..", "%2e", "%2E%2e", "", "a/b", "a%00b", "x" * 65, "%C3%A4"):
+    for name in (".", "..", "%2e", "%2E%2e", "", "a/b", "a%00b", "x" * 65, "%C3%A4", "a%0D%0AX:%20y", "%F0%9F%98%80"):
         with contextlib.closing(Wire(server.port)) as wire:
             wire.ask("GET", "/feed?consumer=" + name)
             assert wire.head()[0] == 400, name
@@ -97,7 +147,7 @@ def test_names_that_no_client_can_ask_for(room: Room, scale: Scale) -> str:
     with contextlib.closing(Wire(server.port)) as one:
         one.ask("GET", "/feed?consumer=a.b")
         assert one.head()[0] == 200, "dots are letters of a name"
-    return "nine of them"
+    return "eleven of them"
 
 
 def refused_start(room: Room, *options: str) -> str:
@@ -216,6 +266,22 @@ def test_an_end_while_thirty_write(room: Room, scale: Scale) -> str:
     assert codes == [1001] * WRITERS, codes
     assert all(b'{"end":"shutdown"' in one for one in told), [one[-100:] for one in told]
     return "%.1f s" % took
+
+
+def test_ends_by_other_signals(room: Room, scale: Scale) -> str:
+    """SIGINT ends it in the same way, and a second signal changes nothing."""
+    for signals in ((signal.SIGINT,), (signal.SIGTERM, signal.SIGTERM), (signal.SIGTERM, signal.SIGINT)):
+        server = started(room)
+        sessions, feed = [Session(server.port) for _ in range(10)], Wire(server.port)
+        feed.ask("GET", "/feed")
+        feed.until(b"\r\n\r\n")
+        for one in signals:
+            server.child.send_signal(one)
+        codes, told = [code_of(one) for one in sessions], rest_of(feed)
+        status = server.child.wait(LONGEST)
+        server.child = None
+        assert (status, codes) == (0, [1001] * 10) and b'{"end":"shutdown"' in told, (signals, status, codes, told[-100:])
+    return "three ways"
 
 
 def code_of(session: Session) -> int | str:

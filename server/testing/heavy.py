@@ -110,6 +110,12 @@ def scans(port: int, count: int = 100_000) -> None:
     again_and_again(lambda: (ask(), time.sleep(0.2)))
 
 
+def scans_on_and_on(port: int, count: int = 100_000) -> None:
+    """The same without a pause."""
+    fill(session(port), "scanned/", count)
+    again_and_again(asking(port, "begin\nscan . scanned/ scanned0\nabort .\n"))
+
+
 def deleted_scans(port: int, count: int = 100_000, times: int = 500) -> None:
     """Scans of rows that are deleted and not collected: each answers `rows 0`, so no answer gets long."""
     holder = session(port)
@@ -198,6 +204,25 @@ def readers(port: int, count: int = 30) -> None:
                 choose.unregister(key.fileobj)
             key.data[:] = (key.data + room[max(got - 64, 0) : got])[-64:]
     time.sleep(3600)
+
+
+def told_commits(port: int, count: int = 100) -> None:
+    """Commits one row after another, while so many feeds of its own are told of each. `done` after a hundred."""
+    choose = selectors.DefaultSelector()
+    for _ in range(count):
+        wire = Wire(port)
+        wire.ask("GET", "/feed", bearer(TOKEN))
+        wire.socket.setblocking(False)
+        choose.register(wire.socket, selectors.EVENT_READ)
+    mine, room = session(port), bytearray(1 << 16)
+    say("ready")
+    while True:
+        for _ in range(100):
+            mine.call("begin\nput . told x\ncommit .\n")
+            for key, _ in choose.select(0):
+                with contextlib.suppress(BlockingIOError):
+                    key.fileobj.recv_into(room)  # type: ignore[union-attr]
+        say("done")
 
 
 # ---- bytes

@@ -14,6 +14,8 @@ import sys
 import unittest
 from urllib.parse import quote
 
+import aiohttp
+
 sys.path[:0] = [os.path.dirname(os.path.abspath(__file__))]
 from test_served import served  # noqa: E402
 
@@ -48,11 +50,32 @@ class Model:
         return sorted((timestamp, key, value) for key, all in self.versions.items() for timestamp, value in all)
 
 
+class Session:
+    """A session that may be silent for as long as the other requests take.
+
+    The server lets go of a session whose client answers no ping. aiohttp answers them only while somebody receives.
+    """
+
+    def __init__(self, socket):
+        self.socket, self.came = socket, asyncio.Queue()
+        self.listening = asyncio.ensure_future(self.listen())
+
+    async def listen(self):
+        while not self.socket.closed:
+            self.came.put_nowait(await self.socket.receive())
+
+    async def ask(self, lines):
+        sent = await asyncio.gather(self.socket.send_str(lines), return_exceptions=True)
+        message = await self.came.get()
+        assert message.type is aiohttp.WSMsgType.TEXT, "the session has ended: %s; sent: %s" % (message, sent)
+        return message.data
+
+
 class Run:
     """One run of the test: what is drawn, and what the server should say."""
 
-    def __init__(self, client, socket):
-        self.client, self.socket, self.drawn, self.model = client, socket, random.Random(SEED), Model()
+    def __init__(self, client, session):
+        self.client, self.talk, self.drawn, self.model = client, session, random.Random(SEED), Model()
         self.last, self.undecided, self.checks = 0, None, 0
 
     # ---- bytes in JSON
@@ -213,15 +236,13 @@ class Run:
         if self.undecided is None:
             value = self.drawn.choice([b"1", b"2", None])
             line = "del . w\n" if value is None else "put . w %s\n" % value.decode()
-            await self.socket.send_str("begin\n" + line)
-            text = (await self.socket.receive()).data
+            text = await self.talk.ask("begin\n" + line)
             assert "written" in text, text
             self.undecided, self.value = int(text.split(" ")[3]), value
             self.last = self.undecided
         else:
             commits = self.drawn.random() < 0.7
-            await self.socket.send_str("commit .\n" if commits else "abort .\n")
-            text = (await self.socket.receive()).data
+            text = await self.talk.ask("commit .\n" if commits else "abort .\n")
             assert ("committed 1" if commits else "aborted") in text, text
             if commits:
                 self.model.write(self.undecided, b"w", self.value)
@@ -321,7 +342,7 @@ class Plans(unittest.IsolatedAsyncioTestCase):
             ready = asyncio.Event()
             following = asyncio.ensure_future(followed(client, ready, b"end"))
             await ready.wait()
-            run = Run(client, socket)
+            run = Run(client, Session(socket))
             await run.plan()
             for _ in range(PLANS):
                 await run.plan()
