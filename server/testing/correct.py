@@ -139,8 +139,18 @@ class Load:
         if first.has_ended():
             consumer.program = second
         elif not second.has_ended():
-            self.faults.append("%s: two consumers of one name go on side by side" % consumer.name)
+            self.faults.append("%s: two consumers of one name go on side by side: %s" % (consumer.name, self.what_is_known(consumer, second)))
             second.kill()
+
+    def what_is_known(self, consumer: Consumer, second: Program) -> str:
+        """Of two that go on: the place that is stored, what the server says of the name, and what both have said last."""
+        with contextlib.suppress(Exception):
+            held = [one for one in self.server.holders("consumer") if one["name"] == consumer.name]
+            feeds = [one for one in self.server.holders("feed") if one["consumer"] == consumer.name]
+            words = [one.words()[-200:] for one in (consumer.program, second)]
+            cpus = [one.waited_for_a_processor() for one in (consumer.program, second, self.server)]
+            return "%s; %s; %s; %s; waited for a processor %s" % (places_of(consumer)[-3:], held, feeds, words, cpus)
+        return "and nothing is known of them"
 
     def kill_server(self) -> None:
         self.server.kill()
@@ -293,9 +303,10 @@ class Verdict:
             self.faults += check_stream(stream, self.models.get(stream.opened["identity"]) or Model({}, set()))
 
     def check_places(self, consumer: Consumer) -> None:
-        """Each digest is the model's, no consumer goes back, and none returns to an older database."""
+        """Each digest is the model's, no consumer goes back, an older one stores nothing behind a later one, and none
+        returns to an older database."""
         before: list[str] = []
-        last = 0
+        last = owner = 0
         for identity, generation, complete, digest in places_of(consumer):
             self.stores += bool(digest)
             if digest and digest != self.digest(identity, consumer.span, complete):
@@ -304,10 +315,12 @@ class Verdict:
                 if identity in before:
                     self.faults.append("%s has returned to %s" % (consumer.name, identity))
                 before.append(identity)
-                last = 0
+                last = owner = 0
             if complete < last:
                 self.faults.append("%s has gone from %d back to %d" % (consumer.name, last, complete))
-            last = complete
+            if generation < owner:
+                self.faults.append("%s of generation %d has stored behind %d" % (consumer.name, generation, owner))
+            last, owner = complete, generation
 
     def check_told(self, consumer: Consumer) -> None:
         """A ledger has each row once: those at its beginning, and then each version above it."""

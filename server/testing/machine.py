@@ -62,6 +62,12 @@ class Program:
     def has_ended(self):
         return self.child is not None and self.child.poll() is not None
 
+    def waited_for_a_processor(self):
+        """Seconds in which its threads ran, and in which they could have run."""
+        with open("/proc/%d/schedstat" % self.child.pid) as words:
+            ran, waited = words.read().split()[:2]
+        return "%.1f of %.1f" % (int(ran) / 1e9, (int(ran) + int(waited)) / 1e9)
+
     def tail(self):
         return "%s: %s" % (os.path.basename(self.log), self.words()[-400:].strip().replace("\n", "\n        "))
 
