@@ -63,7 +63,7 @@ class Program:
         return self.child is not None and self.child.poll() is not None
 
     def waited_for_a_processor(self):
-        """Seconds in which its threads ran, and in which they could have run."""
+        """Seconds in which its first thread ran, and in which it could have run."""
         with open("/proc/%d/schedstat" % self.child.pid) as words:
             ran, waited = words.read().split()[:2]
         return "%.1f of %.1f" % (int(ran) / 1e9, (int(ran) + int(waited)) / 1e9)
