@@ -257,7 +257,7 @@ fn polled(core: &mut Core, feed: u64, before: Option<Before>) -> Told {
 }
 
 #[cfg(test)]
-mod tests {
+pub mod tests {
     use super::*;
     use crate::seats::{Owner, Session};
     use crate::testing::{core, put, say, session};
@@ -311,5 +311,23 @@ mod tests {
         core.end_stream(feed);
         assert!(polled(&mut core, feed, None).text.is_empty());
         assert_eq!(core.ledger.take_end(feed), None);
+    }
+
+    /// Whether a feed's messages are told without a pause. They are told behind one too, or the stream is cut.
+    #[cfg(feature = "refusing")]
+    pub fn is_told_at_once(core: &mut Core, feed: u64, messages: u64) -> bool {
+        let (mut count, mut is_at_once) = (0, true);
+        loop {
+            let told = polled(core, feed, None);
+            count += told.count;
+            match told.next {
+                Next::Cut => return false,
+                Next::Wait => break,
+                Next::Poll => {}
+                Next::Pause => is_at_once = false,
+            }
+        }
+        assert_eq!(count, messages);
+        is_at_once
     }
 }

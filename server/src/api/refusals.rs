@@ -9,7 +9,7 @@ use crate::outcome::Outcome;
 use crate::seats::Owner;
 use crate::testing::{core, say, session, tidy};
 use ripsawbean::refusing::{refuse_after, refuse_none};
-use ripsawbean::{Command, Refusal, Span};
+use ripsawbean::{Command, Refusal, Room, Span};
 use std::time::{Duration, Instant};
 
 const BODY: &str = r#"{"if":[{"key":"a","absent":true},{"span":["k",null],"unchanged":"1"}],
@@ -91,7 +91,7 @@ fn a_poll(core: &mut Core) -> bool {
         return false;
     };
     let mut text = Vec::new();
-    let is_done = match core.poll(feed, 100, &mut text) {
+    let is_done = match core.poll(feed, Room { rows: 100, bytes: u64::MAX }, &mut text) {
         Ok(Outcome::Messages { count, .. }) => match with_before(core, &text, None) {
             Ok(text) => {
                 assert_eq!((text.split(|&byte| byte == b'\n').count(), count), (52, 51));
@@ -106,10 +106,21 @@ fn a_poll(core: &mut Core) -> bool {
     is_done
 }
 
+/// A stream whose poll finds no memory isn't at its end: it polls again, and tells all. Or it is cut.
+fn a_stream(core: &mut Core) -> bool {
+    let Ok(Outcome::Opened { feed, .. }) = core.ask(Owner::Server, Command::Open { span: Span::ALL, cursor: 0 }) else {
+        return false;
+    };
+    let is_done = crate::stream::tests::is_told_at_once(core, feed, 51);
+    let _ = core.ask(Owner::Server, Command::Cancel { feed });
+    is_done
+}
+
 #[test]
 fn each_growth_is_refused_in_turn() {
     for (name, work) in
-        [("transaction", a_transaction as fn(&mut Core) -> bool), ("page", a_page), ("hold", a_hold), ("poll", a_poll)]
+        [("transaction", a_transaction as fn(&mut Core) -> bool), ("page", a_page), ("hold", a_hold), ("poll", a_poll),
+         ("stream", a_stream)]
     {
         let count = each(work);
         println!("{name}: refused {count} times");
