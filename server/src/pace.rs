@@ -55,6 +55,7 @@ mod tests {
         let (mut core, mut dice) = (core(&[]), Dice::new(5));
         let mut one = session(&mut core);
         let feed = opened(&mut core);
+        core.ledger.set_waits(feed, true);
         for at in 0..200 {
             let value = "v".repeat(dice.below(9) as usize);
             let line = if dice.one_in(3) { format!("del . k{at}\n") } else { format!("put . k{at} {value}\n") };

@@ -256,6 +256,7 @@ def test_a_server_that_was_stopped(room: Room, scale: Scale) -> str:
     server.child.send_signal(signal.SIGSTOP)
     time.sleep(6)
     server.child.send_signal(signal.SIGCONT)
+    assert "=> stats" in session.call("stats\n")
     wait_for(lambda: not server.holders("transaction"), "the old transaction to be aborted")
     assert "=> ended\n" in session.call("commit .\n") and "=> committed 1\n" in session.call("begin\nput . awake x\ncommit .\n")
     feed.until(b'"updated":')

@@ -146,10 +146,10 @@ mod tests {
     async fn the_client_reads_what_is_left_and_then_why() {
         for (end, frame) in [
             (End::HEARTBEAT, &b"\x88\x0b\x03\xf0heartbeat"[..]),
-            (End::ByClient(Some(4000)), b"\x88\x02\x0f\xa0"),
-            (End::ByClient(None), b"\x88\x00"),
-            (End::Stuck.without_answers(), b""),
-            (End::SHUTDOWN.without_answers(), b"\x88\x06\x03\xf3disk"),
+            (End::ByClient(Some(4000)), &b"\x88\x02\x0f\xa0"[..]),
+            (End::ByClient(None), &b"\x88\x00"[..]),
+            (End::Stuck.without_answers(), &b""[..]),
+            (End::SHUTDOWN.without_answers(), &b"\x88\x06\x03\xf3disk"[..]),
         ] {
             let (ours, mut client) = duplex(1000);
             let told = async {
