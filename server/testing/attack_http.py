@@ -266,7 +266,8 @@ def test_a_server_that_was_stopped(room: Room, scale: Scale) -> str:
 def test_sessions_beside_a_server_that_was_stopped(room: Room, scale: Scale) -> str:
     """Forty that are idle, and answer pings, all stand after a sleep that is longer than two heartbeats."""
     server = started(room, "--heartbeat", "4")
-    sessions, told = [Session(server.port) for _ in range(40)], queue.Queue()
+    sessions = [Session(server.port) for _ in range(40)]
+    told: queue.Queue[str] = queue.Queue()
 
     def stay(session: Session) -> None:
         try:
@@ -302,7 +303,8 @@ def cut_events(server: Server, last: str, most: int) -> tuple[list[bytes], str]:
             while len(wire.held) < most:
                 wire.read()
         data = bytes(wire.held)[:most]
-    rows, whole = [], []
+    rows: list[bytes] = []
+    whole: list[bytes] = []
     for event in re.sub(rb"\r\n[0-9a-f]+\r\n", b"", data.partition(b"\r\n\r\n")[2]).split(b"\n\n")[:-1]:
         lines = event.split(b"\n")
         rows += [line[6:] for line in lines if line.startswith(b'data: {"after"')]

@@ -110,13 +110,13 @@ def test_reports_that_nobody_reads(room: Room, scale: Scale) -> str:
         wires.append(Wire(server.port, little=True, timeout=20))
         wires[-1].ask("GET", ("/state", "/holders", "/metrics", "/consumer")[at % 4])
     latency = measure(server, 2.0, "get")
-    statuses = [one.head()[0] for one in wires]
+    statuses = [wire.head()[0] for wire in wires]
     found = peak(server) - before
     assert set(statuses) == {200, 503} and set(statuses[2::4] + statuses[3::4]) == {200}, statuses
-    wire = next(wire for wire, status in zip(wires, statuses) if status == 503)
-    assert b'"error":"reports"' in wire.until(b"\n"), bytes(wire.held)
-    for one in wires:
-        one.reset()
+    refused = next(wire for wire, status in zip(wires, statuses) if status == 503)
+    assert b'"error":"reports"' in refused.until(b"\n"), bytes(refused.held)
+    for wire in wires:
+        wire.reset()
     wait_for(lambda: server.ask("GET", "/state")[0] == 200, "room for a report")
     figures = "%d MB more, %d of 400 told, others: %s" % (found >> 20, statuses.count(200), latency)
     assert found < 192 * MEGABYTE, figures

@@ -43,7 +43,8 @@ def test_half_frames(room: Room, scale: Scale) -> str:
 def test_who_answers_no_ping_is_told_why(room: Room, scale: Scale) -> str:
     """It is let go with 1008 `heartbeat`, which is in the log. Who answers pings stays, however long it is silent."""
     server = started(room, "--heartbeat", "1")
-    stays, silent, told = Session(server.port), Session(server.port), queue.Queue()
+    stays, silent = Session(server.port), Session(server.port)
+    told: queue.Queue[str] = queue.Queue()
     thread = threading.Thread(target=lambda: told.put(stays.told()))
     thread.start()
     silent.call("begin\n")
