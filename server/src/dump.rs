@@ -2,8 +2,10 @@
 //! `mvfeed run --format 2` runs.
 //!
 //! It has all that was committed at or below closed, as it stood when it was asked for. Its last line says that it is
-//! whole. Its feed holds the horizon meanwhile, so one that is read too slowly is cut as streams are.
+//! whole. Its feed holds the horizon meanwhile, so one that is read too slowly is cut as streams are. What waits for its
+//! reader counts as a report does.
 
+use crate::budget::Held;
 use crate::core::Core;
 use crate::http::{Request, Response, Sender};
 use crate::journal::copy::{Broken, Copy, Next};
@@ -14,21 +16,26 @@ use crate::routes::Server;
 use crate::streams::Place;
 use std::sync::Arc;
 
+/// Bytes that a dump takes at most: those of a batch that gathers, and of two that wait for its reader.
+const BYTES: usize = 3 << 20;
+
 pub async fn dump(server: &Arc<Server>, request: Request) -> Result<Response, Refusal> {
     arguments(&request.path, &request.query, &[])?;
     if !request.who.keys().is_all() {
         return Err(Refusal::other_keys());
     }
+    let mut held = server.reports.begin(request.connection.peer.ip());
+    held.grow(BYTES)?;
     let place = Place::take(server)?;
     let begin = |core: &mut Core| (Copy::begin(core, DUMP, core.ledger.closed), core.ledger.closed);
     let (copy, closed) = server.door.run(begin);
     let copy = copy.map_err(|Broken| Refusal::no_memory())?;
     let (response, sender) = Response::stream("text/plain; charset=us-ascii");
-    server.spawn(run(place, copy, sender));
+    server.spawn(run(place, copy, sender, held));
     Ok(response.with("cache-control", "no-store").with("ripsawbean-closed", closed.to_string()))
 }
 
-async fn run(place: Place, mut copy: Copy, sender: Sender) {
+async fn run(place: Place, mut copy: Copy, sender: Sender, _held: Held) {
     let is_told = tell(&place, &mut copy, &sender).await.is_some();
     place.server().door.run(|core| core.end_stream(copy.feed()));
     if !is_told {

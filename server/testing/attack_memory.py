@@ -123,6 +123,26 @@ def test_reports_that_nobody_reads(room: Room, scale: Scale) -> str:
     return figures
 
 
+def test_dumps_that_nobody_reads(room: Room, scale: Scale) -> str:
+    """Two hundred of 64 MB each: those that there are have a bound together, and the others are refused by name."""
+    server = started(room)
+    fill(Session(server.port), "dumped/", 1000, LARGEST)
+    wait_for(lambda: server.closed() > 0, "closing")
+    before, wires = peak(server), []
+    for _ in range(200):
+        wires.append(Wire(server.port, little=True, timeout=20))
+        wires[-1].ask("GET", "/dump")
+    latency = measure(server, 2.0, "get")
+    statuses = [wire.head()[0] for wire in wires]
+    found = peak(server) - before
+    for wire in wires:
+        wire.reset()
+    wait_for(lambda: not server.holders("feed"), "the dumps to end")
+    figures = "%d MB more, %d of 200 told, others: %s" % (found >> 20, statuses.count(200), latency)
+    assert set(statuses) == {200, 503} and found < 96 * MEGABYTE, figures
+    return figures
+
+
 def ask_without_reading(server: Server, line: str, count: int) -> list[Session]:
     """Sessions that have asked, and read no answer."""
     sessions = [Session(server.port, little=True) for _ in range(count)]
