@@ -245,6 +245,7 @@ impl Core {
             }
         }
         self.ledger.rows.forget_below(self.ledger.horizon.min(limit));
+        self.cuts.forget_through(self.ledger.horizon);
         Turn::Done
     }
 

@@ -12,6 +12,7 @@
 use crate::api::holds::Holds;
 use crate::api::pages::Page;
 use crate::closing::Closing;
+use crate::cuts::Cuts;
 use crate::door::Turn;
 use crate::journal::recovery::Recovered;
 use crate::journal::Journal;
@@ -23,7 +24,7 @@ use crate::options::Options;
 use crate::outcome::{Outcome, Words};
 use crate::seats::{Owner, Seats, Session, OWN_SEAT};
 use crate::transcript::Transcript;
-use ripsawbean::{CallError, Command, CommandError, Database, Event, OpenError, Refusal, Room, VersionError};
+use ripsawbean::{unspell, CallError, Command, CommandError, Database, Event, OpenError, Refusal, Room, VersionError};
 use std::collections::BTreeSet;
 use std::io::Write;
 use std::sync::Arc;
@@ -41,6 +42,7 @@ pub struct Core {
     pub names: Names,
     pub closing: Closing,
     pub journal: Journal,
+    pub cuts: Cuts,
     /// Feeds that aren't let go however far they lag.
     pub exempt: BTreeSet<u64>,
     pub limits: Limits,
@@ -94,6 +96,7 @@ impl Core {
             names: Names::new(options.max_consumers),
             closing: Closing::new(options),
             journal: Journal::nothing(),
+            cuts: Cuts::default(),
             exempt: BTreeSet::new(),
             limits: Limits::of(options),
             holds: Holds::default(),
@@ -127,8 +130,13 @@ impl Core {
         let outcome = self.note(Owner::Seat(session.seat), words, is_told);
         self.record(None);
         let outcome = outcome?;
-        if let Outcome::Started { ts } = outcome {
-            session.last = Some(ts);
+        match outcome {
+            Outcome::Started { ts } => session.last = Some(ts),
+            Outcome::Written { ts, .. } => {
+                let word = key_of(line);
+                self.cuts.note(word, ts, || unspell(std::str::from_utf8(word).ok()?));
+            }
+            _ => {}
         }
         Ok(outcome)
     }
@@ -277,6 +285,9 @@ impl Core {
         };
         let outcome = self.note(owner, Words::Command(command), is_told);
         self.record(Some(command));
+        if let Command::Put { ts, key, .. } | Command::Del { ts, key } = command {
+            self.cuts.note(key, ts, || Some(key.to_vec()));
+        }
         outcome
     }
 
@@ -352,6 +363,12 @@ impl Core {
 fn may_be_long(line: &[u8]) -> bool {
     let command = line.split(|&byte| byte == b' ').next();
     matches!(command, Some(b"scan" | b"scanat" | b"poll"))
+}
+
+/// The key's word in a line `COMMAND TIMESTAMP KEY ..`.
+fn key_of(line: &[u8]) -> &[u8] {
+    let key = line.splitn(4, |&byte| byte == b' ').nth(2).unwrap_or(b"");
+    key.strip_suffix(b"\n").unwrap_or(key)
 }
 
 /// Adds an event to the transcript, and tells what is wanted of it: whether there was memory for that.

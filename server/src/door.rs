@@ -19,7 +19,7 @@ use std::time::{Duration, Instant};
 use tokio::sync::{watch, Notify};
 
 /// After so long others get a turn.
-const TURN: Duration = Duration::from_millis(5);
+pub const TURN: Duration = Duration::from_millis(5);
 
 /// Whether work has come to its end in its turn.
 #[derive(Clone, Copy, Debug, PartialEq, Eq)]

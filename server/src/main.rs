@@ -22,8 +22,8 @@
 //! Beside them: `door` (the lock, and turns), `seats` (the 64 seats), `consumers` and `names` (what consumers have
 //! stored, held while they are down), `lag` (rows closed above a timestamp), `transcript` (the events kept), `reports`,
 //! `metrics`, `dump`, `connections` (how many, and which are silent or stuck), `budget` (bytes that wait), `ws`, `query`,
-//! `refusal`, `options`, `tokens`, `tls`, `notify`, `log`, `page`, `before` (values before a feed's rows), `faults`
-//! (their words).
+//! `refusal`, `options`, `tokens`, `tls`, `notify`, `log`, `page`, `before` (values before a feed's rows), `cuts` (where
+//! a long walk may be cut), `faults` (their words).
 //!
 //! Three rules hold everywhere. All calls are made under one lock, which no one holds over an await. The database alone
 //! decides: the ledger only follows its answers, and where an answer isn't as the ledger foretells, the server says so
@@ -37,6 +37,7 @@ mod closing;
 mod connections;
 mod consumers;
 mod core;
+mod cuts;
 mod door;
 mod dump;
 mod faults;

@@ -7,12 +7,19 @@
 //!
 //! 1. The rows are those of the span at that timestamp, keys rising, up to `next`, or all of them where there is none.
 //! 2. A page has `MOST_BYTES` at most.
+//! 3. It passes over keys of which it tells nothing, such as deleted ones, for `TURN` at most. Then it ends early, where
+//!    it has come to: it may have no row.
 
 use crate::core::Core;
+use crate::door::TURN;
 use ripsawbean::{Command, CommandError, Refusal, Room, Span};
+use std::time::Instant;
 
 /// Bytes of a page: each row has those of its key and its value, and 17 more.
 pub const MOST_BYTES: u64 = 4 << 20;
+
+/// Parts of a walk behind which it may end early.
+const FEWEST_PARTS: usize = 8;
 
 /// Keys and their values.
 pub type Rows = Vec<(Vec<u8>, Vec<u8>)>;
@@ -36,15 +43,43 @@ pub enum Unread {
 impl Core {
     /// The first rows of a span at a closed timestamp, `most` at most.
     pub fn page(&mut self, span: Span<'_>, at: u64, most: usize) -> Result<Page, Unread> {
+        self.page_until(span, at, most, Instant::now() + TURN)
+    }
+
+    fn page_until(&mut self, span: Span<'_>, at: u64, most: usize, until: Instant) -> Result<Page, Unread> {
+        let mut page = Page::default();
         if at == 0 || span.hi.is_some_and(|hi| span.lo >= hi) {
-            return Ok(Page::default());
+            return Ok(page);
         }
-        let room = Room { rows: most as u64, bytes: MOST_BYTES };
+        let (mut lo, mut room) = (span.lo.to_vec(), Room { rows: most as u64, bytes: MOST_BYTES });
+        for parts in 1.. {
+            let cut = self.cuts.first(&lo, span.hi).map(<[u8]>::to_vec);
+            let found = self.part(Span { lo: &lo, hi: cut.as_deref().or(span.hi) }, at, room)?;
+            room.rows -= found.rows.len() as u64;
+            room.bytes -= bytes_of(&found.rows);
+            page.rows.extend(found.rows);
+            page.next = found.next;
+            let Some(cut) = cut.filter(|_| page.next.is_none()) else { break };
+            if room.rows == 0 || parts >= FEWEST_PARTS && Instant::now() >= until {
+                page.next = Some(cut);
+                break;
+            }
+            lo = cut;
+        }
+        Ok(page)
+    }
+
+    fn part(&mut self, span: Span<'_>, at: u64, room: Room) -> Result<Page, Unread> {
         self.scan(Command::ScanAt { t: at, span }, room).map_err(|error| match error {
             CommandError::Refused(Refusal::BelowHorizon(horizon)) => Unread::BelowHorizon(horizon),
             _ => Unread::NoMemory,
         })
     }
+}
+
+/// Bytes of rows, as a page counts them.
+fn bytes_of(rows: &Rows) -> u64 {
+    rows.iter().map(|(key, value)| 17 + key.len() as u64 + value.len() as u64).sum()
 }
 
 impl Page {
@@ -58,7 +93,8 @@ impl Page {
 #[cfg(test)]
 mod tests {
     use super::*;
-    use crate::testing::{core, say, session, tidy};
+    use crate::cuts::Cuts;
+    use crate::testing::{core, say, session, tidy, Dice};
 
     fn keys(page: &Page) -> Vec<&str> {
         page.rows.iter().map(|(key, _)| std::str::from_utf8(key).expect("text")).collect()
@@ -131,6 +167,75 @@ mod tests {
         let next = page.next.expect("there are more");
         let rest = core.page(Span { lo: &next, hi: None }, 80, 1000).expect("a page");
         assert_eq!((page.rows.len() + rest.rows.len(), rest.next), (80, None));
+    }
+
+    /// The rows of all pages of a span, each ending as early as it may, and how many pages there were.
+    fn walked(core: &mut Core, (lo, hi): (&[u8], Option<&[u8]>), at: u64, most: usize) -> (Rows, usize) {
+        let (mut lo, mut rows) = (lo.to_vec(), Vec::new());
+        for pages in 1.. {
+            let page = core.page_until(Span { lo: &lo, hi }, at, most, Instant::now()).expect("a page");
+            assert!(page.rows.len() <= most && page.next.as_ref().is_none_or(|next| *next > lo));
+            rows.extend(page.rows);
+            match page.next {
+                Some(next) => lo = next,
+                None => return (rows, pages),
+            }
+        }
+        unreachable!("a span has an end")
+    }
+
+    #[test]
+    fn wherever_a_walk_is_cut_it_tells_the_same() {
+        let (mut core, mut dice) = (core(&["--keep", "10"]), Dice::new(3));
+        core.cuts = Cuts::of(3);
+        let mut one = session(&mut core);
+        say(&mut core, &mut one, "protect 0\n");
+        for _ in 0..40 {
+            let write = |dice: &mut Dice| match dice.one_in(2) {
+                true => format!("del . k{:03}\n", dice.below(400)),
+                false => format!("put . k{:03} {}\n", dice.below(400), dice.below(9)),
+            };
+            let lines: String = (0..40).map(|_| write(&mut dice)).collect();
+            say(&mut core, &mut one, &format!("begin\n{lines}commit .\n"));
+        }
+        let mut pages = 0;
+        for _ in 0..300 {
+            let (lo, hi) = (format!("k{:03}", dice.below(400)), format!("k{:03}", dice.below(400)));
+            let hi = Some(hi.as_bytes()).filter(|_| !dice.one_in(4));
+            let (at, most) = (1 + dice.below(40), 1 + dice.below(30) as usize);
+            let span = Span { lo: lo.as_bytes(), hi };
+            let whole = match hi.is_some_and(|hi| span.lo >= hi) {
+                true => Vec::new(),
+                false => core.part(span, at, Room { rows: 1000, bytes: u64::MAX }).expect("rows").rows,
+            };
+            let (rows, count) = walked(&mut core, (span.lo, hi), at, most);
+            assert_eq!(rows, whole, "{lo} {hi:?} {at} {most}");
+            pages += count;
+        }
+        assert!(pages > 800 && core.shouts == 0, "{pages} pages");
+    }
+
+    #[test]
+    fn a_page_passes_over_few_deleted_keys_at_once() {
+        let mut core = core(&["--keep", "10"]);
+        core.cuts = Cuts::of(100);
+        let mut one = session(&mut core);
+        say(&mut core, &mut one, "protect 0\n");
+        for command in ["put . k%05 x\n", "del . k%05\n"] {
+            let lines = |from: u32| (from..from + 2000).map(|at| command.replace("%05", &format!("{at:05}")));
+            for from in (0..20_000).step_by(2000) {
+                say(&mut core, &mut one, &format!("begin\n{}commit .\n", lines(from).collect::<String>()));
+            }
+        }
+        say(&mut core, &mut one, "begin\nput . z 1\ncommit .\n");
+        let (at, calls) = (core.ledger.closed, core.ledger.calls);
+        let (rows, pages) = walked(&mut core, (b"", None), at, 10);
+        assert_eq!(rows, [(b"z".to_vec(), b"1".to_vec())]);
+        // Each part is a scan of its own.
+        let parts = core.ledger.calls - calls;
+        assert!(pages > 10 && (100..400).contains(&parts), "{pages} pages of {parts} parts");
+        core.cuts.forget_through(at);
+        assert_eq!(walked(&mut core, (b"", None), at, 10).1, 1);
     }
 
     #[test]

@@ -7,6 +7,7 @@
 //!
 //! 1. All pages of a walk show one snapshot, or are refused. While there are more, it is held for `hold` seconds, and
 //!    each page holds it anew.
+//! 2. A page that isn't the last one has a row at least.
 
 use super::plan::{Bounds, MOST_ROWS, ROWS};
 use super::run::{Row, Stop};
@@ -41,8 +42,8 @@ pub async fn rows(server: &Arc<Server>, request: Request) -> Result<Response, Re
     }
     let place = super::place_of_answer(server, &request.who)?;
     let start = Instant::now();
-    let work = |core: &mut Core, at| page(core, &span, at, limit, hold);
-    let Shown { timestamp, rows, next } = at_snapshot(server, given.number("at"), start + wait, work).await?;
+    let until = start + wait;
+    let Shown { timestamp, rows, next } = in_turns(server, span, given.number("at"), until, limit, hold).await?;
     let next = next.map(|lo| path_of(&given, &lo, timestamp));
     let mut out = format!("{{\"timestamp\":\"{timestamp}\",\"rows\":").into_bytes();
     tell_rows(&mut out, &rows, spelling);
@@ -60,6 +61,25 @@ pub async fn rows(server: &Arc<Server>, request: Request) -> Result<Response, Re
         Some(next) => response.with("link", format!("<{next}>; rel=\"next\"")),
         None => response,
     })
+}
+
+/// A page, in turns as long as it passes over keys that have no value.
+async fn in_turns(
+    server: &Server,
+    mut span: Bounds<'_>,
+    mut at: Option<u64>,
+    until: Instant,
+    limit: usize,
+    hold: Option<Duration>,
+) -> Result<Shown, Refusal> {
+    loop {
+        let shown = at_snapshot(server, at, until, |core, at| page(core, &span, at, limit, hold)).await?;
+        match shown.next {
+            Some(next) if shown.rows.is_empty() => (at, span.lo) = (Some(shown.timestamp), Cow::Owned(next)),
+            _ => return Ok(shown),
+        }
+        tokio::task::yield_now().await;
+    }
 }
 
 /// Works at a snapshot, once it is closed: at the closed timestamp where none is asked for.
