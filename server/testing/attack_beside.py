@@ -63,6 +63,10 @@ def test_scans_of_deleted_rows(room: Room, scale: Scale) -> str:
     return beside(room, "deleted_scans", scale.of(50_000, 300_000))
 
 
+def test_pages_over_deleted_rows(room: Room, scale: Scale) -> str:
+    return beside(room, "deleted_pages", scale.of(50_000, 300_000))
+
+
 def test_first_feeds_of_many_rows(room: Room, scale: Scale) -> str:
     return beside(room, "first_feeds", scale.of(200_000, 1_000_000))
 

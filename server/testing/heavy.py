@@ -116,14 +116,27 @@ def scans_on_and_on(port: int, count: int = 100_000) -> None:
     again_and_again(asking(port, "begin\nscan . scanned/ scanned0\nabort .\n"))
 
 
-def deleted_scans(port: int, count: int = 100_000, times: int = 500) -> None:
-    """Scans of rows that are deleted and not collected: each answers `rows 0`, so no answer gets long."""
+def delete_and_hold(port: int, count: int) -> Session:
+    """Rows that are deleted, and aren't collected as long as the session stands."""
     holder = session(port)
     if "=> protected" not in (told := holder.call("protect %s\n" % closed_at(holder))):
         raise ValueError(told)
     fill(session(port), "gone/", count)
     fill(session(port), "gone/", count, delete=True)
-    again_and_again(asking(port, "begin\n%sabort .\n" % ("scan . gone/ gone0\n" * times)))
+    return holder
+
+
+def deleted_pages(port: int, count: int = 100_000) -> None:
+    """Pages over rows that are deleted and not collected: none has a row."""
+    holder = delete_and_hold(port, count)
+    again_and_again(lambda: (holder, fetch(port, "/rows?lo=gone/&hi=gone0")))
+
+
+def deleted_scans(port: int, count: int = 100_000, times: int = 500) -> None:
+    """Scans of rows that are deleted and not collected: each answers `rows 0`, so no answer gets long."""
+    holder = delete_and_hold(port, count)
+    ask = asking(port, "begin\n%sabort .\n" % ("scan . gone/ gone0\n" * times))
+    again_and_again(lambda: (holder, ask()))
 
 
 # ---- requests
