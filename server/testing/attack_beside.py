@@ -19,7 +19,8 @@ class Scale(enum.Enum):
 
 
 def beside(room: Room, kind: str, *words: str, options: tuple[str, ...] = (), **how: object) -> str:
-    server = room.start(Server(room.path, "--history", "0.5", *options))
+    """What heavy clients hold they hold to the end, though they answer no pings."""
+    server = room.start(Server(room.path, "--history", "0.5", "--heartbeat", "600", *options))
     return others_wait_little(room, server, kind, *words, **how)
 
 

@@ -100,7 +100,7 @@ def test_long_rows_behind_short_ones(room: Room, scale: Scale) -> str:
 
 def test_reports_that_nobody_reads(room: Room, scale: Scale) -> str:
     """Those of thousands of holders are refused by name once they take as much memory as they may."""
-    server = started(room)
+    server = started(room, "--heartbeat", "600")
     holders, bound = [Session(server.port) for _ in range(10)], "b" * 250
     for one in holders:
         told = one.call("begin\n" * 1000 + "protect 0\n" * 1000 + ("open %s - 0\n" % bound) * 1000)
