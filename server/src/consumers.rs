@@ -86,10 +86,7 @@ impl Core {
 // ---- all of them
 
 /// Takes all names in turns: `each` is given those of one turn.
-async fn in_turns(
-    door: &Door,
-    mut each: impl FnMut(&Core, &[Name]) -> Result<(), Refusal>,
-) -> Result<(), Refusal> {
+async fn in_turns(door: &Door, mut each: impl FnMut(&Core, &[Name]) -> Result<(), Refusal>) -> Result<(), Refusal> {
     let mut last = None;
     loop {
         let names = door.run(|core| {
@@ -106,10 +103,7 @@ async fn in_turns(
 
 /// What is known of each name, as lines of a report.
 pub async fn lines_of_all(door: &Door, report: &mut Report) -> Result<(), Refusal> {
-    in_turns(door, |core, names| {
-        report.add(names.iter().map(|name| core.line_of(name)).collect())
-    })
-    .await
+    in_turns(door, |core, names| report.add(names.iter().map(|name| core.line_of(name)).collect())).await
 }
 
 /// What `metrics` tells of each name, for a report which is to hold it.

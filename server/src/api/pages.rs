@@ -78,7 +78,7 @@ impl Core {
 }
 
 /// Bytes of rows, as a page counts them.
-fn bytes_of(rows: &Rows) -> u64 {
+fn bytes_of(rows: &[(Vec<u8>, Vec<u8>)]) -> u64 {
     rows.iter().map(|(key, value)| 17 + key.len() as u64 + value.len() as u64).sum()
 }
 

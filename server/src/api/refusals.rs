@@ -118,10 +118,13 @@ fn a_stream(core: &mut Core) -> bool {
 
 #[test]
 fn each_growth_is_refused_in_turn() {
-    for (name, work) in
-        [("transaction", a_transaction as fn(&mut Core) -> bool), ("page", a_page), ("hold", a_hold), ("poll", a_poll),
-         ("stream", a_stream)]
-    {
+    for (name, work) in [
+        ("transaction", a_transaction as fn(&mut Core) -> bool),
+        ("page", a_page),
+        ("hold", a_hold),
+        ("poll", a_poll),
+        ("stream", a_stream),
+    ] {
         let count = each(work);
         println!("{name}: refused {count} times");
         assert!(count > 0, "{name}");

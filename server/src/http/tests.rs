@@ -48,7 +48,11 @@ fn statuses(told: &[u8]) -> Vec<u16> {
 
 fn is_at_rest(server: &Server) -> bool {
     let seats = server.door.run(|core| core.seats.count());
-    seats == 0 && server.connections.open() == 0 && server.bodies.is_empty() && server.reports.is_empty() && server.answers.available_permits() == 64
+    seats == 0
+        && server.connections.open() == 0
+        && server.bodies.is_empty()
+        && server.reports.is_empty()
+        && server.answers.available_permits() == 64
 }
 
 #[tokio::test]
