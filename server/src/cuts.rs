@@ -43,11 +43,8 @@ impl Cuts {
 
     /// A key was written, which is given by these bytes or by others that stand for them.
     pub fn note(&mut self, word: &[u8], ts: u64, key: impl FnOnce() -> Option<Vec<u8>>) {
-        if self.drawn.hash_one(word) % self.share != 0 {
-            return;
-        }
-        if let Some(key) = key() {
-            self.kept.insert(key, ts);
+        if self.drawn.hash_one(word).is_multiple_of(self.share) {
+            self.kept.extend(key().map(|key| (key, ts)));
         }
     }
 
