@@ -16,6 +16,12 @@ import types
 
 
 class Crate:
+    def __init__(self, rlib=""):
+        self.rlib = rlib
+
+    def is_built(self):
+        return False
+
     def words(self, flags, tests=False, keeps=True, as_source=False):
         return ["a", *flags]
 
@@ -39,7 +45,7 @@ if __name__ == "__main__":
 
 
 class Libraries(unittest.TestCase):
-    def made_by(self, kit):
+    def made_by(self, kit, *words):
         """The status, and what was told, where this is the kit's `rt`."""
         with tempfile.TemporaryDirectory() as room:
             path = os.path.join(room, "rt")
@@ -47,7 +53,7 @@ class Libraries(unittest.TestCase):
                 it.write(kit)
             os.chmod(path, 0o755)
             ran = subprocess.run(
-                [sys.executable, os.path.join(HERE, "library.py"), "--jobs", "2"],
+                [sys.executable, os.path.join(HERE, "library.py"), *words, "--jobs", "2"],
                 env={**os.environ, "PATH": room + os.pathsep + os.environ["PATH"]},
                 capture_output=True,
                 text=True,
@@ -58,6 +64,12 @@ class Libraries(unittest.TestCase):
     def test_a_library_has_its_statements_and_takes_no_kept_work(self):
         told = "lib --jobs 2 | a b --statements | a b | False"
         self.assertEqual(self.made_by(KIT), (3, [told]))
+
+    def test_libraries_that_the_gate_left_are_taken_and_no_others(self):
+        asked = "    print(Crate('.').is_built(), Crate('gone').is_built())\n"
+        kit = KIT.replace("    print(*words", asked + "    print(*words")
+        told = ["adopts", "True False", "lib --jobs 2 | a b | a b | True"]
+        self.assertEqual(self.made_by(kit, "--of-gate"), (3, told))
 
     def test_another_kit_makes_the_library_in_its_own_way(self):
         itself = (0, ["itself lib --jobs 2"])

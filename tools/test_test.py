@@ -14,6 +14,7 @@ TOP = os.path.dirname(os.path.dirname(os.path.abspath(__file__)))
 # What a test says, and how it ends.
 SOUND = {
     "rt": ("proved\\n99 passed, 0 failed", 0),
+    "tools/library.py": ("logic=proved", 0),
     "embed/test": ("edges: passed\\nembed: 25 passed, 0 failed", 0),
     "server/install": ("", 0),
     "server/unit": ("ok. 290 passed; 0 failed; finished", 0),
@@ -30,6 +31,7 @@ class Counts(unittest.TestCase):
         """The status and the last two lines, where these parts say something else, and these commands are gone."""
         with tempfile.TemporaryDirectory() as house:
             shutil.copy(os.path.join(TOP, "test"), house)
+            os.makedirs(os.path.join(house, "crates", "ripsawbean"))
             parts = {**SOUND, **{name.replace("_", "/"): it for name, it in changed.items()}}
             for name, it in parts.items():
                 if name not in without:
@@ -54,9 +56,10 @@ class Counts(unittest.TestCase):
 
     def test_a_failure_of_any_part_fails_the_whole(self):
         for name, it, last in [
-            ("rt", ("98 passed, 1 failed", 1), "124 passed, 1 failed"),
-            ("rt", ("killed", 137), "26 passed, 1 failed"),
-            ("rt", ("99 passed, 0 failed", 1), "125 passed, 1 failed"),
+            ("rt", ("98 passed, 1 failed", 1), "98 passed, 1 failed"),
+            ("rt", ("killed", 137), "0 passed, 1 failed"),
+            ("rt", ("99 passed, 0 failed", 1), "99 passed, 1 failed"),
+            ("tools_library.py", ("not proved", 1), "100 passed, 1 failed"),
             ("embed_test", ("embed: 24 passed, 1 failed", 1), "124 passed, 1 failed"),
             ("embed_test", ("gcc: error", 1), "100 passed, 1 failed"),
             ("server_unit", ("test result: FAILED", 101), "124 passed, 1 failed"),
@@ -82,6 +85,10 @@ class Counts(unittest.TestCase):
     def test_a_gate_that_is_not_there_is_a_failure(self):
         status, lines = self.last_lines(without=(*TOOLS, "rt"))
         self.assertEqual((status, lines[-1]), (1, "0 passed, 1 failed"))
+
+    def test_nothing_is_made_over_a_gate_that_failed(self):
+        status, lines = self.last_lines(rt=("98 passed, 1 failed", 1))
+        self.assertEqual((status, lines[0]), (1, "server/unit isn't run: it needs what embed/test builds"))
 
 
 class Packages(unittest.TestCase):
