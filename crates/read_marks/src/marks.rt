@@ -19,8 +19,9 @@ use timestamps::key::Key;
 use timestamps::small_bytes::SmallBytes;
 use timestamps::ts::Ts;
 
-// Fewer lone keys and starts are never swept for their number.
-const LEAST_SWEEP: usize = 32;
+// Fewer lone keys and starts are never swept for their number. Where closings follow one another, a sweep leaves next to
+// nothing, and with a low bound each read of a key adds what the next sweep takes out. So many take up to 2 MB.
+const LEAST_SWEEP: usize = 16_384;
 
 /// Pairs of a key and a reader. They are those of the layers, less the pairs whose reader is forgotten.
 #[derive(Drop)]

@@ -7,8 +7,9 @@ use spans::span::Span;
 use std::alloc::Global;
 
 /// Scripts, each of marks. `add` marks a span by a reader, `together` up to three spans by one, `each` keys of one byte
-/// each, and `piece` a span by the greatest reader above a timestamp and up to another. `of` has the readers of a key.
-pub(super) const SCRIPTS: [&str; 13] = [
+/// each, `many` so many keys of three, and `piece` a span by the greatest reader above a timestamp and up to another.
+/// `of` has the readers of a key.
+pub(super) const SCRIPTS: [&str; 12] = [
     // spans overlap; one whose end is not above its beginning holds no key, and leaves nothing
     "add b d 10=
 add c - 20=
@@ -100,23 +101,17 @@ piece k k\0 50 60 58=
 piece k k\0 50 60 52=
 of k= 5 15 25 35 45 58 65 75 85 95
 ",
-    // what is forgotten is swept once the starts have doubled: 64 starts are the fewest, and each key has two
-    "each 5 abcdefghijklmnopqrstuvwxyzABCD=
+    // what is forgotten is swept once there are twice as many keys, 16384 at the fewest, and leaves no start: of the keys
+    // from before none is left, so those that come again are new. Had a key that was swept left a start behind, 16384
+    // would not be the next that are swept
+    "many 16384 5=
 forget 5=
-spans=30
-each 6 0123=
-spans=4
-",
-    // what is forgotten leaves no start: of the keys from before none is left, so those that come again are new. Had a
-    // key that was swept left its two starts behind, 64 starts would not be the next that are swept
-    "each 5 fbdahzyxwvutsrqponmlkjigecABCDEF=
-forget 5=
-spans=32
+spans=16384
 each 6 0=
 spans=1
-each 6 dfbacehgijklmnopqrstuvwxyzABCDE=
+many 16383 6=
 forget 6=
-spans=32
+spans=16384
 each 7 1=
 spans=1
 ",
@@ -193,6 +188,7 @@ impl Asked for Marks {
             Some(b'a') => add(alloc, self, &mut words),
             Some(b't') => together(alloc, self, &mut words),
             Some(b'e') => each(alloc, self, &mut words),
+            Some(b'm') => many(alloc, self, &mut words),
             Some(b'p') => piece(alloc, self, &mut words),
             Some(b'f') => {
                 self.forget_through(words.number());
@@ -225,6 +221,18 @@ fn each(alloc: Global, marks: &mut Marks, words: &mut Words<'_>) -> Option<()> {
     for byte in words.word() {
         let lo = Some(Bound::new(alloc, &[*byte]).ok()?);
         let hi = Some(Bound::new(alloc, &[*byte, 0]).ok()?);
+        marks.add(&Span { lo, hi }, reader).ok()?;
+    }
+    Some(())
+}
+
+fn many(alloc: Global, marks: &mut Marks, words: &mut Words<'_>) -> Option<()> {
+    let count = words.number();
+    let reader = words.ts()?;
+    for i in 0..count {
+        let (high, low) = ((i / 200 % 200) as u8, (i % 200) as u8);
+        let lo = Some(Bound::new(alloc, &[b'k', high, low]).ok()?);
+        let hi = Some(Bound::new(alloc, &[b'k', high, low, 0]).ok()?);
         marks.add(&Span { lo, hi }, reader).ok()?;
     }
     Some(())
