@@ -9,6 +9,7 @@
 //! collections `collector`: horizons, held back by closed, protections and feeds, and the versions that went
 //! feeds       `feed`: openings and polls above the greatest timestamp
 //! keys        `key_set`: keys that come and go, and those above a key
+//! tables      `key_table`: the numbers of keys, while many come and go
 //! versions    `version_chain`: writes, commits, aborts, collections, and searches
 //! marks       `read_marks`: spans that overlap, neighbours that are joined, pieces, readers that are forgotten
 //! rules       `mvto_rules`: who is blocked, who comes too late, which spans are marked, what is closed and what it ended

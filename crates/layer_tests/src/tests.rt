@@ -7,12 +7,14 @@ mod keys;
 mod marks;
 mod rules;
 mod script;
+mod tables;
 mod versions;
 
 use closing::Closing;
 use collections::Held;
 use feeds::Served;
 use key_set::KeySet;
+use key_table::KeyTable;
 use mvto_rules::Rules;
 use read_marks::Marks;
 use script::play;
@@ -22,6 +24,7 @@ use version_chain::Store;
 fn layers(rt: HostRuntime) {
     play(&rt, &mut Closing::new(rt.alloc()), closings::SCRIPT);
     play(&rt, &mut KeySet::new(rt.alloc()), keys::SCRIPT);
+    play(&rt, &mut KeyTable::new(rt.alloc()), tables::SCRIPT);
     for script in versions::SCRIPTS {
         play(&rt, &mut Store::new(rt.alloc()), script);
     }

@@ -1,0 +1,21 @@
+-- What a table of keys is seen as.
+use Rattle.std.specs.Prelude.{ℕ, List, Option, Some, ◌≡◌, if◌then◌else◌, bytes_eq}
+use Rattle.std.specs.Map.{lookup}
+use Rattle.std.specs.BTreeMap.{is_at}
+use Rattle.timestamps.specs.Bytes.{key_cmp}
+
+-- keys, each with its number
+abbrev pub Numbered : Type 0
+Numbered = List (List ℕ × ℕ)
+
+-- the number of x
+abbrev pub number_in : Numbered → List ℕ → Option ℕ
+number_in ns x = lookup (is_at (key_cmp x)) ns
+
+-- no key but x has the number n
+abbrev pub IsOwn : Numbered → List ℕ → ℕ → Type 0
+IsOwn ns x n = (y : List ℕ) → number_in ns y ≡ Some n → y ≡ x
+
+-- x has the number n, or none, and any other key has what it had
+abbrev pub IsNumberedAt : Numbered → Numbered → List ℕ → Option ℕ → Type 0
+IsNumberedAt ns ms x n = (y : List ℕ) → number_in ms y ≡ (if bytes_eq x y then n else number_in ns y)

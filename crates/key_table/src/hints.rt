@@ -1,0 +1,132 @@
+//! Numbers that are tried before a map is searched.
+use slab::Slab;
+use std::alloc::Global;
+use timestamps::key::Key;
+
+/// How many places of a hash are tried. They lie side by side.
+pub(crate) const PLACES: usize = 4;
+
+/// What no number is.
+const NONE: u32 = u32::MAX;
+
+/// The fewest places that there are, once there are some.
+const LEAST: usize = 64;
+
+/// An odd number with ones and zeros in no order, so that a product by it has a part of each byte in its upper half.
+const FACTOR: usize = 0x9E37_79B9_7F4A_7C15;
+
+/// Numbers in places of hashes. There are a power of two of them, so a hash is cut to a place by its last digits.
+#[derive(Drop)]
+pub(crate) struct Hints {
+    numbers: Vec<u32>,
+}
+
+impl Hints {
+    /// No room for any.
+    pub(crate) fn new(alloc: Global) -> Hints {
+        Hints {
+            numbers: Vec::new(alloc),
+        }
+    }
+
+    /// A place of a hash.
+    #[inline(always)]
+    fn place(&self, hash: usize, which: usize) -> usize {
+        (hash ^ which) & self.numbers.len().wrapping_sub(1)
+    }
+
+    /// The number there, where there is one.
+    #[inline(always)]
+    pub(crate) fn at(&self, hash: usize, which: usize) -> Option<usize> {
+        match self.numbers.get(self.place(hash, which)) {
+            Some(number) if *number != NONE => Some(*number as usize),
+            _ => None,
+        }
+    }
+
+    /// Whether there is room for so many, half of it empty.
+    fn has_room_for(&self, count: usize) -> bool {
+        count <= self.numbers.len() / 2
+    }
+
+    /// Twice as many places, all empty, if there is memory for that.
+    fn widen(&mut self, alloc: Global) -> bool {
+        let count = self.numbers.len().saturating_mul(2).max(LEAST);
+        match vec![in alloc; NONE; count] {
+            Err(_) => false,
+            Ok(numbers) => {
+                self.numbers = numbers;
+                true
+            }
+        }
+    }
+
+    /// The first place of a hash that has this in it.
+    fn place_of(&self, hash: usize, wanted: u32) -> Option<usize> {
+        for which in 0..PLACES {
+            let place = self.place(hash, which);
+            if self.numbers.get(place) == Some(&wanted) {
+                return Some(place);
+            }
+        }
+        None
+    }
+
+    fn set(&mut self, place: usize, number: u32) {
+        if let Some(there) = self.numbers.get_mut(place) {
+            *there = number;
+        }
+    }
+
+    /// Puts a number into the first empty place of a hash, or else over the one in its first place.
+    fn put(&mut self, hash: usize, number: usize) {
+        if number < NONE as usize {
+            let place = match self.place_of(hash, NONE) {
+                None => self.place(hash, 0),
+                Some(place) => place,
+            };
+            self.set(place, number as u32);
+        }
+    }
+
+    /// Notes the number of a key. Where there are too few places, all keys are noted anew in more of them.
+    pub(crate) fn note(&mut self, alloc: Global, keys: &Slab<Key>, key: &Key, number: usize) {
+        if self.has_room_for(keys.len()) || !self.widen(alloc) {
+            self.put(hash_of(key), number);
+            return;
+        }
+        for (number, key) in keys.iter() {
+            self.put(hash_of(key), number);
+        }
+    }
+
+    /// Takes the number of a key out, where it is noted.
+    pub(crate) fn take(&mut self, key: &Key, number: usize) {
+        if number < NONE as usize {
+            if let Some(place) = self.place_of(hash_of(key), number as u32) {
+                self.set(place, NONE);
+            }
+        }
+    }
+}
+
+/// The hash of a key. Whoever chooses keys can choose their hashes, and has then the searches of a map.
+#[inline]
+pub(crate) fn hash_of(key: &Key) -> usize {
+    let (words, rest) = key.bytes().as_chunks();
+    let mut hash = rest.len();
+    for word in words {
+        hash = mixed(hash, usize::from_le_bytes(*word));
+    }
+    for byte in rest {
+        hash = mixed(hash, *byte as usize);
+    }
+    hash
+}
+
+/// A hash of what was hashed so far and of a word.
+#[inline(always)]
+fn mixed(hash: usize, word: usize) -> usize {
+    let product = (hash ^ word).wrapping_mul(FACTOR);
+    product ^ (product >> 32)
+}
