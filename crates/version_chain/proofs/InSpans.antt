@@ -1,11 +1,12 @@
 -- The entries of a span are those of a range, up to the first key that is not below its end.
 use Rattle.timestamps.specs.declared.key.TheConstants.{MAX_KEY_BYTES}
 use Rattle.std.proofs.Common.{◌≡◌, ℕ, ◌≤◌, Bool, true, false, cond, List, [], ◌∷◌, ◌++◌, length, Option, Some, None, refl, sym, ◌∙◌, ap, subst, inl, inr}
+use Rattle.std.specs.Prelude.{slice_index_or}
 use Rattle.std.specs.List.{filter}
 use Rattle.std.specs.Map.{keys_of, lookup}
 use Rattle.std.specs.BTreeMap.{is_at}
 use Rattle.std.proofs.lemmas.Map.Text.{is_eq-slice_cmp}
-use Rattle.std.specs.BTreeMap.Range.{range_contains}
+use Rattle.std.specs.BTreeMap.Range.{entries_between, range_contains}
 use Rattle.std.specs.declared.ops.Bound.{Bound}
 use Rattle.std.specs.declared.ops.Bound.TheVariants.{Unbounded}
 use Rattle.std.specs.Ordering.{is_eq}
@@ -19,9 +20,23 @@ use Rattle.spans.specs.declared.span.Span.{Span}
 use Rattle.spans.proofs.Keyed.{IsIn, RisingKeys}
 use Rattle.spans.proofs.Steps.{by_test, same_key, key_itself}
 use Rattle.spans.proofs.KeyOrder.{starts_before, starts_at, stays_above}
+use Rattle.key_table.specs.Numbers.{Numbered, number_in}
+use Rattle.version_chain.specs.declared.chain.Version.{Version}
 use Rattle.version_chain.specs.Chains.{Entry, AreFilled, or_empty, chain_of}
+use Rattle.version_chain.specs.ByNumber.{AreKept, entries_of}
 use Rattle.spans.specs.Starting.{start_of}
 use Rattle.version_chain.specs.InSpans.{starting_at, AreBehind, AreAhead, AreFrom, AreFound}
+
+-- ---- keys
+
+same_at : (x y : List ℕ) → is_at (key_cmp x) y ≡ true → x ≡ y
+same_at x y e = same_key x y (sym (is_eq-slice_cmp x y) ∙ e)
+
+at_itself : (x : List ℕ) → is_at (key_cmp x) x ≡ true
+at_itself x = is_eq-slice_cmp x x ∙ key_itself x
+
+not_itself : (x : List ℕ) → key_cmp x x ≡ Less → ⊥
+not_itself x less = let no : is_eq Less ≡ true = ap is_eq (sym less) ∙ at_itself x in (let n : false ≡ true = no in cc)
 
 -- ---- filtered entries
 
@@ -79,25 +94,63 @@ behind_start low (e ∷ es) = by_test (is_ahead (start_of low) e.0)
     (λ on. rw on (λ short. starts_at low e.0 short (sym (and-true _) ∙ on), behind_start low es))
     (λ off. rw off (behind_start low es))
 
-pub from_start : (low : Option (List ℕ)) (es : List Entry) → RisingKeys (keys_of es) → AreFrom low es (starting_at (start_of low) es)
-from_start low es r = record {
-  ahead = record { rising = rises_filtered (λ (e : Entry). is_ahead (start_of low) e.0) es r; behind = behind_start low es };
+from_start : (low : Option (List ℕ)) (es : List Entry) → RisingKeys (keys_of es) → AreFilled es → AreFrom low es (starting_at (start_of low) es)
+from_start low es r filled = record {
+  ahead = record {
+    rising = rises_filtered (λ (e : Entry). is_ahead (start_of low) e.0) es r;
+    behind = behind_start low es;
+    filled = filled_filtered (λ (e : Entry). is_ahead (start_of low) e.0) es filled;
+  };
   all = filtered_twice (from_low low) (is_ahead (start_of low)) es (λ x from. and-true _ ∙ starts_before low x from);
 }
 
-pub are_found : (span : Span) (es rest found : List Entry) → AreFrom span.lo es rest → AreFilled rest → found ≡ filter (λ (e : Entry). in_span span e.0) rest → AreFound span es found
-are_found span es rest found are filled those =
+pub are_found : (span : Span) (es rest found : List Entry) → AreFrom span.lo es rest → found ≡ filter (λ (e : Entry). in_span span e.0) rest → AreFound span es found
+are_found span es rest found are those =
     let inner = λ (ds : List Entry). filtered_twice (in_span span) (from_low span.lo) ds (λ x inside. (and_parts _ _ inside).0) in
     record {
       those = those ∙ sym (inner rest) ∙ ap (filter (λ (e : Entry). in_span span e.0)) are.all ∙ inner es;
       rising = subst (λ ds. RisingKeys (keys_of ds)) (sym those) (rises_filtered _ rest are.ahead.rising);
-      filled = subst AreFilled (sym those) (filled_filtered _ rest filled);
+      filled = subst AreFilled (sym those) (filled_filtered _ rest are.ahead.filled);
     }
+
+-- ---- the same by number
+
+keys_numbered : (ns : Numbered) (cs : List (List Version)) → keys_of (entries_of ns cs) ≡ keys_of ns
+keys_numbered [] cs = refl
+keys_numbered (e ∷ ns) cs = ap (λ ks. e.0 ∷ ks) (keys_numbered ns cs)
+
+range_numbered : (start : Bound (List ℕ)) (ns : Numbered) (cs : List (List Version)) → entries_of (entries_between key_cmp start Unbounded ns) cs ≡ starting_at start (entries_of ns cs)
+range_numbered start [] cs = refl
+range_numbered start (e ∷ ns) cs = by_test (is_ahead start e.0)
+    (λ on. rw on (ap (λ ds. (e.0, slice_index_or cs e.1 []) ∷ ds) (range_numbered start ns cs)))
+    (λ off. rw off (range_numbered start ns cs))
+
+filled_numbered : (ns : Numbered) (cs : List (List Version)) → RisingKeys (keys_of ns) → AreKept ns cs → AreFilled (entries_of ns cs)
+filled_numbered [] cs r kept = tt
+filled_numbered (e ∷ ns) cs r kept = (kept e.0 e.1 (rw (at_itself e.0) refl), filled_numbered ns cs r.1 (λ x n is. kept x n (behind x n is)))
+  where
+    among : (ms : Numbered) (x : List ℕ) (n : ℕ) → number_in ms x ≡ Some n → IsIn x (keys_of ms)
+    among [] x n is = (let no : None ≡ Some n = is in cc)
+    among (d ∷ ms) x n is = by_test (is_at (key_cmp x) d.0)
+        (λ here. inl (sym (same_at x d.0 here)))
+        (λ there. inr (among ms x n (sym (rw there refl) ∙ is)))
+
+    behind : (x : List ℕ) (n : ℕ) → number_in ns x ≡ Some n → number_in (e ∷ ns) x ≡ Some n
+    behind x n is = by_test (is_at (key_cmp x) e.0)
+        (λ here. absurd (not_itself x (subst (λ k. key_cmp k x ≡ Less) (sym (same_at x e.0 here)) (r.0 x (among ns x n is)))))
+        (λ there. rw there is)
+
+pub from_numbered : (low : Option (List ℕ)) (start : Bound (List ℕ)) (ns ms : Numbered) (cs : List (List Version)) → start ≡ start_of low → ms ≡ entries_between key_cmp start Unbounded ns → RisingKeys (keys_of ns) → AreKept ns cs
+    → AreFrom low (entries_of ns cs) (entries_of ms cs)
+from_numbered low start ns ms cs begins those r kept =
+    let rest : entries_of ms cs ≡ starting_at (start_of low) (entries_of ns cs) = ap (λ ls. entries_of ls cs) those ∙ range_numbered start ns cs ∙ ap (λ b. starting_at b (entries_of ns cs)) begins in
+    subst (AreFrom low (entries_of ns cs)) (sym rest)
+    (from_start low (entries_of ns cs) (subst RisingKeys (sym (keys_numbered ns cs)) r) (filled_numbered ns cs r kept))
 
 -- ---- one step
 
-pub ahead_next : (span : Span) (e : Entry) (es : List Entry) → AreAhead span.lo (e ∷ es) → AreAhead span.lo es
-ahead_next span e es a = record { rising = a.rising.1; behind = a.behind.1 }
+pub ahead_next : (low : Option (List ℕ)) (e : Entry) (es : List Entry) → AreAhead low (e ∷ es) → AreAhead low es
+ahead_next low e es a = record { rising = a.rising.1; behind = a.behind.1; filled = a.filled.1 }
 
 pub step_inside : (span : Span) (e : Entry) (es : List Entry) → AreAhead span.lo (e ∷ es) → length e.0 ≤ MAX_KEY_BYTES → below_high span.hi e.0 ≡ true
     → filter (λ (d : Entry). in_span span d.0) (e ∷ es) ≡ e ∷ filter (λ (d : Entry). in_span span d.0) es
@@ -120,12 +173,6 @@ step_past span e es a past = (
 
 -- ---- what the entries of a span say of the store
 
-same_at : (x y : List ℕ) → is_at (key_cmp x) y ≡ true → x ≡ y
-same_at x y e = same_key x y (sym (is_eq-slice_cmp x y) ∙ e)
-
-at_itself : (x : List ℕ) → is_at (key_cmp x) x ≡ true
-at_itself x = is_eq-slice_cmp x x ∙ key_itself x
-
 lookup_filtered : (p : List ℕ → Bool) (x : List ℕ) (es : List Entry) → p x ≡ true → lookup (is_at (key_cmp x)) (filter (λ (e : Entry). p e.0) es) ≡ lookup (is_at (key_cmp x)) es
 lookup_filtered p x [] on = refl
 lookup_filtered p x (e ∷ es) on = by_test (is_at (key_cmp x) e.0)
@@ -139,9 +186,7 @@ lookup_rising [] e rest r = rw (at_itself e.0) refl
 lookup_rising (d ∷ done) e rest r = by_test (is_at (key_cmp e.0) d.0)
     (λ here.
     let less : key_cmp d.0 e.0 ≡ Less = r.0 e.0 (is_within done e rest) in
-    let same : key_cmp d.0 d.0 ≡ Less = subst (λ y. key_cmp d.0 y ≡ Less) (same_at e.0 d.0 here) less in
-    let no : is_eq Less ≡ true = ap is_eq (sym same) ∙ at_itself d.0 in
-    absurd (let n : false ≡ true = no in cc))
+    absurd (not_itself d.0 (subst (λ y. key_cmp d.0 y ≡ Less) (same_at e.0 d.0 here) less)))
     (λ there. rw there (lookup_rising done e rest r.1))
   where
     is_within : (done : List Entry) (e : Entry) (rest : List Entry) → IsIn e.0 (keys_of (done ++ e ∷ rest))

@@ -2,6 +2,7 @@ pub mod Places
 pub mod BinarySearch
 pub mod Edits
 pub mod Changes
+pub mod ByNumber
 pub mod Turns
 pub mod Counts
 pub mod InSpans

@@ -1,21 +1,18 @@
 -- What a store has after the dead versions of a key went, and after those of some keys.
-use Rattle.std.proofs.Common.{◌≡◌, ℕ, ◌-◌, ◌≤◌, Bool, true, false, cond, ◌&&◌, List, length, Option, Some, None, refl, sym, ◌∙◌, ap, subst}
+use Rattle.std.proofs.Common.{◌≡◌, ℕ, ◌-◌, ◌≤◌, Bool, true, false, cond, ◌&&◌, List, [], length, Option, Some, None, refl, sym, ◌∙◌, ap, subst}
 use Rattle.std.specs.Prelude.{bytes_eq, is_some, not}
 use Rattle.std.specs.List.{filter}
-use Rattle.std.specs.BTreeMap.{is_at}
 use Rattle.std.proofs.lemmas.Bool.{both_ways, false_from_ne_true}
-use Rattle.std.proofs.lemmas.Map.Text.{is_eq-slice_cmp}
 use Rattle.std.proofs.Math.Bool.{and-true}
-use Rattle.timestamps.specs.Bytes.{key_cmp}
 use Rattle.spans.proofs.Steps.{by_test, same_key, key_itself}
 use Rattle.version_chain.specs.declared.chain.Version.{Version}
 use Rattle.version_chain.specs.declared.index.Index.{Index}
 use Rattle.version_chain.specs.Versions.{DoRise, version_of}
-use Rattle.version_chain.specs.Chains.{chain_of, found_in, or_empty}
+use Rattle.version_chain.specs.Chains.{chain_of, found_in}
 use Rattle.version_chain.specs.Stores.{Stored, after_of, is_committed, IsCountOf}
 use Rattle.version_chain.specs.Dead.{is_dead_version, is_dead_at, is_dead_in, newest_of, ArePartlyThinned, IsThinnedAt}
 use Rattle.version_chain.specs.Indexes.{is_listed, IsUnlisted}
-use Rattle.version_chain.proofs.Changes.{ArePut}
+use Rattle.version_chain.proofs.Changes.{IsPut}
 use Rattle.version_chain.proofs.Counts.{counted_thinned}
 use Rattle.version_chain.proofs.Dead.{is_dead_of, holds, dead_here, left_filtered, at_found, same_dead, live_left, live_fewer}
 
@@ -25,14 +22,25 @@ use Rattle.version_chain.proofs.Dead.{is_dead_of, holds, dead_here, left_filtere
 dead_of_chain : (es : Stored) (x y : List ℕ) (vs : List Version) (n i : ℕ) → chain_of es x ≡ vs → bytes_eq x y ≡ true → is_dead_of (version_of vs) n i ≡ is_dead_in es n y i
 dead_of_chain es x y vs n i chain here = ap (λ us. is_dead_of (version_of us) n i) (sym chain ∙ ap (chain_of es) (same_key x y here))
 
-pub thinned_put : (es fs : Stored) (x : List ℕ) (w : Option (List Version)) (n : ℕ) → ArePut es fs x w → (vs : List Version) → chain_of es x ≡ vs → or_empty w ≡ filter (λ (v : Version). not (is_dead_version n (newest_of vs n) v)) vs → DoRise vs → IsThinnedAt es fs x n
-thinned_put es fs x w n put vs chain left rises y i = ap (λ o. version_of (or_empty o) i) (put y) ∙ by_test (bytes_eq x y)
+pub thinned_put : (es fs : Stored) (x : List ℕ) (ws : List Version) (n : ℕ) → IsPut es fs x ws → (vs : List Version) → chain_of es x ≡ vs → ws ≡ filter (λ (v : Version). not (is_dead_version n (newest_of vs n) v)) vs → DoRise vs → IsThinnedAt es fs x n
+thinned_put es fs x ws n put vs chain left rises y i = ap (λ us. version_of us i) (put y) ∙ by_test (bytes_eq x y)
     (λ here.
-    let at : is_at (key_cmp x) y ≡ true = is_eq-slice_cmp x y ∙ here in
     let old : version_of vs i ≡ found_in es y i = ap (λ us. version_of us i) (sym chain ∙ ap (chain_of es) (same_key x y here)) in
-    rw (at, here) (ap (λ us. version_of us i) left ∙ left_filtered n (newest_of vs n) vs i rises
+    rw here (ap (λ us. version_of us i) left ∙ left_filtered n (newest_of vs n) vs i rises
     ∙ ap (λ b. cond b None (version_of vs i)) (sym (dead_here vs n i) ∙ dead_of_chain es x y vs n i chain here) ∙ ap (cond (is_dead_in es n y i) None) old))
-    (λ there. let off : is_at (key_cmp x) y ≡ false = is_eq-slice_cmp x y ∙ there in rw (off, there) refl)
+    (λ there. rw there refl)
+
+-- where there is none, none is dead
+dead_nowhere : (es : Stored) (x y : List ℕ) (n i : ℕ) → chain_of es x ≡ [] → (bytes_eq x y && is_dead_in es n y i) ≡ false
+dead_nowhere es x y n i none = by_test (bytes_eq x y)
+    (λ here. rw here (sym (dead_of_chain es x y [] n i none here)))
+    (λ there. rw there refl)
+
+pub thinned_none : (es : Stored) (x : List ℕ) (n : ℕ) → chain_of es x ≡ [] → IsThinnedAt es es x n
+thinned_none es x n none y i = ap (λ b. cond b None (found_in es y i)) (sym (dead_nowhere es x y n i none))
+
+pub unlisted_none : (es : Stored) (index : Index) (x : List ℕ) (n : ℕ) → chain_of es x ≡ [] → (y : List ℕ) (i : ℕ) → is_listed index y i ≡ cond (bytes_eq x y && is_dead_in es n y i) false (is_listed index y i)
+unlisted_none es index x n none y i = ap (λ b. cond b false (is_listed index y i)) (sym (dead_nowhere es x y n i none))
 
 -- where it is no longer listed
 pub unlisted_in : (es : Stored) (index index' : Index) (x : List ℕ) (vs : List Version) (n : ℕ) → chain_of es x ≡ vs → DoRise vs → IsUnlisted index index' x (is_dead_at n (newest_of vs n) vs)

@@ -22,10 +22,11 @@ abbrev pub AreBehind : Option (List ℕ) → List Entry → Type 0
 AreBehind low [] = Unit {0}
 AreBehind low (e ∷ es) = (length e.0 ≤ MAX_KEY_BYTES → from_low low e.0 ≡ true) × AreBehind low es
 
--- rising keys, none of which lies before the bound
+-- rising keys, none of which lies before the bound, each with a version
 pub record AreAhead (low : Option (List ℕ)) (es : List Entry) : Type 0 where
   pub rising : RisingKeys (keys_of es)
   pub behind : AreBehind low es
+  pub filled : AreFilled es
 
 -- the rest of the entries from the bound on: all of them, and none that lies before it
 pub record AreFrom (low : Option (List ℕ)) (es rest : List Entry) : Type 0 where

@@ -2,6 +2,7 @@ pub mod Versions
 pub mod Blocks
 pub mod Layout
 pub mod Chains
+pub mod ByNumber
 pub mod Stores
 pub mod InSpans
 pub mod Dead

@@ -164,6 +164,14 @@ impl Chain {
         Some(self.version(place))
     }
 
+    /// No version. It takes no memory.
+    pub(crate) fn none(alloc: Global) -> Chain
+        ensures { result ≡ [] }
+    {
+        let versions = Versions::Short(Vec::new(alloc));
+        Chain { versions }
+    }
+
     /// A chain of one version.
     pub(crate) fn of(alloc: Global, version: Version) -> Result<Chain, AllocError>
         ensures { IfOk result (λ chain. chain ≡ version ∷ []) }

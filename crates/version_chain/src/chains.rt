@@ -1,11 +1,13 @@
 //! The chains of all keys.
-ghost use Rattle.std.specs.Prelude.{◌≡◌, ℕ, List, [], Some, None, MatchOption, IfOk, OnOk, OnErr, is_some, is_none, option_map, true, false, bytes_eq, ◌&&◌, if◌then◌else◌, ◌≤◌, ◌-◌};
+ghost use Rattle.std.specs.Prelude.{◌≡◌, ℕ, List, [], Some, None, MatchOption, IfOk, OnOk, OnErr, is_some, is_none, option_map, true, false, bytes_eq, ◌&&◌, if◌then◌else◌, ◌<◌, ◌≤◌, ◌-◌, length, vec_len, vec_capacity};
 ghost use Rattle.version_chain.specs.declared.chain.Version.{Version};
 ghost use Rattle.version_chain.specs.Versions.{as_committed, IsNoneUpTo, IsNewestOf, IsNoneAbove, IsLeastAbove};
-ghost use Rattle.version_chain.specs.Chains.{AreFilled, found_in, chain_of, IsChangedAt};
+ghost use Rattle.version_chain.specs.Chains.{found_in, chain_of, IsChangedAt};
 ghost use Rattle.version_chain.specs.Stores.{is_committed_in, IsCountOf};
 ghost use Rattle.version_chain.specs.Walking.{IsCommittedAt, IsFirstAmong, IsNoneAmong, keys_ahead};
-ghost use Rattle.version_chain.specs.InSpans.{AreFound, AreFrom};
+ghost use Rattle.version_chain.specs.ByNumber.{AreKept, AreKeptBut, IsPutAt, chain_by};
+ghost use Rattle.key_table.specs.Numbers.{number_in, IsOwn};
+ghost use Rattle.version_chain.specs.InSpans.{AreFound};
 ghost use Rattle.version_chain.specs.Dead.{is_dead_in, IsThinnedAt};
 ghost use Rattle.version_chain.specs.Indexes.{is_listed, IsTaken};
 ghost use Rattle.spans.proofs.Keyed.{RisingKeys};
@@ -17,32 +19,32 @@ use crate::in_span::{InSpan, start_at};
 use crate::index::Index;
 use crate::steps::Steps;
 use key_set::Keys;
-use spans::bound::Bound;
+use key_table::KeyTable;
 use spans::span::Span;
 use std::alloc::{AllocError, Global};
-use std::collections::BTreeMap;
-use std::collections::btree_map::Range;
 use std::iter::Iterator;
 use std::marker::Model;
-use std::ops;
 use timestamps::key::Key;
 
 /// The keys with a version, each with its chain.
 #[derive(Drop)]
 pub(crate) struct Chains {
     alloc: Global,
-    map: BTreeMap<Key, Chain>,
+    keys: KeyTable,
+    /// By the numbers of their keys. Those that are free have no version.
+    chains: Vec<Chain>,
 }
 
 impl Model for Chains {
     ghost use Rattle.std.specs.Prelude.{List};
-    ghost use Rattle.version_chain.specs.Chains.{Entry, AreFilled};
+    ghost use Rattle.version_chain.specs.Chains.{Entry};
+    ghost use Rattle.version_chain.specs.ByNumber.{AreKept, entries_of};
 
     ghost Value = { List Entry };
 
-    ghost view = { λ c. c.map.entries };
+    ghost view = { λ c. entries_of c.keys c.chains.items };
 
-    ghost invariant = { λ c. AreFilled c.map.entries };
+    ghost invariant = { λ c. AreKept c.keys c.chains.items };
 }
 
 impl Chains {
@@ -52,8 +54,17 @@ impl Chains {
     {
         Chains {
             alloc,
-            map: BTreeMap::new(alloc),
+            keys: KeyTable::new(alloc),
+            chains: Vec::new(alloc),
         }
+    }
+
+    /// The chain of a key, where it has a version.
+    fn chain(&self, key: &Key) -> Option<&Chain>
+        ensures { MatchOption result (chain_of self.now key.now ≡ []) (λ chain. chain.now ≡ chain_of self.now key.now) }
+    {
+        let number = self.keys.number_of(key)?;
+        Some(&self.chains[number])
     }
 
     /// The version of the key with the greatest timestamp at or below `t`.
@@ -61,7 +72,7 @@ impl Chains {
         ensures { MatchOption result (IsNoneUpTo (chain_of self.now key.now) t)
             (λ v. IsNewestOf (chain_of self.now key.now) t v.now) }
     {
-        match self.map.get(key) {
+        match self.chain(key) {
             None => None,
             Some(chain) => chain.newest_at(t, &mut Steps::new()),
         }
@@ -74,7 +85,7 @@ impl Chains {
         ensures next { MatchOption result.1 (IsNoneAbove (chain_of self.now key.now) t)
             (λ v. IsLeastAbove (chain_of self.now key.now) t v.now) }
     {
-        match self.map.get(key) {
+        match self.chain(key) {
             None => (None, None),
             Some(chain) => chain.around(t, &mut Steps::new()),
         }
@@ -112,19 +123,12 @@ impl Chains {
         None
     }
 
-    /// The keys of the span that have a version, rising, each with its chain.
+    /// The keys of the span that have a version, rising, each with its chain. It goes straight to the first.
     pub(crate) fn in_span<'a>(&'a self, span: &'a Span) -> InSpan<'a>
         ensures { AreFound span.now self.now result }
     {
-        InSpan::of(span, self.ahead_of(&span.lo))
-    }
-
-    /// The entries from a bound on. It goes straight to the first.
-    fn ahead_of(&self, low: &Option<Bound>) -> Range<'_, Key, Chain>
-        ensures rest { AreFrom low.now self.now result }
-        ensures filled { AreFilled result }
-    {
-        self.map.range((start_at(low), ops::Bound::Unbounded))
+        let ahead = self.keys.range_from(start_at(&span.lo));
+        InSpan::of(span, ahead, &self.chains)
     }
 
     /// Puts a version in, in whose place one may stand, and says whether none did.
@@ -133,8 +137,8 @@ impl Chains {
         ensures ok { OnOk result (IsChangedAt self.old self.new key.now version.ts (λ _. Some version)) }
         ensures err { OnErr result (self.new ≡ self.old) }
     {
-        match self.map.get_mut(key) {
-            Some(chain) => chain.write(version),
+        match self.keys.number_of(key) {
+            Some(number) => self.chains[number].write(version),
             None => {
                 self.add(key, version)?;
                 Ok(true)
@@ -148,9 +152,10 @@ impl Chains {
         ensures ok { OnOk result (IsChangedAt self.old self.new key.now version.ts (λ _. Some version)) }
         ensures err { OnErr result (self.new ≡ self.old) }
     {
-        let key = key.copy()?;
         let chain = Chain::of(self.alloc, version)?;
-        self.map.insert(key, chain)?;
+        self.chains.reserve(1)?;
+        let number = self.keys.add(key, self.chains.len())?;
+        put_at(&mut self.chains, number, chain);
         Ok(())
     }
 
@@ -158,10 +163,9 @@ impl Chains {
     pub(crate) fn commit(&mut self, key: &Key, ts: u64)
         ensures { IsChangedAt self.old self.new key.now ts (option_map as_committed) }
     {
-        let Some(chain) = self.map.get_mut(key) else {
-            return;
-        };
-        chain.commit(ts);
+        if let Some(number) = self.keys.number_of(key) {
+            self.chains[number].commit(ts);
+        }
     }
 
     /// Takes a version out, and says whether there was one.
@@ -169,13 +173,11 @@ impl Chains {
         ensures was { result ≡ is_some (found_in self.old key.now ts) }
         ensures rest { IsChangedAt self.old self.new key.now ts (λ _. None) }
     {
-        let Some(chain) = self.map.get_mut(key) else {
+        let Some(number) = self.keys.number_of(key) else {
             return false;
         };
-        let was = chain.remove(ts);
-        if chain.is_empty() {
-            self.map.remove(key);
-        }
+        let was = self.chains[number].remove(ts);
+        free_empty(&mut self.keys, &mut self.chains, key, number);
         was
     }
 
@@ -198,13 +200,39 @@ impl Chains {
             ≡ (if bytes_eq key.now y && is_dead_in self.old horizon y i then false else is_listed index.old y i) }
         ensures taken { (i : ℕ) → IsTaken index.old i → IsTaken index.new i }
     {
-        let Some(chain) = self.map.get_mut(key) else {
+        let Some(number) = self.keys.number_of(key) else {
             return 0;
         };
-        let dropped = chain.drop_dead(horizon, key, index);
-        if chain.is_empty() {
-            self.map.remove(key);
-        }
+        let dropped = self.chains[number].drop_dead(horizon, key, index);
+        free_empty(&mut self.keys, &mut self.chains, key, number);
         dropped
+    }
+}
+
+/// Puts a chain in the place of a number, which may be the first above all that there are. There is room for one more.
+fn put_at(chains: &mut Vec<Chain>, number: usize, chain: Chain)
+    requires room { vec_len chains.old < vec_capacity chains.old }
+    requires low { number ≤ length chains.old.items }
+    ensures { IsPutAt chains.old.items chains.new.items number chain }
+{
+    if number < chains.len() {
+        chains[number] = chain;
+    } else {
+        chains.push_reserved(chain);
+    }
+}
+
+/// Frees the number of a key whose chain has become empty, and the memory of that chain.
+fn free_empty(keys: &mut KeyTable, chains: &mut Vec<Chain>, key: &Key, number: usize)
+    requires number { number_in keys.old key.now ≡ Some number }
+    requires own { IsOwn keys.old key.now number }
+    requires within { number < length chains.old.items }
+    ensures chains { (y : List ℕ) → chain_by keys.new chains.new.items y ≡ chain_by keys.old chains.old.items y }
+    ensures kept { AreKeptBut keys.old chains.old.items number → AreKept keys.new chains.new.items }
+{
+    if chains[number].is_empty() {
+        keys.free(key, number);
+        let alloc = *chains.allocator();
+        chains[number] = Chain::none(alloc);
     }
 }

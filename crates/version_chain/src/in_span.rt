@@ -8,6 +8,7 @@ ghost use Rattle.std.specs.Range.Bound.{bound_map};
 ghost use Rattle.spans.specs.Keys.{in_span};
 ghost use Rattle.spans.specs.KeyOrder.{below_high};
 ghost use Rattle.version_chain.specs.Chains.{Entry};
+ghost use Rattle.version_chain.specs.ByNumber.{entries_of};
 ghost use Rattle.spans.specs.Starting.{start_of};
 ghost use Rattle.version_chain.specs.InSpans.{AreAhead};
 
@@ -26,7 +27,8 @@ use timestamps::key::Key;
 #[derive(Drop)]
 pub struct InSpan<'a> {
     span: &'a Span,
-    ahead: Range<'a, Key, Chain>,
+    ahead: Range<'a, Key, usize>,
+    chains: &'a [Chain],
 }
 
 impl<'a> Model for InSpan<'a> {
@@ -34,22 +36,31 @@ impl<'a> Model for InSpan<'a> {
     ghost use Rattle.std.specs.List.{filter};
     ghost use Rattle.spans.specs.Keys.{in_span};
     ghost use Rattle.version_chain.specs.Chains.{Entry};
+    ghost use Rattle.version_chain.specs.ByNumber.{entries_of};
     ghost use Rattle.version_chain.specs.InSpans.{AreAhead};
 
     ghost Value = { List Entry };
 
-    ghost view = { λ s. filter (λ (e : Entry). in_span s.span.now e.0) s.ahead };
+    ghost view = { λ s. filter (λ (e : Entry). in_span s.span.now e.0) (entries_of s.ahead s.chains.now) };
 
-    ghost invariant = { λ s. AreAhead s.span.now.lo s.ahead };
+    ghost invariant = { λ s. AreAhead s.span.now.lo (entries_of s.ahead s.chains.now) };
 }
 
 impl<'a> InSpan<'a> {
     /// Those of the span that are ahead.
-    pub(crate) fn of(span: &'a Span, ahead: Range<'a, Key, Chain>) -> InSpan<'a>
-        requires { AreAhead span.now.lo ahead }
-        ensures { result ≡ filter (λ (e : Entry). in_span span.now e.0) ahead.entry }
+    pub(crate) fn of(
+        span: &'a Span,
+        ahead: Range<'a, Key, usize>,
+        chains: &'a [Chain],
+    ) -> InSpan<'a>
+        requires { AreAhead span.now.lo (entries_of ahead chains.now) }
+        ensures { result ≡ filter (λ (e : Entry). in_span span.now e.0) (entries_of ahead.entry chains.now) }
     {
-        InSpan { span, ahead }
+        InSpan {
+            span,
+            ahead,
+            chains,
+        }
     }
 }
 
@@ -61,11 +72,11 @@ impl<'a> Iterator for InSpan<'a> {
     ghost remaining = { λ s. at_most (length s) };
 
     fn next(&mut self) -> Option<(&'a Key, &'a Chain)> {
-        let (key, chain) = self.ahead.next()?;
+        let (key, number) = self.ahead.next()?;
         if !is_below(&self.span.hi, key) {
             return None;
         }
-        Some((key, chain))
+        Some((key, &self.chains[*number]))
     }
 }
 

@@ -1,12 +1,12 @@
 //! The versions of every key: the value or delete that each transaction wrote there, and whether it has committed.
 //! `mvto_rules` calls it, and `catch_up` for feeds that are behind.
 //!
-//! A [`Store`] is an ordered map from keys to chains, and beside it an index from timestamps to keys. A
-//! [`Chain`](chain::Chain) is a list of versions, and a long one is a list of blocks. A transaction's version is
-//! undecided until it commits. `committed_after` begins a [`CommittedAfter`], which goes from one committed version to the
-//! next.
+//! A [`Store`] is a table that numbers keys, a list with the chain of each number, and beside them an index from
+//! timestamps to keys. A [`Chain`](chain::Chain) is a list of versions, and a long one is a list of blocks. A
+//! transaction's version is undecided until it commits. `committed_after` begins a [`CommittedAfter`], which goes from
+//! one committed version to the next.
 //!
-//! 1. A key is in the map exactly where it has a version, and the timestamps of its chain rise.
+//! 1. A key has a number exactly where it has a version, and the timestamps of its chain rise.
 //! 2. The index lists a key at a timestamp exactly where the key has a version there.
 //! 3. Nothing is dead by the horizon that the store keeps: the horizon of the last collection, or a lower one where a
 //!    version has been committed below that since.
@@ -21,13 +21,15 @@
 //! drop what is dead by 30    30*         30*        30 apple pear                2    in_span - p is apple
 //! ```
 //!
-//! Costs, with k keys, v versions of one of them in b blocks, and n of all:
+//! Costs, with k keys, v versions of one of them in b blocks, and n of all. A key is found in O(1), or in O(log k) where
+//! no hint of the table leads to it:
 //!
-//! - `newest_at`, `next_above`, `around`: O(log k + log v log b), and at most as many timestamps as v has binary digits
-//! - `write`: the same, twice O(log k) for a key that had no version, and O(log n) in the index. It looks at the end of
-//!   the chain first. The versions above its own in its block move, and the starts of the blocks behind it rise
-//! - `commit`: O(log k + log v log b) for each key
-//! - `abort`, `remove`: the same and O(log n) in the index for each key, and what a write moves
+//! - `newest_at`, `next_above`, `around`: O(log v log b), and at most as many timestamps as v has binary digits
+//! - `write`: the same, O(log k) for a key that had no version, and O(log n) in the index. It looks at the end of the chain
+//!   first. The versions above its own in its block move, and the starts of the blocks behind it rise
+//! - `commit`: O(log v log b) for each key
+//! - `abort`, `remove`: the same, O(log n) in the index, and O(log k) where the last version goes, for each key; and what a
+//!   write moves
 //! - `committed_after`: O(log n), and then a search for each version that is listed from there on, as it is asked for
 //! - `in_span`: O(log k), and then each key as it is asked for
 //! - `drop_dead`: O(log n) for each version that was written since the horizon that the store keeps, up to its own, and
@@ -41,7 +43,8 @@
 //! A collection goes from timestamp to timestamp. At each it looks at the versions at or below the horizon of the keys
 //! that are listed there, and at those that lie in one list or block with them.
 //!
-//! A write alone takes memory. A write that finds none for its place in the index takes its version out again.
+//! A write alone takes memory. A write that finds none for its place in the index takes its version out again. The memory
+//! of a chain goes with its last version, and the list and the table keep their room for keys that come later.
 //!
 //! Tests: `layer_tests`.
 #![tactic(auto)]

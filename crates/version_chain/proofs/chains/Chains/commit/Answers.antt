@@ -1,23 +1,25 @@
-use Rattle.std.proofs.Common.{ap, sym, subst, ◌≡◌, Some}
-use Rattle.std.specs.Prelude.{is_some, option_map}
-use Rattle.std.specs.Map.{lookup}
-use Rattle.std.specs.BTreeMap.{is_at}
-use Rattle.timestamps.specs.Bytes.{key_cmp}
+use Rattle.std.proofs.Common.{arith, sym, subst, refl}
+use Rattle.std.specs.Prelude.{option_map, slice_set}
 use Rattle.version_chain.specs.Versions.{as_committed}
-use Rattle.version_chain.specs.Chains.{AreFilled, IsChangedAt, or_empty}
-use Rattle.version_chain.proofs.Changes.{ArePut, IsEdited, filled_set, filled_at, filled_commit, changed}
+use Rattle.version_chain.specs.Chains.{IsChangedAt}
+use Rattle.version_chain.specs.ByNumber.{entries_of}
+use Rattle.version_chain.proofs.Changes.{filled_commit}
+use Rattle.version_chain.proofs.ByNumber.{IsAt, edited_at, some_there, still_kept, unchanged, within}
 use Rattle.version_chain.proofs.chains.Chains.commit.Goals as goal
 
-pub invariant_of-self-2 : goal.invariant_of-self-2
-invariant_of-self-2 c =
-    let was = filled_at (is_at (key_cmp c.args.key.now)) c.self.inside.map.entries c.in-Some.chain.now c.self.invariant (sym c.in-Some.ensures.value) in
-    subst AreFilled (sym (c.get_mut.follows.holds c.commit.new.self).0)
-    (filled_set (is_at (key_cmp c.args.key.now)) c.self.inside.map.entries c.commit.new.self (filled_commit c.in-Some.chain.now c.commit.new.self c.args.ts was c.commit.ensures) c.self.invariant)
+pub index_mut-requires : goal.index_mut-requires
+index_mut-requires c = omega (arith, c.self.inside.chains.ok.0, within c.self.inside.keys c.self.inside.chains.items c.args.key.now c.in-Some.number c.self.invariant (sym c.in-Some.ensures.number))
 
-pub returns : goal.returns
-returns c =
-    let found : lookup (is_at (key_cmp c.args.key.now)) c.self.inside.map.entries ≡ Some c.in-Some.chain.now = sym c.in-Some.ensures.value in
-    let put : ArePut c.self.inside.map.entries (c.get_mut.follows.lender c.commit.new.self).entries c.args.key.now (Some c.commit.new.self) = ((c.get_mut.follows.holds c.commit.new.self).3 (ap is_some found)).0 in
-    subst (λ es. IsChangedAt es (c.get_mut.follows.lender c.commit.new.self).entries c.args.key.now c.args.ts (option_map as_committed)) c.self.view_is
-    (changed c.self.inside.map.entries _ c.args.key.now (Some c.commit.new.self) c.args.ts (option_map as_committed) put
-    (subst (λ vs. IsEdited vs c.commit.new.self c.args.ts (option_map as_committed)) (sym (ap or_empty found)) c.commit.ensures))
+at : (c : goal.After-self-1) → IsAt c.self.inside.keys c.self.inside.chains.items c.args.key.now c.in-Some.number c.index_mut.result.now
+at c = record { kept = c.self.invariant; number = sym c.in-Some.ensures.number; own = c.in-Some.ensures.own; value = c.index_mut.ensures.value }
+
+pub invariant_of-self : goal.invariant_of-self
+invariant_of-self c = still_kept c.self.inside.keys c.self.inside.chains.items c.args.key.now c.in-Some.number c.index_mut.result.now c.commit.new.self (at c)
+    (filled_commit c.index_mut.result.now c.commit.new.self c.args.ts (some_there c.self.inside.keys c.self.inside.chains.items c.args.key.now c.in-Some.number c.index_mut.result.now (at c)) c.commit.ensures)
+
+pub returns-in-Some : goal.returns-in-Some
+returns-in-Some c = subst (λ es. IsChangedAt es (entries_of c.self.inside.keys (slice_set c.self.inside.chains.items c.in-Some.number c.commit.new.self)) c.args.key.now c.args.ts (option_map as_committed)) c.self.view_is
+    (edited_at c.self.inside.keys c.self.inside.keys c.self.inside.chains.items (slice_set c.self.inside.chains.items c.in-Some.number c.commit.new.self) c.args.key.now c.in-Some.number c.index_mut.result.now c.commit.new.self c.args.ts (option_map as_committed) (at c) (λ y. refl) c.commit.ensures)
+
+pub returns-in_default : goal.returns-in_default
+returns-in_default c = subst (λ es. IsChangedAt es es c.args.key.now c.args.ts (option_map as_committed)) c.self.view_is (unchanged c.self.inside.keys c.self.inside.chains.items c.args.key.now c.args.ts (option_map as_committed) (sym c.in_default.ensures.number) refl)

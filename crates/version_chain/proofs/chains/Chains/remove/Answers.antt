@@ -1,40 +1,33 @@
-use Rattle.std.proofs.Common.{ap, sym, ◌∙◌, subst, ◌≡◌, [], Some, None, true, false}
-use Rattle.std.specs.Prelude.{is_some}
-use Rattle.std.specs.Map.{lookup, remove_entry}
-use Rattle.std.specs.BTreeMap.{is_at}
-use Rattle.timestamps.specs.Bytes.{key_cmp}
-use Rattle.version_chain.specs.Chains.{AreFilled, IsChangedAt, or_empty}
-use Rattle.version_chain.proofs.Changes.{ArePut, IsEdited, filled_set, filled_emptied, changed, put_twice}
+use Rattle.std.proofs.Common.{ap, arith, refl, sym, ◌∙◌, subst, None, ◌≡◌, []}
+use Rattle.std.proofs.lemmas.List.{length-set}
+use Rattle.std.specs.Prelude.{is_some, slice_set}
+use Rattle.version_chain.specs.Versions.{version_of}
+use Rattle.version_chain.specs.Chains.{IsChangedAt, chain_of}
+use Rattle.version_chain.specs.ByNumber.{entries_of}
+use Rattle.version_chain.proofs.ByNumber.{edited_at, is_chain, kept_but, no_chain, set_at, unchanged, within}
 use Rattle.version_chain.proofs.chains.Chains.remove.Goals as goal
-use Rattle.version_chain.proofs.chains.Chains.remove.Goals.{in-Some-1, in-None-1}
 
-pub invariant_of-self-then-is_empty : goal.invariant_of-self-then-is_empty
-invariant_of-self-then-is_empty c =
-    subst AreFilled (sym (c.remove.ensures.entries ∙ ap (remove_entry (is_at (key_cmp c.args.key.now))) (c.get_mut.follows.holds c.remove-was.new.self).0))
-    (filled_emptied (is_at (key_cmp c.args.key.now)) c.self.inside.map.entries c.remove-was.new.self c.self.invariant)
+pub index_mut-requires : goal.index_mut-requires
+index_mut-requires c = omega (arith, c.self.inside.chains.ok.0, within c.self.inside.keys c.self.inside.chains.items c.args.key.now c.in-Some.number c.self.invariant (sym c.in-Some.ensures.number))
 
-pub invariant_of-self-else-is_empty : goal.invariant_of-self-else-is_empty
-invariant_of-self-else-is_empty c =
-    subst AreFilled (sym (c.get_mut.follows.holds c.remove-was.new.self).0)
-    (filled_set (is_at (key_cmp c.args.key.now)) c.self.inside.map.entries c.remove-was.new.self (λ none. let yes : true ≡ false = sym (c.is_empty.ensures.1 none) ∙ c.if-is_empty.false in cc) c.self.invariant)
+pub free_empty-requires-clause-within : goal.free_empty-requires-clause-within
+free_empty-requires-clause-within c = omega (arith, length-set c.self.inside.chains.items c.in-Some.number c.remove-was.new.self, within c.self.inside.keys c.self.inside.chains.items c.args.key.now c.in-Some.number c.self.invariant (sym c.in-Some.ensures.number))
 
-pub returns-then-is_empty-clause-rest : goal.returns-then-is_empty-clause-rest
-returns-then-is_empty-clause-rest c =
-    let found : lookup (is_at (key_cmp c.args.key.now)) c.self.inside.map.entries ≡ Some c.in-Some.chain.now = sym c.in-Some.ensures.value in
-    let put : ArePut c.self.inside.map.entries (c.get_mut.follows.lender c.remove-was.new.self).entries c.args.key.now (Some c.remove-was.new.self) = ((c.get_mut.follows.holds c.remove-was.new.self).3 (ap is_some found)).0 in
-    let out : ArePut (c.get_mut.follows.lender c.remove-was.new.self).entries c.remove.new.self.entries c.args.key.now None = c.remove.ensures.updates.0 in
-    let empty : c.remove-was.new.self ≡ [] = c.is_empty.ensures.0 c.if-is_empty.true in
-    let edit : IsEdited c.in-Some.chain.now [] c.args.ts (λ _. None) = subst (λ ws. IsEdited c.in-Some.chain.now ws c.args.ts (λ _. None)) empty c.remove-was.ensures.rest in
-    let all : IsChangedAt c.args.self.now c.remove.new.self.entries c.args.key.now c.args.ts (λ _. None) =
-    subst (λ es. IsChangedAt es c.remove.new.self.entries c.args.key.now c.args.ts (λ _. None)) c.self.view_is
-    (changed c.self.inside.map.entries c.remove.new.self.entries c.args.key.now None c.args.ts (λ _. None) (put_twice c.self.inside.map.entries (c.get_mut.follows.lender c.remove-was.new.self).entries c.remove.new.self.entries c.args.key.now _ _ put out)
-    (subst (λ vs. IsEdited vs [] c.args.ts (λ _. None)) (sym (ap or_empty found)) edit)) in
-    elim c.match-remove.branch [ in-Some-1 w ↦ subst (λ es. IsChangedAt c.args.self.now es c.args.key.now c.args.ts (λ _. None)) (sym w.self-is) all | in-None-1 w ↦ subst (λ es. IsChangedAt c.args.self.now es c.args.key.now c.args.ts (λ _. None)) (sym w.self-is) all ]
+pub invariant_of-self : goal.invariant_of-self
+invariant_of-self c = c.free_empty.ensures.kept (kept_but c.self.inside.keys c.self.inside.chains.items (slice_set c.self.inside.chains.items c.in-Some.number c.remove-was.new.self) c.in-Some.number c.remove-was.new.self c.self.invariant
+    (set_at c.self.inside.chains.items c.in-Some.number c.remove-was.new.self (within c.self.inside.keys c.self.inside.chains.items c.args.key.now c.in-Some.number c.self.invariant (sym c.in-Some.ensures.number))))
 
-pub returns-else-is_empty-clause-rest : goal.returns-else-is_empty-clause-rest
-returns-else-is_empty-clause-rest c =
-    let found : lookup (is_at (key_cmp c.args.key.now)) c.self.inside.map.entries ≡ Some c.in-Some.chain.now = sym c.in-Some.ensures.value in
-    let put : ArePut c.self.inside.map.entries (c.get_mut.follows.lender c.remove-was.new.self).entries c.args.key.now (Some c.remove-was.new.self) = ((c.get_mut.follows.holds c.remove-was.new.self).3 (ap is_some found)).0 in
-    subst (λ es. IsChangedAt es (c.get_mut.follows.lender c.remove-was.new.self).entries c.args.key.now c.args.ts (λ _. None)) c.self.view_is
-    (changed c.self.inside.map.entries _ c.args.key.now (Some c.remove-was.new.self) c.args.ts (λ _. None) put
-    (subst (λ vs. IsEdited vs c.remove-was.new.self c.args.ts (λ _. None)) (sym (ap or_empty found)) c.remove-was.ensures.rest))
+pub returns-clause-was : goal.returns-clause-was
+returns-clause-was c =
+    let chain : c.index_mut.result.now ≡ chain_of c.args.self.now c.args.key.now = sym (is_chain c.self.inside.keys c.self.inside.chains.items c.args.key.now c.in-Some.number c.index_mut.result.now (record { kept = c.self.invariant; number = sym c.in-Some.ensures.number; own = c.in-Some.ensures.own; value = c.index_mut.ensures.value })) ∙ ap (λ es. chain_of es c.args.key.now) c.self.view_is in
+    c.remove-was.ensures.was ∙ ap (λ vs. is_some (version_of vs c.args.ts)) chain
+
+pub returns-clause-rest : goal.returns-clause-rest
+returns-clause-rest c = subst (λ es. IsChangedAt es (entries_of c.free_empty.new.keys c.free_empty.new.chains.items) c.args.key.now c.args.ts (λ _. None)) c.self.view_is
+    (edited_at c.self.inside.keys c.free_empty.new.keys c.self.inside.chains.items c.free_empty.new.chains.items c.args.key.now c.in-Some.number c.index_mut.result.now c.remove-was.new.self c.args.ts (λ _. None) (record { kept = c.self.invariant; number = sym c.in-Some.ensures.number; own = c.in-Some.ensures.own; value = c.index_mut.ensures.value }) c.free_empty.ensures.chains c.remove-was.ensures.rest)
+
+pub returns-in_default-clause-was : goal.returns-in_default-clause-was
+returns-in_default-clause-was c = sym (ap (λ vs. is_some (version_of vs c.args.ts)) (subst (λ es. chain_of es c.args.key.now ≡ []) c.self.view_is (no_chain c.self.inside.keys c.self.inside.chains.items c.args.key.now (sym c.in_default.ensures.number))))
+
+pub returns-in_default-clause-rest : goal.returns-in_default-clause-rest
+returns-in_default-clause-rest c = subst (λ es. IsChangedAt es es c.args.key.now c.args.ts (λ _. None)) c.self.view_is (unchanged c.self.inside.keys c.self.inside.chains.items c.args.key.now c.args.ts (λ _. None) (sym c.in_default.ensures.number) refl)
