@@ -44,6 +44,14 @@ IsWritten d = kept_text d ≡ text_of (last_of d)
 abbrev pub IsUnwritten : Database → Type 0
 IsUnwritten d = kept_text d ≡ []
 
+-- the last event is of this seat's command, and none of its text is there
+abbrev pub HasKept : ℕ → Cmd → Database → Type 0
+HasKept by cmd d = IsUnwritten d × ((e : Event) × (last_of d ≡ Some e) × (e.seat ≡ by) × (e.cmd ≡ cmd))
+
+-- the line is the text of the last event's command
+abbrev pub IsLastLine : Database → List ℕ → Type 0
+IsLastLine d line = (e : Event) × (last_of d ≡ Some e) × (line ≡ command_line e.seat e.cmd)
+
 -- the database is what a legal history without a gap led to, whose newest event stands first
 pub record StandsFor (d : Database) (h : List Event) : Type 0 where
   pub stands : engines.StandsFor d.engine h

@@ -8,7 +8,7 @@ ghost use Rattle.word_lines.specs.Reading.{command_at};
 ghost use Rattle.word_lines.specs.Memory.{WantsMemory, verb_at};
 ghost use Rattle.word_lines.specs.Table.{table};
 ghost use Rattle.embedded.specs.declared.database.CallError.TheVariants.{NoMemory};
-ghost use Rattle.embedded.specs.Embedded.{StandsFor, HasLast, IsNoReadError, IsReadError, IsWritten, IsUnwritten, Called, last_of, kept_text};
+ghost use Rattle.embedded.specs.Embedded.{StandsFor, HasLast, IsLastLine, IsNoReadError, IsReadError, IsWritten, IsUnwritten, Called, last_of, kept_text};
 ghost use Rattle.json_lines.specs.Writing.{Copied};
 
 use crate::typed::NoPosition;
@@ -19,7 +19,7 @@ use spans::limits::MAX_SEATS;
 use std::alloc::{AllocError, Global};
 use text_format::Format;
 use word_lines::commands::read_command;
-use word_lines::events::write_event;
+use word_lines::events::{write_echo, write_event};
 use word_lines::fault::{LineFault, ReadError};
 
 /// A database with the last event that it made.
@@ -105,14 +105,27 @@ impl Database {
         ensures called { (h : List Event) → StandsFor self.old h → Called h line.now self.old result self.new }
         ensures made { IfErr result IsNoReadError }
     {
-        let _line = line;
         match self.make(seat, cmd) {
             Ok(()) => {}
             Err(NoPosition) => return Err(CallError::Spent),
         }
-        match self.write() {
+        match self.echo(line) {
             Ok(()) => Ok(()),
             Err(_) => Err(CallError::Unwritten),
+        }
+    }
+
+    /// Writes the text of the last event, whose command was read from a line, as it stands there.
+    fn echo(&mut self, line: &[u8]) -> Result<(), AllocError>
+        requires line { IsLastLine self.old line.now }
+        requires text { IsUnwritten self.old }
+        ensures same { (h : List Event) → StandsFor self.old h → StandsFor self.new h }
+        ensures ok { OnOk result (IsWritten self.new) }
+        ensures err { OnErr result (IsUnwritten self.new) }
+    {
+        match &self.last {
+            None => Ok(()),
+            Some(event) => write_echo(&mut self.text, line, event),
         }
     }
 

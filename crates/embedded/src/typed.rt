@@ -13,7 +13,7 @@ ghost use Rattle.std.specs.Prelude.{◌≡◌, ◌<◌, ◌++◌, List, false, i
 ghost use Rattle.std.specs.List.{flat_map};
 ghost use Rattle.spans.specs.declared.calls.events.Event.{Event};
 ghost use Rattle.json_lines.specs.Writing.{Copied};
-ghost use Rattle.embedded.specs.Embedded.{StandsFor, last_of};
+ghost use Rattle.embedded.specs.Embedded.{StandsFor, HasKept, last_of};
 ghost use Rattle.embedded.specs.Typed.{MadeBy, HasBulk, IsBulk, is_read, numbers, refusal_numbers, reply_numbers, answer_of, end_bytes, pair_bytes, reply_bytes, rows_bytes, bytes_of, scan_of};
 
 use crate::database::Database;
@@ -60,6 +60,7 @@ impl Database {
     pub fn make(&mut self, seat: u8, cmd: Cmd) -> Result<(), NoPosition>
         requires seat { seat < 64 }
         ensures made { (h : List Event) → StandsFor self.old h → MadeBy h seat cmd self.old result self.new }
+        ensures kept { OnOk result (HasKept seat cmd self.new) }
         ensures same { OnErr result (self.new ≡ self.old) }
         // So the bytes of a read's answer take no memory.
         ensures reads { OnOk result (HasBulk (last_of self.new) → is_read cmd ≡ false) }

@@ -42,7 +42,7 @@ few_seats config range = let low = range.1 in omega arith
 
 -- ---- where it begins
 
-pub started : (r : Reads) (w : Writes) (run : Run) → IsFresh run → IsGoing [] r r w w run []
+pub started : (r : Reads) (w : Writes) (run : Run) → IsFresh run → IsGoing r r w w run []
 started r w run f = record {
   made = f.made;
   first = f.first;
@@ -60,24 +60,24 @@ started r w run f = record {
 
 -- ---- where it stops as it is
 
-pub stop : (ahead : List ℕ) (r r' : Reads) (w w' : Writes) (run : Run) (events : List Event) (e : ServeEnd) → (g : IsGoing ahead r r' w w' run events) → FailsBy e r w r' w'
-    → EndsBy run.terms.format (HasSpent run.callers.seats.items) run.terms.config (script_text (calls_of events) ++ (ahead ++ waiting run.lines)) r'.ended events (kept_at e g.out run.output.pending.items) e → IsStopped r r' w w' run e
-stop ahead r r' w w' run events e g failed ends = record {
+pub stop : (r r' : Reads) (w w' : Writes) (run : Run) (events : List Event) (e : ServeEnd) → (g : IsGoing r r' w w' run events) → FailsBy e r w r' w'
+    → EndsBy run.terms.format (HasSpent run.callers.seats.items) run.terms.config (script_text (calls_of events) ++ waiting run.lines) r'.ended events (kept_at e g.out run.output.pending.items) e → IsStopped r r' w w' run e
+stop r r' w w' run events e g failed ends = record {
   events = events;
   made = g.made;
   first = g.first;
   in_range = g.in_range;
-  input = script_text (calls_of events) ++ (ahead ++ waiting run.lines);
+  input = script_text (calls_of events) ++ waiting run.lines;
   read = g.read;
   out = g.out;
   wrote = g.wrote;
-  begins = scripts.begin_with run.terms.format run.terms.config.seats (script_text (calls_of events) ++ (ahead ++ waiting run.lines)) (ahead ++ waiting run.lines) r'.ended (calls_of events) (few_seats run.terms.config g.in_range.0) g.calls refl;
+  begins = scripts.begin_with run.terms.format run.terms.config.seats (script_text (calls_of events) ++ waiting run.lines) (waiting run.lines) r'.ended (calls_of events) (few_seats run.terms.config g.in_range.0) g.calls refl;
   ends = ends;
   failed = failed;
 }
 
 -- for want of memory for the line that waits
-pub stop_memory : (r r' : Reads) (w w' : Writes) (run : Run) (events : List Event) (n : ℕ) → WantsMemory (verb_at run.terms.format table (vec_len run.callers.seats) (take n (waiting run.lines))) → IsGoing [] r r' w w' run events → IsStopped r r' w w' run end.Memory
+pub stop_memory : (r r' : Reads) (w w' : Writes) (run : Run) (events : List Event) (n : ℕ) → WantsMemory (verb_at run.terms.format table (vec_len run.callers.seats) (take n (waiting run.lines))) → IsGoing r r' w w' run events → IsStopped r r' w w' run end.Memory
 stop_memory r r' w w' run events n wants g =
     let next : NextWants run.terms.format run.terms.config.seats (script_text (calls_of events) ++ waiting run.lines) (calls_of events) = record {
       line = take n (waiting run.lines);
@@ -85,25 +85,25 @@ stop_memory r r' w w' run events n wants g =
       parts = ap (λ (xs : List ℕ). script_text (calls_of events) ++ xs) (sym (take-append-drop n (waiting run.lines)));
       wants = subst (λ (k : ℕ). WantsMemory (verb_at run.terms.format table k (take n (waiting run.lines)))) g.seats wants;
     } in
-    stop [] r r' w w' run events end.Memory g g.worked (inr (inl (next, g.keeps)))
+    stop r r' w w' run events end.Memory g g.worked (inr (inl (next, g.keeps)))
 
 -- all of the input was taken
-pub stop_done : (r r' : Reads) (w w' : Writes) (run : Run) (events : List Event) → waiting run.lines ≡ [] → run.lines.ended ≡ true → IsGoing [] r r' w w' run events → IsStopped r r' w w' run end.Done
-stop_done r r' w w' run events none found g = stop [] r r' w w' run events end.Done g g.worked (
+pub stop_done : (r r' : Reads) (w w' : Writes) (run : Run) (events : List Event) → waiting run.lines ≡ [] → run.lines.ended ≡ true → IsGoing r r' w w' run events → IsStopped r r' w w' run end.Done
+stop_done r r' w w' run events none found g = stop r r' w w' run events end.Done g g.worked (
   g.found found,
-  scripts.read_whole run.terms.format run.terms.config.seats (script_text (calls_of events) ++ ([] ++ waiting run.lines)) (calls_of events) (few_seats run.terms.config g.in_range.0) g.calls (ap (λ (xs : List ℕ). script_text (calls_of events) ++ xs) none),
+  scripts.read_whole run.terms.format run.terms.config.seats (script_text (calls_of events) ++ waiting run.lines) (calls_of events) (few_seats run.terms.config g.in_range.0) g.calls (ap (λ (xs : List ℕ). script_text (calls_of events) ++ xs) none),
   g.keeps,
 )
 
 -- ---- where it goes on
 
 -- the same run with bytes written, and perhaps read
-pub go_on : (ahead : List ℕ) (r r' r'' : Reads) (w w' w'' : Writes) (run run' : Run) (events : List Event) → run'.callers ≡ run.callers → run'.terms ≡ run.terms → run'.lines.format ≡ run.lines.format
-    → r''.given ≡ r.given ++ (script_text (calls_of events) ++ (ahead ++ waiting run'.lines)) → (run'.lines.ended ≡ true → r''.ended ≡ true) → r''.failures ≡ r'.failures
+pub go_on : (r r' r'' : Reads) (w w' w'' : Writes) (run run' : Run) (events : List Event) → run'.callers ≡ run.callers → run'.terms ≡ run.terms → run'.lines.format ≡ run.lines.format
+    → r''.given ≡ r.given ++ (script_text (calls_of events) ++ waiting run'.lines) → (run'.lines.ended ≡ true → r''.ended ≡ true) → r''.failures ≡ r'.failures
     → HasTaken w'.taken w''.taken run.output.pending.items run'.output.pending.items → w''.failures ≡ w'.failures
-    → IsGoing ahead r r' w w' run events → IsGoing ahead r r'' w w'' run' events
-go_on ahead r r' r'' w w' w'' run run' events same same' formed read found reads t writes g =
-    let s : IsGoing ahead r r'' w w'' (record run' { callers = run.callers; terms = run.terms }) events = record {
+    → IsGoing r r' w w' run events → IsGoing r r'' w w'' run' events
+go_on r r' r'' w w' w'' run run' events same same' formed read found reads t writes g =
+    let s : IsGoing r r'' w w'' (record run' { callers = run.callers; terms = run.terms }) events = record {
       made = g.made;
       first = g.first;
       seats = g.seats;
@@ -117,7 +117,7 @@ go_on ahead r r' r'' w w' w'' run run' events same same' formed read found reads
       keeps = append_assoc g.out t.part run'.output.pending.items ∙ (ap (λ (xs : List ℕ). g.out ++ xs) (sym t.left) ∙ g.keeps);
       worked = (reads ∙ g.worked.0, writes ∙ g.worked.1);
     } in
-    subst (λ (x : Callers × Terms). IsGoing ahead r r'' w w'' (record run' { callers = x.0; terms = x.1 }) events) (λ i. (sym same i, sym same' i)) s
+    subst (λ (x : Callers × Terms). IsGoing r r'' w w'' (record run' { callers = x.0; terms = x.1 }) events) (λ i. (sym same i, sym same' i)) s
 
 -- what was read since
 read_on : (given text : List ℕ) (l l' : Lines) (r r' : Reads) → HasReadOn l l' r r' → r.given ≡ given ++ (text ++ waiting l) → r'.given ≡ given ++ (text ++ waiting l')
@@ -128,17 +128,17 @@ found_on l l' r r' x found e = ⊎_elim (λ same. same.1 ∙ found (sym same.0 �
 
 -- the next line was sought
 pub go_read : (r r' r'' : Reads) (w w' w'' : Writes) (run run' : Run) (events : List Event) → run'.callers ≡ run.callers → run'.terms ≡ run.terms → HasReadOn run.lines run'.lines r' r'' → r''.failures ≡ r'.failures
-    → HasTaken w'.taken w''.taken run.output.pending.items run'.output.pending.items → w''.failures ≡ w'.failures → IsGoing [] r r' w w' run events → IsGoing [] r r'' w w'' run' events
+    → HasTaken w'.taken w''.taken run.output.pending.items run'.output.pending.items → w''.failures ≡ w'.failures → IsGoing r r' w w' run events → IsGoing r r'' w w'' run' events
 go_read r r' r'' w w' w'' run run' events same same' x reads t writes g =
-    go_on [] r r' r'' w w' w'' run run' events same same' x.format (read_on r.given (script_text (calls_of events)) run.lines run'.lines r' r'' x g.read) (found_on run.lines run'.lines r' r'' x g.found) reads t writes g
+    go_on r r' r'' w w' w'' run run' events same same' x.format (read_on r.given (script_text (calls_of events)) run.lines run'.lines r' r'' x g.read) (found_on run.lines run'.lines r' r'' x g.found) reads t writes g
 
 -- a read failed
 pub stop_input : (r r' r'' : Reads) (w w' w'' : Writes) (run run' : Run) (events : List Event) → run'.callers ≡ run.callers → run'.terms ≡ run.terms → HasReadOn run.lines run'.lines r' r'' → None ≡ position is_newline (waiting run'.lines)
-    → r''.failures ≡ r'.failures + 1 → HasTaken w'.taken w''.taken run.output.pending.items run'.output.pending.items → w''.failures ≡ w'.failures → IsGoing [] r r' w w' run events → IsStopped r r'' w w'' run' end.Input
+    → r''.failures ≡ r'.failures + 1 → HasTaken w'.taken w''.taken run.output.pending.items run'.output.pending.items → w''.failures ≡ w'.failures → IsGoing r r' w w' run events → IsStopped r r'' w w'' run' end.Input
 stop_input r r' r'' w w' w'' run run' events same same' x none failed t writes g =
     let before : Reads = record { given = r''.given; ended = r''.ended; failures = r'.failures } in
     let input = script_text (calls_of events) ++ waiting run'.lines in
-    let k : IsGoing [] r before w w'' run' events = go_on [] r r' before w w' w'' run run' events same same' x.format (read_on r.given (script_text (calls_of events)) run.lines run'.lines r' r'' x g.read) (found_on run.lines run'.lines r' r'' x g.found) refl t writes g in
+    let k : IsGoing r before w w'' run' events = go_on r r' before w w' w'' run run' events same same' x.format (read_on r.given (script_text (calls_of events)) run.lines run'.lines r' r'' x g.read) (found_on run.lines run'.lines r' r'' x g.found) refl t writes g in
     let few = few_seats run'.terms.config k.in_range.0 in
     record {
       events = events;
@@ -165,7 +165,7 @@ stop_input r r' r'' w w' w'' run run' events same same' x none failed t writes g
 
 -- a write failed, after whatever reads
 pub stop_output : (r r' r'' : Reads) (w w' w'' : Writes) (run run' : Run) (events : List Event) → run'.callers ≡ run.callers → run'.terms ≡ run.terms → HasReadOn run.lines run'.lines r' r'' → r''.failures ≡ r'.failures
-    → HasBegun w'.taken w''.taken run.output.pending.items → w''.failures ≡ w'.failures + 1 → IsGoing [] r r' w w' run events → IsStopped r r'' w w'' run' end.Output
+    → HasBegun w'.taken w''.taken run.output.pending.items → w''.failures ≡ w'.failures + 1 → IsGoing r r' w w' run events → IsStopped r r'' w w'' run' end.Output
 stop_output r r' r'' w w' w'' run run' events same same' x reads begun failed g =
     let rest = begun.0 in let t = begun.1 in
     let input = script_text (calls_of events) ++ waiting run'.lines in
@@ -188,7 +188,7 @@ stop_output r r' r'' w w' w'' run run' events same same' x reads begun failed g 
 
 -- the next line was sought in vain
 pub stop_sought : (r r' r'' : Reads) (w w' w'' : Writes) (run run' : Run) (events : List Event) (e : ServeEnd) → run'.callers ≡ run.callers → run'.terms ≡ run.terms → HasReadOn run.lines run'.lines r' r''
-    → IsSought run'.lines r' r'' w' w'' run.output run'.output (Err e) → IsGoing [] r r' w w' run events → IsStopped r r'' w w'' run' e
+    → IsSought run'.lines r' r'' w' w'' run.output run'.output (Err e) → IsGoing r r' w w' run events → IsStopped r r'' w w'' run' e
 stop_sought r r' r'' w w' w'' run run' events end.Input same same' x s g = stop_input r r' r'' w w' w'' run run' events same same' x s.0 s.2 s.1 s.3 g
 stop_sought r r' r'' w w' w'' run run' events end.Output same same' x s g = stop_output r r' r'' w w' w'' run run' events same same' x s.1 s.0 s.2 g
 stop_sought r r' r'' w w' w'' run run' events end.Done same same' x s g = absurd s
@@ -200,28 +200,6 @@ stop_sought r r' r'' w w' w'' run run' events end.Memory same same' x s g = absu
 -- nothing was read
 pub unread : (l : Lines) (r : Reads) → HasReadOn l l r r
 unread l r = record { got = []; gave = sym (append-nil r.given); waits = sym (append-nil (waiting l)); format = refl; found = inl (refl, refl) }
-
--- a line was taken off the front
-pub go_take : (r r' : Reads) (w w' : Writes) (run run' : Run) (events : List Event) (n : ℕ) (line : List ℕ) → run'.callers ≡ run.callers → run'.terms ≡ run.terms → run'.output.pending.items ≡ run.output.pending.items
-    → waiting run'.lines ≡ drop n (waiting run.lines) → run'.lines.ended ≡ run.lines.ended → run'.lines.format ≡ run.lines.format → take n (waiting run.lines) ≡ line → IsGoing [] r r' w w' run events → IsGoing line r r' w w' run' events
-go_take r r' w w' run run' events n line same same' kept left found formed is g =
-    let text = script_text (calls_of events) in
-    let whole : waiting run.lines ≡ line ++ waiting run'.lines = sym (take-append-drop n (waiting run.lines)) ∙ (ap (λ (xs : List ℕ). xs ++ drop n (waiting run.lines)) is ∙ ap (λ (xs : List ℕ). line ++ xs) (sym left)) in
-    let s : IsGoing line r r' w w' (record run' { callers = run.callers; terms = run.terms }) events = record {
-      made = g.made;
-      first = g.first;
-      seats = g.seats;
-      in_range = g.in_range;
-      formatted = formed ∙ g.formatted;
-      read = g.read ∙ ap (λ (xs : List ℕ). r.given ++ (text ++ xs)) whole;
-      found = λ e. g.found (sym found ∙ e);
-      calls = g.calls;
-      out = g.out;
-      wrote = g.wrote;
-      keeps = ap (λ (xs : List ℕ). g.out ++ xs) kept ∙ g.keeps;
-      worked = g.worked;
-    } in
-    subst (λ (x : Callers × Terms). IsGoing line r r' w w' (record run' { callers = x.0; terms = x.1 }) events) (λ i. (sym same i, sym same' i)) s
 
 -- what a call adds to what was read
 record IsCalled (format : Format) (seats : ℕ) (events : List Event) (seat : ℕ) (cmd : Cmd) (event : Event) : Type 0 where
@@ -238,39 +216,47 @@ called format seats events seat cmd event there lawful by asked are =
       calls = subst (All (IsCall format seats)) (sym more) (All-append (IsCall format seats) (calls_of events) (call ∷ []) are (All-cons (IsCall format seats) call [] is (All-nil (IsCall format seats))));
     }
 
-called_read : (given given' text line waits text' : List ℕ) → given' ≡ given ++ (text ++ (line ++ waits)) → text' ≡ text ++ line → given' ≡ given ++ (text' ++ waits)
-called_read given given' text line waits text' read grown = read ∙ ap (λ (xs : List ℕ). given ++ xs) (sym (append_assoc text line waits) ∙ ap (λ (xs : List ℕ). xs ++ waits) (sym grown))
+-- a line at the front, and what waits behind it
+line_first : (n : ℕ) (waits line : List ℕ) → take n waits ≡ line → waits ≡ line ++ drop n waits
+line_first n waits line is = sym (take-append-drop n waits) ∙ ap (λ (xs : List ℕ). xs ++ drop n waits) is
 
--- a call was made, and its text is kept
-pub go_call : (r r' : Reads) (w w' : Writes) (run run' : Run) (events : List Event) (seat : ℕ) (cmd : Cmd) (event : Event) → seat < vec_len run.callers.seats → IsCommand run.terms.format cmd → event.seat ≡ seat → event.cmd ≡ cmd
-    → HasMade run'.callers.latest run'.callers.seats.items (events ++ event ∷ []) → run'.callers.db ≡ run.callers.db → vec_len run'.callers.seats ≡ vec_len run.callers.seats → run'.terms ≡ run.terms → run'.lines ≡ run.lines → run'.output.pending.items ≡ run.output.pending.items ++ event_text event
-    → IsGoing (command_line seat cmd) r r' w w' run events → IsGoing [] r r' w w' run' (events ++ event ∷ [])
-go_call r r' w w' run run' events seat cmd event there lawful by asked made db count same lines kept g =
+called_read : (given given' text waits line rest text' : List ℕ) → given' ≡ given ++ (text ++ waits) → waits ≡ line ++ rest → text' ≡ text ++ line → given' ≡ given ++ (text' ++ rest)
+called_read given given' text waits line rest text' read first grown =
+    read ∙ ap (λ (xs : List ℕ). given ++ xs) (ap (λ (xs : List ℕ). text ++ xs) first ∙ sym (append_assoc text line rest) ∙ ap (λ (xs : List ℕ). xs ++ rest) (sym grown))
+
+-- a call was made, its text is kept, and its line is taken off the front
+pub go_call : (r r' : Reads) (w w' : Writes) (run run' : Run) (events : List Event) (n seat : ℕ) (cmd : Cmd) (event : Event) → seat < vec_len run.callers.seats → IsCommand run.terms.format cmd → take n (waiting run.lines) ≡ command_line seat cmd → event.seat ≡ seat → event.cmd ≡ cmd
+    → HasMade run'.callers.latest run'.callers.seats.items (events ++ event ∷ []) → run'.callers.db ≡ run.callers.db → vec_len run'.callers.seats ≡ vec_len run.callers.seats → run'.terms ≡ run.terms
+    → waiting run'.lines ≡ drop n (waiting run.lines) → run'.lines.ended ≡ run.lines.ended → run'.lines.format ≡ run.lines.format → run'.output.pending.items ≡ run.output.pending.items ++ event_text event
+    → IsGoing r r' w w' run events → IsGoing r r' w w' run' (events ++ event ∷ [])
+go_call r r' w w' run run' events n seat cmd event there lawful spelled by asked made db count same left found formed kept g =
     let x = called run.terms.format run.terms.config.seats events seat cmd event (let q = g.seats in omega arith) lawful by asked g.calls in
-    let s : IsGoing [] r r' w w' (record run' { terms = run.terms; lines = run.lines }) (events ++ event ∷ []) = record {
+    let first : waiting run.lines ≡ command_line seat cmd ++ waiting run'.lines = line_first n (waiting run.lines) (command_line seat cmd) spelled ∙ ap (λ (xs : List ℕ). command_line seat cmd ++ xs) (sym left) in
+    let s : IsGoing r r' w w' (record run' { terms = run.terms }) (events ++ event ∷ []) = record {
       made = made;
       first = ap (λ d. d.lock.first) db ∙ g.first;
       seats = count ∙ g.seats;
       in_range = g.in_range;
-      formatted = g.formatted;
-      read = called_read r.given r'.given (script_text (calls_of events)) (command_line seat cmd) (waiting run.lines) (script_text (calls_of (events ++ event ∷ []))) g.read x.text;
-      found = g.found;
+      formatted = formed ∙ g.formatted;
+      read = called_read r.given r'.given (script_text (calls_of events)) (waiting run.lines) (command_line seat cmd) (waiting run'.lines) (script_text (calls_of (events ++ event ∷ []))) g.read first x.text;
+      found = λ e. g.found (sym found ∙ e);
       calls = x.calls;
       out = g.out;
       wrote = g.wrote;
       keeps = ap (λ (xs : List ℕ). g.out ++ xs) kept ∙ (sym (append_assoc g.out run.output.pending.items (event_text event)) ∙ (ap (λ (xs : List ℕ). xs ++ event_text event) g.keeps ∙ sym (events_more run.terms.format events event)));
       worked = g.worked;
     } in
-    subst (λ (x : Terms × Lines). IsGoing [] r r' w w' (record run' { terms = x.0; lines = x.1 }) (events ++ event ∷ [])) (λ i. (sym same i, sym lines i)) s
+    subst (λ (x : Terms). IsGoing r r' w w' (record run' { terms = x }) (events ++ event ∷ [])) (sym same) s
 
 -- a call was made, and its text can't be kept for want of memory
-pub stop_untold : (r r' : Reads) (w w' : Writes) (run run' : Run) (events : List Event) (seat : ℕ) (cmd : Cmd) (event : Event) → seat < vec_len run.callers.seats → IsCommand run.terms.format cmd → event.seat ≡ seat → event.cmd ≡ cmd
+pub stop_untold : (r r' : Reads) (w w' : Writes) (run run' : Run) (events : List Event) (n seat : ℕ) (cmd : Cmd) (event : Event) → seat < vec_len run.callers.seats → IsCommand run.terms.format cmd → take n (waiting run.lines) ≡ command_line seat cmd → event.seat ≡ seat → event.cmd ≡ cmd
     → HasMade run'.callers.latest run'.callers.seats.items (events ++ event ∷ []) → run'.callers.db ≡ run.callers.db → run'.terms ≡ run.terms → run'.output.pending.items ≡ run.output.pending.items
-    → IsGoing (command_line seat cmd) r r' w w' run events → IsStopped r r' w w' run' end.Memory
-stop_untold r r' w w' run run' events seat cmd event there lawful by asked made db same kept g =
+    → IsGoing r r' w w' run events → IsStopped r r' w w' run' end.Memory
+stop_untold r r' w w' run run' events n seat cmd event there lawful spelled by asked made db same kept g =
     let all = events ++ event ∷ [] in
+    let rest = drop n (waiting run.lines) in
     let x = called run.terms.format run.terms.config.seats events seat cmd event (let q = g.seats in omega arith) lawful by asked g.calls in
-    let input = script_text (calls_of all) ++ waiting run.lines in
+    let input = script_text (calls_of all) ++ rest in
     let told : g.out ++ run'.output.pending.items ≡ transcript_text run.terms.format events = ap (λ (xs : List ℕ). g.out ++ xs) kept ∙ g.keeps in
     let s : IsStopped r r' w w' (record run' { terms = run.terms }) end.Memory = record {
       events = all;
@@ -278,10 +264,10 @@ stop_untold r r' w w' run run' events seat cmd event there lawful by asked made 
       first = ap (λ d. d.lock.first) db ∙ g.first;
       in_range = g.in_range;
       input = input;
-      read = called_read r.given r'.given (script_text (calls_of events)) (command_line seat cmd) (waiting run.lines) (script_text (calls_of all)) g.read x.text;
+      read = called_read r.given r'.given (script_text (calls_of events)) (waiting run.lines) (command_line seat cmd) rest (script_text (calls_of all)) g.read (line_first n (waiting run.lines) (command_line seat cmd) spelled) x.text;
       out = g.out;
       wrote = g.wrote;
-      begins = scripts.begin_with run.terms.format run.terms.config.seats input (waiting run.lines) r'.ended (calls_of all) (few_seats run.terms.config g.in_range.0) x.calls refl;
+      begins = scripts.begin_with run.terms.format run.terms.config.seats input rest r'.ended (calls_of all) (few_seats run.terms.config g.in_range.0) x.calls refl;
       ends = inr (inr (events, event, refl, told));
       failed = g.worked;
     } in
@@ -295,17 +281,20 @@ calls_length (e ∷ events) = let q = calls_length events in omega arith
 told_with : (out pending last text : List ℕ) → out ++ pending ≡ text → out ++ (pending ++ last) ≡ text ++ last
 told_with out pending last text told = sym (append_assoc out pending last) ∙ ap (λ (xs : List ℕ). xs ++ last) told
 
--- no position is left for the line ahead
-pub stop_spent : (r r' : Reads) (w w' : Writes) (run run' : Run) (events : List Event) (line seat : ℕ) (cmd : Cmd) → seat < vec_len run.callers.seats → IsCommand run.terms.format cmd → HasMade run'.callers.latest run'.callers.seats.items events → HasSpent run'.callers.seats.items → run'.callers.db ≡ run.callers.db
-    → run'.terms ≡ run.terms → run'.output.pending.items ≡ run.output.pending.items → line ≡ length events + 1 → IsGoing (command_line seat cmd) r r' w w' run events → IsStopped r r' w w' run' (end.Spent line)
-stop_spent r r' w w' run run' events line seat cmd there lawful made spent db same kept numbered g =
+-- no position is left for the line at the front
+pub stop_spent : (r r' : Reads) (w w' : Writes) (run run' : Run) (events : List Event) (n line seat : ℕ) (cmd : Cmd) → seat < vec_len run.callers.seats → IsCommand run.terms.format cmd → take n (waiting run.lines) ≡ command_line seat cmd
+    → HasMade run'.callers.latest run'.callers.seats.items events → HasSpent run'.callers.seats.items → run'.callers.db ≡ run.callers.db → run'.terms ≡ run.terms → run'.output.pending.items ≡ run.output.pending.items → line ≡ length events + 1
+    → IsGoing r r' w w' run events → IsStopped r r' w w' run' (end.Spent line)
+stop_spent r r' w w' run run' events n line seat cmd there lawful spelled made spent db same kept numbered g =
     let call : ℕ × Cmd = (seat, cmd) in
     let calls = calls_of events ++ call ∷ [] in
+    let rest = drop n (waiting run.lines) in
     let few = few_seats run.terms.config g.in_range.0 in
     let is : IsCall run.terms.format run.terms.config.seats call = ((let q = g.seats in omega arith), lawful) in
     let are : All (IsCall run.terms.format run.terms.config.seats) calls = All-append (IsCall run.terms.format run.terms.config.seats) (calls_of events) (call ∷ []) g.calls (All-cons (IsCall run.terms.format run.terms.config.seats) call [] is (All-nil (IsCall run.terms.format run.terms.config.seats))) in
-    let input = script_text (calls_of events) ++ (command_line seat cmd ++ waiting run.lines) in
-    let with_call : input ≡ script_text calls ++ waiting run.lines = sym (append_assoc (script_text (calls_of events)) (command_line seat cmd) (waiting run.lines)) ∙ ap (λ (xs : List ℕ). xs ++ waiting run.lines) (sym (scripts.text_more (calls_of events) call)) in
+    let input = script_text (calls_of events) ++ waiting run.lines in
+    let with_call : input ≡ script_text calls ++ rest =
+    ap (λ (xs : List ℕ). script_text (calls_of events) ++ xs) (line_first n (waiting run.lines) (command_line seat cmd) spelled) ∙ sym (append_assoc (script_text (calls_of events)) (command_line seat cmd) rest) ∙ ap (λ (xs : List ℕ). xs ++ rest) (sym (scripts.text_more (calls_of events) call)) in
     let s : IsStopped r r' w w' (record run' { terms = run.terms }) (end.Spent line) = record {
       events = events;
       made = made;
@@ -315,9 +304,9 @@ stop_spent r r' w w' run run' events line seat cmd there lawful made spent db sa
       read = g.read;
       out = g.out;
       wrote = g.wrote;
-      begins = scripts.begin_with run.terms.format run.terms.config.seats input (command_line seat cmd ++ waiting run.lines) r'.ended (calls_of events) few g.calls refl;
+      begins = scripts.begin_with run.terms.format run.terms.config.seats input (waiting run.lines) r'.ended (calls_of events) few g.calls refl;
       ends = (
-        record { all = spent; numbered = (let q = calls_length events in omega arith); call = call; next = scripts.begin_with run.terms.format run.terms.config.seats input (waiting run.lines) r'.ended calls few are with_call },
+        record { all = spent; numbered = (let q = calls_length events in omega arith); call = call; next = scripts.begin_with run.terms.format run.terms.config.seats input rest r'.ended calls few are with_call },
         told_with g.out run'.output.pending.items (spent_line line) (transcript_text run.terms.format events) (ap (λ (xs : List ℕ). g.out ++ xs) kept ∙ g.keeps),
       );
       failed = g.worked;
@@ -326,12 +315,12 @@ stop_spent r r' w w' run run' events line seat cmd there lawful made spent db sa
 
 -- a line is faulty
 pub stop_fault : (r r' : Reads) (w w' : Writes) (run : Run) (events : List Event) (n line : ℕ) (f : LineFault) → n ≤ length (waiting run.lines) → IsLine run.lines n → command_at run.terms.format table (vec_len run.callers.seats) (take n (waiting run.lines)) ≡ Err f → line ≡ length events + 1
-    → IsGoing [] r r' w w' run events → IsStopped r r' w w' run (end.Fault line f)
+    → IsGoing r r' w w' run events → IsStopped r r' w w' run (end.Fault line f)
 stop_fault r r' w w' run events n line f within at e numbered g =
     let input = script_text (calls_of events) ++ waiting run.lines in
     let few = few_seats run.terms.config g.in_range.0 in
     let e' : command_at run.terms.format table run.terms.config.seats (take n (waiting run.lines)) ≡ Err f = ap (λ (k : ℕ). command_at run.terms.format table k (take n (waiting run.lines))) (sym g.seats) ∙ e in
-    stop [] r r' w w' run events (end.Fault line f) g g.worked (
+    stop r r' w w' run events (end.Fault line f) g g.worked (
       scripts.end_with run.terms.format run.terms.config.seats n line input run.lines r'.ended (calls_of events) f g.formatted few g.calls refl g.found within at e' (let q = calls_length events in omega arith),
       told_with g.out run.output.pending.items (fault_line line f) (transcript_text run.terms.format events) g.keeps,
     )

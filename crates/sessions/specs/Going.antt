@@ -17,15 +17,15 @@ use Rattle.sessions.specs.Waiting.{waiting}
 use Rattle.sessions.specs.Made.{HasMade, HasSpent}
 use Rattle.sessions.specs.Runs.{calls_of, BeginWith, EndsBy, FailsBy, IsServed}
 
--- What was read is the lines of the calls made, perhaps one line ahead, and what waits. What was
--- written and what waits to be is the transcript of the events. No read and no write has failed.
-pub record IsGoing (ahead : List ℕ) (r r' : Reads) (w w' : Writes) (run : Run) (events : List Event) : Type 0 where
+-- What was read is the lines of the calls made, and what waits. What was written and what waits to be is
+-- the transcript of the events. No read and no write has failed.
+pub record IsGoing (r r' : Reads) (w w' : Writes) (run : Run) (events : List Event) : Type 0 where
   pub made : HasMade run.callers.latest run.callers.seats.items events
   pub first : first_of run.callers.db ≡ run.terms.config.first
   pub seats : vec_len run.callers.seats ≡ run.terms.config.seats
   pub in_range : SeatsInRange run.terms.config × RingInRange run.terms.config
   pub formatted : run.lines.format ≡ run.terms.format
-  pub read : r'.given ≡ r.given ++ (script_text (calls_of events) ++ (ahead ++ waiting run.lines))
+  pub read : r'.given ≡ r.given ++ (script_text (calls_of events) ++ waiting run.lines)
   pub found : run.lines.ended ≡ true → r'.ended ≡ true
   pub calls : All (IsCall run.terms.format run.terms.config.seats) (calls_of events)
   pub out : List ℕ
@@ -70,31 +70,27 @@ pub record IsFresh (run : Run) : Type 0 where
   pub open_ended : run.lines.ended ≡ false
   pub pending : run.output.pending.items ≡ header run.terms.format
 
--- a line is taken off the front
-abbrev pub TakesLine : Run → Run → List ℕ → Type 0
-TakesLine run run' line = (r r' : Reads) (w w' : Writes) (events : List Event) → IsGoing [] r r' w w' run events → IsGoing line r r' w w' run' events
+-- a call is made, and one event is more
+abbrev pub MakesCall : Run → Run → Type 0
+MakesCall run run' =
+    (r r' : Reads) (w w' : Writes) (events : List Event) → IsGoing r r' w w' run events
+    → (event : Event) × IsGoing r r' w w' run' (events ++ event ∷ [])
 
--- the call of the line ahead is made, and one event is more
-abbrev pub MakesCall : Run → Run → List ℕ → Type 0
-MakesCall run run' line =
-    (r r' : Reads) (w w' : Writes) (events : List Event) → IsGoing line r r' w w' run events
-    → (event : Event) × IsGoing [] r r' w w' run' (events ++ event ∷ [])
-
--- with a line ahead, of this number, a run that was going stops without a read or a write
-abbrev pub StopsBefore : Run → Run → List ℕ → ℕ → ServeEnd → Type 0
-StopsBefore run run' line number end =
-    (r r' : Reads) (w w' : Writes) (events : List Event) → number ≡ length events + 1 → IsGoing line r r' w w' run events → IsStopped r r' w w' run' end
+-- at the line of this number a run that was going stops without a read or a write
+abbrev pub StopsBefore : Run → Run → ℕ → ServeEnd → Type 0
+StopsBefore run run' number end =
+    (r r' : Reads) (w w' : Writes) (events : List Event) → number ≡ length events + 1 → IsGoing r r' w w' run events → IsStopped r r' w w' run' end
 
 -- the line of this number is called, and its event is kept or written
 abbrev pub CallsLine : Run → Run → ℕ → Writes → Writes → Type 0
 CallsLine run run' number w' w'' =
-    (r r' : Reads) (w : Writes) (events : List Event) → number ≡ length events + 1 → IsGoing [] r r' w w' run events
-    → (event : Event) × IsGoing [] r r' w w'' run' (events ++ event ∷ [])
+    (r r' : Reads) (w : Writes) (events : List Event) → number ≡ length events + 1 → IsGoing r r' w w' run events
+    → (event : Event) × IsGoing r r' w w'' run' (events ++ event ∷ [])
 
 -- at the line of this number a run that was going stops
 abbrev pub StopsAtLine : Run → Run → ℕ → Writes → Writes → ServeEnd → Type 0
 StopsAtLine run run' number w' w'' end =
-    (r r' : Reads) (w : Writes) (events : List Event) → number ≡ length events + 1 → IsGoing [] r r' w w' run events → IsStopped r r' w w'' run' end
+    (r r' : Reads) (w : Writes) (events : List Event) → number ≡ length events + 1 → IsGoing r r' w w' run events → IsStopped r r' w w'' run' end
 
 -- a run that had stopped so has been served by this end
 abbrev pub ServesAs : Run → ServeEnd → Writes → Writes → ServeEnd → Type 0

@@ -2,13 +2,14 @@
 //!
 //! ```text
 //! let mut output = Output::new(alloc)?;    waits: nothing
-//! output.keep_event(&event)?               waits: 0 0 begin 10 => started\n
+//! output.keep_echo(line, &event)?          waits: 0 0 begin 10 => started\n
 //! output.keep(b"resolved 5\n")?            waits: 0 0 begin 10 => started\nresolved 5\n
 //! output.write_full(sink)?                 as before: it is less than 65536 bytes
 //! output.write_out(sink)?                  waits: nothing
 //! output.write_last(sink, b"spent 2\n")?   waits: nothing, and the line is written
 //! ```
 ghost use Rattle.std.specs.Prelude.{◌≡◌, ◌<◌, ◌++◌, [], length, IfOk, OnOk, OnErr};
+ghost use Rattle.word_lines.specs.Commands.{command_line};
 ghost use Rattle.word_lines.specs.Events.{event_text};
 ghost use Rattle.sessions.specs.Writing.{pending_of, HasWritten};
 
@@ -16,7 +17,7 @@ use crate::sink::{Sink, WriteFailed};
 use crate::whole::write_whole;
 use spans::calls::Event;
 use std::alloc::{AllocError, Global};
-use word_lines::events::write_event;
+use word_lines::events::{write_echo, write_event};
 
 /// How many bytes are kept before they are written.
 pub(crate) const BLOCK: usize = 65536;
@@ -50,6 +51,16 @@ impl Output {
         ensures err { OnErr result (pending_of self.new ≡ pending_of self.old) }
     {
         write_event(&mut self.pending, event)
+    }
+
+    /// Keeps the text of an event whose command was read from a line, as it stands there. Where memory is wanted, none
+    /// of it.
+    pub fn keep_echo(&mut self, line: &[u8], event: &Event) -> Result<(), AllocError>
+        requires { line.now ≡ command_line event.now.seat event.now.cmd }
+        ensures ok { OnOk result (pending_of self.new ≡ pending_of self.old ++ event_text event.now) }
+        ensures err { OnErr result (pending_of self.new ≡ pending_of self.old) }
+    {
+        write_echo(&mut self.pending, line, event)
     }
 
     /// Writes what waits where that is a block or more, as `write_out` does.

@@ -1,5 +1,5 @@
 //! Serving a script: its calls are made in their order, and what happened is written.
-ghost use Rattle.std.specs.Prelude.{◌≡◌, ◌<◌, ◌≤◌, [], ℕ, vec_len, length, IfOk, IfErr, OnOk};
+ghost use Rattle.std.specs.Prelude.{◌≡◌, ◌<◌, ◌≤◌, ℕ, vec_len, length, take, IfOk, IfErr, OnOk};
 ghost use Rattle.word_lines.specs.Commands.{command_line};
 ghost use Rattle.word_lines.specs.Limits.{IsCommand};
 ghost use Rattle.sessions.specs.Runs.{IsServed};
@@ -68,7 +68,7 @@ struct Run {
 
 impl Run {
     ghost use Rattle.sessions.specs.Waiting.{waiting, IsLine};
-    ghost use Rattle.sessions.specs.Going.{IsStopped, IsFresh, IsRefused, TakesLine, MakesCall, StopsBefore, CallsLine, StopsAtLine, ServesAs, end_of};
+    ghost use Rattle.sessions.specs.Going.{IsStopped, IsFresh, IsRefused, MakesCall, StopsBefore, CallsLine, StopsAtLine, ServesAs, end_of};
 
     fn begin(alloc: Global, terms: Terms) -> Result<Run, ServeEnd>
         ensures ok { IfOk result (λ run. IsFresh run × (run.terms ≡ terms)) }
@@ -132,23 +132,23 @@ impl Run {
         ensures ok { OnOk result (CallsLine self.old self.new number (K.writes output.old) (K.writes output.new)) }
         ensures err { IfErr result (StopsAtLine self.old self.new number (K.writes output.old) (K.writes output.new)) }
     {
-        let seat = self.take(number, count, &mut event.cmd)?;
-        self.call(rt, number, seat, event)?;
+        let seat = self.read(number, count, &mut event.cmd)?;
+        self.call(rt, number, count, seat, event)?;
         // a large reply doesn't wait with the next read
         event.reply = Reply::Started;
         self.output.write_full(output)?;
         Ok(())
     }
 
-    /// Takes the call of a line: it tells the seat, and writes the command over another.
+    /// Reads the call of a line, which stays: it tells the seat, and writes the command over another.
     #[inline(always)]
-    fn take(&mut self, number: u64, count: usize, cmd: &mut Cmd) -> Result<u8, ServeEnd>
-        requires within { count ≤ length (waiting self.old.lines) }
-        requires line { IsLine self.old.lines count }
-        ensures terms { self.new.terms ≡ self.old.terms }
-        ensures there { IfOk result (λ seat. seat < vec_len self.new.callers.seats) }
-        ensures ok { IfOk result (λ seat. IsCommand self.old.terms.format cmd.new × TakesLine self.old self.new (command_line seat cmd.new)) }
-        ensures err { IfErr result (StopsBefore self.old self.new [] number) }
+    fn read(&self, number: u64, count: usize, cmd: &mut Cmd) -> Result<u8, ServeEnd>
+        requires within { count ≤ length (waiting self.now.lines) }
+        requires line { IsLine self.now.lines count }
+        ensures there { IfOk result (λ seat. seat < vec_len self.now.callers.seats) }
+        ensures lawful { IfOk result (λ seat. IsCommand self.now.terms.format cmd.new) }
+        ensures spelled { IfOk result (λ seat. take count (waiting self.now.lines) ≡ command_line seat cmd.new) }
+        ensures err { IfErr result (StopsBefore self.now self.now number) }
     {
         match read_command(
             self.alloc,
@@ -158,7 +158,6 @@ impl Run {
         ) {
             Ok((seat, read)) => {
                 *cmd = read;
-                self.lines.advance(count);
                 Ok(seat)
             }
             Err(ReadError::NoMemory) => Err(ServeEnd::Memory),
@@ -169,24 +168,28 @@ impl Run {
         }
     }
 
-    /// Makes the call of an event's command, and keeps the event to be written.
+    /// Makes the call of a line, whose command the event has, and keeps the event to be written, the line as it stands.
     #[inline(always)]
     fn call<T: Wait>(
         &mut self,
         rt: &T,
         number: u64,
+        count: usize,
         seat: u8,
         event: &mut Event,
     ) -> Result<(), ServeEnd>
+        requires within { count ≤ length (waiting self.old.lines) }
         requires there { seat < vec_len self.old.callers.seats }
         requires lawful { IsCommand self.old.terms.format event.old.cmd }
+        requires spelled { take count (waiting self.old.lines) ≡ command_line seat event.old.cmd }
         ensures terms { self.new.terms ≡ self.old.terms }
-        ensures ok { OnOk result (MakesCall self.old self.new (command_line seat event.old.cmd)) }
-        ensures err { IfErr result (StopsBefore self.old self.new (command_line seat event.old.cmd) number) }
+        ensures ok { OnOk result (MakesCall self.old self.new) }
+        ensures err { IfErr result (StopsBefore self.old self.new number) }
     {
         match self.callers.call(rt, seat, event) {
             Ok(()) => {
-                self.output.keep_event(event)?;
+                self.output.keep_echo(self.lines.line(count), event)?;
+                self.lines.advance(count);
                 Ok(())
             }
             Err(_) => Err(ServeEnd::Spent { line: number }),

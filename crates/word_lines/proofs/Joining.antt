@@ -1,6 +1,6 @@
 -- Words with one space between two.
-use Rattle.std.proofs.Common.{◌≡◌, ℕ, ◌<◌, List, [], ◌∷◌, ◌++◌, length, refl, ap, ◌∙◌, sym, append_assoc, Some, None, arith}
-use Rattle.std.proofs.lemmas.List.{length-append}
+use Rattle.std.proofs.Common.{◌≡◌, ℕ, ◌+◌, ◌-◌, ◌<◌, ◌≤◌, List, [], ◌∷◌, ◌++◌, length, take, refl, ap, ◌∙◌, sym, append_assoc, Some, None, arith}
+use Rattle.std.proofs.lemmas.List.{length-append, take_at}
 use Rattle.std.specs.Prelude.{codes, decimal}
 use Rattle.spans.specs.declared.calls.commands.Cmd.{Cmd}
 use Rattle.spans.specs.declared.calls.commands.Cmd.TheVariants as cmd
@@ -112,3 +112,26 @@ event_written out a b c d e f p s cmd r ea eb ec ed ee ef =
     let whole : f ≡ (((((out ++ p) ++ 32 ∷ []) ++ s) ++ words) ++ codes " => ") ++ (joined (reply_words r) ++ tail) =
     ef ∙ ap (λ (x : List ℕ). x ++ reply_text r) (ee ∙ ap (λ (x : List ℕ). x ++ codes " => ") (ed ∙ ap (λ (x : List ℕ). x ++ words) (ec ∙ ap (λ (x : List ℕ). x ++ s) (eb ∙ ap (λ (x : List ℕ). x ++ 32 ∷ []) ea)))) in
     whole ∙ regroup out p (32 ∷ []) s words (codes " => ") (joined (reply_words r)) tail ∙ ap (λ (x : List ℕ). out ++ (x ++ tail)) (sym (event_in_pieces p s cmd r))
+
+-- a command's line is its text and a newline
+pub line_length : (line : List ℕ) (seat : ℕ) (cmd : Cmd) → line ≡ command_line seat cmd → length line ≡ length (joined (decimal seat ∷ words_of cmd)) + 1
+line_length line seat cmd is = ap length is ∙ length-append (joined (decimal seat ∷ words_of cmd)) (10 ∷ [])
+
+pub some_line : (line : List ℕ) (seat : ℕ) (cmd : Cmd) → line ≡ command_line seat cmd → 1 ≤ length line
+some_line line seat cmd is = omega (arith, line_length line seat cmd is)
+
+-- the text of a line is its session and its command's words
+text_of_line : (line : List ℕ) (seat : ℕ) (cmd : Cmd) → line ≡ command_line seat cmd → take (length line - 1) line ≡ decimal seat ++ 32 ∷ joined (words_of cmd)
+text_of_line line seat cmd is =
+    let text = joined (decimal seat ∷ words_of cmd) in
+    let before : length text ≡ length line - 1 = omega (arith, line_length line seat cmd is) in
+    ap (take (length line - 1)) is ∙ take_at text (10 ∷ []) (length line - 1) before ∙ joined_more (decimal seat) (words_of cmd) (some_words cmd)
+
+-- an event whose line was written as it stands
+pub echo_written : (out a b c d e p line text : List ℕ) (seat : ℕ) (cmd : Cmd) (r : Reply) → line ≡ command_line seat cmd → text ≡ take (length line - 1) line
+    → a ≡ out ++ p → b ≡ a ++ 32 ∷ [] → c ≡ b ++ text → d ≡ c ++ codes " => " → e ≡ d ++ reply_text r
+    → e ≡ out ++ (joined (p ∷ decimal seat ∷ (words_of cmd ++ codes "=>" ∷ reply_words r)) ++ 10 ∷ following_lines r)
+echo_written out a b c d e p line text seat cmd r is cut ea eb ec ed ee =
+    let words = 32 ∷ joined (words_of cmd) in
+    let spelled : c ≡ (b ++ decimal seat) ++ words = ec ∙ ap (λ (x : List ℕ). b ++ x) (cut ∙ text_of_line line seat cmd is) ∙ sym (append_assoc b (decimal seat) words) in
+    event_written out a b (b ++ decimal seat) c d e p (decimal seat) cmd r ea eb refl spelled ed ee

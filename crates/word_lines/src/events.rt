@@ -2,6 +2,7 @@
 
 ghost use Rattle.std.specs.Prelude.{◌≡◌, ◌+◌, ◌++◌, ◌<◌, vec_len, vec_capacity, OnOk, OnErr};
 ghost use Rattle.word_lines.specs.Writing.{Keeps};
+ghost use Rattle.word_lines.specs.Commands.{command_line};
 ghost use Rattle.word_lines.specs.Events.{event_text, fault_line, spent_line};
 
 use crate::buffer::or_undo;
@@ -37,6 +38,34 @@ fn put_event(out: &mut Vec<u8>, event: &Event) -> Result<(), AllocError>
     out.push(b' ')?;
     put_number(out, u64::from(event.seat))?;
     put_words(out, &event.cmd)?;
+    out.extend_from_slice(b" => ")?;
+    put_reply(out, &event.reply)?;
+    Ok(())
+}
+
+/// Writes an event whose command was read from a line: the line is written as it stands, and not spelled anew.
+/// After an error it is as it was.
+#[tactic(auto, using(crate::proofs::Writing::undone))]
+pub fn write_echo(out: &mut Vec<u8>, line: &[u8], event: &Event) -> Result<(), AllocError>
+    requires { line.now ≡ command_line event.now.seat event.now.cmd }
+    ensures ok { OnOk result (out.new.items ≡ out.old.items ++ event_text event.now) }
+    ensures err { OnErr result (out.new.items ≡ out.old.items) }
+{
+    let length_before = out.len();
+    let written = put_echo(out, line, event);
+    or_undo(out, length_before, written)
+}
+
+#[tactic(auto, using(crate::proofs::Writing::keeping))]
+fn put_echo(out: &mut Vec<u8>, line: &[u8], event: &Event) -> Result<(), AllocError>
+    requires { line.now ≡ command_line event.now.seat event.now.cmd }
+    ensures ok { OnOk result (out.new.items ≡ out.old.items ++ event_text event.now) }
+    ensures err { OnErr result (Keeps out.old.items out.new.items) }
+{
+    let text = &line[..line.len() - 1];
+    put_number(out, event.position)?;
+    out.push(b' ')?;
+    out.extend_from_slice(text)?;
     out.extend_from_slice(b" => ")?;
     put_reply(out, &event.reply)?;
     Ok(())

@@ -18,7 +18,8 @@
 //! - `read_command`: O(b); each byte is looked at twice, as words are cut and read. Those of a faulty line are looked
 //!   at again, for the first fault
 //! - `take_seat`, `take_form`, `take_arguments`: the bytes of their words, twice
-//! - `write_command`, `write_reply`, `write_event`, `write_fault`, `write_spent`: O(b), for the lines that they write
+//! - `write_command`, `write_reply`, `write_event`, `write_echo`, `write_fault`, `write_spent`: O(b), for the lines that
+//!   they write
 //!
 //! A reader takes the words of a line that it is lent, and takes memory for keys, values and bounds alone. A writer
 //! pushes into the caller's buffer, takes memory where that has to grow, and where it finds none leaves that as it was.

@@ -5,19 +5,20 @@ use json_lines::{MessageFault, read_message, write_message, write_message_line};
 use script::fault::TranscriptError;
 use script::scripts::read_script;
 use script::transcripts::read_transcript;
-use spans::calls::Message;
+use spans::calls::{Event, Message};
 use std::alloc::{AllocError, Global};
 use text_format::Format;
 use timestamps::key::Key;
 use timestamps::row::Row;
 use timestamps::ts::Ts;
 use word_lines::commands::{read_command, write_command};
-use word_lines::events::write_event;
+use word_lines::events::{write_echo, write_event};
 use word_lines::fault::ReadError;
 use word_lines::spelling::{bytes_of, put_spelling};
 
 /// The line and the code of a text's fault; 0 and 0 where it is read and comes back, 0 and 101 where it comes back as
-/// another, and 0 and 100 for want of memory.
+/// another, 0 and 102 where its events come back as others by the lines of their commands, and 0 and 100 for want of
+/// memory.
 pub(super) type Told = (u64, u8);
 
 /// Whether a text is read as its row says.
@@ -100,13 +101,26 @@ fn of_transcript(alloc: Global, text: &[u8], format: Format) -> Told {
         Err(error) => told_of_lines(error),
         Ok(events) => {
             let mut out = Vec::new(alloc);
+            let mut echoed = Vec::new(alloc);
             let _ = out.extend_from_slice(format.header());
+            let _ = echoed.extend_from_slice(format.header());
             for event in &events {
                 let _ = write_event(&mut out, event);
+                let _ = echo(alloc, &mut echoed, event);
+            }
+            if echoed.as_slice() != text {
+                return (0, 102);
             }
             told_back(&out, text)
         }
     }
+}
+
+/// Writes an event by the line of its command.
+fn echo(alloc: Global, out: &mut Vec<u8>, event: &Event) -> Result<(), AllocError> {
+    let mut line = Vec::new(alloc);
+    write_command(&mut line, event.seat, &event.cmd)?;
+    write_echo(out, &line, event)
 }
 
 pub(super) fn of_message(alloc: Global, line: &[u8], format: Format) -> Told {

@@ -18,6 +18,9 @@ returns-clause-made c h held =
       text = c.keep.ensures.text;
     }
 
+pub returns-clause-kept : goal.returns-clause-kept
+returns-clause-kept c = (c.keep.ensures.text, (event c.steps-position.result c.args.seat c.args.cmd c.step-reply.result, c.keep.ensures.last, refl, refl))
+
 pub returns-clause-reads : goal.returns-clause-reads
 returns-clause-reads c = λ (e, last, bulk).
     let kept : Event = event c.steps-position.result c.args.seat c.args.cmd c.step-reply.result in

@@ -12,18 +12,18 @@ pub returns-in_err-call-clause-err : goal.returns-in_err-call-clause-err
 returns-in_err-call-clause-err g c =
     let p = err_from_is_err_and c.from_residual-in_err-call.result c.from_residual-in_err-call.ensures.1 in
     rw (p.1, p.2) (λ r r' w events numbered h. let w' = g.K.Sink.writes c.args.output.now in
-    c.in_err-call.ensures.err r r' w w' events numbered (c.in_ok-seat.ensures.ok.1 r r' w w' events h))
+    c.in_err-call.ensures.err r r' w w' events numbered h)
 
 pub returns-clause-ok : goal.returns-clause-ok
 returns-clause-ok g c = λ r r' w events numbered h. let w' = g.K.Sink.writes c.args.output.now in
-    let made = c.in_ok-call.ensures.ok r r' w w' events (c.in_ok-seat.ensures.ok.1 r r' w w' events h) in
+    let made = c.in_ok-call.ensures.ok r r' w w' events h in
     let k = c.in_ok-write_full.ensures.written in
-    (made.0, go_on [] r r' r' w w' (g.K.Sink.writes c.write_full.new.sink) c.call.new.self _ (events ++ made.0 ∷ []) refl refl refl made.1.read made.1.found refl k.0 k.1 made.1)
+    (made.0, go_on r r' r' w w' (g.K.Sink.writes c.write_full.new.sink) c.call.new.self _ (events ++ made.0 ∷ []) refl refl refl made.1.read made.1.found refl k.0 k.1 made.1)
 
 pub returns-in_err-write_full-clause-err : goal.returns-in_err-write_full-clause-err
 returns-in_err-write_full-clause-err g c =
     let p = err_from_is_err_and c.from_residual-in_err-write_full.result c.from_residual-in_err-write_full.ensures.1 in
     rw (p.1, p.2) (λ r r' w events numbered h. let w' = g.K.Sink.writes c.args.output.now in
-    let made = c.in_ok-call.ensures.ok r r' w w' events (c.in_ok-seat.ensures.ok.1 r r' w w' events h) in
+    let made = c.in_ok-call.ensures.ok r r' w w' events h in
     let k = c.in_err-write_full.ensures.written in
     stop_output r r' r' w w' (g.K.Sink.writes c.write_full.new.sink) c.call.new.self _ (events ++ made.0 ∷ []) refl refl (unread c.call.new.self.lines r') refl k.0 k.1 made.1)

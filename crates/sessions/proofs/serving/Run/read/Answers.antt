@@ -4,7 +4,7 @@ use Rattle.word_lines.specs.Reading.{command_at}
 use Rattle.word_lines.specs.Table.{table}
 use Rattle.sessions.specs.Waiting.{waiting}
 use Rattle.sessions.proofs.Steps.{stop_memory, stop_fault}
-use Rattle.sessions.proofs.serving.Run.take.Goals as goal
+use Rattle.sessions.proofs.serving.Run.read.Goals as goal
 
 pub returns-in-Err-NoMemory-clause-err : goal.returns-in-Err-NoMemory-clause-err
 returns-in-Err-NoMemory-clause-err c = λ r r' w w' events numbered h.
