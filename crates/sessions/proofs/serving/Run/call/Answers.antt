@@ -4,8 +4,8 @@ use Rattle.word_lines.specs.Commands.{command_line}
 use Rattle.sessions.proofs.Steps.{go_call, stop_untold, stop_spent}
 use Rattle.sessions.proofs.serving.Run.call.Goals as goal
 
-pub keep_echo-requires-in-Ok : goal.keep_echo-requires-in-Ok
-keep_echo-requires-in-Ok g c = let k = c.in-Ok.ensures in c.line.ensures ∙ c.requires.spelled ∙ sym (λ i. command_line (k.event.0 i) (k.event.1 i))
+pub keep_echo-requires : goal.keep_echo-requires
+keep_echo-requires g c = let k = c.in-Ok.ensures in c.line.ensures ∙ c.requires.spelled ∙ sym (λ i. command_line (k.event.0 i) (k.event.1 i))
 
 pub returns-in_ok-keep_echo-in-Ok-clause-ok : goal.returns-in_ok-keep_echo-in-Ok-clause-ok
 returns-in_ok-keep_echo-in-Ok-clause-ok g c = λ r r' w w' events h. let k = c.in-Ok.ensures in let left = c.advance.ensures in
