@@ -98,7 +98,8 @@ enum {
     // Its text may want memory as well, as any text: see RIPSAWBEAN_UNWRITTEN.
     RIPSAWBEAN_NOMEMORY = 12,
     RIPSAWBEAN_SPENT = 13,     // no position is left after 18446744073709551615 calls: no call was made. A fault is told first
-    RIPSAWBEAN_UNWRITTEN = 14, // the call was made, or had been; its text, or a poll's messages, found no memory. Ask again
+    RIPSAWBEAN_UNWRITTEN = 14, // the call was made, or had been; its text, or a poll's messages, found no memory. Ask again.
+                               // Of ripsawbean_dump: the next lines have no room
     RIPSAWBEAN_RING = 15,      // the ring is not 1 to 65536
     RIPSAWBEAN_CLOSED = 16,    // the handle is closed
     RIPSAWBEAN_OPEN = 17,      // the handle is open already
@@ -480,6 +481,39 @@ enum { RIPSAWBEAN_HELD_TRANSACTION = 1, RIPSAWBEAN_HELD_FEED = 2, RIPSAWBEAN_HEL
 //     RIPSAWBEAN_NOMEMORY, RIPSAWBEAN_CLOSED
 //                          *count is 0 and out is as it was
 uint8_t ripsawbean_held_by(ripsawbean *db, uint8_t seat, ripsawbean_held *out, size_t room, size_t *count);
+
+// ---- A DUMP: the database as a script that rebuilds it, piece by piece: the bytes that `mvfeed dump` writes of its
+// transcript. Calls may be made between two pieces.
+//
+//     ripsawbean_dump_place place = {0};
+//     uint8_t key[RIPSAWBEAN_MAX_KEY], out[1 << 20];
+//     size_t length;
+//     while (ripsawbean_dump(&db, 0, UINT64_MAX, &place, key, sizeof key, out, sizeof out, &length) == RIPSAWBEAN_OK && !place.ended)
+//         fwrite(out, 1, length, file);
+//     // behind RIPSAWBEAN_OK the last piece is in out as well
+
+// Where a dump has come to. It begins at a place that is all 0.
+typedef struct {
+    uint64_t timestamp; // of the row that was written last
+    size_t key;         // the length of that row's key, in the key buffer; 0: all rows of the timestamp were written
+    uint8_t ended;      // 1 where the dump has ended
+} ripsawbean_dump_place;
+
+// Shows a piece of the dump that rebuilds the database as it is now: the lines of as many rows behind the place as have
+// room. The dump closes at the greatest of `at`, the closed timestamp and all that began: `at` is 0, or what `mvfeed dump
+// --at` is given. A piece goes only to `through`: UINT64_MAX, or a timestamp, and where nothing more is left up to there,
+// the place is that of all its rows. docs/EMBEDDING.md says how to make calls between two pieces.
+//
+//     RIPSAWBEAN_OK         out begins with the piece, of *length bytes, and *place and key tell where the next one begins.
+//                           At a place where the dump has ended nothing is shown, and it stays so
+//     RIPSAWBEAN_NUMBER     at is above RIPSAWBEAN_MAX_TIMESTAMP
+//     RIPSAWBEAN_KEYLENGTH  key has room for fewer than RIPSAWBEAN_MAX_KEY bytes, or the place tells of more
+//     RIPSAWBEAN_UNWRITTEN  the next lines want *length bytes, which are at most RIPSAWBEAN_MAX_LINE
+//     RIPSAWBEAN_NOMEMORY, RIPSAWBEAN_CLOSED
+//
+// At all but the first *place, key and out are as they were, and *length is 0 but where they want room. They share no byte.
+uint8_t ripsawbean_dump(ripsawbean *db, uint64_t at, uint64_t through, ripsawbean_dump_place *place, uint8_t *key, size_t key_room,
+                        uint8_t *out, size_t room, size_t *length);
 
 // ---- A REPLICA: the rows of one feed's span, kept by its messages. It stands beside a database, which may be another
 // process's: nothing but lines goes in. What is said above of the handle, of pointers, threads and memory holds of it

@@ -111,6 +111,20 @@ class Refusals(unittest.TestCase):
                 before += 1
             self.assertEqual(kinds, {ripsawbean.NoMemory, list})
 
+    def test_each_growth_of_a_dump(self):
+        with Database() as db:
+            before, kinds, was_refused = 0, set(), True
+            for line in ("0 begin 1", "0 put 1 %s %s" % ("k" * 30, "v" * 30), "0 del 1 a", "0 commit 1"):
+                db.call(line + "\n")
+            whole = b"".join(db.dump())
+            while was_refused:
+                told, was_refused = self.refusing(before, lambda: b"".join(db.dump()))
+                if not isinstance(told, ripsawbean.NoMemory):
+                    self.assertEqual(told, whole)
+                kinds.add(type(told))
+                before += 1
+            self.assertEqual(kinds, {ripsawbean.NoMemory, bytes})
+
     def test_each_growth_of_lines_at_once(self):
         before, any_refused = 0, True
         while any_refused:

@@ -4,3 +4,6 @@ pub mod FirstLines
 pub mod TakenLines
 pub mod TakingLines
 pub mod VersionKeys
+pub mod DumpRows
+pub mod DumpTexts
+pub mod DumpPieces

@@ -37,17 +37,20 @@
 //!   its text, or those of the seat
 //! - `places`, `floor`: O(log n), where n is all that the database holds
 //! - `versions_at`: its bytes, and for each key a search for its version, and one more for each undecided one above that
+//! - `dump_piece`: for each row a search, one more for each undecided version that it passes over, and the row's lines. One
+//!   row more is looked at where the next one has no room
 //!
 //! `call` takes memory for the keys and values of its line, by the engine's step, and for the text, which keeps its
 //! room; `call_lines` takes what its calls take. `make` takes it by the engine's step, and `make_within` also for its
 //! look; `write` for the text, `copy_bytes` for messages and rows, `versions_at` for keys of more than 24 bytes, and
-//! `state` and `held_by` for what they tell. `new`, `answer`, `last`, `copy_text`, `places` and `floor` take none.
+//! `state`, `held_by` and `dump_piece` for what they tell. `new`, `answer`, `last`, `copy_text`, `places` and `floor` take none.
 //!
 //! Tests: `embed/test`, `embed/random`, outside the gate.
 #![tactic(auto)]
 
 mod bounded;
 mod database;
+mod dumping;
 mod event_record;
 mod held;
 mod message_bytes;
@@ -59,6 +62,7 @@ mod versions;
 
 pub use bounded::{Bounded, BoundedError};
 pub use database::{CallError, Database};
+pub use dumping::{DumpPlace, DumpPiece};
 pub use event_record::EventRecord;
 pub use held::HeldRecord;
 pub use several::{Done, Taken};

@@ -13,7 +13,8 @@ use Rattle.trace_check.specs.declared.checker.Checker.{Checker}
 use Rattle.trace_check.specs.Checkers.{Dumps}
 use Rattle.jobs.specs.declared.ending.End.{End}
 use Rattle.jobs.specs.declared.ending.End.TheVariants as ends
-use Rattle.jobs.specs.Dumps.{IsDumped, dump_text, lines_of}
+use Rattle.dump_lines.specs.Lines.{lines_of}
+use Rattle.jobs.specs.Dumps.{IsDumped, dump_text}
 use Rattle.jobs.specs.Judging.{HasTakenText, IsRefusal}
 
 -- what is said of a text that isn't a trace's is said in the place of its dump

@@ -1,24 +1,18 @@
 -- How the dump of a text's database is written.
 use Rattle.std.specs.Prelude.{ℕ, List, [], ◌∷◌, ◌++◌, ◌≡◌, None, Ok, reverse}
-use Rattle.std.specs.List.{flat_map}
 use Rattle.text_format.specs.Limits.{format_of}
-use Rattle.spans.specs.declared.calls.commands.Cmd.{Cmd}
 use Rattle.spans.specs.declared.calls.commands.Cmd.TheVariants.{Close, Collect}
 use Rattle.spans.specs.declared.calls.events.Event.{Event}
 use Rattle.spans.specs.Effects.{effects_of}
-use Rattle.word_lines.specs.Commands.{command_line}
 use Rattle.script.specs.Transcripts.{transcript_at}
 use Rattle.restarts.specs.Dump.{mark_of}
 use Rattle.restarts.specs.Rows.{dump_commands, row_commands}
+use Rattle.dump_lines.specs.Lines.{lines_of}
 use Rattle.plain_database.specs.declared.dump.Dump.{Dump}
 use Rattle.trace_check.specs.Traces.{IsTrace}
 use Rattle.jobs.specs.declared.ending.End.{End}
 use Rattle.jobs.specs.declared.ending.End.TheVariants as ends
 use Rattle.jobs.specs.Verdicts.{IsVerdict}
-
--- the lines of session 0's commands
-abbrev pub lines_of : List Cmd → List ℕ
-lines_of cmds = flat_map (command_line 0) cmds
 
 -- the script of what a dump writes
 abbrev pub dump_text : Dump → List ℕ

@@ -1,24 +1,21 @@
 //! The dump of a transcript's database: a script that rebuilds it.
-ghost use Rattle.std.specs.Prelude.{◌≡◌, ◌++◌, ◌∷◌, ◌≤◌, IfOk, OnOk, None, unwrap_or};
-ghost use Rattle.std.specs.List.{flat_map};
+ghost use Rattle.std.specs.Prelude.{◌≡◌, ◌++◌, ◌≤◌, IfOk, OnOk, None, unwrap_or};
 ghost use Rattle.timestamps.specs.declared.ts.TheConstants.{MAX};
-ghost use Rattle.word_lines.specs.Commands.{command_line};
-ghost use Rattle.restarts.specs.Dump.{write_step};
-ghost use Rattle.restarts.specs.Rows.{ended, row_commands, started};
+ghost use Rattle.restarts.specs.Rows.{row_commands};
+ghost use Rattle.dump_lines.specs.Lines.{lines_of};
 ghost use Rattle.jobs.specs.Answers.{IsAnswered, IsSilentAt};
-ghost use Rattle.jobs.specs.Dumps.{IsDumped, dump_text, lines_of};
+ghost use Rattle.jobs.specs.Dumps.{IsDumped, dump_text};
 ghost use Rattle.jobs.specs.Ends.{end_of};
 
 use crate::ending::End;
 use crate::verdicts::refusal;
+use dump_lines::{write_close, write_end, write_row};
 use plain_database::dump::Dump;
 use sessions::{Sink, Source, read_whole, write_whole};
-use spans::calls::Cmd;
 use std::alloc::{AllocError, Global};
 use timestamps::row::Row;
 use timestamps::ts::Ts;
 use trace_check::checker::Checker;
-use word_lines::commands::write_command;
 
 /// Reads a transcript, and writes the script of session 0 that rebuilds its database. The script closes at `at`, or at the
 /// greatest of closed and all that began where that is above or none is given, and ends in a collection. Where the transcript
@@ -69,7 +66,7 @@ pub fn dump_of_text(
     }
     let dump = checker.dump(number_of(at))?;
     let mut answer = Vec::new(alloc);
-    write_dump(&mut answer, &dump)?;
+    write_dump(&mut answer, dump)?;
     Ok((End::Done, answer))
 }
 
@@ -85,63 +82,23 @@ fn number_of(at: Option<Ts>) -> u64
 }
 
 /// Writes the script of a dump.
-fn write_dump(out: &mut Vec<u8>, dump: &Dump) -> Result<(), AllocError>
-    ensures { OnOk result (out.new.items ≡ out.old.items ++ dump_text dump.now) }
+fn write_dump(out: &mut Vec<u8>, dump: Dump) -> Result<(), AllocError>
+    ensures { OnOk result (out.new.items ≡ out.old.items ++ dump_text dump) }
 {
-    put_rows(out, dump.rows.as_slice())?;
-    write_command(out, 0, &Cmd::Close { to: dump.to })?;
-    write_command(out, 0, &Cmd::Collect { to: dump.horizon })
+    let Dump { rows, to, horizon } = dump;
+    put_rows(out, rows)?;
+    write_close(out, to, horizon)
 }
 
 /// Writes the transactions of the rows.
-fn put_rows(out: &mut Vec<u8>, rows: &[Row]) -> Result<(), AllocError>
-    ensures { OnOk result (out.new.items ≡ out.old.items ++ lines_of (row_commands None rows.now)) }
+fn put_rows(out: &mut Vec<u8>, rows: Vec<Row>) -> Result<(), AllocError>
+    ensures { OnOk result (out.new.items ≡ out.old.items ++ lines_of (row_commands None rows.items)) }
 {
     let mut latest = None;
     for row in rows {
-        put_start(out, latest, row.ts)?;
-        put_write(out, row)?;
-        latest = Some(row.ts);
+        let ts = row.ts.get();
+        write_row(out, latest, row)?;
+        latest = Some(ts);
     }
-    put_end(out, latest)
-}
-
-/// Writes what comes before a row of a transaction, where `latest` may be open.
-fn put_start(out: &mut Vec<u8>, latest: Option<Ts>, ts: Ts) -> Result<(), AllocError>
-    ensures { OnOk result (out.new.items ≡ out.old.items ++ lines_of (started latest ts)) }
-{
-    if latest == Some(ts) {
-        return Ok(());
-    }
-    put_end(out, latest)?;
-    write_command(out, 0, &Cmd::Begin { ts: ts.get() })
-}
-
-/// Writes the end of the transaction that is open, where one is.
-fn put_end(out: &mut Vec<u8>, latest: Option<Ts>) -> Result<(), AllocError>
-    ensures { OnOk result (out.new.items ≡ out.old.items ++ lines_of (ended latest)) }
-{
-    match latest {
-        None => Ok(()),
-        Some(ts) => write_command(out, 0, &Cmd::Commit { ts: ts.get() }),
-    }
-}
-
-/// Writes the write that leaves a row.
-fn put_write(out: &mut Vec<u8>, row: &Row) -> Result<(), AllocError>
-    ensures { OnOk result (out.new.items ≡ out.old.items ++ command_line 0 (write_step row.now.ts row.now.key row.now.after).0) }
-{
-    let key = row.key.copy()?;
-    let cmd = match &row.after {
-        None => Cmd::Del {
-            ts: row.ts.get(),
-            key,
-        },
-        Some(value) => Cmd::Put {
-            ts: row.ts.get(),
-            key,
-            value: value.copy()?,
-        },
-    };
-    write_command(out, 0, &cmd)
+    write_end(out, latest)
 }

@@ -2,3 +2,4 @@ mod Heap
 mod LooseValues
 mod HandleValues
 mod HandleSends
+mod Dumping

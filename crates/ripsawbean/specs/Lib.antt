@@ -9,3 +9,4 @@ pub mod TypedParts
 pub mod Looks
 pub mod BoundedExports
 pub mod BoundedParts
+pub mod Dumps

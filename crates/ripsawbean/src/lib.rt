@@ -4,8 +4,8 @@
 //! `ripsawbean_close` frees that again. A call takes the line of a command, and shows the text of its event: all of it
 //! or its beginning, and its whole length. `ripsawbean_calls`, in `several`, makes the calls of several lines at once, and
 //! the calls in `typed` have a command's parts as arguments, in place of a line, as do those in `bounded`, whose answers
-//! are to find room. `versions`, `places` and `held` tell what is asked without a call. The wrappers in `embed` call all of
-//! them, and any program that can call C. A handle of another kind owns the replica of a feed's span: its functions stand in
+//! are to find room. `versions`, `places`, `held` and `dump` tell what is asked without a call. The wrappers in `embed` call
+//! all of them, and any program that can call C. A handle of another kind owns the replica of a feed's span: its functions stand in
 //! `replicas`.
 //!
 //! 1. A handle that is open owns one database and the right to free it; a closed one owns nothing.
@@ -27,13 +27,15 @@
 //!
 //! | Number | What it says | By |
 //! |---|---|---|
-//! | 0 | done | open, call, calls, text, last, state, versions_at, places, held_by |
+//! | 0 | done | open, call, calls, text, last, state, versions_at, places, held_by, dump |
 //! | 1 to 9 | the line's fault by its code; no call was made | call, a note of calls |
 //! | 12 | no memory for the line's key, value or span, or for the database; nothing was done | call, open |
 //! | 13 | no position is left; no call was made | call |
 //! | 12, 13 | the same of the next line; what was taken stands | calls |
 //! | 4, 12 | the next key is none, or found no memory; what was told stands | versions_at |
-//! | 12 | no memory to find what is held; nothing is shown | held_by |
+//! | 3, 4 | a number is no timestamp, or a key has no room or is none; nothing is shown | dump |
+//! | 12 | no memory to find what is held, or for the piece; nothing is shown | held_by, dump |
+//! | 14 | no room for the next lines; nothing is shown | dump |
 //! | 14 | no memory for the text; the event stands, and `ripsawbean_text` tries again | call, text, state |
 //! | 14 | no room or no memory for the last text; the event stands, and `ripsawbean_text` shows it | calls and its note |
 //! | 15 | the ring is out of range; nothing was done | open |
@@ -58,6 +60,7 @@
 //!   each, and its text, or those of the seat
 //! - `ripsawbean_places`: O(log n), where n is all that the database holds
 //! - `ripsawbean_versions_at`: the bytes of its keys, and for each a search for its version
+//! - `ripsawbean_dump`: for each row a search for it, and its lines, and a look at one row more
 //!
 //! Memory is the program's own `malloc`, `realloc` and `free`. All but `ripsawbean_last`, `ripsawbean_places`,
 //! `ripsawbean_version`, `ripsawbean_close` and `ripsawbean_abort` may take it.
@@ -73,6 +76,7 @@ ghost use Rattle.embedded.specs.declared.database.CallError.TheVariants.{NoMemor
 ghost use Rattle.ripsawbean.specs.Exports.{refusal_of, Opened, Numbered, Called, Asked, Rewritten, Told, ToldOf, number_of};
 
 mod bounded;
+mod dump;
 mod handle;
 mod held;
 mod last;
@@ -91,6 +95,8 @@ use embedded::{CallError, Database};
 use spans::limits::MAX_RING;
 use std::alloc::Global;
 
+/// A number is no timestamp.
+const NUMBER: u8 = 3;
 /// A key has no byte, or more than 256.
 const KEY_LENGTH: u8 = 4;
 /// A value has more than 65536 bytes.

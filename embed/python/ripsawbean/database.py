@@ -7,7 +7,7 @@ from typing import Callable, Iterable, Iterator, List, Optional, Union
 from .errors import Closed, Error, LineFault, Number, Refused, RingRange, Session, Unwritten, error_of
 from .events import COMMANDS, Answer, Event, Message, Record, bytes_of, part_of, word_of
 from .handles import BYTES, NONE, ROOM, SIZE, TIME, Opened, functions
-from .looks import HELD, NUMBER, STANDING, Held, Places, held_of, places_of, with_lengths
+from .looks import HELD, MAX_KEY, NUMBER, PLACE, STANDING, Held, Places, held_of, places_of, with_lengths
 
 # The functions, with what each takes behind the handle.
 _seat, _answer = ctypes.c_uint8, [ctypes.c_void_p]
@@ -21,9 +21,12 @@ _database = functions(
     calls=[*BYTES, ctypes.c_void_p, SIZE, ctypes.c_void_p, SIZE, TIME, ctypes.c_void_p],
     scan=_scanned, scan_at=_scanned, poll_within=[*_timed, TIME, TIME, *ROOM, *_answer],
     places=[TIME, ctypes.c_void_p], versions_at=[TIME, *BYTES, *ROOM], held_by=[_seat, *ROOM],
+    dump=[TIME, TIME, ctypes.c_void_p, ctypes.c_void_p, SIZE, *ROOM],
 )
 _ANSWER, _TAKEN, _DONE = struct.Struct("@BQQ"), struct.Struct("@NNN"), struct.Struct("@NB0N")
 _RECORD = struct.Struct("@QQQQBBB0Q")
+# How many bytes of a dump are shown at once. Each line of a dump finds room in it.
+_PIECE = 1 << 18
 
 
 class Database(Opened):
@@ -297,6 +300,31 @@ class Database(Opened):
                 if self._length.value <= room:
                     return held_of(out.raw[: HELD.size * self._length.value])
                 room = self._length.value
+
+    def dump(self, at: int = 0, through: Optional[int] = None) -> Iterator[bytes]:
+        """The script that rebuilds the database, piece by piece: what `mvfeed dump` writes of its transcript. It makes no call.
+
+        It closes at the greatest of `at`, closed and all that began. With `through` it goes so far, and has an end only where
+        that is there. Calls may be made between two pieces: what is left at or below the closed timestamp stays as it was as
+        long as no collection raises the horizon, which a protection of it prevents. It raises Number where `at` is no timestamp.
+        """
+        if at >> 63:
+            raise Number("no timestamp from 0 to 9223372036854775807")
+        if through is not None and through >> 64:
+            raise _out_of_range(0)
+        return self._dumped(at, NONE if through is None else through)
+
+    def _dumped(self, at: int, through: int) -> Iterator[bytes]:
+        place, key = ctypes.create_string_buffer(PLACE.size), ctypes.create_string_buffer(MAX_KEY)
+        out, ended = ctypes.create_string_buffer(_PIECE), 0
+        while not ended:
+            with self._turn:
+                _database.dump(self._at, at, through, place, key, MAX_KEY, out, _PIECE, self._length_at)
+                length = self._length.value
+            _, _, ended = PLACE.unpack(place)
+            if not length:
+                return
+            yield ctypes.string_at(out, length)
 
     def messages(self, feed: int, max: int, seat: int = 0) -> Iterator[Message]:
         """The messages of a feed, up to where none is due, by polls of at most `max` each.

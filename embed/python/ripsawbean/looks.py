@@ -10,6 +10,7 @@ _VERSION = LIBRARY.ripsawbean_version
 _VERSION.argtypes, _VERSION.restype = [], ctypes.c_uint32
 
 STANDING, HELD, NUMBER = struct.Struct("@QQQQQQ"), struct.Struct("@QQB0Q"), struct.Struct("@Q")
+PLACE, MAX_KEY = struct.Struct("@QNB0Q"), 256
 KINDS = ("", "transaction", "feed", "protection")
 
 

@@ -118,6 +118,17 @@ pub enum VersionError {
     NoMemory,
 }
 
+/// Why no piece of a dump is shown.
+#[derive(Clone, Copy, Debug, PartialEq, Eq, Hash)]
+pub enum DumpError {
+    /// The timestamp where it is to close is above the greatest one.
+    Timestamp,
+    /// The next lines have no room: so many bytes serve.
+    NoRoom(usize),
+    /// There was no memory for a row, or for its lines.
+    NoMemory,
+}
+
 /// Why a poll told nothing.
 #[derive(Clone, Debug, PartialEq, Eq, Hash)]
 pub enum PollError {
@@ -221,6 +232,27 @@ impl VersionError {
             24 => VersionError::BelowHorizon,
             _ => unreachable!("asking for versions returned {status}"),
         }
+    }
+}
+
+impl DumpError {
+    pub(crate) fn of(status: u8, length: usize) -> DumpError {
+        match status {
+            3 => DumpError::Timestamp,
+            12 => DumpError::NoMemory,
+            14 => DumpError::NoRoom(length),
+            _ => unreachable!("asking for a dump returned {status}"),
+        }
+    }
+}
+
+impl From<DumpError> for std::io::Error {
+    fn from(error: DumpError) -> std::io::Error {
+        let kind = match error {
+            DumpError::Timestamp | DumpError::NoRoom(_) => std::io::ErrorKind::InvalidInput,
+            DumpError::NoMemory => std::io::ErrorKind::OutOfMemory,
+        };
+        std::io::Error::new(kind, error)
     }
 }
 
@@ -389,6 +421,16 @@ impl fmt::Display for VersionError {
             VersionError::KeyLength => "a key has no byte, or more than 256",
             VersionError::NoMemory => "no memory for a key, or for the versions",
         })
+    }
+}
+
+impl fmt::Display for DumpError {
+    fn fmt(&self, f: &mut fmt::Formatter<'_>) -> fmt::Result {
+        match self {
+            DumpError::Timestamp => f.write_str("a dump can't close above 9223372036854775807"),
+            DumpError::NoRoom(length) => write!(f, "the next lines of the dump have {length} bytes"),
+            DumpError::NoMemory => f.write_str("no memory for the dump"),
+        }
     }
 }
 

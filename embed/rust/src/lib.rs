@@ -40,6 +40,7 @@
 
 mod command;
 mod database;
+mod dump;
 mod error;
 mod event;
 mod looks;
@@ -56,9 +57,10 @@ mod word;
 
 pub use command::{Command, Span};
 pub use database::{Database, Messages};
+pub use dump::DumpPlace;
 pub use error::{
-    CallError, CommandError, LineFault, NoMemory, OpenError, PollError, Refusal, ReplicaError, TakeError, Unwritten,
-    VersionError,
+    CallError, CommandError, DumpError, LineFault, NoMemory, OpenError, PollError, Refusal, ReplicaError, TakeError,
+    Unwritten, VersionError,
 };
 pub use event::{Event, Message, Row};
 pub use looks::{version, Held, Places};

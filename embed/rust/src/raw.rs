@@ -1,6 +1,7 @@
 //! The functions of `ripsawbean.h`, and open handles that make them safe. All unsafe code of the crate is here.
 
 use crate::command::Span;
+use crate::dump::DumpPlaceRecord;
 use crate::typed::Room;
 use std::ptr;
 
@@ -216,6 +217,17 @@ extern "C" {
         count: *mut usize,
     ) -> u8;
     fn ripsawbean_held_by(db: *mut Handle, seat: u8, out: *mut HeldRecord, room: usize, count: *mut usize) -> u8;
+    fn ripsawbean_dump(
+        db: *mut Handle,
+        at: u64,
+        through: u64,
+        place: *mut DumpPlaceRecord,
+        key: *mut u8,
+        key_room: usize,
+        out: *mut u8,
+        room: usize,
+        length: *mut usize,
+    ) -> u8;
     fn ripsawbean_replica_open(replica: *mut Handle, line: *const u8, line_length: usize) -> u8;
     fn ripsawbean_replica_take(replica: *mut Handle, line: *const u8, line_length: usize) -> u8;
     fn ripsawbean_replica_ready(replica: *mut Handle, line: *const u8, line_length: usize, at: *mut u64) -> u8;
@@ -492,6 +504,22 @@ impl Open {
         let mut count = 0;
         let status = unsafe { ripsawbean_held_by(&mut self.handle, seat, out.as_mut_ptr(), out.len(), &mut count) };
         done(status, count)
+    }
+
+    /// Shows a piece of a dump in `out`: how many bytes it has or wants, and the status, 0 too.
+    pub(crate) fn dump(
+        &mut self,
+        at: u64,
+        through: u64,
+        place: &mut DumpPlaceRecord,
+        key: &mut [u8],
+        out: &mut [u8],
+    ) -> (usize, Status) {
+        let mut length = 0;
+        let (handle, key_at, key_room) = (&mut self.handle, key.as_mut_ptr(), key.len());
+        let (out_at, room) = (out.as_mut_ptr(), out.len());
+        let status = unsafe { ripsawbean_dump(handle, at, through, place, key_at, key_room, out_at, room, &mut length) };
+        (length, status)
     }
 }
 

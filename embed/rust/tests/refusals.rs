@@ -2,7 +2,8 @@
 
 use ripsawbean::refusing::{refuse_after, refuse_none};
 use ripsawbean::{
-    CallError, CommandError, Database, Held, Message, NoMemory, OpenError, Refusal, Told, Unwritten, VersionError,
+    CallError, CommandError, Database, DumpError, DumpPlace, Held, Message, NoMemory, OpenError, Refusal, Told, Unwritten,
+    VersionError,
 };
 
 #[test]
@@ -68,6 +69,7 @@ fn each_growth_is_refused_in_turn() {
     typed_calls();
     lines_at_once(&lines);
     looks();
+    dumps();
 }
 
 /// What is told without a call, with each growth refused in turn.
@@ -92,6 +94,34 @@ fn looks() {
         match told {
             Err(NoMemory) => without += 1,
             Ok(held) => assert_eq!(held, [Held::Feed { number: 1, floor: 1 }]),
+        }
+        if !any {
+            break;
+        }
+    }
+    assert!(without > 0);
+}
+
+/// A dump, with each growth refused in turn.
+fn dumps() {
+    let mut db = Database::open(1024).expect("it opens");
+    db.begin(0, 1).expect("a call");
+    db.put(0, 1, &[b'k'; 30], &[b'v'; 30]).expect("a call");
+    db.delete(0, 1, b"a").expect("a call");
+    db.commit(0, 1).expect("a call");
+    let (mut whole, mut out, mut without) = (Vec::new(), [0; 999], 0);
+    db.dump(0, &mut whole).expect("it is written");
+    for before in 0.. {
+        let mut place = DumpPlace::start();
+        refuse_after(before);
+        let told = db.dump_piece(0, u64::MAX, &mut place, &mut out);
+        let any = refuse_none();
+        match told {
+            Ok(length) => assert_eq!((&out[..length], place.has_ended()), (whole.as_slice(), true)),
+            Err(error) => {
+                assert_eq!((error, place), (DumpError::NoMemory, DumpPlace::start()));
+                without += 1;
+            }
         }
         if !any {
             break;

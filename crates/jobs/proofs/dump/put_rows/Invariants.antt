@@ -1,7 +1,8 @@
-use Rattle.std.proofs.Common.{◌≡◌, ◌++◌, None, drop}
+use Rattle.std.proofs.Common.{◌≡◌, ◌++◌, None}
+use Rattle.std.specs.Vec.Iter.{into_iter_items}
 use Rattle.restarts.specs.Rows.{row_commands}
-use Rattle.jobs.specs.Dumps.{lines_of}
+use Rattle.dump_lines.specs.Lines.{lines_of}
 use Rattle.jobs.proofs.dump.put_rows.Given as goal
 
 abbrev pub invariant-loop-row : goal.invariant-loop-row
-invariant-loop-row l = l.out.items ++ lines_of (row_commands l.latest (drop l.row-index l.rows)) ≡ l.fn.out.items ++ lines_of (row_commands None l.rows)
+invariant-loop-row l = l.out.items ++ lines_of (row_commands l.latest (into_iter_items l.row-iterator)) ≡ l.fn.out.items ++ lines_of (row_commands None (into_iter_items l.initial.row-iterator))

@@ -1,0 +1,14 @@
+use Rattle.std.proofs.Common.{◌≡◌, ◌-◌, List, length}
+use Rattle.spans.specs.Collection.{horizon_of}
+use Rattle.spans.specs.Effects.{effects_of}
+use Rattle.spans.specs.declared.calls.events.Event.{Event}
+use Rattle.embedded.specs.DumpTexts.{filled}
+use Rattle.embedded.specs.Embedded.{StandsFor}
+use Rattle.embedded.proofs.database.Database.put_more.Given as goal
+
+abbrev pub invariant-loop-end : goal.invariant-loop-end
+invariant-loop-end l = (h : List Event) → StandsFor l.self h → l.end.horizon ≡ horizon_of (effects_of h)
+    → filled (effects_of h) l.end l.room l.text.items l.place ≡ filled (effects_of h) l.end l.room l.fn.text.items l.fn.place
+
+abbrev pub decreases-loop-end : goal.decreases-loop-end
+decreases-loop-end l = l.room - length l.text.items

@@ -1,0 +1,16 @@
+-- What is told of a dump, by what is shown of its piece.
+use Rattle.std.proofs.Common.{ℕ, zero, suc, List, length, inr}
+use Rattle.spans.specs.Effects.{effects_of}
+use Rattle.spans.specs.declared.calls.events.Event.{Event}
+use Rattle.embedded.specs.Dumping.{IsPiece}
+use Rattle.embedded.specs.Embedded.{StandsFor}
+use Rattle.embedded.specs.declared.database.Database.{Database}
+use Rattle.embedded.specs.declared.dumping.DumpPiece.{DumpPiece}
+use Rattle.ripsawbean.specs.Dumps.{IsShownOrNot, IsToldPiece, place_at}
+use Rattle.ripsawbean.specs.declared.dump.DumpPlaceRecord.{DumpPlaceRecord}
+
+pub told_piece : (d : Database) (at through : ℕ) (place place' : DumpPlaceRecord) (key key' out out' : List ℕ) (number length' : ℕ) (piece : DumpPiece)
+    → ((h : List Event) → StandsFor d h → IsPiece (effects_of h) at through (place_at place key) (length out) piece) → IsShownOrNot piece number place place' key key' out out' length'
+    → IsToldPiece d at through place place' key key' out out' number length'
+told_piece d at through place place' key key' out out' zero length' piece is shown = λ h stands. (piece, is h stands, shown)
+told_piece d at through place place' key key' out out' (suc n) length' piece is shown = (shown.1, inr (shown.0, λ h stands. (piece, is h stands, shown.2)))
