@@ -21,9 +21,8 @@ REFUSAL = re.compile(r"Refusal::(?:new\(\s*(\d+)|(busy)\()\s*,?\s*\"(\w+)\"")
 def listed():
     """Statuses and names of the table of refusals."""
     with open(PAGE) as page:
-        rows = [line.split("|")[1:3] for line in page if re.match(r"\| [\d, ]+ \|", line)]
-    return {(int(status), name) for statuses, names in rows for status in statuses.split(",")
-            for name in re.findall(r"`(\w+)`", names)}
+        rows = [line.split("|")[1:3] for line in page if re.match(r"\| \d+ \|", line)]
+    return {(int(status), name) for status, names in rows for name in re.findall(r"`(\w+)`", names)}
 
 
 class Reference(unittest.IsolatedAsyncioTestCase):

@@ -158,10 +158,11 @@ async def see_remembered(ask):
 
 
 async def see_draining(client, ask):
-    """The server is told to end, and waits for an undecided transaction."""
+    """The server is told to end, and waits for an undecided transaction. It takes no new connection."""
     async with client.ws_connect("/session") as session:
         await session.send_str("begin\nput . b 2\n")
         await session.receive()
+        assert await ask.transact('{"then":[]}') == (200, None)
         client.process.terminate()
         while (told := await ask.transact('{"then":[]}')) == (200, None):
             await asyncio.sleep(0.01)
