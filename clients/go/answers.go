@@ -105,8 +105,8 @@ func (c *Client) call(ctx context.Context, method, path string, body []byte, hea
 		} else if err != nil && !isLost {
 			return answer{}, err
 		}
-		// The server has ended, and the next one may not know the write's key.
-		isDown := wasSent && isLost && !failed.wasSent && method != "GET"
+		// The server has ended. The next one may have another database, unless the write names its own.
+		isDown := wasSent && isLost && !failed.wasSent && method != "GET" && c.Identity() == ""
 		wasSent = wasSent || (isLost && failed.wasSent)
 		if !isDown && tries.pause(ctx, time.Duration(seconds)*time.Second) {
 			continue

@@ -130,7 +130,8 @@ export class Client {
       } catch (why) {
         if (!(why instanceof Lost)) throw why;
         lost = why;
-        isDown = wasSent && !why.wasSent && method !== "GET"; // the server has ended: the next one may not know the write's key
+        // The server has ended. The next one may have another database, unless the write names its own.
+        isDown = wasSent && !why.wasSent && method !== "GET" && !this.identity;
         wasSent ||= why.wasSent;
       }
       const pause = isDown ? undefined : pauses.next(least);

@@ -257,8 +257,37 @@ def nobody_there(ground: Ground) -> None:
     raises(ground.client(host, timeout=1), "Unreachable", "put", key="a", value="1")
 
 
+def counts_over_crashes(program: str, command: List[str]) -> None:
+    """Four clients raise one count while the server, which keeps its data, is killed again and again. Each raise counts once."""
+    with tempfile.TemporaryDirectory() as folder, Ground(program, command, "--data", os.path.join(folder, "data")) as ground:
+        clients = [ground.client(timeout=60) for _ in range(4)]
+        failures: List[BaseException] = []
+
+        def work(client: Driver) -> None:
+            try:
+                gives(client, "get", key="n")
+                for _ in range(50):
+                    gives(client, "count", key="n")
+            except BaseException as why:
+                failures.append(why)
+
+        threads = [threading.Thread(target=work, args=(client,)) for client in clients]
+        for thread in threads:
+            thread.start()
+        dice, kills = random.Random(4), 0
+        while any(thread.is_alive() for thread in threads) and kills < 200:
+            time.sleep(dice.uniform(0.05, 0.3))
+            ground.server.happen({"world": "restart"})
+            kills += 1
+        for thread in threads:
+            thread.join()
+        assert not failures, failures
+        found = gives(ground.client(), "get", key="n")
+        assert found == "200" and kills > 2, (found, kills)
+
+
 def a_write_that_is_lost_with_its_server(ground: Ground) -> None:
-    """The next server may not know its key, so it isn't sent to that one."""
+    """It named no identity, and the next server may have another database. So it isn't sent to that one."""
     listener = socket.create_server(("127.0.0.1", 0))
     host = "127.0.0.1:%d" % listener.getsockname()[1]
 
@@ -309,7 +338,7 @@ def live(program: str, command: List[str], only: str) -> Iterator[Tuple[str, Lis
         if only in name:
             with Ground(program, command, "--history", "60") as ground:
                 yield name, faults_of(lambda: test(ground))
-    for alone in (a_server_that_keeps_its_data, tls_and_token):
+    for alone in (a_server_that_keeps_its_data, counts_over_crashes, tls_and_token):
         name = alone.__name__.replace("_", " ")
         if only in name:
             yield name, faults_of(lambda: alone(program, command))

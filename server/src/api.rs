@@ -18,18 +18,19 @@ pub mod holds;
 pub mod keys;
 pub mod openapi;
 pub mod pages;
-mod plan;
+pub mod plan;
 #[cfg(all(test, feature = "refusing"))]
 mod refusals;
 pub mod remembered;
 pub mod rows;
-mod run;
+pub mod run;
 mod strict;
 pub mod transact;
 
 use self::bytes::Spelling;
 use crate::gate::Who;
 use crate::http::{Request, Response};
+use crate::journal::{Answered, Form};
 use crate::query::Arguments;
 use crate::refusal::Refusal;
 use crate::routes::Server;
@@ -44,26 +45,44 @@ const BODY: Duration = Duration::from_secs(10);
 const WAIT: f64 = 1.0;
 const MOST_WAIT: f64 = 30.0;
 
-/// What was done, told as JSON.
-#[derive(Clone, Debug)]
+/// What was committed, and how it is told.
+#[derive(Clone, Debug, PartialEq, Eq)]
 pub struct Answer {
-    headers: Vec<(&'static str, String)>,
-    text: Bytes,
+    timestamp: u64,
+    form: Form,
+    /// Whether it was told before.
+    is_again: bool,
 }
 
 impl Answer {
-    fn new(text: impl Into<Bytes>) -> Answer {
-        Answer { headers: Vec::new(), text: text.into() }
+    fn new(timestamp: u64, form: Form) -> Answer {
+        Answer { timestamp, form, is_again: false }
     }
 
-    fn with(mut self, name: &'static str, value: impl Into<String>) -> Answer {
-        self.headers.push((name, value.into()));
-        self
+    fn again(answered: &Answered) -> Answer {
+        Answer { timestamp: answered.timestamp, form: answered.form.clone(), is_again: true }
+    }
+
+    #[cfg(test)]
+    pub fn form(&self) -> &Form {
+        &self.form
     }
 
     fn into_response(self, place: Option<OwnedSemaphorePermit>) -> Response {
-        let mut response = Response::whole("application/json; charset=utf-8", self.text);
-        response.headers.extend(self.headers);
+        let Answer { timestamp, form, is_again } = self;
+        let json = |text: Bytes| Response::whole("application/json; charset=utf-8", text);
+        let written = || {
+            let text = format!("{{\"timestamp\":\"{timestamp}\"}}\n");
+            json(text.into()).with("ripsawbean-timestamp", timestamp.to_string())
+        };
+        let mut response = match form {
+            Form::Put => written().with("etag", format!("\"{timestamp}\"")),
+            Form::Deleted => written(),
+            Form::Text(text) => json(text),
+        };
+        if is_again {
+            response = response.with("idempotent-replayed", "true");
+        }
         match place {
             Some(place) => response.keeping(place),
             None => response,

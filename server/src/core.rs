@@ -24,7 +24,10 @@ use crate::options::Options;
 use crate::outcome::{Outcome, Words};
 use crate::seats::{Owner, Seats, Session, OWN_SEAT};
 use crate::transcript::Transcript;
-use ripsawbean::{unspell, CallError, Command, CommandError, Database, Event, OpenError, Refusal, Room, VersionError};
+use ripsawbean::{
+    unspell, CallError, Command, CommandError, Database, Event, OpenError, Outcome as Did, Record, Refusal, Room,
+    VersionError,
+};
 use std::collections::BTreeSet;
 use std::io::Write;
 use std::sync::Arc;
@@ -209,6 +212,20 @@ impl Core {
             Ok(outcome) if outcome == *expected => {}
             Ok(outcome) => self.shout(&format!("{command} => {outcome}, and not {expected}")),
             Err(error) => self.shout(&format!("{command}: {error}, and not {expected}")),
+        }
+    }
+
+    /// Commits a transaction of the server's own that has begun, with these lines beside it in the journal: how many rows
+    /// it had. Where there was no memory for the event's text, it is known all the same.
+    pub fn commit_with(&mut self, ts: u64, lines: Vec<u8>) -> Result<Outcome, CallError> {
+        self.journal.set_beside(lines);
+        let made = self.ask(Owner::Server, Command::Commit { ts });
+        self.journal.set_beside(Vec::new());
+        match (made, self.database.last()) {
+            (Err(CallError::Unwritten), Some(Record { at, outcome: Did::Committed(rows), .. })) if at == ts => {
+                Ok(Outcome::Committed { ts, rows })
+            }
+            (made, _) => made,
         }
     }
 

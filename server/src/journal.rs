@@ -7,6 +7,7 @@
 //! a commit of rows        begin T, what it wrote, commit T
 //! a collection            close CLOSED, collect H, as they were answered
 //! a name's place          what it has stored, its generation, and whether it is held
+//! an Idempotency-Key      its request and its answer, in the batch of the commit that they are of
 //! the mark                in the head of each batch: at or above each timestamp that began or was closed
 //! ```
 //!
@@ -28,6 +29,7 @@
 //! 3. Where a write fails the process ends, and tells nobody anything more: after a failed sync the next one may say
 //!    that all is well.
 
+mod answers;
 pub mod checkpoint;
 pub mod copy;
 mod folder;
@@ -37,9 +39,11 @@ mod postgres;
 mod recorder;
 pub mod recovery;
 mod restore;
+mod rules;
 mod store;
 mod writer;
 
+pub use answers::{Answered, Form, MOST, MOST_BYTES};
 pub use note::Kept;
 pub use recorder::Journal;
 pub use restore::DUMP;
@@ -89,10 +93,17 @@ pub enum Failure {
         name: String,
         damage: Damage,
     },
-    /// A series that isn't the last one ends in a torn batch.
-    Torn(String),
+    /// A series that isn't the last one, or one whose batches are never torn, ends in a torn batch.
+    Torn {
+        name: String,
+        at: u64,
+    },
     Missing(String),
-    NotWhole(String),
+    /// It ends before its end.
+    NotWhole {
+        name: String,
+        at: u64,
+    },
     OtherDatabase {
         name: String,
         found: String,
@@ -132,11 +143,13 @@ impl fmt::Display for Failure {
             Failure::File(path, error) => write!(f, "{}: {error}", path.display()),
             Failure::Taken(path) => write!(f, "{} is another server's, which runs", path.display()),
             Failure::Damaged { name, damage } => write_damage(f, name, damage),
-            Failure::Torn(name) => {
-                write!(f, "{name} ends in a torn batch, and isn't the last one. Nothing was changed")
+            Failure::Torn { name, at } => {
+                write!(f, "{name} has a torn batch at byte {at}, where no crash leaves one. Nothing was changed")
             }
             Failure::Missing(name) => write!(f, "{name} isn't there, and what follows it is. Nothing was changed"),
-            Failure::NotWhole(name) => write!(f, "{name} isn't whole: its end is missing. Nothing was changed"),
+            Failure::NotWhole { name, at } => {
+                write!(f, "{name} isn't whole: what has to stand at byte {at} is missing. Nothing was changed")
+            }
             Failure::OtherDatabase { name, found, wanted } => {
                 write!(f, "{name} is of database {found}, and not of {wanted}. Nothing was changed")
             }

@@ -14,7 +14,7 @@ use crate::core::Core;
 use crate::door::{Door, Turn};
 use crate::gate::Gate;
 use crate::http;
-use crate::journal::{self, checkpoint, recovery};
+use crate::journal::{self, checkpoint, recovery, Answered};
 use crate::ledger::Reason;
 use crate::log::Log;
 use crate::metrics::Metrics;
@@ -30,6 +30,7 @@ use crate::tasks::Tasks;
 use crate::tls::{self, Acceptor};
 use crate::tokens::{self, Tokens};
 use ripsawbean::OpenError;
+use std::collections::VecDeque;
 use std::fmt;
 use std::io::{self, Write};
 use std::net::SocketAddr;
@@ -96,11 +97,12 @@ pub fn serve(options: Options) -> Result<(), Failure> {
 async fn run(mut options: Options) -> Result<(), Failure> {
     let log = Arc::new(Log::new(options.log_level, options.log_json));
     allow_files(&mut options, &log);
-    let (core, kept) = open(&options, log.clone()).await?;
+    let opened = open(&options, log.clone()).await?;
+    let kept = opened.kept.clone();
     let listener = listener(SocketAddr::new(options.address, options.port))?;
     let address = listener.local_addr().map_err(Failure::System)?;
     let acceptor = options.tls.as_ref().map(Acceptor::read).transpose().map_err(Failure::Tls)?.map(Arc::new);
-    let server = Arc::new(put_together(core, options, address, log)?);
+    let server = Arc::new(put_together(opened, options, address, log)?);
     warn_of_open_tokens(&server);
     let place = format!("{}://{address}", if acceptor.is_some() { "https" } else { "http" });
     // Signals are caught before anyone is told that the server is there.
@@ -125,23 +127,33 @@ async fn run(mut options: Options) -> Result<(), Failure> {
     Ok(())
 }
 
-/// The database, and a line that says what is kept of it.
-async fn open(options: &Options, log: Arc<Log>) -> Result<(Core, String), Failure> {
+struct Opened {
+    core: Core,
+    /// Answers to keys that still count.
+    answers: VecDeque<Answered>,
+    /// A line that says what is kept.
+    kept: String,
+}
+
+async fn open(options: &Options, log: Arc<Log>) -> Result<Opened, Failure> {
     let identity = identity()?;
     let Some(place) = options.data.clone() else {
         let core = Core::new(options, identity, log).map_err(Failure::Open)?;
-        return Ok((core, "nothing is kept: this database ends with the server, and --data FOLDER keeps one".into()));
+        let kept = "nothing is kept: this database ends with the server, and --data FOLDER keeps one".into();
+        return Ok(Opened { core, answers: VecDeque::new(), kept });
     };
     let asked = journal::Asked { place, restore: options.restore.clone(), is_moved: options.moved, ring: options.ring };
     let began = Instant::now();
     // It may take long, and waits for disks.
     let opened = tokio::task::spawn_blocking(move || journal::open(&asked, &identity)).await;
-    let recovered = opened.map_err(|error| Failure::System(error.into()))?.map_err(Failure::Journal)?;
-    let line = format!("{recovered}, in {:.1} seconds", began.elapsed().as_secs_f64());
-    Ok((Core::recovered(recovered, options, log), line))
+    let mut recovered = opened.map_err(|error| Failure::System(error.into()))?.map_err(Failure::Journal)?;
+    let kept = format!("{recovered}, in {:.1} seconds", began.elapsed().as_secs_f64());
+    let answers = std::mem::take(&mut recovered.answers);
+    Ok(Opened { core: Core::recovered(recovered, options, log), answers, kept })
 }
 
-fn put_together(core: Core, options: Options, address: SocketAddr, log: Arc<Log>) -> Result<Server, Failure> {
+fn put_together(opened: Opened, options: Options, address: SocketAddr, log: Arc<Log>) -> Result<Server, Failure> {
+    let Opened { core, answers, .. } = opened;
     Ok(Server {
         identity: core.identity.clone(),
         door: Door::new(core),
@@ -151,7 +163,7 @@ fn put_together(core: Core, options: Options, address: SocketAddr, log: Arc<Log>
         reports: Budget::new(reports::UNREAD, Refusal::too_many_reports),
         streams: Streams::default(),
         metrics: Metrics::default(),
-        remembered: Remembered::new(options.remember),
+        remembered: Remembered::new(options.remember, answers),
         tasks: Tasks::default(),
         answers: Arc::new(Semaphore::new(usize::from(SEATS))),
         is_ending: watch::channel(false).0,

@@ -18,6 +18,7 @@ use crate::routes::Server;
 use crate::seats::{Session, SEATS};
 use crate::streams::Streams;
 use crate::tasks::Tasks;
+use std::collections::VecDeque;
 use std::io::Write;
 use std::path::PathBuf;
 use std::sync::atomic::{AtomicU64, Ordering};
@@ -80,7 +81,7 @@ pub fn server(words: &[&str]) -> Arc<Server> {
         reports: Budget::new(reports::UNREAD, Refusal::too_many_reports),
         streams: Streams::default(),
         metrics: Metrics::default(),
-        remembered: Remembered::new(options.remember),
+        remembered: Remembered::new(options.remember, VecDeque::new()),
         tasks: Tasks::default(),
         answers: Arc::new(Semaphore::new(usize::from(SEATS))),
         is_ending: watch::channel(false).0,

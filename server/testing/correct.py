@@ -55,6 +55,7 @@ class Consumer:
 class Load:
     weights = 80, 10, 6, 4  # how often one of each of KINDS is killed
     anew: tuple[str, ...] = ("--anew",)  # each start of the server is another database
+    figures = ""  # what else is told of it
 
     def __init__(self, room: Room, size: Size, seed: int, drops: int = 0):
         self.room, self.size, self.dice, self.kills = room, size, random.Random(seed), dict.fromkeys(KINDS, 0)
@@ -349,11 +350,11 @@ class Verdict:
     def told(self) -> str:
         models = self.models.values()
         return "%s kills; %d lives, %d transactions committed (%d of them found by value), %d reads; %d streams with %d rows " \
-            "and %d resolved; %d stores, %d snapshots" % (
+            "and %d resolved; %d stores, %d snapshots%s" % (
                 self.load.kills, len(self.models), sum(len(one.committed) for one in models),
                 sum(one.found_by_value for one in models), sum(one.reads for one in models), len(self.all_streams),
                 sum(len(one.rows) for one in self.all_streams), sum(len(one.resolved) for one in self.all_streams),
-                self.stores, self.snapshots)
+                self.stores, self.snapshots, self.load.figures)
 
     def is_empty(self) -> bool:
         return not (self.stores and self.snapshots and sum(one.reads for one in self.models.values())

@@ -33,7 +33,10 @@ class Transaction:
 
 
 def transactions_in(files: Iterable[str]) -> dict[str, dict[int, Transaction]]:
-    """By identity and timestamp, from the writers' logs. The last line of a killed one may be half."""
+    """By identity and timestamp, from the writers' logs. The last line of a killed one may be half.
+
+    One with a key is there once it was answered, as a whole: until then it is asked for again and again.
+    """
     found: dict[str, dict[int, Transaction]] = collections.defaultdict(dict)
     for file in files:
         with open(file) as lines:
@@ -41,7 +44,12 @@ def transactions_in(files: Iterable[str]) -> dict[str, dict[int, Transaction]]:
                 if not line.endswith("\n"):
                     continue
                 one = json.loads(line)
-                if one["is"] == "unknown":
+                if one["is"] == "asked":
+                    continue
+                if "key" in one:
+                    writes = dict(map(tuple, one["writes"]))
+                    found[one["identity"]][one["at"]] = Transaction(one["at"], one["reads"], writes, one["is"], one["rows"])
+                elif one["is"] == "unknown":
                     writes = dict(map(tuple, one["writes"]))
                     found[one["identity"]][one["at"]] = Transaction(one["at"], one["reads"], writes, "unknown")
                 else:

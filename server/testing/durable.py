@@ -13,83 +13,30 @@ import argparse
 import base64
 import contextlib
 import dataclasses
-import glob
 import json
 import os
 import random
-import signal
 import subprocess
 import time
 
 import correct
+import durable_damage
+import durable_keys
 from correct import Consumer, Load, Size, judge
+from correct_keyed import finish_all
+from durable_servers import DurableServer, Pair
 from journal_file import Batch, rewrite
 from ledger import Ledger
-from machine import HERE, TOP, Postgres, Program, Redis, Room, Server, wait_for
+from machine import TOP, Postgres, Program, Redis, Room, Server
 from postgres_replica import Table
 from redis_cache import Cache
 from search_index import Index
 from tally import Tally
 
-# Checkpoints are made all the time, and what is old goes soon.
-OPTIONS = (*correct.OPTIONS, "--checkpoint-bytes", "60000")
+# Checkpoints are made all the time, and what is old goes soon. A key is asked again until it is answered.
+OPTIONS = (*correct.OPTIONS, "--checkpoint-bytes", "60000", "--remember", "300")
+KEYED = 3
 SMALL = Size(6, 4, 1, 2)
-
-
-def powerless(room: Room) -> str:
-    """The preloaded disk, built once for a room."""
-    library = room.file("powerless.so")
-    if not os.path.exists(library):
-        source = os.path.join(HERE, "powerless.c")
-        subprocess.run(["cc", "-O1", "-shared", "-fPIC", "-o", library, source, "-ldl"], check=True)
-    return library
-
-
-class DurableServer(Server):
-    """A server that keeps its data, and of which `env` may be another in each life."""
-
-    def __init__(self, room: Room, place: str, *options: str):
-        super().__init__(room.path, *options, "--data", place)
-        self.place = place
-
-    def loses_power(self, room: Room, **more: str) -> None:
-        self.more["env"] = {**os.environ, "LD_PRELOAD": powerless(room), "POWERLESS": os.path.realpath(self.place), **more}
-
-    def start(self) -> None:
-        super().start()
-        if "POWERLESS" in self.more.get("env", ()):
-            with open("/proc/%d/maps" % self.child.pid) as maps:
-                assert "powerless.so" in maps.read(), "the server is a static program, which takes no preloaded disk"
-
-    def keeps_power(self) -> None:
-        self.more["env"] = dict(os.environ)
-
-    def fail(self) -> None:
-        self.kill()
-
-
-class Pair(DurableServer):
-    """A server over PostgreSQL, and a second one that waits. Once the first one is killed the second has its port."""
-
-    waiting: subprocess.Popen[bytes] | None = None
-
-    def start(self) -> None:
-        if self.waiting:
-            self.child, self.waiting = self.waiting, None
-        else:
-            Program.start(self)
-        self.identity = wait_for(self.told_identity, "the server")
-        first = self.child
-        Program.start(self)
-        self.child, self.waiting = first, self.child
-
-    def fail(self) -> None:
-        super().kill()
-
-    def kill(self, number: int = signal.SIGKILL) -> None:
-        for self.child in filter(None, (self.waiting, self.child)):
-            super().kill(number)
-        self.waiting = None
 
 
 class DurableLoad(Load):
@@ -97,6 +44,18 @@ class DurableLoad(Load):
     anew = ()
     change = None  # what is done to the journal between two lives
     lies = False
+
+    def __init__(self, room: Room, size: Size, seed: int, drops: int = 0):
+        super().__init__(room, size, seed, drops)
+        self.keyed = [self.keyed_writer(at) for at in range(KEYED)]
+
+    def keyed_log(self, at: int) -> str:
+        return self.room.file("writer-keyed%d.log" % at)
+
+    def keyed_writer(self, at: int) -> Program:
+        name = "k%d.%d" % (at, self.dice.randrange(1 << 30))
+        words = (str(self.server.port), name, name, self.keyed_log(at))
+        return self.room.start(self.room.script("keyed%d" % at, "correct_keyed.py", *words))
 
     def make_server(self) -> Server:
         self.identities: set[str] = set()
@@ -130,15 +89,41 @@ class DurableLoad(Load):
             if consumer.program.has_ended():
                 self.faults.append("%s has ended: %s" % (consumer.name, consumer.program.tail()))
                 consumer.program.start()
+        for at, writer in enumerate(self.keyed):
+            if writer.has_ended():
+                self.faults.append("a writer with keys has ended: " + writer.tail())
+                self.keyed[at] = self.keyed_writer(at)
         super().revive()
+
+    def kill_writer(self) -> None:
+        at = self.dice.randrange(2 * KEYED)
+        if at >= KEYED:
+            return super().kill_writer()
+        self.keyed[at].kill()
+        self.keyed[at] = self.keyed_writer(at)
 
     def revive_all(self) -> None:
         """A control goes on whoever has ended."""
-        for program in [one.program for one in self.consumers] + self.writers:
+        for program in [one.program for one in self.consumers] + self.writers + self.keyed:
             if program.has_ended():
                 program.start()
 
+    def finish_keyed(self) -> None:
+        """Each request with a key is answered in the end."""
+        done = again = 0
+        for at, writer in enumerate(self.keyed):
+            writer.kill()
+            try:
+                finish_all(self.server.port, self.keyed_log(at))
+            except ValueError as why:
+                self.faults.append(str(why))
+            with open(self.keyed_log(at)) as log:
+                text = log.read()
+            done, again = done + text.count('"is":"committed"'), again + text.count('"again":true')
+        self.figures = "; %d requests with keys, %d of them answered again" % (done, again)
+
     def settle(self) -> dict[bytes, bytes]:
+        self.finish_keyed()
         rows = super().settle()
         if len(self.identities) != 1:
             self.faults.append("identities of one folder: %s" % self.identities)
@@ -255,112 +240,6 @@ CONTROLS = {
 }
 
 
-# ---- damage, and a disk that fails
-
-def files_of(folder: str) -> dict[str, bytes]:
-    found = {}
-    for path in glob.glob(os.path.join(folder, "*.script")):
-        with open(path, "rb") as file:
-            found[path] = file.read()
-    return found
-
-
-def loaded(room: Room, server: Server, rows: int) -> None:
-    for number in range(rows):
-        server.call("begin\nput . key%d %d\ncommit .\n" % (number % 7, number))
-
-
-def refused(server: Server) -> str:
-    """What a server says that doesn't start."""
-    Program.start(server)
-    server.child.wait(60)
-    said, status = server.words(), server.child.returncode
-    server.child = None
-    return said if status == 1 else "status %d: %s" % (status, said)
-
-
-def test_flipped_bits(room: Room, dice: random.Random) -> list[str]:
-    """Each bit that is flipped is refused with its file, and changes nothing."""
-    server = room.start(DurableServer(room, room.file("data"), "--checkpoint-bytes", "100000000"))
-    loaded(room, server, 30)
-    server.kill()
-    faults = []
-    for path, data in files_of(server.place).items():
-        for _ in range(40):
-            at, bit = dice.randrange(len(data)), dice.randrange(8)
-            flipped = data[:at] + bytes([data[at] ^ 1 << bit]) + data[at + 1 :]
-            with open(path, "wb") as file:
-                file.write(flipped)
-            said = refused(server)
-            if "is damaged at byte" not in said or os.path.basename(path) not in said:
-                faults.append("bit %d of byte %d: %s" % (bit, at, said[-300:]))
-            if files_of(server.place)[path] != flipped:
-                faults.append("bit %d of byte %d: the file was changed" % (bit, at))
-        with open(path, "wb") as file:
-            file.write(data)
-    server.start()
-    if "=> value 29\n" not in server.call("begin\nget . key1\n"):
-        faults.append("the row that was written last isn't there")
-    return faults
-
-
-def test_failing_syncs(room: Room, dice: random.Random) -> list[str]:
-    """At a failed sync the server ends at once, and all that was acknowledged is there."""
-    server = DurableServer(room, room.file("data"))
-    faults = []
-    for turn in range(6):
-        server.loses_power(room, POWERLESS_FAILS=str(dice.randrange(8, 60)))
-        room.start(server)
-        last = -1
-        try:
-            for number in range(1000):
-                server.call("begin\nput . turn%d %d\ncommit .\n" % (turn, number))
-                last = number
-            faults.append("it went on behind a failed sync")
-        except (OSError, ConnectionError):
-            pass
-        wait_for(server.has_ended, "the server's end")
-        if server.child.returncode != 1 or "can't be written" not in server.words():
-            faults.append("status %s: %s" % (server.child.returncode, server.tail()))
-        server.keeps_power()
-        server.start()
-        told = server.call("begin\nget . turn%d\n" % turn).split("\n")[1].rpartition(" => ")[2]
-        if last >= 0 and told not in ("value %d" % last, "value %d" % (last + 1)):
-            faults.append("%d was acknowledged, and there is %s" % (last, told))
-        server.kill()
-    return faults
-
-
-def test_full_disk(room: Room, dice: random.Random) -> list[str]:
-    """Where the disk is full it ends, and while it is full it doesn't start."""
-    server = DurableServer(room, room.file("data"))
-    server.command = ["sh", "-c", 'trap "" XFSZ; ulimit -f 40; exec "$@"', "sh", *server.command]
-    room.start(server)
-    last = -1
-    try:
-        for number in range(10000):
-            server.call("begin\nput . key %d%s\ncommit .\n" % (number, "x" * 500))
-            last = number
-    except (OSError, ConnectionError):
-        pass
-    wait_for(server.has_ended, "the server's end")
-    faults = [] if 10 < last < 9999 else ["%d were acknowledged" % last]
-    if "can't be written" not in server.words():
-        faults.append(server.tail())
-    server.command[2] = server.command[2].replace("40", "20")  # what was torn was cut off, so there is room for a batch
-    if "File too large" not in refused(server):
-        faults.append("it starts on a full disk: " + server.tail())
-    server.command = server.command[4:]
-    server.start()
-    told = server.call("begin\nget . key\n").split("\n")[1].rpartition(" => ")[2].rstrip("x")
-    if told not in ("value %d" % last, "value %d" % (last + 1)):
-        faults.append("%d was acknowledged, and there is %s" % (last, told))
-    return faults
-
-
-TESTS = (test_flipped_bits, test_failing_syncs, test_full_disk)
-
-
 def main(words: list[str]) -> Tally:
     parser = argparse.ArgumentParser(prog="server/test durable", description="Whether data outlive any crash.")
     parser.add_argument("--kills", type=int, default=120, metavar="N", help="how many processes are killed (120)")
@@ -371,7 +250,7 @@ def main(words: list[str]) -> Tally:
     parser.add_argument("program", metavar="MVFEED", help="the built program, which checks the journal")
     given, tally = parser.parse_args(words), Tally("durable")
     tally.say("durable: seed %d" % given.seed)
-    for test in TESTS:
+    for test in (*durable_damage.TESTS, *durable_keys.TESTS):
         name = test.__name__[len("test_") :].replace("_", " ")
         if given.only in name:
             with Room() as room:

@@ -5,13 +5,16 @@
    a kill there leaves a batch that is torn, or whose first sectors are zeros.
 
    With POWERLESS_LIES a sync says that all is well, and writes what the sync before it should have written: for the
-   control, in which commits that were acknowledged have to be missed. With POWERLESS_FAILS=N the N-th sync fails. */
+   control, in which commits that were acknowledged have to be missed. With POWERLESS_FAILS=N the N-th sync fails. With
+   POWERLESS_ENDS=N the process ends at the N-th step of the disk: before a sync, between its pieces, before each name
+   that changes, and behind a sync, when all is there and nobody was told. */
 
 #define _GNU_SOURCE
 #include <dlfcn.h>
 #include <errno.h>
 #include <fcntl.h>
 #include <pthread.h>
+#include <signal.h>
 #include <stdarg.h>
 #include <stdio.h>
 #include <stdlib.h>
@@ -52,6 +55,13 @@ static unsigned draw(unsigned below) {
     if (!seed)
         seed = (unsigned)getpid() * 2654435761u | 1;
     return (unsigned)rand_r(&seed) % below;
+}
+
+static void step(void) {
+    static int steps;
+    const char *ends = getenv("POWERLESS_ENDS");
+    if (ends && ++steps == atoi(ends))
+        kill(getpid(), SIGKILL);
 }
 
 /* Where a new file stands until its name is synced. */
@@ -146,6 +156,8 @@ static void write_out(int file, struct file *ours) {
         else
             put(file, ours->waiting + first, count - first, ours->synced + first);
         usleep(draw(2000));
+        if (turn == 0)
+            step();
     }
     ours->synced += count;
     ours->length = 0;
@@ -159,6 +171,7 @@ static void change_names(void) {
         unlink_next = (int (*)(const char *))dlsym(RTLD_NEXT, "unlink");
     for (int at = 0; at < changed; at++) {
         usleep(draw(1000));
+        step();
         if (changes[at].to[0] ? rename_next(changes[at].from, changes[at].to) : unlink_next(changes[at].from))
             abort();
     }
@@ -170,6 +183,7 @@ static int sync_one(int file) {
     if (!ours)
         return 0;
     pthread_mutex_lock(&lock);
+    step();
     const char *fails = getenv("POWERLESS_FAILS");
     int result = 0;
     if (fails && ++syncs >= atoi(fails)) {
@@ -194,6 +208,7 @@ static int sync_one(int file) {
     } else if (ours->length) {
         write_out(file, ours);
     }
+    step();
     pthread_mutex_unlock(&lock);
     return result;
 }

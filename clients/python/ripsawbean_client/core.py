@@ -162,7 +162,8 @@ class Core:
                 lost, last = why, None
                 is_down = was_sent and not why.was_sent
                 was_sent = was_sent or why.was_sent
-                if is_down and method != "GET":  # the server has ended, and the next one may not know the write's key
+                # The server has ended. The next one may have another database, unless the write names its own.
+                if is_down and method != "GET" and not self.identity:
                     break
             pause = pauses.next(least)
             if pause is None:

@@ -16,11 +16,12 @@
 use super::bytes::{MOST_KEY, MOST_VALUE};
 use super::plan::{Condition, Plan, Step, Test};
 use super::rows::{at_snapshot, hold_in};
-use super::run::{End, Row, Stop, Told};
-use super::transact::{run_until, tell_members};
-use super::{body_of, spelling_in, wait_in, Answer};
+use super::run::{Committed, End, Failed, Row, Stop, Told};
+use super::transact::{answer_once, run_until, tell_members};
+use super::{body_of, spelling_in, wait_in};
 use crate::core::Core;
 use crate::http::{Request, Response};
+use crate::journal::Form;
 use crate::outcome::Outcome;
 use crate::query::{arguments, number_of, percent_decoded};
 use crate::refusal::Refusal;
@@ -140,7 +141,7 @@ fn read_at(core: &mut Core, key: &[u8], at: u64) -> Result<Read, Refusal> {
 
 async fn read_by_transaction(server: &Server, key: &[u8], until: Instant) -> Result<Read, Refusal> {
     let plan = Plan { then: vec![Step::Get { key: Cow::Borrowed(key) }], ..Plan::default() };
-    let End::Committed(mut committed) = run_until(server, &plan, until).await? else {
+    let End::Committed(mut committed) = run_until(server, &plan, until, None).await? else {
         return Err(Stop::Unexpected.refusal());
     };
     match committed.results.pop() {
@@ -165,7 +166,7 @@ async fn write(server: &Arc<Server>, mut request: Request, kind: Kind) -> Result
     let start = Instant::now();
     let given = arguments(&request.path, &request.query, &["wait"])?;
     let (wait, key, mut conditions) = (wait_in(&given)?, key_in(&request)?, conditions_in(&request)?);
-    let (head, is_matched) = (server.remembered.asked(&request)?, request.header("if-match").is_some());
+    let (asked, is_matched) = (server.remembered.asked(&request, &value)?, request.header("if-match").is_some());
     let borrowed = || Cow::Borrowed(key.as_slice());
     let step = match kind {
         Kind::Put => Step::Put { key: borrowed(), value: Cow::Borrowed(&value) },
@@ -176,30 +177,24 @@ async fn write(server: &Arc<Server>, mut request: Request, kind: Kind) -> Result
     }
     let conditions = conditions.into_iter().map(|test| Condition::Key { key: borrowed(), test }).collect();
     let plan = Plan { conditions, then: vec![step], otherwise: None };
-    let work = async {
-        match run_until(server, &plan, start + wait).await? {
-            End::Committed(committed) => Ok(written(committed.timestamp, kind)),
-            End::Failed(failed) if kind == Kind::Delete && !is_matched => Err(no_value(failed.timestamp)),
-            End::Failed(failed) => {
-                let version = failed.found.into_iter().find_map(|(_, row)| row?.version);
-                Err(Refusal::new(412, "condition", "the key's version is another one: nothing was changed")
-                    .with_number("timestamp", failed.timestamp)
-                    .with("version", version.map(|version| version.to_string())))
-            }
-        }
+    let form_of = |_: &Committed<'_>| match kind {
+        Kind::Put => Form::Put,
+        Kind::Delete => Form::Deleted,
     };
-    let answered = server.remembered.once(head, &value, start + wait, work).await;
+    let refused = |failed: Failed<'_>| match kind {
+        Kind::Delete if !is_matched => no_value(failed.timestamp),
+        _ => other_version(failed),
+    };
+    let answered = answer_once(server, asked, &plan, start + wait, &form_of, refused).await;
     server.metrics.transactions.note(start.elapsed());
     Ok(answered?.into_response(None))
 }
 
-fn written(timestamp: u64, kind: Kind) -> Answer {
-    let answer = Answer::new(format!("{{\"timestamp\":\"{timestamp}\"}}\n"));
-    let answer = answer.with("ripsawbean-timestamp", timestamp.to_string());
-    match kind {
-        Kind::Put => answer.with("etag", format!("\"{timestamp}\"")),
-        Kind::Delete => answer,
-    }
+fn other_version(failed: Failed<'_>) -> Refusal {
+    let version = failed.found.into_iter().find_map(|(_, row)| row?.version);
+    Refusal::new(412, "condition", "the key's version is another one: nothing was changed")
+        .with_number("timestamp", failed.timestamp)
+        .with("version", version.map(|version| version.to_string()))
 }
 
 async fn value_of(server: &Server, request: &mut Request) -> Result<Vec<u8>, Refusal> {

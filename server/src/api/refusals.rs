@@ -54,7 +54,7 @@ fn each(work: impl Fn(&mut Core) -> bool) -> usize {
 }
 
 fn a_transaction(core: &mut Core) -> bool {
-    match run(core, &Plan::of(BODY.as_bytes()).expect("a plan")) {
+    match run(core, &Plan::of(BODY.as_bytes()).expect("a plan"), None) {
         Ok(End::Committed(done)) => {
             assert_eq!((done.results.len(), done.written), (5, 2));
             true

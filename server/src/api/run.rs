@@ -16,7 +16,9 @@
 
 use super::pages::{Page, Unread, MOST_BYTES};
 use super::plan::{Bounds, Condition, Plan, Step};
+use super::remembered::Keep;
 use crate::core::Core;
+use crate::journal::Form;
 use crate::outcome::Outcome;
 use crate::refusal::Refusal;
 use crate::seats::Owner;
@@ -47,6 +49,8 @@ pub struct Committed<'p> {
     pub written: u64,
     /// One for each step.
     pub results: Vec<Told<'p>>,
+    /// How it is told, where that is remembered.
+    pub form: Option<Form>,
 }
 
 /// Conditions don't hold, and there is no `else`.
@@ -143,13 +147,13 @@ impl From<Unread> for Stop {
     }
 }
 
-/// Runs a plan once.
-pub fn run<'p>(core: &mut Core, plan: &'p Plan<'_>) -> Result<End<'p>, Stop> {
+/// Runs a plan once. What it has committed is remembered, where it is said by whom.
+pub fn run<'p>(core: &mut Core, plan: &'p Plan<'_>, keep: Option<&Keep<'_>>) -> Result<End<'p>, Stop> {
     check(core, plan)?;
     let timestamp = core.ledger.next_timestamp();
     let mut running = Running { core, timestamp, own: BTreeSet::new(), read: 0, bytes: 0 };
     running.begin()?;
-    let ended = running.steps(plan).and_then(|end| running.commit(end));
+    let ended = running.steps(plan).and_then(|end| running.commit(end, keep));
     if !matches!(ended, Ok(End::Committed(_)) | Err(Stop::Lost)) {
         running.abort();
     }
@@ -196,12 +200,22 @@ impl<'p> Running<'_, 'p> {
         }
     }
 
-    fn commit(&mut self, end: End<'p>) -> Result<End<'p>, Stop> {
+    /// What it is told is made before its commit, so that it stands in the journal with it.
+    fn commit(&mut self, end: End<'p>, keep: Option<&Keep<'_>>) -> Result<End<'p>, Stop> {
         let End::Committed(mut told) = end else { return Ok(end) };
-        match self.core.ask(Owner::Server, Command::Commit { ts: self.timestamp }) {
-            Ok(Outcome::Committed { rows, .. }) => told.written = rows,
+        let answered = keep.and_then(|keep| keep.answered(&told));
+        let mut lines = Vec::new();
+        if let Some(answered) = answered.as_ref().filter(|_| self.core.journal.keeps()) {
+            answered.write(&mut lines);
+        }
+        match self.core.commit_with(self.timestamp, lines) {
+            Ok(Outcome::Committed { rows, .. }) if rows == told.written => {}
             Err(CallError::Unwritten) => return Err(Stop::Lost),
             other => return Err(self.stop("commit", other)),
+        }
+        if let Some((keep, answered)) = keep.zip(answered) {
+            told.form = Some(answered.form.clone());
+            keep.keep(answered);
         }
         Ok(End::Committed(told))
     }
@@ -231,7 +245,8 @@ impl<'p> Running<'_, 'p> {
             results.push(self.step(step)?);
         }
         self.tell_versions(&mut results)?;
-        Ok(End::Committed(Committed { timestamp, branch, written: 0, results }))
+        let written = self.own.len() as u64;
+        Ok(End::Committed(Committed { timestamp, branch, written, results, form: None }))
     }
 
     /// The conditions that don't hold. All of them are looked at, so that all are told.

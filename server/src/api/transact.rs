@@ -10,13 +10,15 @@
 //! is run anew.
 //!
 //! 1. It takes no seat.
-//! 2. Between its commit and the answer that is remembered nothing is awaited, so no answer of a commit is forgotten.
+//! 2. Its answer is remembered under the lock of its commit, so no answer of a commit is forgotten.
 
 use super::bytes::{tell, told, Spelling};
 use super::plan::Plan;
+use super::remembered::{Asked, Begun, Keep};
 use super::run::{run, Branch, Committed, End, Failed, Row, Stop, Told};
 use super::{body_of, spelling_in, wait_in, Answer};
 use crate::http::{Request, Response};
+use crate::journal::Form;
 use crate::query::arguments;
 use crate::refusal::Refusal;
 use crate::routes::Server;
@@ -30,25 +32,48 @@ pub async fn transact(server: &Arc<Server>, mut request: Request) -> Result<Resp
     let start = Instant::now();
     let given = arguments(&request.path, &request.query, &["wait", "bytes"])?;
     let (wait, spelling) = (wait_in(&given)?, spelling_in(&given)?);
-    let head = server.remembered.asked(&request)?;
+    let asked = server.remembered.asked(&request, &body)?;
     let plan = Plan::of(&body)?;
     plan.check(&request.who)?;
     let place = plan.answers_at_length().then(|| super::place_of_answer(server, &request.who)).transpose()?;
-    let work = async {
-        match run_until(server, &plan, start + wait).await? {
-            End::Committed(committed) => Ok(Answer::new(text_of(&committed, spelling))),
-            End::Failed(failed) => Err(refusal_of(&failed, spelling)),
-        }
-    };
-    let answered = server.remembered.once(head, &body, start + wait, work).await;
+    let form_of = |committed: &Committed<'_>| Form::Text(text_of(committed, spelling).into());
+    let refused = |failed: Failed<'_>| refusal_of(&failed, spelling);
+    let answered = answer_once(server, asked, &plan, start + wait, &form_of, refused).await;
     server.metrics.transactions.note(start.elapsed());
     Ok(answered?.into_response(place))
 }
 
+/// Runs a plan, or gives the answer that its key had before.
+pub async fn answer_once(
+    server: &Server,
+    asked: Option<Asked>,
+    plan: &Plan<'_>,
+    until: Instant,
+    form_of: &(dyn Fn(&Committed<'_>) -> Form + Sync),
+    refused: impl Fn(Failed<'_>) -> Refusal,
+) -> Result<Answer, Refusal> {
+    let running = match server.remembered.begin(asked, until).await? {
+        Begun::Told(answer) => return Ok(answer),
+        Begun::Runs(running) => running,
+    };
+    match run_until(server, plan, until, Some(&Keep { running: &running, form_of })).await? {
+        End::Committed(mut committed) => {
+            let form = committed.form.take().unwrap_or_else(|| form_of(&committed));
+            Ok(Answer::new(committed.timestamp, form))
+        }
+        End::Failed(failed) => Err(refused(failed)),
+    }
+}
+
 /// Runs a plan, anew as long as it is blocked, until then.
-pub async fn run_until<'p>(server: &Server, plan: &'p Plan<'_>, until: Instant) -> Result<End<'p>, Refusal> {
+pub async fn run_until<'p>(
+    server: &Server,
+    plan: &'p Plan<'_>,
+    until: Instant,
+    keep: Option<&Keep<'_>>,
+) -> Result<End<'p>, Refusal> {
     loop {
-        match server.door.run(|core| run(core, plan)) {
+        match server.door.run(|core| run(core, plan, keep)) {
             Ok(end) => return Ok(end),
             Err(Stop::Blocked(by, mut decision)) => {
                 if tokio::time::timeout_at(until.into(), decision.changed()).await.is_err() {

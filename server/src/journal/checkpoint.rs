@@ -6,16 +6,18 @@
 //!
 //! ```text
 //! journal-2        ..| journal-3 from here on: identity, names
-//! checkpoint-3       | the copy, a quarter of the time
+//! checkpoint-3       | answers to keys, the copy, a quarter of the time
 //! finished           | series before 3 go
 //! ```
 //!
 //! A checkpoint that fails costs nothing but room: it is said in the log, and comes again.
 
 use super::copy::{Broken, Copy, Next};
-use super::store::Series;
-use super::writer::Drafted;
+use super::rules::{holds, Rule};
+use super::store::{Draft, Series};
+use super::writer::{Drafted, Ticket};
 use super::Failure;
+use crate::api::remembered::Remembered;
 use crate::core::Core;
 use crate::routes::Server;
 use std::fmt;
@@ -32,7 +34,8 @@ const PAUSE: Duration = Duration::from_millis(20);
 /// How many times as long as it works it lets others work.
 const PACE: u32 = 3;
 
-enum Error {
+#[derive(Debug)]
+pub enum Error {
     Broken,
     Failure(Failure),
     /// The server ends.
@@ -85,35 +88,19 @@ pub fn run(server: &Server, runtime: &Handle) {
 
 /// Makes one. Gives its bytes.
 fn make(server: &Server, runtime: &Handle) -> Result<u64, Error> {
-    let (mut copy, drafts) = server.door.run(begin)?;
-    let made = write(server, runtime, &mut copy, &drafts);
-    server.door.run(|core| {
-        core.exempt.remove(&copy.feed());
-        core.end_stream(copy.feed());
-    });
+    let mut making = server.door.run(|core| Making::begin(core, &server.remembered))?;
+    let made = write(server, runtime, &mut making);
+    server.door.run(|core| making.end(core));
     made
 }
 
-fn begin(core: &mut Core) -> Result<(Copy, Receiver<Drafted>), Error> {
-    let head = core.journal_head();
-    let (number, drafts) = core.journal.switch(head).ok_or(Error::Ending)?;
-    let copy = Copy::begin(core, Series::checkpoint(number), core.ledger.greatest)?;
-    core.exempt.insert(copy.feed());
-    Ok((copy, drafts))
-}
-
-fn write(server: &Server, runtime: &Handle, copy: &mut Copy, drafts: &Receiver<Drafted>) -> Result<u64, Error> {
-    let mut draft = drafts.recv().map_err(|_| Error::Ending)??;
-    let mut bytes = 0;
+fn write(server: &Server, runtime: &Handle, making: &mut Making) -> Result<u64, Error> {
+    making.take_draft()?;
+    making.write_answers(&server.remembered)?;
     loop {
         let began = Instant::now();
-        let next = server.door.turn(|core, until| copy.turn(core, until))?;
-        let mut piece = Vec::new();
-        if matches!(next, Next::Take | Next::Done) {
-            piece = copy.take();
-            draft.write(&piece)?;
-        }
-        bytes += piece.len() as u64;
+        let next = server.door.turn(|core, until| making.turn(core, until))?;
+        making.write(next)?;
         match next {
             Next::Done => break,
             Next::Wait => sleep(PAUSE),
@@ -123,9 +110,87 @@ fn write(server: &Server, runtime: &Handle, copy: &mut Copy, drafts: &Receiver<D
             return Err(Error::Ending);
         }
     }
-    // What it has is durable in the journal first.
-    let ticket = server.door.run(|core| core.journal.all());
+    let ticket = server.door.run(|core| making.rests(core));
     runtime.block_on(server.door.until(ticket));
-    draft.finish()?;
-    Ok(bytes)
+    making.finish()
+}
+
+/// A checkpoint that is on its way. What needs the core is done in turns, and what is written is written without it.
+pub struct Making {
+    copy: Copy,
+    drafts: Receiver<Drafted>,
+    draft: Option<Box<dyn Draft>>,
+    /// How many answers to keys came before the switch.
+    answers: u64,
+    bytes: u64,
+}
+
+impl Making {
+    pub fn begin(core: &mut Core, remembered: &Remembered) -> Result<Making, Error> {
+        let head = core.journal_head();
+        let (number, drafts) = core.journal.switch(head).ok_or(Error::Ending)?;
+        let copy = Copy::begin(core, Series::checkpoint(number), core.ledger.greatest)?;
+        core.exempt.insert(copy.feed());
+        Ok(Making { copy, drafts, draft: None, answers: remembered.count(), bytes: 0 })
+    }
+
+    /// Whether the switch is durable. The server waits for that.
+    #[cfg(test)]
+    pub fn has_draft(&mut self) -> bool {
+        if self.draft.is_none() {
+            self.draft = self.drafts.try_recv().ok().and_then(Result::ok);
+        }
+        self.draft.is_some()
+    }
+
+    /// Waits for the switch.
+    pub fn take_draft(&mut self) -> Result<(), Error> {
+        self.draft = Some(self.drafts.recv().map_err(|_| Error::Ending)??);
+        Ok(())
+    }
+
+    /// Answers from before the switch stand in journals that go, and so in the checkpoint, as far as they count.
+    pub fn write_answers(&mut self, remembered: &Remembered) -> Result<(), Error> {
+        let mut from = 0;
+        while from < self.answers && holds(Rule::AnswersAreCarried) {
+            let (answers, next) = remembered.some(from, self.answers);
+            self.copy.add(&answers);
+            if self.copy.is_full() {
+                self.write(Next::Take)?;
+            }
+            from = next;
+        }
+        Ok(())
+    }
+
+    pub fn turn(&mut self, core: &mut Core, until: Instant) -> Result<Next, Error> {
+        Ok(self.copy.turn(core, until)?)
+    }
+
+    /// Writes the batch that is to be taken, if one is.
+    pub fn write(&mut self, next: Next) -> Result<(), Error> {
+        if let (Next::Take | Next::Done, Some(draft)) = (next, &mut self.draft) {
+            let piece = self.copy.take();
+            draft.write(&piece)?;
+            self.bytes += piece.len() as u64;
+        }
+        Ok(())
+    }
+
+    /// What it has is durable in the journal first.
+    pub fn rests(&self, core: &Core) -> Ticket {
+        core.journal.all()
+    }
+
+    /// Puts it in its place. Gives its bytes.
+    pub fn finish(&mut self) -> Result<u64, Error> {
+        self.draft.take().ok_or(Error::Broken)?.finish()?;
+        Ok(self.bytes)
+    }
+
+    /// Its feed ends, also where it came to nothing.
+    pub fn end(&self, core: &mut Core) {
+        core.exempt.remove(&self.copy.feed());
+        core.end_stream(self.copy.feed());
+    }
 }

@@ -14,8 +14,10 @@
 //! 1. It has exactly what was committed at or below `greatest`, and what is dead at the horizon is left out.
 //! 2. Its feed holds the horizon until the copy is dropped by `end`.
 
+use super::answers::Answered;
 use super::frame::Chain;
 use super::note::Note;
+use super::rules::{holds, Rule};
 use super::store::Series;
 use crate::core::Core;
 use crate::outcome::Outcome;
@@ -70,12 +72,23 @@ impl Copy {
         core.ledger.set_waits(feed, true);
         let lines = Note::Database(core.identity.clone()).to_string().into_bytes();
         let chain = Chain::new(&core.identity, series);
-        let greatest = greatest.max(core.ledger.closed);
+        let closed = core.ledger.closed;
+        let greatest = if holds(Rule::TheCopyReachesWhatBegan) { greatest.max(closed) } else { closed };
         Ok(Copy { feed, horizon, greatest, chain, number: 0, writes: None, lines, told: Vec::new(), seen: None })
     }
 
     pub fn feed(&self) -> u64 {
         self.feed
+    }
+
+    /// Adds answers to keys, before anything was polled. A dump has none: its identity is another one.
+    pub fn add(&mut self, answers: &[Answered]) {
+        answers.iter().for_each(|answered| answered.write(&mut self.lines));
+    }
+
+    /// Whether its lines are a batch.
+    pub fn is_full(&self) -> bool {
+        self.lines.len() >= ENOUGH
     }
 
     /// Polls until this time, or until something has to be done.
@@ -108,7 +121,7 @@ impl Copy {
             return Ok(Next::Done);
         }
         Ok(match () {
-            () if self.lines.len() >= ENOUGH => Next::Take,
+            () if self.is_full() => Next::Take,
             () if is_all => Next::Wait,
             () => Next::More,
         })

@@ -159,6 +159,10 @@ impl<R: Read> Batches<R> {
         let Some(head) = Head::of(self.rest()) else { return self.end("no right head of a batch stands there".into()) };
         self.fill(head.length.saturating_add(head.lines)).map_err(Fault::Read)?;
         let Some(lines) = self.rest().get(head.length..head.length + head.lines) else {
+            #[cfg(test)]
+            if !super::rules::holds(super::rules::Rule::TornBatchesGo) {
+                return Ok(Some(self.take_torn(head)));
+            }
             return self.end(format!("the bytes end in batch {}", head.number));
         };
         let chain = match self.before {
@@ -205,6 +209,17 @@ impl<R: Read> Batches<R> {
     /// The identity that the first batch names.
     pub fn identity(&self) -> &str {
         &self.identity
+    }
+
+    /// The whole lines of a batch that isn't whole, as no server takes them.
+    #[cfg(test)]
+    fn take_torn(&mut self, head: Head) -> Batch<'_> {
+        let begin = self.start + head.length;
+        let lines = &self.buffer[begin..];
+        let end = begin + lines.iter().rposition(|&byte| byte == b'\n').map_or(0, |at| at + 1);
+        self.at += (self.buffer.len() - self.start) as u64;
+        self.start = self.buffer.len();
+        Batch { number: head.number, mark: head.mark, lines: &self.buffer[begin..end] }
     }
 
     fn rest(&self) -> &[u8] {

@@ -1,4 +1,5 @@
-//! Lines that tell what isn't the database's: who it is, where it stands, and the places of names.
+//! Lines that tell what isn't the database's: who it is, where it stands, the places of names, and the answers to keys
+//! of requests (`answers`).
 //!
 //! ```text
 //! 0 readat 18446744073709551615 database/1914d5866a08f6aa
@@ -6,9 +7,12 @@
 //! 0 readat 18446744073709551615 generation/7
 //! 0 readat 18446744073709551615 name/prices/19/7/1
 //! 0 readat 18446744073709551615 noname/prices
+//! 0 readat 18446744073709551615 key/8042/5d2f0c..1a/8be3a1..f0/9/put
+//! 0 readat 18446744073709551615 told/..
 //! 0 readat 18446744073709551615 end
 //! ```
 
+use super::answers::Key;
 use super::frame::CARRIER;
 use super::store::Place;
 use crate::lines::number_in;
@@ -18,6 +22,8 @@ use std::fmt;
 /// Bytes of a host's name and of a folder's path that are told, at most: a key has 256.
 const LONGEST_HOST: usize = 64;
 const LONGEST_FOLDER: usize = 170;
+/// Before bytes that need not be text.
+const TOLD: &[u8] = b"told/";
 
 #[derive(Clone, Debug, PartialEq, Eq)]
 pub enum Note {
@@ -30,6 +36,9 @@ pub enum Note {
         kept: Kept,
     },
     NoName(String),
+    /// A request that has committed, and a piece of the text that it was told.
+    Key(Key),
+    Told(Vec<u8>),
     /// All that had to be written was written.
     End,
 }
@@ -59,7 +68,11 @@ impl Note {
     /// The note of a line with its newline.
     pub fn of(line: &[u8]) -> Option<Note> {
         let word = line.strip_prefix(CARRIER)?.strip_suffix(b"\n")?;
-        let text = String::from_utf8(unspell(std::str::from_utf8(word).ok()?)?).ok()?;
+        let bytes = unspell(std::str::from_utf8(word).ok()?)?;
+        if let Some(piece) = bytes.strip_prefix(TOLD).filter(|piece| !piece.is_empty()) {
+            return Some(Note::Told(piece.to_vec()));
+        }
+        let text = String::from_utf8(bytes).ok()?;
         let (kind, rest) = text.split_once('/').unwrap_or((text.as_str(), ""));
         let is_word = !rest.is_empty() && !rest.contains('/');
         match kind {
@@ -71,13 +84,14 @@ impl Note {
             "generation" => number_in(rest.as_bytes()).map(Note::Generation),
             "name" => name_in(rest),
             "noname" if is_word => Some(Note::NoName(rest.into())),
+            "key" => Key::in_words(rest).map(Note::Key),
             "end" if text == "end" => Some(Note::End),
             _ => None,
         }
     }
 
-    fn words(&self) -> String {
-        match self {
+    fn words(&self) -> Vec<u8> {
+        let words = match self {
             Note::Database(identity) => format!("database/{identity}"),
             Note::Place(Place { host, folder }) => format!("place/{host}/{folder}"),
             Note::Generation(generation) => format!("generation/{generation}"),
@@ -86,8 +100,11 @@ impl Note {
                 format!("name/{name}/{stored}/{generation}/{}", u8::from(*is_held))
             }
             Note::NoName(name) => format!("noname/{name}"),
+            Note::Key(key) => key.words(),
+            Note::Told(piece) => return [TOLD, piece].concat(),
             Note::End => "end".to_string(),
-        }
+        };
+        words.into_bytes()
     }
 }
 
@@ -111,7 +128,7 @@ fn name_in(rest: &str) -> Option<Note> {
 impl fmt::Display for Note {
     fn fmt(&self, f: &mut fmt::Formatter<'_>) -> fmt::Result {
         let carrier = std::str::from_utf8(CARRIER).map_err(|_| fmt::Error)?;
-        writeln!(f, "{carrier}{}", Spelled(self.words().as_bytes()))
+        writeln!(f, "{carrier}{}", Spelled(&self.words()))
     }
 }
 
@@ -131,6 +148,8 @@ mod tests {
             Note::Name { name: "a.b-c_9".into(), kept },
             Note::Name { name: "a".into(), kept: Kept { stored: None, generation: 0, is_held: false } },
             Note::NoName("a".into()),
+            Note::Key(Key::in_words(&format!("17/{:032x}/{:032x}/9/put", 1, u128::MAX)).expect("a key")),
+            Note::Told(b"{\"a\": \xff}\n".to_vec()),
             Note::End,
         ] {
             let line = note.to_string();
@@ -155,6 +174,14 @@ mod tests {
             "database/",
             "database/a/b",
             "place/host",
+            "told/",
+            "key/1/00000000000000000000000000000001/00000000000000000000000000000002/9",
+            "key/1/00000000000000000000000000000001/00000000000000000000000000000002/9/0",
+            "key/1/00000000000000000000000000000001/00000000000000000000000000000002/9/other",
+            "key/1/00000000000000000000000000000001/00000000000000000000000000000002/9/put/",
+            "key/1/0000000000000000000000000000001/00000000000000000000000000000002/9/put",
+            "key/1/0000000000000000000000000000000G/00000000000000000000000000000002/9/put",
+            "key/01/00000000000000000000000000000001/00000000000000000000000000000002/9/put",
             "batch/1/0/00000000/0/00000000",
         ] {
             let line = [CARRIER, words.as_bytes(), b"\n"].concat();

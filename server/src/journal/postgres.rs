@@ -158,8 +158,8 @@ impl Store for Postgres {
     }
 
     /// A transaction is there as a whole or not at all, so nothing is torn.
-    fn cut(&mut self, series: Series, _: u64) -> Result<(), Failure> {
-        Err(Failure::Torn(self.name(series)))
+    fn cut(&mut self, series: Series, length: u64) -> Result<(), Failure> {
+        Err(Failure::Torn { name: self.name(series), at: length })
     }
 
     fn append(&mut self, series: Series, bytes: &[u8]) -> Result<(), Failure> {

@@ -10,10 +10,13 @@
 //! get 9 b => none              no ticket
 //! ```
 //!
+//! A commit of a request with a key has the key's lines beside it (`set_beside`), in one batch.
+//!
 //! 1. `writes` has what each undecided transaction has written, and nothing of others.
 //! 2. A key is in `fresh` as long as a commit of it isn't durable.
 
 use super::note::{Kept, Note};
+use super::rules::{holds, Rule};
 use super::store::Place;
 use super::writer::{Counts, Drafted, Durable, Position, Ticket, Writer};
 use ripsawbean::{Record, Refusal};
@@ -42,6 +45,13 @@ pub struct Journal {
     last: Ticket,
     /// What the answers since `begin` rest on.
     needed: Ticket,
+    /// Lines that stand in the batch of the next commit.
+    beside: Vec<u8>,
+    /// Whether the last batch is on its way.
+    is_over: bool,
+    /// Lines that should have stood in an earlier batch.
+    #[cfg(test)]
+    late: Vec<u8>,
 }
 
 impl Journal {
@@ -57,6 +67,10 @@ impl Journal {
             series: 0,
             last: Ticket::NONE,
             needed: Ticket::NONE,
+            beside: Vec::new(),
+            is_over: false,
+            #[cfg(test)]
+            late: Vec::new(),
         }
     }
 
@@ -103,11 +117,24 @@ impl Journal {
         self.needed = self.needed.max(ticket);
     }
 
+    fn need_by(&mut self, rule: Rule, ticket: Ticket) {
+        if holds(rule) {
+            self.need(ticket);
+        }
+    }
+
     // ---- the mark
 
     /// Whether a call may bring this timestamp into the database: it is at or below the mark that is durable. If not, the
-    /// call has to wait for the ticket.
+    /// call has to wait for the ticket. None may once the last batch is on its way, because that has a lower mark.
     pub fn cover(&mut self, timestamp: u64) -> Result<(), Ticket> {
+        match self.is_over {
+            true => Err(Ticket::NEVER),
+            false => self.raise(timestamp),
+        }
+    }
+
+    fn raise(&mut self, timestamp: u64) -> Result<(), Ticket> {
         let Some(writer) = self.writer.as_ref().filter(|_| timestamp <= GREATEST) else { return Ok(()) };
         let is_durable = timestamp <= writer.durable_mark();
         if is_durable && timestamp.saturating_add(AHEAD / 2) <= self.mark {
@@ -115,16 +142,16 @@ impl Journal {
         }
         self.mark = self.mark.max(timestamp.saturating_add(AHEAD).min(GREATEST));
         let ticket = writer.raise(self.mark);
-        if is_durable {
+        if is_durable || !holds(Rule::CallsWaitForTheMark) {
             Ok(())
         } else {
             Err(ticket)
         }
     }
 
-    /// Waits for the mark where `cover` wasn't asked. Everyone waits meanwhile.
+    /// Waits for the mark where `cover` wasn't asked. Everyone waits meanwhile. Behind the end nobody is told of it.
     pub fn cover_now(&mut self, timestamp: u64) {
-        if self.cover(timestamp).is_err() {
+        if !self.is_over && self.raise(timestamp).is_err() {
             if let Some(writer) = &self.writer {
                 writer.wait_for_mark(timestamp);
             }
@@ -132,6 +159,23 @@ impl Journal {
     }
 
     // ---- events
+
+    /// These lines stand in the batch of the commit that is made next. Who says so says so again with none where that
+    /// commit wasn't made.
+    pub fn set_beside(&mut self, lines: Vec<u8>) {
+        if holds(Rule::AnswersAreKept) {
+            self.beside = lines;
+        }
+    }
+
+    fn take_beside(&mut self) -> Vec<u8> {
+        let lines = std::mem::take(&mut self.beside);
+        #[cfg(test)]
+        if !holds(Rule::AnswersStandBesideTheirCommits) {
+            return std::mem::replace(&mut self.late, lines);
+        }
+        lines
+    }
 
     /// Whether the line of an event is looked at. Otherwise `note` may be given an empty one.
     pub fn wants_line(&self, record: &Record) -> bool {
@@ -148,15 +192,17 @@ impl Journal {
             Did::Committed(_) => self.committed(record.at),
             Did::Aborted => drop(self.writes.remove(&record.at)),
             Did::Closed(closed) if closed.aborted > 0 => self.writes.retain(|ts, _| *ts > closed.at),
-            Did::Value(_) | Did::None => self.need(self.fresh.ticket(writer, key_of(line))),
-            Did::Rows(_) => self.need(self.fresh.greatest(writer)),
+            Did::Value(_) | Did::None => self.need_by(Rule::ReadsWait, self.fresh.ticket(writer, key_of(line))),
+            Did::Rows(_) => self.need_by(Rule::ScansWait, self.fresh.greatest(writer)),
             Did::Collected { horizon, .. } => self.collected(horizon, closed),
             // It may rest on a read that nobody is told of.
             Did::Refused(Refusal::TooLate) => {
                 self.writes.remove(&record.at);
-                self.need(self.last);
+                self.need_by(Rule::TooLateWaits, self.last);
             }
-            Did::Messages(_) | Did::Stats { .. } | Did::Refused(Refusal::BelowHorizon(_)) => self.need(self.last),
+            Did::Messages(_) => self.need_by(Rule::MessagesWait, self.last),
+            Did::Stats { .. } => self.need_by(Rule::StatsWait, self.last),
+            Did::Refused(Refusal::BelowHorizon(_)) => self.need_by(Rule::BelowHorizonWaits, self.last),
             // They promise nothing that the mark doesn't cover.
             Did::Started | Did::Closed(_) | Did::Opened(_) | Did::Cancelled | Did::Protected(_) | Did::Released => {}
             Did::Refused(_) => {}
@@ -164,29 +210,38 @@ impl Journal {
     }
 
     fn committed(&mut self, ts: u64) {
-        let Some(writes) = self.writes.remove(&ts) else { return };
+        let beside = self.take_beside();
         let Some(writer) = &self.writer else { return };
-        let begin = format!("0 begin {ts}\n");
-        let commit = format!("0 commit {ts}\n");
-        let ticket = writer.add(&[begin.as_bytes(), &writes.lines, commit.as_bytes()]);
-        self.fresh.add(ticket, &writes.lines);
+        let ticket = match self.writes.remove(&ts) {
+            Some(writes) => {
+                let (begin, commit) = (format!("0 begin {ts}\n"), format!("0 commit {ts}\n"));
+                let ticket = writer.add(&[begin.as_bytes(), &writes.lines, commit.as_bytes(), &beside]);
+                self.fresh.add(ticket, &writes.lines);
+                ticket
+            }
+            // The mark covers what has written nothing.
+            None if beside.is_empty() => return,
+            None => writer.add(&[&beside]),
+        };
         self.last = ticket;
-        self.need(ticket);
+        self.need_by(Rule::CommitsWait, ticket);
     }
 
     fn collected(&mut self, horizon: u64, closed: u64) {
-        if horizon > self.horizon {
+        if horizon > self.horizon && holds(Rule::CollectionsAreKept) {
             self.horizon = horizon;
-            self.add(&format!("0 close {closed}\n0 collect {horizon}\n"));
+            // What was asked for may be higher than what was answered.
+            let closed = if holds(Rule::ClosingsAreKeptAsAnswered) { closed } else { self.mark };
+            self.last = self.added(&format!("0 close {closed}\n0 collect {horizon}\n"));
         }
-        self.need(self.last);
+        self.need_by(Rule::CollectionsWait, self.last);
     }
 
     // ---- what isn't the database's
 
     /// A name's place has changed.
     pub fn name(&mut self, name: &str, kept: Kept) {
-        if self.keeps() {
+        if self.keeps() && holds(Rule::NamesAreKept) {
             self.add(&Note::Name { name: name.into(), kept }.to_string());
         }
     }
@@ -194,15 +249,19 @@ impl Journal {
     /// A name is gone. Its generations aren't given again.
     pub fn no_name(&mut self, name: &str, generation: u64) {
         if self.keeps() {
-            self.add(&format!("{}{}", Note::Generation(generation), Note::NoName(name.into())));
+            let note = Note::Generation(generation).to_string();
+            let note = Some(note).filter(|_| holds(Rule::GenerationsAreKept)).unwrap_or_default();
+            self.add(&format!("{note}{}", Note::NoName(name.into())));
         }
     }
 
     fn add(&mut self, lines: &str) {
-        if let Some(writer) = &self.writer {
-            self.last = writer.add(&[lines.as_bytes()]);
-            self.need(self.last);
-        }
+        self.last = self.added(lines);
+        self.need(self.last);
+    }
+
+    fn added(&self, lines: &str) -> Ticket {
+        self.writer.as_ref().map_or(Ticket::NONE, |writer| writer.add(&[lines.as_bytes()]))
     }
 
     // ---- series
@@ -228,7 +287,10 @@ impl Journal {
 
     /// The last batch: the mark stands at the greatest timestamp that began or was closed. What is done afterwards is
     /// never durable, so nobody is told of it.
-    pub fn end(&self, greatest: u64) -> Ticket {
+    pub fn end(&mut self, greatest: u64) -> Ticket {
+        if holds(Rule::NothingIsCalledBehindTheEnd) {
+            (self.is_over, self.last) = (true, Ticket::NEVER);
+        }
         let end = Note::End.to_string();
         self.writer.as_ref().map_or(Ticket::NONE, |writer| writer.end(greatest, end.as_bytes()))
     }

@@ -10,15 +10,17 @@
 //! 2. What stands in the journal at or below G stands in the checkpoint too: there its lines are refused.
 //! 3. A torn batch goes, and older series, only after all that stands was read.
 
+use super::answers::{Answered, Answers};
 use super::frame::{Batches, Chain, Fault};
 use super::note::{Kept, Note};
+use super::rules::{holds, Rule};
 use super::store::{Kind, Place, Series, Store};
 use super::writer::{Position, Writer};
 use super::{Failure, Journal};
 use crate::lag::Amount;
 use crate::lines::number_in;
 use ripsawbean::{CallError, Database, Event, OpenError};
-use std::collections::BTreeMap;
+use std::collections::{BTreeMap, VecDeque};
 use std::fmt;
 
 /// What is there of a journal.
@@ -32,6 +34,8 @@ pub struct Recovered {
     pub horizon: u64,
     /// Commits by their timestamps, rising: rows, and bytes of the lines that wrote them.
     pub commits: Vec<(u64, Amount)>,
+    /// Answers to requests with keys, the oldest first.
+    pub answers: VecDeque<Answered>,
     /// Bytes of a torn batch that were given up.
     pub torn: u64,
     pub journal: Journal,
@@ -89,7 +93,7 @@ pub fn recover(mut store: Box<dyn Store>, ring: u32, identity: &str, is_moved: b
         store.cut(reading.last, reading.whole)?;
     }
     store.drop_below(all.base)?;
-    if reading.told.identity.is_empty() {
+    if reading.told.identity.is_empty() || !holds(Rule::IdentityStays) {
         reading.told.identity = identity.to_string();
     }
     let Reading { told, .. } = &reading;
@@ -107,6 +111,7 @@ pub fn recover(mut store: Box<dyn Store>, ring: u32, identity: &str, is_moved: b
         closed: told.closed,
         horizon: told.horizon,
         commits: told.commits,
+        answers: told.answers.into_all(),
         torn,
     })
 }
@@ -155,6 +160,7 @@ struct Told {
     base: u64,
     horizon: u64,
     commits: Vec<(u64, Amount)>,
+    answers: Answers,
     /// What the transaction that is read has written.
     writing: Amount,
     is_ended: bool,
@@ -170,19 +176,19 @@ impl Reading {
             let series = Series::checkpoint(all.base);
             self.take(store, series)?;
             if !self.told.is_ended || self.torn > 0 {
-                return Err(Failure::NotWhole(store.name(series)));
+                return Err(Failure::NotWhole { name: store.name(series), at: self.whole });
             }
             self.told.base = self.told.closed;
         }
         let mut bytes = 0;
         for number in all.base..=all.last.unwrap_or(0) {
             if self.torn > 0 {
-                return Err(Failure::Torn(store.name(self.last)));
+                return Err(Failure::Torn { name: store.name(self.last), at: self.whole });
             }
             self.take(store, Series::journal(number))?;
             // A checkpoint is finished once the journal's head is durable, which has the names.
             if all.has_checkpoint && self.position.is_none() {
-                return Err(Failure::NotWhole(store.name(self.last)));
+                return Err(Failure::NotWhole { name: store.name(self.last), at: self.whole });
             }
             bytes += self.whole;
         }
@@ -196,8 +202,10 @@ impl Reading {
         let name = store.name(series);
         let mut batches = Batches::new(store.read(series)?, series);
         while let Some(batch) = batches.next().map_err(|fault| failure_of(&name, fault))? {
-            // At a clean end it falls to where it really stands.
-            self.told.mark = batch.mark;
+            if holds(Rule::TheMarkIsWritten) {
+                // At a clean end it falls to where it really stands.
+                self.told.mark = batch.mark;
+            }
             take_lines(&mut self.database, &mut self.told, batch.lines, &name)?;
         }
         (self.last, self.whole, self.torn) = (series, batches.whole(), batches.torn());
@@ -230,7 +238,7 @@ impl Reading {
     fn crash(&mut self) -> Result<(), Failure> {
         let told = &mut self.told;
         told.mark = told.mark.max(told.closed);
-        if told.mark > told.closed {
+        if told.mark > told.closed && holds(Rule::ClosedComesToTheMark) {
             let (line, wanted) = (format!("0 closehard {}\n", told.mark), format!("closed {} 0", told.mark));
             match self.database.call(&line) {
                 Ok(event) if event.answer() == wanted => told.closed = told.mark,
@@ -290,14 +298,14 @@ impl Told {
             }
             b"readat" if event.refusal().is_some_and(|refused| refused.starts_with("notclosed")) => {
                 let note = Note::of(line)?;
-                self.take_note(note);
+                self.take_note(note)?;
             }
             _ => return None,
         }
         Some(())
     }
 
-    fn take_note(&mut self, note: Note) {
+    fn take_note(&mut self, note: Note) -> Option<()> {
         self.is_ended = note == Note::End;
         match note {
             Note::Place(place) => self.place = Some(place),
@@ -307,8 +315,11 @@ impl Told {
                 self.names.insert(name, kept);
             }
             Note::NoName(name) => drop(self.names.remove(&name)),
+            Note::Key(key) => self.answers.key(key)?,
+            Note::Told(piece) => self.answers.piece(&piece)?,
             Note::Database(_) | Note::End => {}
         }
+        Some(())
     }
 }
 

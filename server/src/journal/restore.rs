@@ -34,7 +34,7 @@ pub fn restore(store: &mut dyn Store, file: &Path, identity: &str) -> Result<(),
         is_ended = lines.ends_with(Note::End.to_string().as_bytes());
     }
     if !is_ended || batches.torn() > 0 {
-        return Err(Failure::NotWhole(name));
+        return Err(Failure::NotWhole { name, at: batches.whole() });
     }
     draft.finish()?;
     let (series, mut bytes) = (Series::journal(1), Vec::new());

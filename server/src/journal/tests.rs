@@ -1,8 +1,10 @@
 //! Cores that keep what they do in a folder, and what is there after a crash: a copy of the folder's files.
 
+use super::checkpoint::Making;
 use super::copy::Next;
 use super::store::{Kind, Series};
 use super::*;
+use crate::api::remembered::Remembered;
 use crate::core::Core;
 use crate::log::{Level, Log};
 use crate::seats::{Owner, Session};
@@ -11,6 +13,12 @@ use ripsawbean::{Command, Span};
 use std::fs;
 use std::sync::Arc;
 use std::time::{Duration, Instant};
+
+mod bits;
+mod disk;
+mod ghost;
+mod keys;
+mod model;
 
 const NO_HISTORY: [&str; 2] = ["--history", "0"];
 
@@ -225,7 +233,7 @@ fn damage_is_refused_and_nothing_is_changed() {
     fs::remove_file(journal_of(&copy, 3)).expect("it is there");
     assert!(core_of(&asked(&copy)).err().expect("it is refused").contains("of database ffffffffffffffff, and not of"));
     fs::write(&file, &bytes[..bytes.len() - 3]).expect("it is written");
-    assert!(core_of(&asked(&copy)).err().expect("it is refused").contains("torn batch, and isn't the last one"));
+    assert!(core_of(&asked(&copy)).err().expect("it is refused").contains("has a torn batch at byte"));
 }
 
 #[test]
@@ -256,23 +264,22 @@ fn a_folder_that_was_copied_is_refused() {
 }
 
 /// Switches to a new series, and copies the database into it.
-fn checkpoint(core: &mut Core) {
-    let head = core.journal_head();
-    let (number, drafts) = core.journal.switch(head).expect("no other is on its way");
-    let mut copy = copy::Copy::begin(core, Series::checkpoint(number), core.ledger.greatest).expect("it begins");
-    let mut draft = drafts.recv().expect("the thread lives").expect("it is begun");
+fn checkpoint(core: &mut Core, remembered: &Remembered) {
+    let mut making = Making::begin(core, remembered).expect("no other is on its way");
+    making.take_draft().expect("it is begun");
+    making.write_answers(remembered).expect("they are written");
     loop {
-        let next = copy.turn(core, Instant::now() + Duration::from_secs(9)).expect("its feed is there");
+        let next = making.turn(core, Instant::now() + Duration::from_secs(9)).expect("its feed is there");
         // Closed has to come to where transactions were decided before.
         core.settle(Instant::now() + Duration::from_secs(1));
-        draft.write(&copy.take()).expect("it is written");
+        making.write(next).expect("it is written");
         if next == Next::Done {
             break;
         }
     }
-    core.end_stream(copy.feed());
-    sync(core);
-    draft.finish().expect("it is finished");
+    wait_for(core, making.rests(core));
+    making.finish().expect("it is finished");
+    making.end(core);
 }
 
 #[test]
@@ -286,7 +293,8 @@ fn a_checkpoint_makes_older_journals_superfluous() {
     put(&mut core, &mut one, &[("a", "4"), ("%00", "-")]);
     say(&mut core, &mut one, "begin\ndel . b\ncommit .\n");
     let before = rows(&mut core, &mut one);
-    checkpoint(&mut core);
+    let none = Remembered::new(Duration::ZERO, std::collections::VecDeque::new());
+    checkpoint(&mut core, &none);
     put(&mut core, &mut one, &[("c", "5")]);
     sync(&core);
     let copy = crashed(&place);
@@ -301,7 +309,7 @@ fn a_checkpoint_makes_older_journals_superfluous() {
     );
     assert_eq!((after.ledger.horizon, follow(&mut after, "x")), (3, 2));
     // And again, from a checkpoint on.
-    checkpoint(&mut after);
+    checkpoint(&mut after, &none);
     put(&mut after, &mut two, &[("d", "6")]);
     sync(&after);
     let mut last = core_in(&crashed(&copy));

@@ -9,7 +9,11 @@
 //! 1. One batch is on its way at a time. So what isn't durable is one batch, at the end of the last series.
 //! 2. Where a batch can't be written the process ends at once, before anyone is told of it.
 
+#[cfg(test)]
+pub mod by_hand;
+
 use super::frame::Chain;
+use super::rules::{holds, Rule};
 use super::store::{Draft, Series, Store};
 use super::Failure;
 use parking_lot::{Condvar, Mutex};
@@ -33,6 +37,8 @@ pub struct Ticket(u64);
 impl Ticket {
     /// It rests on nothing.
     pub const NONE: Ticket = Ticket(0);
+    /// It is never told.
+    pub const NEVER: Ticket = Ticket(u64::MAX);
 }
 
 /// Who waits for tickets. Without a journal nobody has to.
@@ -107,6 +113,12 @@ struct Queue {
     writing: Option<Instant>,
 }
 
+impl Queue {
+    fn has_work(&self) -> bool {
+        !self.lines.is_empty() || self.is_raised || self.switch.is_some() || self.is_over
+    }
+}
+
 struct Shared {
     queue: Mutex<Queue>,
     /// There is something to write.
@@ -153,9 +165,7 @@ impl Writer {
             durable: watch::channel(number).0,
             counts,
         });
-        let thread = Thread { shared: shared.clone(), store, identity, position };
-        let spawned = std::thread::Builder::new().name("journal".into()).spawn(move || thread.run());
-        spawned.map_err(|error| Failure::File("the journal's thread".into(), error))?;
+        Thread { shared: shared.clone(), store, identity, position }.start()?;
         Ok(Writer { shared })
     }
 
@@ -182,9 +192,12 @@ impl Writer {
         self.shared.queue.lock().writing.is_some_and(|since| since.elapsed() > STUCK)
     }
 
-    /// Adds lines to the batch that gathers.
+    /// Adds lines to the batch that gathers. Behind the last one nothing is added.
     pub fn add(&self, parts: &[&[u8]]) -> Ticket {
         let mut queue = self.shared.queue.lock();
+        if queue.is_over && holds(Rule::NothingIsCalledBehindTheEnd) {
+            return Ticket::NEVER;
+        }
         for part in parts {
             queue.lines.extend_from_slice(part);
         }
@@ -206,6 +219,10 @@ impl Writer {
 
     /// Waits, and holds up its thread, until the mark is durable.
     pub fn wait_for_mark(&self, timestamp: u64) {
+        #[cfg(test)]
+        if by_hand::is_held() {
+            return by_hand::finish_until(|| self.durable_mark() >= timestamp);
+        }
         let mut queue = self.shared.queue.lock();
         while queue.durable_mark < timestamp {
             self.shared.written.wait(&mut queue);
@@ -225,7 +242,7 @@ impl Writer {
         Some(drafts)
     }
 
-    /// The last batch, with the mark where it really stands. Nothing may be added any more.
+    /// The last batch, with the mark where it really stands.
     pub fn end(&self, mark: u64, lines: &[u8]) -> Ticket {
         let mut queue = self.shared.queue.lock();
         queue.lines.extend_from_slice(lines);
@@ -253,6 +270,16 @@ struct Thread {
 }
 
 impl Thread {
+    fn start(self) -> Result<(), Failure> {
+        #[cfg(test)]
+        if by_hand::is_held() {
+            by_hand::start(self);
+            return Ok(());
+        }
+        let spawned = std::thread::Builder::new().name("journal".into()).spawn(move || self.run());
+        spawned.map(drop).map_err(|error| Failure::File("the journal's thread".into(), error))
+    }
+
     fn run(mut self) {
         let mut spare = Vec::with_capacity(ROOM);
         loop {
@@ -278,7 +305,7 @@ impl Thread {
     /// Waits for something to write. `None` where nothing came for a while.
     fn take(&self, spare: &mut Vec<u8>) -> Option<Work> {
         let mut queue = self.shared.queue.lock();
-        while queue.lines.is_empty() && !queue.is_raised && queue.switch.is_none() && !queue.is_over {
+        while !queue.has_work() {
             if self.shared.gathered.wait_for(&mut queue, BEAT).timed_out() {
                 return None;
             }
@@ -302,11 +329,13 @@ impl Thread {
         let Some(switch) = work.switch.take() else {
             return write(&mut **store, position, work.number, work.mark, &work.lines, counts);
         };
-        write(&mut **store, position, work.number, work.mark, &work.lines[..switch.at], counts)?;
+        let (before, behind) =
+            work.lines.split_at(if holds(Rule::TheSwitchComesFirst) { switch.at } else { work.lines.len() });
+        write(&mut **store, position, work.number, work.mark, before, counts)?;
         position.series.number += 1;
         position.chain = Chain::new(identity, position.series);
         counts.since_checkpoint.store(0, Relaxed);
-        let lines = [&switch.head, &work.lines[switch.at..]].concat();
+        let lines = [&switch.head, behind].concat();
         write(&mut **store, position, work.number, work.mark, &lines, counts)?;
         // Who asked for it may have ended.
         let _ = switch.draft.send(store.draft(position.series.number));

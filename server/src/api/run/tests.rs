@@ -11,7 +11,7 @@ fn plan(body: &str) -> Plan<'_> {
 
 /// Runs a plan, and closes.
 fn told<'p>(core: &mut Core, plan: &'p Plan<'_>) -> Result<End<'p>, Stop> {
-    let end = run(core, plan);
+    let end = run(core, plan, None);
     core.settle(std::time::Instant::now());
     assert_eq!(core.shouts, 0);
     end
@@ -255,7 +255,7 @@ fn a_transaction_is_bounded() {
     let (mut core, _) = with_rows(11_000);
     let scans =
         |count: usize| format!(r#"{{"then":[{}]}}"#, vec![r#"{"scan":[null,null],"limit":10000}"#; count].join(","));
-    assert!(run(&mut core, &plan(&scans(10))).is_ok());
+    assert!(run(&mut core, &plan(&scans(10)), None).is_ok());
     assert_eq!(stopped(&mut core, &scans(11)), (422, "toomuch"));
     let mut core = crate::testing::core(&["--max-reply", "1000"]);
     committed(&mut core, &format!(r#"{{"then":[{{"put":"a","value":"{}"}}]}}"#, "x".repeat(600)));

@@ -1,0 +1,186 @@
+//! Requests with keys, without a database: each is answered with what its body is.
+
+use super::*;
+use std::future::ready;
+use std::sync::Arc;
+
+fn remembered(seconds: u64) -> Remembered {
+    Remembered::new(Duration::from_secs(seconds), VecDeque::new())
+}
+
+fn asked(who: &str, key: &str, body: &str) -> Option<Asked> {
+    Some(Asked::new(who, key, &[b"POST", b"/transact", body.as_bytes()]))
+}
+
+fn form(text: &str) -> Form {
+    Form::Text(text.to_string().into())
+}
+
+fn text_of(answer: &Answer) -> String {
+    match &answer.form {
+        Form::Text(text) => String::from_utf8(text.to_vec()).expect("text"),
+        other => panic!("{other:?}"),
+    }
+}
+
+/// What a request is answered, and whether it has run.
+async fn ask(remembered: &Remembered, who: &str, key: &str, body: &str) -> (Result<String, &'static str>, bool) {
+    match remembered.begin(asked(who, key, body), Instant::now()).await {
+        Ok(Begun::Told(answer)) => (Ok(text_of(&answer)), false),
+        Ok(Begun::Runs(running)) => {
+            running.keep(running.answered(5, || form(body)).expect("it has a key"));
+            (Ok(body.to_string()), true)
+        }
+        Err(refusal) => (Err(refusal.error), false),
+    }
+}
+
+#[tokio::test]
+async fn the_same_request_is_run_once() {
+    let remembered = remembered(60);
+    assert_eq!(ask(&remembered, "", "k", "1").await, (Ok("1".into()), true));
+    assert_eq!(ask(&remembered, "", "k", "1").await, (Ok("1".into()), false));
+    assert_eq!(ask(&remembered, "", "k", "2").await, (Err("idempotencykey"), false));
+    assert_eq!(ask(&remembered, "", "l", "2").await, (Ok("2".into()), true));
+    // Another token's key is another key.
+    assert_eq!(ask(&remembered, "other", "k", "2").await, (Ok("2".into()), true));
+    assert_eq!(remembered.table.lock().bytes, 3 * 301);
+}
+
+#[tokio::test]
+async fn what_failed_is_run_again() {
+    let remembered = remembered(60);
+    assert!(matches!(remembered.begin(asked("", "k", "1"), Instant::now()).await, Ok(Begun::Runs(_))));
+    assert_eq!(ask(&remembered, "", "k", "1").await, (Ok("1".into()), true));
+}
+
+#[tokio::test]
+async fn it_is_forgotten_after_its_time() {
+    let remembered = remembered(0);
+    assert_eq!(ask(&remembered, "", "k", "1").await, (Ok("1".into()), true));
+    assert_eq!(ask(&remembered, "", "k", "2").await, (Ok("2".into()), true));
+    let mut table = remembered.table.lock();
+    table.forget(Instant::now());
+    assert_eq!((table.entries.len(), table.until.len(), table.bytes, table.forgotten), (0, 0, 0, 2));
+}
+
+#[tokio::test]
+async fn of_two_at_once_the_second_waits() {
+    let remembered = Arc::new(remembered(60));
+    let Ok(Begun::Runs(first)) = remembered.begin(asked("", "k", "1"), Instant::now()).await else { panic!("it runs") };
+    assert_eq!(ask(&remembered, "", "k", "1").await, (Err("running"), false));
+    let second = {
+        let (remembered, far) = (remembered.clone(), Instant::now() + Duration::from_secs(60));
+        tokio::spawn(async move { remembered.begin(asked("", "k", "1"), far).await.map(|begun| is_told(&begun)) })
+    };
+    tokio::task::yield_now().await;
+    first.keep(first.answered(5, || form("1")).expect("it has a key"));
+    drop(first);
+    assert_eq!(second.await.expect("it ends").map_err(|refusal| refusal.error), Ok(true));
+}
+
+fn is_told(begun: &Begun<'_>) -> bool {
+    matches!(begun, Begun::Told(answer) if text_of(answer) == "1")
+}
+
+#[tokio::test]
+async fn a_request_that_is_dropped_frees_its_key() {
+    let remembered = remembered(60);
+    let mut dropped = Box::pin(async {
+        let _running = remembered.begin(asked("", "k", "1"), Instant::now()).await;
+        std::future::pending::<()>().await;
+    });
+    let waits = tokio::select! {
+        biased;
+        () = &mut dropped => false,
+        () = ready(()) => true,
+    };
+    assert!(waits);
+    assert_eq!(ask(&remembered, "", "k", "1").await, (Err("running"), false));
+    drop(dropped);
+    assert_eq!(ask(&remembered, "", "k", "1").await, (Ok("1".into()), true));
+}
+
+#[tokio::test]
+async fn where_there_is_no_room_nothing_is_run() {
+    let remembered = remembered(60);
+    let long = "x".repeat(MOST_BYTES);
+    assert!(ask(&remembered, "", "k", &long).await.0.is_ok());
+    assert_eq!(ask(&remembered, "", "l", "1").await, (Err("remembered"), false));
+    assert_eq!(ask(&remembered, "", "k", &long).await, (Ok(long.clone()), false));
+}
+
+/// Answers of these keys and times.
+fn answers(all: &[(&str, u64)]) -> VecDeque<Answered> {
+    let one = |&(key, time): &(&str, u64)| {
+        let Asked { named, asked } = asked("", key, &time.to_string()).expect("it has a key");
+        Answered { time, named, asked, timestamp: time, form: form(&time.to_string()) }
+    };
+    all.iter().map(one).collect()
+}
+
+#[tokio::test]
+async fn a_restart_goes_on_where_the_time_stood() {
+    let told = answers(&[("a", 1_000), ("b", 1_001), ("c", 30_000), ("b", 50_000), ("d", 61_000)]);
+    let remembered = Remembered::new(Duration::from_secs(60), told);
+    // Their time is over at 61,000, where the last one was told.
+    assert_eq!(ask(&remembered, "", "a", "1000").await, (Ok("1000".into()), true));
+    for (key, text) in [("c", "30000"), ("b", "50000"), ("d", "61000")] {
+        assert_eq!(ask(&remembered, "", key, text).await, (Ok(text.into()), false));
+    }
+    // Of two answers to a key the later one counts.
+    assert_eq!(ask(&remembered, "", "b", "1001").await, (Err("idempotencykey"), false));
+    let (all, _) = remembered.some(0, 99);
+    let times: Vec<u64> = all.iter().map(|one| one.time).collect();
+    assert_eq!(times[..3], [30_000, 50_000, 61_000]);
+    assert!(times.len() == 4 && times[3] >= 61_000, "{times:?}");
+}
+
+#[tokio::test]
+async fn all_are_copied_some_at_a_time() {
+    let remembered = remembered(60);
+    for number in 0..2 * SOME + 7 {
+        ask(&remembered, "", &format!("k{number}"), "1").await.0.expect("it is answered");
+    }
+    let below = remembered.count();
+    assert_eq!(below, 2 * SOME as u64 + 7);
+    ask(&remembered, "", "later", "1").await.0.expect("it is answered");
+    assert_eq!([0, 1000, 2000].map(|from| remembered.some(from, below).0.len()), [SOME, SOME, 7]);
+    assert_eq!([0, 1000, 2000].map(|from| remembered.some(from, below).1), [1000, 2000, below]);
+    // What is forgotten meanwhile is left out.
+    let far = Instant::now() + Duration::from_secs(61);
+    remembered.table.lock().forget(far);
+    assert_eq!(remembered.some(1000, below), (Vec::new(), below));
+    // Long ones come one at a time.
+    for key in ["a", "b"] {
+        ask(&remembered, "", key, &"x".repeat(SOME_BYTES)).await.0.expect("it is answered");
+    }
+    let (first, next) = remembered.some(below + 1, below + 3);
+    assert_eq!((first.len(), next), (1, below + 2));
+    assert_eq!(remembered.some(next, below + 3).0.len(), 1);
+}
+
+#[test]
+fn digests_tell_parts_apart() {
+    assert_ne!(digest(&[b"ab", b"c"]), digest(&[b"a", b"bc"]));
+    assert_ne!(digest(&[b"a", b""]), digest(&[b"a"]));
+    // That of no parts is that of no bytes.
+    assert_eq!(digest(&[]), 0xe3b0_c442_98fc_1c14_9afb_f4c8_996f_b924);
+}
+
+#[test]
+fn keys_of_a_header() {
+    for (header, key) in [
+        ("k", Some("k")),
+        ("\"8e03978e-40d5-43dd-bc93-6894a57f9324\"", Some("8e03978e-40d5-43dd-bc93-6894a57f9324")),
+        ("", None),
+        ("\"\"", None),
+        ("a b", None),
+        ("\"a", None),
+        ("a\\b", None),
+        ("\u{fc}", None),
+    ] {
+        assert_eq!(key_in(header.as_bytes()).as_deref(), key, "{header}");
+    }
+    assert!(key_in("k".repeat(64).as_bytes()).is_some() && key_in("k".repeat(65).as_bytes()).is_none());
+}
