@@ -249,9 +249,7 @@ impl Journal {
     /// A name is gone. Its generations aren't given again.
     pub fn no_name(&mut self, name: &str, generation: u64) {
         if self.keeps() {
-            let note = Note::Generation(generation).to_string();
-            let note = Some(note).filter(|_| holds(Rule::GenerationsAreKept)).unwrap_or_default();
-            self.add(&format!("{note}{}", Note::NoName(name.into())));
+            self.add(&format!("{}{}", generation_note(generation), Note::NoName(name.into())));
         }
     }
 
@@ -280,7 +278,7 @@ impl Journal {
         if let Some(place) = &self.place {
             head.push_str(&Note::Place(place.clone()).to_string());
         }
-        head.push_str(&Note::Generation(generation).to_string());
+        head.push_str(&generation_note(generation));
         names.for_each(|(name, kept)| head.push_str(&Note::Name { name, kept }.to_string()));
         head.into_bytes()
     }
@@ -293,6 +291,13 @@ impl Journal {
         }
         let end = Note::End.to_string();
         self.writer.as_ref().map_or(Ticket::NONE, |writer| writer.end(greatest, end.as_bytes()))
+    }
+}
+
+fn generation_note(generation: u64) -> String {
+    match holds(Rule::GenerationsAreKept) {
+        true => Note::Generation(generation).to_string(),
+        false => String::new(),
     }
 }
 

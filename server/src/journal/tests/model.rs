@@ -216,6 +216,8 @@ impl Model {
         let life = self.life();
         if life.is_ending.is_none() && self.dice.one_in(3) {
             let life = self.life();
+            // As the server does: no transaction begins any more.
+            life.core.limits.is_draining = true;
             let greatest = life.core.ledger.greatest.max(life.core.ledger.closed);
             life.is_ending = Some(life.core.journal.end(greatest));
             return Ok(());

@@ -100,13 +100,14 @@ impl Model {
         for (name, stored) in self.stored.clone() {
             let core = &mut self.life().core;
             let line = core.line_of(&name.into());
-            if number_of(&line, "stored") < Some(stored) {
+            // What it has stored and wasn't told of may be there too.
+            let Some(place) = number_of(&line, "stored").filter(|place| *place >= stored) else {
                 return Err(format!("{name} has stored {stored}, and there is {line}"));
-            }
-            let opened = core.ask(Owner::Server, Command::Open { span: Span::ALL, cursor: stored });
+            };
+            let opened = core.ask(Owner::Server, Command::Open { span: Span::ALL, cursor: place });
             match opened {
                 Ok(crate::outcome::Outcome::Opened { feed, .. }) => core.end_stream(feed),
-                other => return Err(format!("{name} has stored {stored}, and a feed from there is {other:?}")),
+                other => return Err(format!("{name} has stored {place}, and a feed from there is {other:?}")),
             }
         }
         Ok(())
