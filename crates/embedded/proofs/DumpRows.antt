@@ -6,13 +6,13 @@ use Rattle.std.proofs.lemmas.List.{append-nil, take-append-drop, take_all}
 use Rattle.std.proofs.lemmas.List.Concat.{flat_map-append}
 use Rattle.std.proofs.lemmas.List.Elements.{filter-append}
 use Rattle.std.specs.List.{concat}
-use Rattle.std.specs.Prelude.{filter, nat_le, nat_lt, option_map, ◌==◌}
+use Rattle.std.specs.Prelude.{filter, nat_le, nat_lt, option_map}
 use Rattle.timestamps.specs.declared.row.Row.{Row}
 use Rattle.spans.specs.Collection.{horizon_of}
 use Rattle.spans.specs.Effects.{Effect}
-use Rattle.spans.specs.Streams.{row_lt, stream_of}
+use Rattle.spans.specs.Streams.{stream_of}
 use Rattle.spans.specs.declared.calls.commands.Cmd.{Cmd}
-use Rattle.spans.specs.declared.calls.commands.Cmd.TheVariants.{Begin, Close, Collect, Commit}
+use Rattle.spans.specs.declared.calls.commands.Cmd.TheVariants.{Begin, Close, Collect}
 use Rattle.spans.proofs.Steps.{by_test}
 use Rattle.spans.proofs.StreamOrder.{IsRowIn, RisingRows, in_stream, rows_clash, stream_rises}
 use Rattle.spans.proofs.Streaming.{RowsAbove, stream_above}
@@ -128,7 +128,7 @@ rows_split p m t place low within =
     let above : RowsAbove t more = above_too (is_left p) t s.0 s.2 in
     let through : filter (is_behind (behind_all t)) (left_rows p t) ≡ [] = none_pass (is_behind (behind_all t)) (left_rows p t) (λ r i. le-ltb t r.ts ((in_stream p all_keys 0 t r).0 (in_rows (is_left p) r (stream_of p all_keys 0 t) i)).low) in
     let behind : rows_behind p m (behind_all t) ≡ more = ap (filter (is_behind (behind_all t))) parts ∙ filter-append (is_behind (behind_all t)) (left_rows p t) more
-        ∙ ap (λ l. l ++ filter (is_behind (behind_all t)) more) through ∙ above_behind (behind_all t) t more (omega arith) above in
+    ∙ ap (λ l. l ++ filter (is_behind (behind_all t)) more) through ∙ above_behind (behind_all t) t more (omega arith) above in
     ap (filter (is_behind place)) parts ∙ filter-append (is_behind place) (left_rows p t) more
     ∙ ap (λ l. rows_behind p t place ++ l) (above_behind place t more low above ∙ sym behind)
 

@@ -1,20 +1,19 @@
 -- The texts of a piece of a dump, one after another.
-use Rattle.std.proofs.Common.{◌≡◌, ℕ, zero, suc, ◌+◌, ◌-◌, ◌<◌, ◌≤◌, Bool, true, false, cond, List, [], ◌∷◌, ◌++◌, length, length-append, take, drop, Option, Some, None, refl, sym, ◌∙◌, ap, subst, inl, inr, arith, append_assoc, decimal}
+use Rattle.std.proofs.Common.{◌≡◌, ℕ, suc, ◌+◌, ◌-◌, ◌<◌, ◌≤◌, Bool, true, false, cond, List, [], ◌∷◌, ◌++◌, length, length-append, take, Option, Some, None, refl, sym, ◌∙◌, ap, subst, inl, inr, arith, append_assoc, decimal}
 use Rattle.std.proofs.lemmas.Bool.{le-ltb, lt-ltb}
 use Rattle.std.proofs.lemmas.Bool.Decides.{nat_tests}
 use Rattle.std.proofs.lemmas.List.{append-nil, take_at}
 use Rattle.std.proofs.lemmas.List.Concat.{flat_map-append}
 use Rattle.std.specs.List.{concat}
-use Rattle.std.specs.Prelude.{is_some, max, min, nat_le, nat_lt}
+use Rattle.std.specs.Prelude.{max, nat_le, nat_lt}
 use Rattle.timestamps.specs.declared.row.Row.{Row}
-use Rattle.spans.specs.Collection.{horizon_of}
 use Rattle.spans.specs.Effects.{Effect}
-use Rattle.spans.specs.Transactions.{begun_of, closed_of, owner_of}
-use Rattle.spans.proofs.Members.{Has, among_has, has_begun}
+use Rattle.spans.specs.Transactions.{begun_of, closed_of}
+use Rattle.spans.proofs.Members.{among_has, has_begun}
 use Rattle.spans.proofs.Open.{begun_among}
 use Rattle.spans.proofs.Steps.{by_test}
 use Rattle.word_lines.specs.Commands.{command_line, joined, words_of}
-use Rattle.restarts.specs.Dump.{greatest_of, mark_of}
+use Rattle.restarts.specs.Dump.{mark_of}
 use Rattle.restarts.specs.Rows.{started}
 use Rattle.restarts.proofs.InRange.{at_most, each_low, first_low}
 use Rattle.dump_lines.specs.Lines.{lines_of, row_command, row_text}
@@ -42,7 +41,7 @@ mark_is p at reached is =
 pub row_text_some : (o : Option ℕ) (r : Row) → 0 < length (row_text o r)
 row_text_some o r =
     subst (λ (l : List ℕ). 0 < length l) (sym (flat_map-append (command_line 0) (started o r.ts) (row_command r ∷ [])))
-      (behind (lines_of (started o r.ts)) (command_line 0 (row_command r) ++ []) (ends_line (joined (decimal 0 ∷ words_of (row_command r)))))
+    (behind (lines_of (started o r.ts)) (command_line 0 (row_command r) ++ []) (ends_line (joined (decimal 0 ∷ words_of (row_command r)))))
   where
     ends_line : (words : List ℕ) → 0 < length ((words ++ 10 ∷ []) ++ [])
     ends_line words = omega (arith, length-append (words ++ 10 ∷ []) [], length-append words (10 ∷ []))
@@ -106,7 +105,7 @@ module _ (p : List Effect) (end : DumpEnd) (room : ℕ) where
       let has : nat_lt (room - length text) (length c) ≡ false = le-ltb (room - length text) (length c) (omega (arith, longer, low)) in
       let left : room - length text - length c ≡ room - length (text ++ c) = omega (arith, longer) in
       let count : fits (room - length text) (texts_through p end.to end.through place) ≡ suc (fits (room - length (text ++ c)) next) =
-          ap (fits (room - length text)) (texts_more p end.to end.through place r is) ∙ ap (λ b. cond b 0 (suc (fits (room - length text - length c) next))) has ∙ ap (λ n. suc (fits n next)) left in
+      ap (fits (room - length text)) (texts_more p end.to end.through place r is) ∙ ap (λ b. cond b 0 (suc (fits (room - length text - length c) next))) has ∙ ap (λ n. suc (fits n next)) left in
       let n : ℕ = fits (room - length (text ++ c)) next in
       let after : List ℕ × Option DumpPlace = first_texts p end.to end.through (place_of r) n in
       rw (test, test') (ap (λ k. (text ++ (first_texts p end.to end.through place k).0, (first_texts p end.to end.through place k).1)) count
@@ -122,7 +121,7 @@ module _ (p : List Effect) (end : DumpEnd) (room : ℕ) where
       let test : nat_lt room (length text) ≡ false = le-ltb room (length text) (omega (arith, longer, low)) in
       let has : nat_lt (room - length text) (length c) ≡ false = le-ltb (room - length text) (length c) (omega (arith, longer, low)) in
       let count : fits (room - length text) (texts_through p end.to end.through place) ≡ 1 =
-          ap (fits (room - length text)) (texts_last p end.to end.through place is) ∙ ap (λ b. cond b 0 1) has in
+      ap (fits (room - length text)) (texts_last p end.to end.through place is) ∙ ap (λ b. cond b 0 1) has in
       rw test (ap (λ k. (text ++ (first_texts p end.to end.through place k).0, (first_texts p end.to end.through place k).1)) count
       ∙ ap (λ (x : List ℕ × Option DumpPlace). (text ++ x.0, x.1)) (one_last p end.to end.through place is))
 
@@ -133,23 +132,23 @@ module _ (p : List Effect) (end : DumpEnd) (room : ℕ) where
       let c : List ℕ = row_text (open_at place) r in
       let more : List (List ℕ) = texts_through p end.to end.through (place_of r) in
       let count : (b : Bool) → nat_lt room (length c) ≡ b → count_within room (texts_through p end.to end.through place) ≡ max 1 (cond b 0 (suc (fits (room - length c) more))) =
-          λ b test. ap (λ l. max 1 (fits room l)) (texts_more p end.to end.through place r is) ∙ ap (λ k. max 1 (cond k 0 (suc (fits (room - length c) more)))) test in
+      λ b test. ap (λ l. max 1 (fits room l)) (texts_more p end.to end.through place r is) ∙ ap (λ k. max 1 (cond k 0 (suc (fits (room - length c) more)))) test in
       rest ∙ by_test (nat_lt room (length c))
-        (λ over. rw over (sym (
-        ap (first_texts p end.to end.through place) (count true over)
-        ∙ first_more p end.to end.through place r 0 is
-        ∙ ap (λ (x : List ℕ × Option DumpPlace). (c ++ x.0, x.1)) (none_taken p end.to end.through (place_of r))
-        ∙ ap (λ l. (l, Some (place_of r))) (append-nil c))))
-        (λ within. let one : max 1 (suc (fits (room - length c) more)) ≡ suc (fits (room - length c) more) = omega arith in
-        rw within (sym (
-        ap (first_texts p end.to end.through place) (count false within ∙ one)
-        ∙ first_more p end.to end.through place r (fits (room - length c) more) is)))
+      (λ over. rw over (sym (
+      ap (first_texts p end.to end.through place) (count true over)
+      ∙ first_more p end.to end.through place r 0 is
+      ∙ ap (λ (x : List ℕ × Option DumpPlace). (c ++ x.0, x.1)) (none_taken p end.to end.through (place_of r))
+      ∙ ap (λ l. (l, Some (place_of r))) (append-nil c))))
+      (λ within. let one : max 1 (suc (fits (room - length c) more)) ≡ suc (fits (room - length c) more) = omega arith in
+      rw within (sym (
+      ap (first_texts p end.to end.through place) (count false within ∙ one)
+      ∙ first_more p end.to end.through place r (fits (room - length c) more) is)))
 
   pub begun_by_last : (place : DumpPlace) → rows_behind p end.through place ≡ [] → AreTexts p end room place (last_text p end.to end.through (open_at place)) (place_at_end end.to end.through)
   begun_by_last place is =
       let c : List ℕ = last_text p end.to end.through (open_at place) in
       let count : count_within room (texts_through p end.to end.through place) ≡ 1 =
-          ap (λ l. max 1 (fits room l)) (texts_last p end.to end.through place is) ∙ one (nat_lt room (length c)) in
+      ap (λ l. max 1 (fits room l)) (texts_last p end.to end.through place is) ∙ one (nat_lt room (length c)) in
       sym (ap (first_texts p end.to end.through place) count ∙ one_last p end.to end.through place is)
     where
       one : (b : Bool) → max 1 (cond b 0 1) ≡ 1

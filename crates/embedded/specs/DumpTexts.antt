@@ -1,5 +1,5 @@
 -- How a piece of a dump is written, text by text (this project's own).
-use Rattle.std.specs.Prelude.{ℕ, suc, List, [], ◌∷◌, ◌++◌, ◌-◌, ◌≡◌, if◌then◌else◌, length, min, nat_lt, Option, Some, None}
+use Rattle.std.specs.Prelude.{ℕ, List, [], ◌∷◌, ◌++◌, ◌-◌, ◌≡◌, if◌then◌else◌, length, min, nat_lt, Option, Some, None}
 use Rattle.timestamps.specs.declared.row.Row.{Row}
 use Rattle.spans.specs.Collection.{horizon_of}
 use Rattle.spans.specs.Effects.{Effect}
@@ -26,8 +26,10 @@ IsNextText p end place text text' None =
 abbrev pub filled : List Effect → DumpEnd → (room : ℕ) → (text : List ℕ) → DumpPlace → List ℕ × Option DumpPlace
 filled p end room text place =
     if nat_lt room (length text) then (text, Some place)
-    else (text ++ (first_texts p end.to end.through place (fits (room - length text) (texts_through p end.to end.through place))).0,
-      (first_texts p end.to end.through place (fits (room - length text) (texts_through p end.to end.through place))).1)
+    else (
+      text ++ (first_texts p end.to end.through place (fits (room - length text) (texts_through p end.to end.through place))).0,
+      (first_texts p end.to end.through place (fits (room - length text) (texts_through p end.to end.through place))).1,
+    )
 
 -- one text behind the place, and as many more as have room
 abbrev pub AreTexts : List Effect → DumpEnd → (room : ℕ) → DumpPlace → List ℕ → Option DumpPlace → Type 0

@@ -1,5 +1,5 @@
 -- The dump of the database that an embedded one holds, piece by piece (this project's own).
-use Rattle.std.specs.Prelude.{ℕ, zero, suc, List, [], ◌∷◌, ◌++◌, ◌-◌, ◌≡◌, length, take, max, min, nat_le, nat_lt, if◌then◌else◌, Option, Some, None, option_map}
+use Rattle.std.specs.Prelude.{ℕ, suc, List, [], ◌∷◌, ◌++◌, ◌-◌, ◌≡◌, length, take, max, min, nat_le, nat_lt, if◌then◌else◌, Option, Some, None, option_map}
 use Rattle.std.specs.List.{concat}
 use Rattle.timestamps.specs.declared.row.Row.{Row}
 use Rattle.spans.specs.Collection.{horizon_of}

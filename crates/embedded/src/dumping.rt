@@ -157,7 +157,10 @@ impl Database {
         ensures next { (h : List Event) → StandsFor self.now h → end.horizon ≡ horizon_of (effects_of h) → IfOk result (IsNextText (effects_of h) end place.now text.old.items text.new.items) }
         ensures more { IfOk result (λ next. IsSome next → length text.old.items < length text.new.items) }
     {
-        match self.engine.next_left(place.ts, place.key.as_ref(), end.through)? {
+        match self
+            .engine
+            .next_left(place.ts, place.key.as_ref(), end.through)?
+        {
             None => {
                 end.put(text, place.transaction())?;
                 Ok(None)

@@ -62,7 +62,7 @@ mod versions;
 
 pub use bounded::{Bounded, BoundedError};
 pub use database::{CallError, Database};
-pub use dumping::{DumpPlace, DumpPiece};
+pub use dumping::{DumpPiece, DumpPlace};
 pub use event_record::EventRecord;
 pub use held::HeldRecord;
 pub use several::{Done, Taken};

@@ -6,7 +6,7 @@ ghost use Rattle.ripsawbean.specs.Dumps.{HasKeyRoom, IsShownOrNot, IsTold, IsTol
 
 use crate::handle::Handle;
 use crate::{CLOSED, KEY_LENGTH, NO_MEMORY, NUMBER, UNWRITTEN};
-use embedded::{Database, DumpPlace, DumpPiece};
+use embedded::{Database, DumpPiece, DumpPlace};
 use json_lines::buffer::copy_front;
 use std::alloc::{AllocError, Global};
 use timestamps::key::{Key, MAX_KEY_BYTES};

@@ -449,6 +449,7 @@ impl Error for LineFault {}
 impl Error for Unwritten {}
 impl Error for Refusal {}
 impl Error for VersionError {}
+impl Error for DumpError {}
 
 impl Error for CallError {
     fn source(&self) -> Option<&(dyn Error + 'static)> {

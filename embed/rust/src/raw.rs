@@ -516,9 +516,9 @@ impl Open {
         out: &mut [u8],
     ) -> (usize, Status) {
         let mut length = 0;
-        let (handle, key_at, key_room) = (&mut self.handle, key.as_mut_ptr(), key.len());
+        let (db, key_at, key_room) = (&mut self.handle, key.as_mut_ptr(), key.len());
         let (out_at, room) = (out.as_mut_ptr(), out.len());
-        let status = unsafe { ripsawbean_dump(handle, at, through, place, key_at, key_room, out_at, room, &mut length) };
+        let status = unsafe { ripsawbean_dump(db, at, through, place, key_at, key_room, out_at, room, &mut length) };
         (length, status)
     }
 }

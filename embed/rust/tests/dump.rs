@@ -56,7 +56,8 @@ fn pieces_through_a_timestamp() {
     assert_eq!((place.through(), place.has_ended()), (15, false));
     db.call("1 commit 30\n").expect("a call");
     let length = db.dump_piece(0, u64::MAX, &mut place, &mut out).expect("a piece");
-    let rest = "0 begin 20\n0 put 20 a 2\n0 commit 20\n0 begin 30\n0 put 30 a 3\n0 commit 30\n0 close 30\n0 collect 0\n";
+    let rest =
+        "0 begin 20\n0 put 20 a 2\n0 commit 20\n0 begin 30\n0 put 30 a 3\n0 commit 30\n0 close 30\n0 collect 0\n";
     assert_eq!(out[..length], *rest.as_bytes());
 }
 

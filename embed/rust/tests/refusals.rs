@@ -2,8 +2,8 @@
 
 use ripsawbean::refusing::{refuse_after, refuse_none};
 use ripsawbean::{
-    CallError, CommandError, Database, DumpError, DumpPlace, Held, Message, NoMemory, OpenError, Refusal, Told, Unwritten,
-    VersionError,
+    CallError, CommandError, Database, DumpError, DumpPlace, Held, Message, NoMemory, OpenError, Refusal, Told,
+    Unwritten, VersionError,
 };
 
 #[test]

@@ -1,4 +1,4 @@
-use Rattle.std.proofs.Common.{ℕ, length, subst, sym}
+use Rattle.std.proofs.Common.{length, subst}
 use Rattle.spans.specs.Effects.{effects_of}
 use Rattle.embedded.specs.Dumping.{IsPiece}
 use Rattle.embedded.specs.declared.dumping.DumpPlace.{DumpPlace}
@@ -9,5 +9,5 @@ pub returns-in-Ok-dump_piece : goal.returns-in-Ok-dump_piece
 returns-in-Ok-dump_piece c =
     let a = c.args in
     told_piece a.database.now a.at a.through a.place.now c.show.new.place a.key.now c.show.new.key a.out.now c.show.new.out c.show.result c.show.new.length c.in-Ok-dump_piece.piece
-      (λ h held. subst (λ (place : DumpPlace). IsPiece (effects_of h) a.at a.through place (length a.out.now) c.in-Ok-dump_piece.piece) c.in-Ok.ensures (c.in-Ok-dump_piece.ensures.piece h held))
-      c.show.ensures
+    (λ h held. subst (λ (place : DumpPlace). IsPiece (effects_of h) a.at a.through place (length a.out.now) c.in-Ok-dump_piece.piece) c.in-Ok.ensures (c.in-Ok-dump_piece.ensures.piece h held))
+    c.show.ensures

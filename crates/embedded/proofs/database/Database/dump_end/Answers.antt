@@ -1,5 +1,5 @@
-use Rattle.std.proofs.Common.{◌≡◌, ap, sym, ◌∙◌}
-use Rattle.std.specs.Prelude.{max, min}
+use Rattle.std.proofs.Common.{◌≡◌, ap, ◌∙◌}
+use Rattle.std.specs.Prelude.{min}
 use Rattle.spans.specs.Effects.{effects_of}
 use Rattle.restarts.specs.Dump.{mark_of}
 use Rattle.embedded.proofs.DumpTexts.{mark_is}

@@ -1,8 +1,8 @@
-use Rattle.std.proofs.Common.{◌≡◌, ◌∷◌, ◌++◌, Some, List, ap, sym, ◌∙◌}
+use Rattle.std.proofs.Common.{◌≡◌, ◌∷◌, ◌++◌, Some, ap, sym, ◌∙◌}
 use Rattle.spans.specs.Effects.{effects_of}
 use Rattle.dump_lines.specs.Lines.{row_text}
 use Rattle.engine.specs.Dumping.{next_left}
-use Rattle.embedded.specs.Dumping.{open_at, place_of, rows_behind}
+use Rattle.embedded.specs.Dumping.{place_of, rows_behind}
 use Rattle.embedded.specs.declared.dumping.DumpPlace.{DumpPlace}
 use Rattle.embedded.proofs.DumpRows.{next_row}
 use Rattle.embedded.proofs.database.Database.put_next.Goals as goal

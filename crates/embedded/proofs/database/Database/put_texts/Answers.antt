@@ -12,8 +12,8 @@ returns c = λ h held at.
     let a = c.args in
     let text = c.put_next.new.text.items in
     let step : IsNextText p a.end a.place a.text.now.items text (Some c.in-Some.behind) =
-        subst (λ (n : Option DumpPlace). IsNextText p a.end a.place a.text.now.items text n) c.in-Some.is (c.in_ok-put_next.ensures.next h held at) in
+    subst (λ (n : Option DumpPlace). IsNextText p a.end a.place a.text.now.items text n) c.in-Some.is (c.in_ok-put_next.ensures.next h held at) in
     let first : IsNextText p a.end a.place [] text (Some c.in-Some.behind) =
-        subst (λ (l : List ℕ). IsNextText p a.end a.place l text (Some c.in-Some.behind)) c.requires step in
+    subst (λ (l : List ℕ). IsNextText p a.end a.place l text (Some c.in-Some.behind)) c.requires step in
     IfOk-weaker c.put_more.result (λ next. (c.put_more.new.text.items, next) ≡ filled p a.end a.room text c.in-Some.behind) (AreTexts p a.end a.room a.place c.put_more.new.text.items)
-      (λ next is. first_then p a.end a.room text c.put_more.new.text.items a.place c.in-Some.behind next first is) (c.put_more.ensures h held at)
+    (λ next is. first_then p a.end a.room text c.put_more.new.text.items a.place c.in-Some.behind next first is) (c.put_more.ensures h held at)
