@@ -15,15 +15,17 @@
 use crate::options::LONGEST_ROW;
 use ripsawbean::Room;
 
+/// Bytes of a poll up to which it is known whether it has told all.
+const SHORT: u64 = 1 << 14;
 /// What a poll may tell. The library looks at 15 messages at once to see whether they find room.
-pub const PLAIN: Room = Room { rows: 15, bytes: 2 * LONGEST_ROW };
+pub const PLAIN: Room = Room { rows: 15, bytes: LONGEST_ROW + SHORT };
 /// The same where each row comes with the value before, which may be as long as the row and isn't counted.
-pub const WITH_BEFORE: Room = Room { rows: 4, bytes: 2 * LONGEST_ROW };
+pub const WITH_BEFORE: Room = Room { rows: 4, bytes: LONGEST_ROW + SHORT };
 
 /// Whether a poll of so much room, which told so many messages with so many bytes of text, has told all.
 pub fn is_all(room: Room, count: u64, text: usize) -> bool {
     // As text no message is shorter than what it counts.
-    count < room.rows && text as u64 <= room.bytes - LONGEST_ROW
+    count < room.rows && text as u64 <= SHORT
 }
 
 #[cfg(test)]
@@ -88,7 +90,7 @@ mod tests {
                 say(&mut core, &mut one, &format!("begin\n{puts}commit .\n"));
                 loop {
                     let (count, text) = polled(&mut core, feed, room);
-                    assert!(text.len() < 190_000, "{count} messages, {} bytes", text.len());
+                    assert!(text.len() < 115_000, "{count} messages, {} bytes", text.len());
                     told += text.matches("{\"after\"").count();
                     if is_all(room, count, text.len()) {
                         break;

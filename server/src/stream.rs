@@ -293,7 +293,7 @@ pub mod tests {
             let mut rows = 0;
             loop {
                 let told = polled(&mut core, feed, None);
-                assert!(told.text.len() < 220_000, "{} bytes at once", told.text.len());
+                assert!(told.text.len() < 150_000, "{} bytes at once", told.text.len());
                 rows += told.text.split(|byte| *byte == b'\n').filter(|line| line.starts_with(b"{\"after\"")).count();
                 if matches!(told.next, Next::Wait) {
                     break;
