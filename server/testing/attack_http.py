@@ -96,7 +96,7 @@ def test_hosts_that_are_not_its_own(room: Room, scale: Scale) -> str:
         server.port), "", "0.0.0.0:%d" % server.port, "[::ffff:127.0.0.1]:%d" % server.port, own + ":80", "user@" + own, own + "/")
     for host in wrong:
         assert server.ask("GET", "/holders", None, {"Host": host})[0] in (400, 403), host
-    for lines in (b"GET /holders HTTP/1.0\r\n", b"GET /holders HTTP/1.1\r\n", b"GET /holders HTTP/1.1\r\n" + 2 * b"Host: %s\r\n" % own.encode()):
+    for lines in (b"GET /holders HTTP/1.0\r\n", b"GET /holders HTTP/1.1\r\n", b"GET /holders HTTP/1.1\r\n" + 2 * (b"Host: %s\r\n" % own.encode())):
         with contextlib.closing(Wire(server.port)) as wire:
             wire.send(lines + b"\r\n")
             assert statuses(wire)[0] in (400, 403), lines
@@ -305,7 +305,7 @@ def cut_events(server: Server, last: str, most: int) -> tuple[list[bytes], str]:
         data = bytes(wire.held)[:most]
     rows: list[bytes] = []
     whole: list[bytes] = []
-    for event in re.sub(rb"\r\n[0-9a-f]+\r\n", b"", data.partition(b"\r\n\r\n")[2]).split(b"\n\n")[:-1]:
+    for event in re.sub(rb"\r\n[0-9A-F]+\r\n", b"", data.partition(b"\r\n\r\n")[2]).split(b"\n\n")[:-1]:
         lines = event.split(b"\n")
         rows += [line[6:] for line in lines if line.startswith(b'data: {"after"')]
         for line in lines:
@@ -321,12 +321,16 @@ def test_events_that_are_cut(room: Room, scale: Scale) -> str:
     session.call("begin\nput . first x\ncommit .\n")
     wait_for(lambda: server.closed() == 1, "closing")
     rows, last = cut_events(server, "", 2000)
+    while not last:
+        rows, last = cut_events(server, "", 2000)
 
     def write() -> None:
-        for at in range(1500):
-            session.call("begin\nput . k%d %s\nput . l%d x\ncommit .\n" % (at % 50, "v" * dice.randrange(200), at % 7))
-            time.sleep(0.002)
-        written.set()
+        with contextlib.ExitStack() as stack:
+            stack.callback(written.set)
+            for at in range(1500):
+                told = session.call("begin\nput . k%d %s\nput . l%d x\ncommit .\n" % (at % 50, "v" * dice.randrange(1, 200), at % 7))
+                assert "=> committed 2\n" in told, told
+                time.sleep(0.002)
     writer = threading.Thread(target=write)
     writer.start()
     cuts, drawn = 0, random.Random(12)
@@ -335,8 +339,10 @@ def test_events_that_are_cut(room: Room, scale: Scale) -> str:
         rows, cuts = rows + more, cuts + 1
     writer.join()
     wait_for(lambda: server.closed() == 1501, "closing")
-    more, last = cut_events(server, last, 10_000_000)
-    found = [(int(one["updated"]), base64.b64decode(one["key"]).decode()) for one in map(json.loads, rows + more)]
+    while int(last.rpartition(":")[2]) < 1501:
+        more, last = cut_events(server, last, 10_000_000)
+        rows += more
+    found = [(int(one["updated"]), base64.b64decode(one["key"]).decode()) for one in map(json.loads, rows)]
     wanted = [(1, "first")] + [row for at in range(1500) for row in ((at + 2, "k%d" % (at % 50)), (at + 2, "l%d" % (at % 7)))]
     assert found == wanted, "%d rows, and not %d: %s" % (len(found), len(wanted), [one for one in zip(found, wanted) if one[0] != one[1]][:2])
     return "%d cuts, %d rows" % (cuts, len(found))
