@@ -54,8 +54,11 @@ func (a answer) page() (Page, error) {
 		return Page{}, err
 	}
 	found := Page{told.Timestamp, told.Rows, nil}
-	if told.Next != nil && len(told.Rows) > 0 {
-		found.Next = behind(told.Rows[len(told.Rows)-1].Key)
+	if told.Next == nil {
+		return found, nil
+	}
+	if found.Next = argumentIn(*told.Next, "lo"); len(found.Next) == 0 {
+		return Page{}, nonsense(a.status, "has no place for the page behind it")
 	}
 	return found, nil
 }

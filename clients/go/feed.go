@@ -56,6 +56,7 @@ type Feed struct {
 	name       string
 	place      *Place   // all up to here was told
 	snapshot   *Place   // of these rows some were told, and not all
+	rest       Bytes    // where the page behind the last one begins, unless that was lost
 	last       *Message // the row that was told last
 	resolved   *Timestamp
 	generation uint64
@@ -89,7 +90,7 @@ func (f *Feed) Close() {
 		f.watch.Stop()
 		f.stop()
 	}
-	f.stop, f.lines = nil, nil
+	f.stop, f.lines, f.rest = nil, nil, nil
 }
 
 // Next waits for the next message.
@@ -235,7 +236,9 @@ func (f *Feed) reach(place Place) {
 // restOfSnapshot reads one page of what a cut has left out: half as long after a cut, else twice as long.
 func (f *Feed) restOfSnapshot() error {
 	lo, snapshot := f.options.Lo, *f.snapshot
-	if f.last != nil {
+	if f.rest != nil {
+		lo = f.rest
+	} else if f.last != nil {
 		lo = behind(f.last.Key)
 	}
 	path := "/rows" + arguments(lo, f.options.Hi, argument{"at", snapshot.Timestamp}, argument{"limit", f.limit}, argument{"hold", hold})
@@ -261,7 +264,7 @@ func (f *Feed) restOfSnapshot() error {
 	if f.limit *= 2; f.limit > page {
 		f.limit = page
 	}
-	if found.Next == nil {
+	if f.rest = found.Next; f.rest == nil {
 		f.reach(snapshot)
 	}
 	return nil

@@ -162,5 +162,16 @@ func arguments(lo, hi Bytes, further ...argument) string {
 // percent is QueryEscape with %20, since a plus is a plus.
 func percent(text string) string { return strings.ReplaceAll(url.QueryEscape(text), "+", "%20") }
 
+// argumentIn has the bytes of an argument of a path that the server has told.
+func argumentIn(path, name string) Bytes {
+	for _, part := range strings.FieldsFunc(path, func(it rune) bool { return it == '?' || it == '&' }) {
+		if strings.HasPrefix(part, name+"=") {
+			text, _ := url.PathUnescape(part[len(name)+1:])
+			return Bytes(text)
+		}
+	}
+	return nil
+}
+
 // behind is the key right behind a key.
 func behind(key Bytes) Bytes { return append(append(Bytes{}, key...), 0) }

@@ -28,7 +28,7 @@ export class Pauses {
   }
 }
 
-const nonsense = (status, why) => new RipsawbeanError(status, { error: "answer", why: `this is no answer of the server's: it ${why}` });
+export const nonsense = (status, why) => new RipsawbeanError(status, { error: "answer", why: `this is no answer of the server's: it ${why}` });
 
 export class Answer {
   constructor({ status, headers }, body) {

@@ -19,10 +19,10 @@
  * 2. A write has a key, so the server makes it once however often it is sent.
  */
 
-import { AGAIN, Answer, PAGE, Pauses, sleep } from "./answers.js";
+import { AGAIN, Answer, nonsense, PAGE, Pauses, sleep } from "./answers.js";
 import { ConditionFailed, Gone, Lost, OutcomeUnknown, refused, Unreachable } from "./errors.js";
 import { consume, Feed } from "./feeds.js";
-import { behind, bytesOf, del, get, pathOf, percent, put, resultOf, rowOf, textOf, unchanged, versionIs } from "./values.js";
+import { argumentIn, behind, bytesOf, del, get, pathOf, percent, put, resultOf, rowOf, textOf, unchanged, versionIs } from "./values.js";
 
 export * from "./errors.js";
 export { del, exists, get, put, scan, unchanged, valueIs, versionIs } from "./values.js";
@@ -202,8 +202,9 @@ export class Client {
 
 function pageOf(answer) {
   const { timestamp, rows, next } = answer.json();
-  const found = rows.map(rowOf);
-  return { timestamp, rows: found, next: next === null ? null : behind(found.at(-1).key) };
+  const following = next === null ? null : argumentIn(next, "lo");
+  if (following?.length === 0) throw nonsense(answer.status, "has no place for the page behind it");
+  return { timestamp, rows: rows.map(rowOf), next: following && textOf(following) };
 }
 
 function keyOfWrite() {

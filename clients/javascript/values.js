@@ -44,6 +44,13 @@ export function pathOf(path, lo, hi, further = {}) {
   return query ? `${path}?${query}` : path;
 }
 
+/** The bytes of an argument of a path that the server has told. */
+export function argumentIn(path, name) {
+  const word = path.split(/[?&]/).find((one) => one.startsWith(`${name}=`)) ?? "";
+  const letters = word.slice(name.length + 1).match(/%..|./gs) ?? [];
+  return Uint8Array.from(letters, (it) => (it.length > 1 ? parseInt(it.slice(1), 16) : it.charCodeAt(0)));
+}
+
 // ---- the parts of a transaction
 
 const span = (lo, hi) => [lo, hi].map((bound) => (bound?.length ? toJson(bound) : null));

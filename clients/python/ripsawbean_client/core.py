@@ -301,7 +301,10 @@ class TransactionCore:
 def page_of(answer: Answer) -> Page:
     told = answer.json()
     rows = [values.row_of(one) for one in told["rows"]]
-    return Page(int(told["timestamp"]), rows, rows[-1].key + b"\0" if told["next"] is not None else None)
+    following = None if told["next"] is None else values.argument_in(told["next"], "lo")
+    if told["next"] is not None and not following:
+        raise answer.nonsense("has no place for the page behind it")
+    return Page(int(told["timestamp"]), rows, following)
 
 
 def seconds_in(header: Optional[str]) -> float:

@@ -7,7 +7,7 @@ from __future__ import annotations
 
 import base64
 from typing import Any, Dict, List, NamedTuple, Optional, Union
-from urllib.parse import quote, urlencode
+from urllib.parse import quote, unquote_to_bytes, urlencode
 
 Text = Union[str, bytes]
 Step = Dict[str, Any]
@@ -172,6 +172,12 @@ def path_of(path: str, **query: Union[None, str, bytes, int]) -> str:
     """A path with the arguments that aren't None."""
     given = {name: value for name, value in query.items() if value is not None}
     return path + ("?" + urlencode(given, quote_via=quote) if given else "")
+
+
+def argument_in(path: str, name: str) -> bytes:
+    """An argument of a path that the server has told, or no bytes."""
+    pairs = (part.partition("=") for part in path.partition("?")[2].split("&"))
+    return next((unquote_to_bytes(value) for one, _, value in pairs if one == name), b"")
 
 
 def bounds_of(lo: Optional[Text], hi: Optional[Text]) -> Arguments:
