@@ -254,7 +254,8 @@ def main(words: list[str]) -> Tally:
         name = test.__name__[len("test_") :].replace("_", " ")
         if given.only in name:
             with Room() as room:
-                tally.told(name, test(room, random.Random(given.seed)))
+                told = test(room, random.Random(given.seed))
+            tally.told(name, *(told if isinstance(told, tuple) else (told,)))
     WholeLoad.program = given.program
     if given.kills and given.only in "kills":
         verdict = judge(Size(12, 8, 2, 4), given.kills, given.seed, 120 + 4 * given.kills, make=WholeLoad)

@@ -24,6 +24,7 @@ PAUSE = 0.05  # between requests, so that a checkpoint falls between them
 LAST_STEPS = 1.0  # how long a checkpoint may take behind the last one
 
 Told = tuple[str, bool]  # an answer, and whether it was given before
+Found = tuple[list[str], str]  # faults, and figures
 
 
 def body_of(number: int) -> str:
@@ -91,7 +92,7 @@ def compare(server: DurableServer, answers: list[Told]) -> tuple[list[str], bool
     return faults, had_committed
 
 
-def test_each_step_of_the_disk(room: Room, dice: random.Random) -> list[str]:
+def test_each_step_of_the_disk(room: Room, dice: random.Random) -> Found:
     """A key's request is done once, wherever the server ends."""
     faults, seen = [], collections.Counter()
     for step in itertools.count(1):
@@ -106,8 +107,9 @@ def test_each_step_of_the_disk(room: Room, dice: random.Random) -> list[str]:
         if not has_ended:
             break
     if not (seen[True] > REQUESTS // 2 and seen[False] > REQUESTS // 2 and step > 3 * REQUESTS):
-        faults.append("%d steps, and ends behind and before a durable commit: %s" % (step, seen))
-    return faults
+        faults.append("too few steps, or ends of one kind")
+    return faults, "%d steps; ended %d times behind a commit that was durable and not answered, %d times before" % (
+        step, seen[True], seen[False])
 
 
 def without_keys(batches: list[Batch]) -> list[Batch]:
@@ -117,7 +119,7 @@ def without_keys(batches: list[Batch]) -> list[Batch]:
     return batches
 
 
-def test_the_control_keys_that_are_not_kept(room: Room, dice: random.Random) -> list[str]:
+def test_the_control_keys_that_are_not_kept(room: Room, dice: random.Random) -> Found:
     """Where records of keys are left out, a request is done twice, and that is noticed."""
     for step in range(9, 30):
         server = DurableServer(room, room.file("data%d" % step), *OPTIONS, "--checkpoint-bytes", "100000000")
@@ -126,12 +128,13 @@ def test_the_control_keys_that_are_not_kept(room: Room, dice: random.Random) -> 
         answers, _ = live(server)
         if answers:
             rewrite(server.place, without_keys)
-            if any("was written at" in fault for fault in compare(server, answers)[0]):
-                return []
-    return ["nothing was noticed"]
+            twice = [fault for fault in compare(server, answers)[0] if "was written at" in fault]
+            if twice:
+                return [], "step %d: %s" % (step, twice[0])
+    return ["nothing was noticed"], ""
 
 
-def test_keys_over_a_standby(room: Room, dice: random.Random) -> list[str]:
+def test_keys_over_a_standby(room: Room, dice: random.Random) -> Found:
     """Each request is asked again until it is answered, by the server that has taken over."""
     postgres = room.start(Postgres(room.path))
     pair = room.start(Pair(room, "postgresql://test@127.0.0.1:%d/postgres" % postgres.port, *OPTIONS))
@@ -167,8 +170,8 @@ def test_keys_over_a_standby(room: Room, dice: random.Random) -> list[str]:
         if ask(pair, number) != (text, True):
             faults.append("key%d was answered %s, and then %s" % (number, text, ask(pair, number)))
     if not (len(answers) > 20 and again):
-        faults.append("%d answers, %d of them given again" % (len(answers), again))
-    return faults
+        faults.append("too few answers, or none given again")
+    return faults, "%d answers over 12 kills, %d of them by the server that has taken over" % (len(answers), again)
 
 
 def wait_for_row(database: "psycopg2.extensions.connection") -> None:
