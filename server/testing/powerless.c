@@ -70,6 +70,14 @@ static void hidden(const char *path, char *out) {
     snprintf(out, 512, "%.*s.unsynced-%s", (int)(name - path), path, name);
 }
 
+/* A file whose name wasn't synced is gone with its process, and so isn't there for the next one. */
+static void forget(const char *place) {
+    static int (*next)(const char *);
+    if (!next)
+        next = (int (*)(const char *))dlsym(RTLD_NEXT, "unlink");
+    next(place);
+}
+
 /* Where a file really stands: the changes that wait, undone. */
 static void really(const char *path, char *out) {
     snprintf(out, 512, "%s", path);
@@ -100,6 +108,7 @@ int open64(const char *path, int flags, ...) {
     struct stat there;
     if (kind == 1 && (flags & O_CREAT) && stat(place, &there)) {
         hidden(path, place);
+        forget(place);
         change(place, path);
     }
     int file = next(kind == 1 ? place : path, flags, mode);
