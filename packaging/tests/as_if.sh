@@ -19,7 +19,7 @@ as_if_built() {
         note "$beside/mvfeed" crates crates.txt
         note "$clone/embed/out/libripsawbean.a" $library
         note "$clone/embed/out/libripsawbean.so" $library
-        note "$beside/server" $library embed/rust server web/picture docs/GUIDE.md
+        note "$beside/server" $library embed/rust server web/picture clients/javascript docs/GUIDE.md
         note "$clone/arm64/out/libripsawbean.a" crates crates.txt arm64/build arm64/heap.c
     }
 }
