@@ -15,8 +15,9 @@ fn main() -> Result<(), Box<dyn Error>> {
     let out = PathBuf::from(env::var("OUT_DIR")?);
     let mut table = String::from("&[\n");
     let (page, picture) = (server.join("page"), server.join("../web/picture"));
+    let client = server.join("../clients/javascript");
     entry(&mut table, "/", &page.join("index.html"))?;
-    for (place, folder) in [("/page/", &page), ("/picture/", &picture)] {
+    for (place, folder) in [("/page/", &page), ("/picture/", &picture), ("/client/", &client)] {
         println!("cargo:rerun-if-changed={}", folder.display());
         for file in files_in(folder)? {
             let name = file.file_name().and_then(|name| name.to_str()).ok_or("a file's name is no text")?;

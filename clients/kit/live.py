@@ -7,6 +7,7 @@ from __future__ import annotations
 
 import base64
 import contextlib
+import json
 import os
 import random
 import socket
@@ -80,6 +81,12 @@ class Ground:
         self.drivers.append(driver)
         driver.tell({"connect": "%s://%s" % (scheme, host or self.server.host), "timeout": 30, **options})
         return driver
+
+    def consumer(self, name: str) -> Any:
+        """What the server says of a consumer."""
+        with contextlib.closing(self.server.connect()) as connection:
+            connection.request("GET", "/consumer/" + name)
+            return json.loads(connection.getresponse().read())
 
     def cutter(self, least: float, most: float) -> Cutter:
         return Cutter(self.server.host, least, most)
@@ -191,7 +198,8 @@ def a_later_consumer_ends_an_earlier_one(ground: Ground) -> None:
     raised: List[Any] = []
     thread = threading.Thread(target=lambda: raised.append(first.ask({"call": "consume", "name": "c", "stores": 9})))
     thread.start()
-    time.sleep(1)
+    while ground.consumer("c")["feed"] is None:  # else the first one may be the later one
+        time.sleep(0.05)
     gives(second, "consume", name="c", stores=1)
     thread.join(20)
     assert raised and raised[0].get("raises") == "Outrun", raised

@@ -97,8 +97,9 @@ function feedItem({ number, opened, streamed, seat, floor, lag, told, waits }) {
 
 function protectionItem({ number, timestamp, seat, lag }) {
   return {
-    kind: "protection", name: `protection ${number}`, says: `session ${seat}`, at: timestamp, lag: behind(lag),
-    isHeld: true, rank: OTHER, numbers: { protection: number },
+    kind: "protection", name: `protection ${number}`, at: timestamp, lag: behind(lag), isHeld: true, rank: OTHER,
+    says: seat === null ? "a request holds its snapshot for a while" : `session ${seat}`,
+    numbers: { protection: number },
   };
 }
 

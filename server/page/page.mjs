@@ -1,4 +1,4 @@
-// The page: numbers, who holds what, the picture of the live database, its events, and a line to type commands.
+// The page: numbers, who holds what, the picture of the live database, its events, a line to type commands, and rows.
 //
 // It asks the server each second while it is seen. What was told is drawn by animation frame, a part each (frames.mjs).
 import { draw } from "/picture/picture.mjs";
@@ -8,6 +8,7 @@ import { Frames } from "./frames.mjs";
 import { Holders } from "./holders.mjs";
 import { Live } from "./live.mjs";
 import { Refusals } from "./refusals.mjs";
+import { Rows } from "./rows.mjs";
 import { View } from "./view.mjs";
 import { Vitals } from "./vitals.mjs";
 
@@ -34,6 +35,7 @@ class Page {
     });
     part("own").onchange = change((view) => (view.showsOwn = part("own").checked));
     new Commands(part, () => this.#look());
+    new Rows(part);
     part("pause").onclick = () => this.#turn();
     document.addEventListener("visibilitychange", () => this.#look());
     document.addEventListener("keydown", (event) => this.#pressed(event));
@@ -85,7 +87,7 @@ class Page {
   }
 
   #pressed(event) {
-    if (event.target.matches("textarea, select") || event.ctrlKey || event.metaKey || event.altKey) return;
+    if (event.target.matches("textarea, select, #prefix") || event.ctrlKey || event.metaKey || event.altKey) return;
     const act = { "/": () => part("lines").focus(), p: () => this.#turn(), P: () => this.#turn() }[event.key];
     if (!act) return;
     event.preventDefault();

@@ -6,7 +6,6 @@ import { bytesOf, wordOf } from "/picture/words.mjs";
 import { cut, openCuts } from "./cut.mjs";
 
 const ROWS = 20; // that are shown at once
-const HOLD = 120; // seconds for which more of a snapshot can be asked for
 const LONGEST = 40; // letters of a key, and of a value
 const utf8 = new TextEncoder();
 
@@ -31,7 +30,7 @@ export class Rows {
 
   async #show(database, lo, hi, at) {
     try {
-      const { timestamp, rows, next } = await database.page(lo, hi, { at, limit: ROWS, hold: HOLD });
+      const { timestamp, rows, next } = await database.page(lo, hi, { at, limit: ROWS });
       this.#part("rows").insertAdjacentHTML("beforeend", rows.map(rowOf).join(""));
       const isNone = this.#part("rows").childElementCount === 0;
       this.#tell(isNone ? `none at ${timestamp}` : `as of ${timestamp}`, next !== null);

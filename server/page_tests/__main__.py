@@ -46,6 +46,7 @@ async def in_quiet():
             await tab.look(1280, 900, "light")
             await quiet.by_keys(tab)
             await quiet.events_by_keys(tab)
+            await quiet.rows_by_keys(tab)
             FOLDER.mkdir(parents=True, exist_ok=True)
             for width, height, scheme, scale in LOOKS:
                 await look(tab, width, height, scheme)

@@ -30,6 +30,9 @@ LEFT_OUT = """import('/page/holders.mjs').then(({ Holders }) => {
         feed: [feed, { ...feed, number: "2", consumer: "c" }] });
     return [...parts.holders.querySelectorAll(".says")].map((it) => it.textContent);
 })"""
+ROWS = "document.getElementById('rows').textContent"
+PREFIX_EMPTIED = "document.getElementById('prefix').value = ''"
+AS_OF = "document.getElementById('as-of').textContent"
 NEW_FAULTS = {"full", "toomany"}  # of a server that limits what is held
 
 
@@ -77,6 +80,24 @@ async def events_by_keys(tab):
     expect("and the last one again", await tab.value(MOMENT) == last)
 
 
+async def rows_by_keys(tab):
+    """Rows come by the client: those of some keys, with the timestamps of their transactions."""
+    await tab.press("/")
+    await tab_to(tab, "prefix")
+    await tab.write("ap")
+    await tab.press("Enter")
+    await tab.until(ROWS + ".includes('apple')")
+    expect("rows are shown by the keys' first letters", await tab.value(ROWS) == "apple422")
+    await tab.value(PREFIX_EMPTIED)
+    await tab.press("Enter")
+    await tab.until(ROWS + ".includes('pear')")
+    expect("or all, as of one timestamp", (await tab.value(AS_OF)).startswith("as of "))
+    await tab.write("no such")
+    await tab.press("Enter")
+    await tab.until(AS_OF + ".startsWith('none at ')")
+    expect("and it is said where there are none", await tab.value(ROWS) == "")
+
+
 async def an_example_by_keys(tab):
     await tab.press("/")
     await tab_to(tab, "guide")
@@ -113,9 +134,11 @@ async def words(tab):
 
 async def hostile(tab):
     """Keys, values, bounds and lines that would be markup are text, wherever the page shows them."""
-    await tab.press("/")
+    await tab.press("/")  # is a letter there, where the focus was there already
+    await tab.value(EMPTIED)
     for word in HOSTILE:
-        lines = "begin", "put . %s %s" % (word, word), "get . " + word, word, "open %s - 0" % word, "open - %s 0" % word, "commit ."
+        opened = "open %s - 0" % word, "open - %s 0" % word
+        lines = "begin", "put . %s %s" % (word, word), "get . " + word, *opened, "commit .", word  # which is a fault
         await tab.write("\n".join(lines))
         await tab.press("Enter")
         await tab.until("document.getElementById('lines').value === ''")

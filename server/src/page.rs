@@ -1,7 +1,8 @@
 //! The page of `GET /`, its scripts, and the guide's examples. `build.rs` puts them into the binary.
 //!
-//! The drawing code is that of `web/picture`: modules without a library, which the page imports from `/picture/`. The
-//! examples are the transcripts of docs/GUIDE.md, each under the heading where it stands.
+//! The drawing code is that of `web/picture`: modules without a library, which the page imports from `/picture/`. Rows are
+//! read by `clients/javascript`, which stands at `/client/`. The examples are the transcripts of docs/GUIDE.md, each under
+//! the heading where it stands.
 //!
 //! 1. A browser that shows the page takes scripts and answers from this server alone, and no other page may frame it.
 
@@ -62,6 +63,7 @@ mod tests {
             ("/page/page.css", "text/css; charset=utf-8"),
             ("/page/page.mjs", "text/javascript; charset=utf-8"),
             ("/picture/picture.mjs", "text/javascript; charset=utf-8"),
+            ("/client/index.js", "text/javascript; charset=utf-8"),
         ] {
             assert_eq!(file_at(path).map(|file| file.kind), Some(kind), "{path}");
         }
@@ -71,12 +73,20 @@ mod tests {
     }
 
     #[test]
-    fn files_are_whole_and_each_that_the_page_asks_for_is_there() {
+    fn files_are_whole_and_each_that_another_asks_for_is_there() {
         let page = include_str!("../page/index.html");
         assert_eq!(file_at("/").map(|file| file.body), Some(page.as_bytes()));
-        let asked = page.split(['"', '\'']).filter(|word| word.starts_with("/page/") || word.starts_with("/picture/"));
-        let missing: Vec<&str> = asked.filter(|path| !has(path)).collect();
-        assert_eq!(missing, Vec::<&str>::new());
+        let of_the_page = FILES.iter().filter(|file| !file.path.starts_with("/picture/"));
+        let texts = of_the_page.map(|file| (file.path, std::str::from_utf8(file.body).expect("text")));
+        let words = texts.flat_map(|(path, text)| text.split(['"', '\'']).map(move |word| (path, word)));
+        let folder = |path: &str| path.rsplit_once('/').map_or(String::new(), |(folder, _)| folder.to_string());
+        let asked = words.filter_map(|(path, word)| match word.strip_prefix("./") {
+            Some(beside) if beside.ends_with("js") => Some(format!("{}/{beside}", folder(path))),
+            _ => Some(word.to_string())
+                .filter(|word| ["/page/", "/picture/", "/client/"].iter().any(|at| word.starts_with(at))),
+        });
+        let missing: Vec<String> = asked.filter(|path| path != "/page/examples" && !has(path)).collect();
+        assert_eq!(missing, Vec::<String>::new());
     }
 
     #[test]
