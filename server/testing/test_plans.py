@@ -107,22 +107,27 @@ class Run:
     # ---- one plan
 
     def condition(self):
-        """A condition, and what tells of its key or span whether it holds."""
+        """A condition, its key or span, and what tells whether it holds once the request is sent."""
+        def now():
+            return self.model.at(key, self.last)
+
         key, kind = self.drawn.choice(KEYS), self.drawn.randrange(4)
         value, version = self.model.at(key, self.last)
         if kind == 0:
             wanted = self.drawn.choice([value or b"", self.drawn.choice(VALUES)])
-            return {"key": self.spelled(key), "value": self.spelled(wanted)}, key, value == wanted
+            return {"key": self.spelled(key), "value": self.spelled(wanted)}, key, lambda: now()[0] == wanted
         if kind == 1:
             absent = self.drawn.random() < 0.5
-            return {"key": self.spelled(key), "absent": absent}, key, absent == (value is None)
+            return {"key": self.spelled(key), "absent": absent}, key, lambda: absent == (now()[0] is None)
         if kind == 2:
             wanted = self.drawn.choice([version or 0, version or 0, self.drawn.randrange(self.last + 1)])
-            return {"key": self.spelled(key), "version": str(wanted)}, key, wanted == (version or 0)
+            return {"key": self.spelled(key), "version": str(wanted)}, key, lambda: wanted == (now()[1] or 0)
         lo, hi = self.drawn.choice(BOUNDS), self.drawn.choice(BOUNDS)
         since = self.drawn.randrange(max(self.last - 30, 0), self.last + 1)
-        then, now = (self.model.rows(lo, hi, at) for at in (since, self.last))
-        holds = [row[:2] for row in then] == [row[:2] for row in now]
+        def holds():
+            then, now = (self.model.rows(lo, hi, at) for at in (since, self.last))
+            return [row[:2] for row in then] == [row[:2] for row in now]
+
         bounds = [bound and self.spelled(bound) for bound in (lo, hi)]
         return {"span": bounds, "unchanged": str(since)}, (lo, hi), holds
 
@@ -183,6 +188,8 @@ class Run:
         for one in body["if"]:
             if "unchanged" in one:
                 await self.until_closed(int(one["unchanged"]))
+        # While that was waited for, the session may have decided what it had written.
+        conditions = [(one, place, holds()) for one, place, holds in conditions]
         path = "/transact?wait=0" + ("&bytes=base64" if only_base64 else "")
         reply = await self.client.post(path, data=json.dumps(body))
         answer = json.loads(await reply.text())
