@@ -133,7 +133,7 @@ def test_a_token_that_only_writes(room: Room, scale: Scale) -> str:
         for line in ("get . b/1", "scan . b c", "readat 1 b/1", "scanat 1 b c", "openinitial b c 0", "poll 1 9",
                      "protect 0", "stats", "closehard 9", "collect 0", "put . a x", "put . c x"):
             told = session.call(line + "\n")
-            assert told.endswith(" 69 noright\n"), (line, told)
+            assert re.fullmatch(r"fault \d+ 69 noright [^\n]+\n", told), (line, told)
         for path in ("/feed?lo=b&hi=c", "/holders", "/state", "/metrics", "/transcript", "/consumer", "/"):
             assert status_of(server, path, SENSOR) == 403, path
         rows = server.ask("POST", "/call", b"begin\nscan . - -\n")[1]
