@@ -103,7 +103,7 @@ class Memory(unittest.IsolatedAsyncioTestCase):
             replies = [await client.get("/feed") for _ in range(READERS)]
             told = await asyncio.gather(*(rows_in(reply, 9300) for reply in replies))
             self.assertEqual(told, [9300] * READERS)
-            self.assertLess(peak_of(client) - before, 400)
+            self.assertLess(peak_of(client) - before, 128)
 
 
 class Turns(unittest.IsolatedAsyncioTestCase):
