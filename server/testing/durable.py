@@ -34,8 +34,8 @@ from search_index import Index
 from tally import Tally
 
 # Checkpoints are made all the time, and what is old goes soon. A key is asked again until it is answered.
-OPTIONS = (*correct.OPTIONS, "--checkpoint-bytes", "60000", "--remember", "300")
-KEYED = 3
+OPTIONS = (*correct.OPTIONS, "--remember", "300")
+CHECKPOINTS = ("--checkpoint-bytes", "60000")
 SMALL = Size(6, 4, 1, 2)
 
 
@@ -44,10 +44,12 @@ class DurableLoad(Load):
     anew = ()
     change = None  # what is done to the journal between two lives
     lies = False
+    checkpoints = CHECKPOINTS
+    keyed_writers = 3
 
     def __init__(self, room: Room, size: Size, seed: int, drops: int = 0):
         super().__init__(room, size, seed, drops)
-        self.keyed = [self.keyed_writer(at) for at in range(KEYED)]
+        self.keyed = [self.keyed_writer(at) for at in range(self.keyed_writers)]
 
     def keyed_log(self, at: int) -> str:
         return self.room.file("writer-keyed%d.log" % at)
@@ -59,7 +61,7 @@ class DurableLoad(Load):
 
     def make_server(self) -> Server:
         self.identities: set[str] = set()
-        server = DurableServer(self.room, self.room.file("data"), *OPTIONS)
+        server = DurableServer(self.room, self.room.file("data"), *OPTIONS, *self.checkpoints)
         self.choose_disk(server)
         return server
 
@@ -96,8 +98,8 @@ class DurableLoad(Load):
         super().revive()
 
     def kill_writer(self) -> None:
-        at = self.dice.randrange(2 * KEYED)
-        if at >= KEYED:
+        at = self.dice.randrange(2 * self.keyed_writers + 1)
+        if at >= len(self.keyed):
             return super().kill_writer()
         self.keyed[at].kill()
         self.keyed[at] = self.keyed_writer(at)
@@ -188,7 +190,7 @@ class StandbyLoad(DurableLoad):
     def make_server(self) -> Server:
         self.identities = set()
         postgres = self.room.start(Postgres(self.room.path))
-        return Pair(self.room, "postgresql://test@127.0.0.1:%d/postgres" % postgres.port, *OPTIONS)
+        return Pair(self.room, "postgresql://test@127.0.0.1:%d/postgres" % postgres.port, *OPTIONS, *CHECKPOINTS)
 
     def choose_disk(self, server: DurableServer) -> None:
         pass
@@ -217,7 +219,10 @@ def without_names(batches: list[Batch]) -> list[Batch]:
 
 
 class Lying(DurableLoad):
+    """Without checkpoints: one that isn't on the disk is refused at the next start, and no commit is missed then."""
+
     lies = True
+    checkpoints = ("--checkpoint-bytes", "100000000")
 
 
 class Forgetful(DurableLoad):
@@ -225,6 +230,9 @@ class Forgetful(DurableLoad):
 
 
 class LowMark(DurableLoad):
+    """Without writers with keys: each of their commits is the greatest timestamp, which raises such a mark."""
+
+    keyed_writers = 0
     change = staticmethod(with_low_mark)
 
 
