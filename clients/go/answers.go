@@ -106,7 +106,7 @@ func (c *Client) call(ctx context.Context, method, path string, body []byte, hea
 		if err == nil && (found.status == 502 || found.status == 504) {
 			failed, isLost = &lost{fmt.Errorf("the proxy answers %d", found.status), true}, true
 		} else if err != nil && !isLost {
-			return answer{}, err
+			return answer{}, afterwards(err, wasSent && method != "GET")
 		}
 		// The server has ended. The next one may have another database, unless the write names its own.
 		isDown := wasSent && isLost && !failed.wasSent && method != "GET" && c.Identity() == ""
@@ -123,6 +123,15 @@ func (c *Client) call(ctx context.Context, method, path string, body []byte, hea
 		}
 		return answer{}, &Error{kind, 0, "unreachable", failed.Error(), "", nil}
 	}
+}
+
+// afterwards is what a refusal means where the same write was sent before and lost: another database doesn't know it.
+func afterwards(err error, wasWritten bool) error {
+	if wasWritten && errors.Is(err, OtherDatabase) {
+		why := "another database answers now, and the write may have committed in the one before"
+		return &Error{OutcomeUnknown, 412, "identity", why, "", nil}
+	}
+	return err
 }
 
 // once is one try. The answer may be busy; what else is refused is an error.

@@ -20,13 +20,15 @@
  */
 
 import { AGAIN, Answer, nonsense, PAGE, Pauses, sleep } from "./answers.js";
-import { ConditionFailed, Gone, Lost, OutcomeUnknown, refused, Unreachable } from "./errors.js";
+import { ConditionFailed, Gone, Lost, OtherDatabase, OutcomeUnknown, refused, Unreachable } from "./errors.js";
 import { consume, Feed } from "./feeds.js";
 import { argumentIn, behind, bytesOf, del, get, pathOf, percent, put, resultOf, rowOf, textOf, unchanged, versionIs } from "./values.js";
 
 export * from "./errors.js";
 export { del, exists, get, put, scan, unchanged, valueIs, versionIs } from "./values.js";
 
+/** A write was sent to a server that has another database now. */
+const LEFT_BEHIND = "another database answers now, and the write may have committed in the one before";
 const NOT_SENT = ["ECONNREFUSED", "ENOTFOUND", "EAI_AGAIN", "UND_ERR_CONNECT_TIMEOUT"];
 
 export class Client {
@@ -128,6 +130,9 @@ export class Client {
         if ([502, 504].includes(answer.status)) throw new Lost(`the proxy answers ${answer.status}`);
         busy = refused(answer.status, answer.text());
       } catch (why) {
+        if (why instanceof OtherDatabase && wasSent && method !== "GET") {
+          throw new OutcomeUnknown(why.status, { error: why.error, why: LEFT_BEHIND }, { cause: why });
+        }
         if (!(why instanceof Lost)) throw why;
         lost = why;
         // The server has ended. The next one may have another database, unless the write names its own.

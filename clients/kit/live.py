@@ -311,6 +311,32 @@ def a_write_that_is_lost_with_its_server(ground: Ground) -> None:
     assert time.monotonic() - began < 40, "it was sent again and again"
 
 
+def a_write_that_is_lost_before_another_database(ground: Ground) -> None:
+    """It named its database, and another one answers when it is sent again. The first may have committed it."""
+    listener = socket.create_server(("127.0.0.1", 0))
+    host = "127.0.0.1:%d" % listener.getsockname()[1]
+
+    def answer(identity: str, status: str, body: str) -> None:
+        client = listener.accept()[0]
+        while asked := client.recv(1 << 16):
+            if not status:
+                break
+            head = "HTTP/1.1 %s\r\nRipsawbean-Identity: %s\r\nContent-Length: %d\r\n" % (status, identity, len(body))
+            client.sendall((head + "Content-Type: application/json\r\nConnection: close\r\n\r\n" + body).encode())
+            break
+        client.close()
+
+    def serve() -> None:
+        answer("0f3a5b0c1d2e4f60", "404 Not Found", '{"error":"none","why":"the key has no value","timestamp":"1"}')
+        answer("", "", "")
+        answer("ffffffffffffffff", "412 Precondition Failed", '{"error":"identity","why":"this is another database"}')
+
+    threading.Thread(target=serve, daemon=True).start()
+    client = ground.client(host, timeout=60)
+    assert gives(client, "get", key="a") is None
+    raises(client, "OutcomeUnknown", "put", key="a", value="1")
+
+
 def tls_and_token(program: str, command: List[str]) -> None:
     """Over TLS with a certificate that the client trusts, and with a token; without either nothing is served."""
     with tempfile.TemporaryDirectory() as folder:
@@ -336,6 +362,7 @@ def tls_and_token(program: str, command: List[str]) -> None:
 TESTS: Tuple[Callable[[Ground], None], ...] = (
     counts_through_cuts, a_feed_through_cuts, a_snapshot_through_cuts, a_consumer_through_cuts,
     a_later_consumer_ends_an_earlier_one, a_server_that_was_killed, nobody_there, a_write_that_is_lost_with_its_server,
+    a_write_that_is_lost_before_another_database,
 )
 
 

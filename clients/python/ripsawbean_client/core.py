@@ -18,7 +18,7 @@ from typing import Any, Callable, Dict, Generator, Generic, List, NamedTuple, Op
 from urllib.parse import quote, urlsplit
 
 from . import values
-from .errors import Busy, ConditionFailed, Error, Gone, Lost, OutcomeUnknown, Unreachable, refused
+from .errors import Busy, ConditionFailed, Error, Gone, Lost, OtherDatabase, OutcomeUnknown, Unreachable, refused
 from .values import Condition, Done, Page, Place, Row, Step, Text, bounds_of, bytes_of, path_of
 
 T = TypeVar("T")
@@ -26,6 +26,9 @@ SHORT, LONG = 0.002, 0.5  # seconds between two tries, drawn below
 AGAIN = frozenset((408, 502, 503, 504))  # nothing was changed, or a proxy lost the answer
 LOST_BY_PROXY = frozenset((502, 504))
 PAGE = 1000
+
+# A write was sent to a server that has another database now.
+LEFT_BEHIND = "another database answers now, and the write may have committed in the one before"
 
 
 class Send(NamedTuple):
@@ -158,6 +161,10 @@ class Core:
                 least, last = seconds_in(answer.headers.get("Retry-After")), answer
                 if answer.status in LOST_BY_PROXY:
                     raise Lost("the proxy answers %d" % answer.status)
+            except OtherDatabase as why:
+                if was_sent and method != "GET":
+                    raise OutcomeUnknown(why.status, {"error": why.error, "why": LEFT_BEHIND}) from why
+                raise
             except Lost as why:
                 lost, last = why, None
                 is_down = was_sent and not why.was_sent
