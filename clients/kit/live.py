@@ -270,28 +270,30 @@ def counts_over_crashes(program: str, command: List[str]) -> None:
     with tempfile.TemporaryDirectory() as folder, Ground(program, command, "--data", os.path.join(folder, "data")) as ground:
         clients = [ground.client(timeout=60) for _ in range(4)]
         failures: List[BaseException] = []
+        counted, kills = [0] * len(clients), [0]
 
-        def work(client: Driver) -> None:
+        def work(which: int) -> None:
             try:
-                gives(client, "get", key="n")
-                for _ in range(50):
-                    gives(client, "count", key="n")
+                gives(clients[which], "get", key="n")
+                while counted[which] < 50 or kills[0] < 5:
+                    gives(clients[which], "count", key="n")
+                    counted[which] += 1
             except BaseException as why:
                 failures.append(why)
 
-        threads = [threading.Thread(target=work, args=(client,)) for client in clients]
+        threads = [threading.Thread(target=work, args=(which,)) for which in range(len(clients))]
         for thread in threads:
             thread.start()
-        dice, kills = random.Random(4), 0
-        while any(thread.is_alive() for thread in threads) and kills < 200:
+        dice = random.Random(4)
+        while any(thread.is_alive() for thread in threads) and kills[0] < 200:
             time.sleep(dice.uniform(0.05, 0.3))
             ground.server.happen({"world": "restart"})
-            kills += 1
+            kills[0] += 1
         for thread in threads:
             thread.join()
         assert not failures, failures
         found = gives(ground.client(), "get", key="n")
-        assert found == "200" and kills > 2, (found, kills)
+        assert found == str(sum(counted)), (found, counted)
 
 
 def a_write_that_is_lost_with_its_server(ground: Ground) -> None:
