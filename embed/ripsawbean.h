@@ -116,7 +116,7 @@ enum {
     RIPSAWBEAN_BELOWHORIZON = 24, // the timestamp is below the horizon, so versions may be gone
 
     // By a note of ripsawbean_calls alone.
-    RIPSAWBEAN_ANSWERTOOLONG = 25, // the answer would have more bytes than are let through: no call was made
+    RIPSAWBEAN_ANSWERTOOLONG = 25, // the rows or messages, unless they are refused, have more bytes than are let through: no call
 
     // By ripsawbean_open and ripsawbean_replica_open, before anything else is looked at. The handle is as it was.
     RIPSAWBEAN_PROCESSOR = 26      // the processor lacks what the code needs: on x86-64, what x86-64-v2 has
@@ -416,9 +416,10 @@ typedef struct {
 } ripsawbean_taken;
 
 // Makes the calls of lines, one after another, each up to its newline, and shows their texts, one behind another. A
-// faulty line makes no call, and the next one is taken; it ends nothing. So does a scan or a poll whose answer would have
-// more than `most` bytes of rows or messages, as they are counted above; UINT64_MAX lets all through. The texts stand in the first taken->length
-// bytes of out, whole; the rest of out is as it was, and so are the notes behind the first taken->lines.
+// faulty line makes no call, and the next one is taken; it ends nothing. So does a scan or a poll of more than `most` bytes
+// of rows or messages, as they are counted above, even where the call would be refused; UINT64_MAX lets all through. The
+// texts stand in the first taken->length bytes of out, whole; the rest of out is as it was, and so are the notes behind the
+// first taken->lines.
 //
 //     RIPSAWBEAN_OK         all lines were taken, or there is no room for a further note
 //     RIPSAWBEAN_UNWRITTEN  the last line that was taken made its call, and its text found no room or no memory: its
@@ -426,7 +427,7 @@ typedef struct {
 //                           it. Do not make that call again; go on behind it
 //     RIPSAWBEAN_NOMEMORY, RIPSAWBEAN_SPENT
 //                           the next line, which was not taken, can't be called, as by ripsawbean_call, or there was no
-//                           memory for the look at a poll's messages
+//                           memory for the look at a poll's messages, which UINT64_MAX spares
 //     RIPSAWBEAN_CLOSED     taken is all 0, and out and notes are as they were
 //
 // Nothing is lost at any of them: each line before the first byte that was not taken is done, and no line behind the
@@ -488,9 +489,9 @@ uint8_t ripsawbean_held_by(ripsawbean *db, uint8_t seat, ripsawbean_held *out, s
 //     ripsawbean_dump_place place = {0};
 //     uint8_t key[RIPSAWBEAN_MAX_KEY], out[1 << 20];
 //     size_t length;
-//     while (ripsawbean_dump(&db, 0, UINT64_MAX, &place, key, sizeof key, out, sizeof out, &length) == RIPSAWBEAN_OK && !place.ended)
+//     while (!place.ended
+//            && ripsawbean_dump(&db, 0, UINT64_MAX, &place, key, sizeof key, out, sizeof out, &length) == RIPSAWBEAN_OK)
 //         fwrite(out, 1, length, file);
-//     // behind RIPSAWBEAN_OK the last piece is in out as well
 
 // Where a dump has come to. It begins at a place that is all 0.
 typedef struct {
