@@ -240,14 +240,14 @@ static void a_long_end(void) {
     CHECK(memcmp(message.key, high, 257) == 0);
 }
 
-// Lines whose answers would be too long make no call, and those behind them are taken.
+// Lines whose answers would be too long make no call, and those behind them are taken. One that is refused makes its call.
 static void several(void) {
     static const struct {
         const char *line;
         uint64_t most; // that is too little
     } each[] = {
         {"0 scan 10 - -\n", 69}, {"0 get 10 a\n", 0}, {"0 scan 10 x -\n", 0}, {"0 scan 10 a c\n", 22}, {"0 scan 10\n", 0}, {"0 poll 1 9\n", 0},
-        {"0 stats\n", 0},
+        {"0 stats\n", 0}, {"1 scan 10 - -\n", 0}, {"0 scan 11 - -\n", 0}, {"0 scanat 10 - -\n", 0},
     };
     enum { EACH_LINE = sizeof each / sizeof *each };
     const uint64_t bounds[] = {0, 1, 21, 22, 23, 68, 69, 70, 71, ALL - 1, ALL};
@@ -273,16 +273,17 @@ static void several(void) {
     }
 }
 
-// The same of a poll: what it would tell is still there.
+// The same of a poll: what it would tell is still there. Another seat's poll, or one of no feed, is refused.
 static void several_polls(void) {
     doing = "several polls";
-    const char *text = "3 poll 1 9\n3 poll 7 9\n";
+    const char *text = "3 poll 1 9\n3 poll 7 9\n4 poll 1 9\n";
     for (uint64_t most = 0; most < 124; most += 41) {
         ripsawbean_taken taken;
-        ripsawbean_done *told = notes_of(2);
-        CHECK(ripsawbean_calls(&db, line_of(text, 22), 22, out_of(1000), 1000, told, 2, most, &taken) == RIPSAWBEAN_OK);
-        CHECK(told[0].status == RIPSAWBEAN_ANSWERTOOLONG && told[0].length == 0 && told[1].status == RIPSAWBEAN_OK && taken.lines == 2);
-        made++;
+        ripsawbean_done *told = notes_of(3);
+        CHECK(ripsawbean_calls(&db, line_of(text, 33), 33, out_of(1000), 1000, told, 3, most, &taken) == RIPSAWBEAN_OK);
+        CHECK(told[0].status == RIPSAWBEAN_ANSWERTOOLONG && told[0].length == 0 && taken.lines == 3);
+        CHECK(told[1].status == RIPSAWBEAN_OK && told[2].status == RIPSAWBEAN_OK);
+        made += 2;
     }
 }
 

@@ -103,15 +103,15 @@ taken_faulty most h line old out status f held fault is =
     (record { line = line; note = record { length = 0; status = status }; shown = [] }, h, refl, refl, inl (record { outcome = Err (Fault f); called = (refl, fault); noted = ((λ i. record { length = 0; status = is i }), refl); stands = held; grown = refl }, (λ x read. (let no : Err f ≡ Ok x = sym fault ∙ read in cc))), refl)
 
 -- a line whose answer isn't too long makes its call
-pub let_through : (most : ℕ) (h : List Event) (line : List ℕ) (read : ℕ × Cmd) (old new : Database) (out out' : List ℕ) (result : Result Done CallError) → command_at Two table 64 line ≡ Ok read → is_too_long (effects_of h) most read.1 ≡ false → IsTakenBy h line old out out' result new → IsTaken most h line old out out' result new
+pub let_through : (most : ℕ) (h : List Event) (line : List ℕ) (read : ℕ × Cmd) (old new : Database) (out out' : List ℕ) (result : Result Done CallError) → command_at Two table 64 line ≡ Ok read → is_too_long (effects_of h) read.0 most read.1 ≡ false → IsTakenBy h line old out out' result new → IsTaken most h line old out out' result new
 let_through most h line read old new out out' (Ok note) is short t =
-    (t.0, t.1, t.2, t.3, inl (t.4, (λ x there. let same : read ≡ x = (let both : Ok read ≡ Ok x = sym is ∙ (ap (command_at Two table 64) (sym t.2) ∙ there) in cc) in subst (λ (y : ℕ × Cmd). is_too_long (effects_of h) most y.1 ≡ false) same short)), t.5)
+    (t.0, t.1, t.2, t.3, inl (t.4, (λ x there. let same : read ≡ x = (let both : Ok read ≡ Ok x = sym is ∙ (ap (command_at Two table 64) (sym t.2) ∙ there) in cc) in subst (λ (y : ℕ × Cmd). is_too_long (effects_of h) y.0 most y.1 ≡ false) same short)), t.5)
 let_through most h line read old new out out' (Err (Fault f)) is short t = absurd t
 let_through most h line read old new out out' (Err Unwritten) is short t = absurd t
 let_through most h line read old new out out' (Err NoMemory) is short t = (t.0, t.1, inl t.2)
 let_through most h line read old new out out' (Err Spent) is short t = (t.0, t.1, t.2)
 
 -- one whose answer is too long is passed over
-pub passed_over : (most : ℕ) (h : List Event) (line : List ℕ) (read : ℕ × Cmd) (old : Database) (out : List ℕ) → command_at Two table 64 line ≡ Ok read → is_too_long (effects_of h) most read.1 ≡ true → IsTaken most h line old out out (Ok (record { length = 0; status = 25 })) old
+pub passed_over : (most : ℕ) (h : List Event) (line : List ℕ) (read : ℕ × Cmd) (old : Database) (out : List ℕ) → command_at Two table 64 line ≡ Ok read → is_too_long (effects_of h) read.0 most read.1 ≡ true → IsTaken most h line old out out (Ok (record { length = 0; status = 25 })) old
 passed_over most h line read old out is long =
     (record { line = line; note = record { length = 0; status = 25 }; shown = [] }, h, refl, refl, inr (record { read = read; is = is; long = long; note = refl; shown = refl; database = refl; history = refl }), refl)

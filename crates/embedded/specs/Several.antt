@@ -1,12 +1,10 @@
 -- The calls of several lines, one after another (this project's own).
-use Rattle.std.specs.Prelude.{ℕ, List, [], ◌∷◌, ◌++◌, ◌==◌, ◌≡◌, ◌≤◌, ◌<◌, ◌-◌, ◌⊎◌, ◌&&◌, Bool, true, false, not, is_some, nat_lt, length, map, drop, if◌then◌else◌, Result, Ok, Err}
+use Rattle.std.specs.Prelude.{ℕ, List, [], ◌∷◌, ◌++◌, ◌==◌, ◌≡◌, ◌≤◌, ◌<◌, ◌-◌, ◌⊎◌, ◌&&◌, Bool, true, false, not, length, map, drop, if◌then◌else◌, Result, Ok, Err}
 use Rattle.std.specs.List.{flat_map}
 use Rattle.spans.specs.declared.calls.events.Event.{Event}
 use Rattle.spans.specs.Effects.{Effect, effects_of}
-use Rattle.spans.specs.Kept.{place_of}
 use Rattle.spans.specs.declared.calls.commands.Cmd.{Cmd}
-use Rattle.spans.specs.declared.calls.commands.Cmd.TheVariants as command
-use Rattle.engine.specs.Room.{poll_count, scan_end}
+use Rattle.engine.specs.Room.{IsPoll, is_long}
 use Rattle.text_format.specs.declared.Format.TheVariants.{Two}
 use Rattle.word_lines.specs.Faults.{code_of}
 use Rattle.word_lines.specs.Reading.{command_at}
@@ -23,16 +21,10 @@ unfoldable pub first_line : List ℕ → List ℕ
 first_line [] = []
 first_line (b ∷ bytes) = if b == 10 then b ∷ [] else b ∷ first_line bytes
 
--- what a look tells of a command after p: its answer would have more than so many bytes of rows or messages
-abbrev pub is_long : List Effect → (most : ℕ) → Cmd → Bool
-is_long p most (command.Scan t span) = is_some (scan_end p t span 18446744073709551615 most)
-is_long p most (command.ScanAt t span) = is_some (scan_end p t span 18446744073709551615 most)
-is_long p most (command.Poll f max) = is_some (place_of p f) && nat_lt (poll_count p f max most) max
-is_long p most _ = false
-
--- more than is let through: 18446744073709551615 lets all through
-abbrev pub is_too_long : List Effect → (most : ℕ) → Cmd → Bool
-is_too_long p most cmd = not (most == 18446744073709551615) && is_long p most cmd
+-- the answer to a seat's command would have more bytes of rows or messages than are let through: 18446744073709551615 lets
+-- all through
+abbrev pub is_too_long : List Effect → (seat most : ℕ) → Cmd → Bool
+is_too_long p seat most cmd = not (most == 18446744073709551615) && is_long p seat most cmd
 
 -- a history goes on by an event, where a call was made that ended so
 abbrev pub GoesOn : List Event → Result (Unit {0}) CallError → List Event → Type 0
@@ -65,13 +57,13 @@ pub record IsCall (room : ℕ) (h : List Event) (d : Database) (s : Step) (h' : 
 
 -- a line's command, where it has one, has no answer that is too long
 abbrev pub IsLetThrough : (most : ℕ) → List Event → (line : List ℕ) → Type 0
-IsLetThrough most h line = (x : ℕ × Cmd) → command_at Two table 64 line ≡ Ok x → is_too_long (effects_of h) most x.1 ≡ false
+IsLetThrough most h line = (x : ℕ × Cmd) → command_at Two table 64 line ≡ Ok x → is_too_long (effects_of h) x.0 most x.1 ≡ false
 
 -- a line whose answer would be too long makes no call, and is noted so
 pub record IsPassedOver (most : ℕ) (h : List Event) (d : Database) (s : Step) (h' : List Event) (d' : Database) : Type 0 where
   pub read : ℕ × Cmd
   pub is : command_at Two table 64 s.line ≡ Ok read
-  pub long : is_too_long (effects_of h) most read.1 ≡ true
+  pub long : is_too_long (effects_of h) read.0 most read.1 ≡ true
   pub note : s.note ≡ record { length = 0; status = 25 }
   pub shown : s.shown ≡ []
   pub database : d' ≡ d
@@ -81,13 +73,9 @@ pub record IsPassedOver (most : ℕ) (h : List Event) (d : Database) (s : Step) 
 abbrev pub IsStep : (room most : ℕ) → List Event → Database → Step → List Event → Database → Type 0
 IsStep room most h d s h' d' = (IsCall room h d s h' d' × IsLetThrough most h s.line) ⊎ IsPassedOver most h d s h' d'
 
--- the command is a poll
-abbrev pub IsPollCmd : Cmd → Type 0
-IsPollCmd cmd = (f : ℕ) × (max : ℕ) × (cmd ≡ command.Poll f max)
-
 -- the command is a poll whose messages are looked at first, because not all are let through
 abbrev pub IsLookedAt : (most : ℕ) → Cmd → Type 0
-IsLookedAt most cmd = IsPollCmd cmd × (most ≡ 18446744073709551615 → ⊥)
+IsLookedAt most cmd = IsPoll cmd × (most ≡ 18446744073709551615 → ⊥)
 
 -- the line of such a poll
 abbrev pub IsPollLine : (most : ℕ) → List ℕ → Type 0

@@ -67,6 +67,9 @@ impl Database {
         ensures made { (h : List Event) → StandsFor self.old h → MadeWithin h seat bounded self.old result self.new }
         ensures same { OnErr result (self.new ≡ self.old) }
     {
+        if self.is_spent() {
+            return Err(BoundedError::NoPosition);
+        }
         let Ok(cmd) = self.command_within(bounded) else {
             return Err(BoundedError::NoMemory);
         };

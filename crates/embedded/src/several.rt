@@ -11,19 +11,17 @@
 
 ghost use Rattle.std.specs.Prelude.{◌≡◌, ◌<◌, ◌≤◌, ◌⊎◌, List, Ok, false, length, IfErr, IfOk, OnErr};
 ghost use Rattle.spans.specs.Effects.{effects_of};
-ghost use Rattle.spans.specs.declared.calls.commands.Cmd.TheVariants.{Poll, Scan};
 ghost use Rattle.spans.specs.declared.calls.events.Event.{Event};
 ghost use Rattle.embedded.specs.Embedded.{StandsFor, kept_text};
 ghost use Rattle.text_format.specs.declared.Format.TheVariants.{Two};
 ghost use Rattle.word_lines.specs.Commands.{command_line};
 ghost use Rattle.word_lines.specs.Reading.{command_at};
 ghost use Rattle.word_lines.specs.Table.{table};
-ghost use Rattle.embedded.specs.Several.{HaveBeenCalled, IsLookedAt, IsTaken, IsTakenBy, IsShown, first_line, is_long, is_too_long};
+ghost use Rattle.embedded.specs.Several.{HaveBeenCalled, IsLookedAt, IsTaken, IsTakenBy, IsShown, first_line, is_too_long};
 
 use crate::database::{CallError, Database};
 use memchr::memchr;
 use spans::calls::Cmd;
-use spans::span::Span;
 use std::alloc::AllocError;
 
 /// The status of a line whose call was made, and whose text isn't shown.
@@ -59,7 +57,8 @@ impl Database {
     /// Makes the calls of lines, one after another, shows their texts one behind another, and notes each line.
     ///
     /// A faulty line is noted, and the next one taken; so is a scan or a poll whose answer would have more than `most`
-    /// bytes of rows or messages, where `most` is not the greatest number. No further line is taken where none is left,
+    /// bytes of rows or messages, where `most` is not the greatest number. One that would be refused is called, and one
+    /// that is blocked behind so many bytes of rows is not. No further line is taken where none is left,
     /// where there is no room for a note, behind a call whose text found no room or no memory (`Unwritten`:
     /// [`Database::write`] and [`Database::copy_text`] show it), and before a line that finds no memory or no position.
     pub fn call_lines(
@@ -124,7 +123,7 @@ impl Database {
         ensures taken { (h : List Event) → StandsFor self.old h → IsTaken most h line.now self.old out.old out.new result self.new }
         ensures room { IfOk result (λ done. (done.status ≡ 14) ⊎ (done.length ≤ length out.old)) }
     {
-        match self.is_too_long(&cmd, most) {
+        match self.is_too_long(seat, &cmd, most) {
             Err(_) => Err(CallError::NoMemory),
             Ok(true) => Ok(Done {
                 length: 0,
@@ -158,37 +157,16 @@ impl Database {
         }
     }
 
-    /// Whether the answer to a command would have more than `most` bytes of rows or messages, unless that is the greatest
-    /// number. Only a look at messages takes memory.
-    fn is_too_long(&self, cmd: &Cmd, most: u64) -> Result<bool, AllocError>
-        ensures long { (h : List Event) → StandsFor self.now h → IfOk result (λ long. is_too_long (effects_of h) most cmd.now ≡ long) }
+    /// Whether the answer to a seat's command would have more than `most` bytes of rows or messages, unless that is the
+    /// greatest number. Only a look at messages takes memory.
+    fn is_too_long(&self, seat: u8, cmd: &Cmd, most: u64) -> Result<bool, AllocError>
+        ensures long { (h : List Event) → StandsFor self.now h → IfOk result (λ long. is_too_long (effects_of h) seat most cmd.now ≡ long) }
         ensures memory { OnErr result (IsLookedAt most cmd.now) }
     {
         if most == u64::MAX {
             return Ok(false);
         }
-        match cmd {
-            Cmd::Scan { ts, span } => Ok(self.is_scan_long(*ts, span, most)),
-            Cmd::ScanAt { t, span } => Ok(self.is_scan_long(*t, span, most)),
-            Cmd::Poll { feed, max } => self.is_poll_long(*feed, *max, most),
-            _ => Ok(false),
-        }
-    }
-
-    fn is_scan_long(&self, ts: u64, span: &Span, most: u64) -> bool
-        ensures { (h : List Event) → StandsFor self.now h → result ≡ is_long (effects_of h) most (Scan ts span.now) }
-    {
-        self.engine.scan_end(ts, span, u64::MAX, most).is_some()
-    }
-
-    fn is_poll_long(&self, feed: u64, max: u64, most: u64) -> Result<bool, AllocError>
-        ensures { (h : List Event) → StandsFor self.now h → IfOk result (λ long. long ≡ is_long (effects_of h) most (Poll feed max)) }
-    {
-        let Some(_) = self.engine.behind(feed) else {
-            return Ok(false);
-        };
-        let count = self.engine.poll_count(feed, max, most)?;
-        Ok(count < max)
+        self.engine.is_long(seat, cmd, most)
     }
 
     /// Shows the last event's text where there is room for all of it, and tells what is noted of its line.

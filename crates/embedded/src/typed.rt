@@ -9,7 +9,7 @@
 //! write, copy_text                                            the event's text, as a line's call shows it
 //! ```
 
-ghost use Rattle.std.specs.Prelude.{◌≡◌, ◌<◌, ◌++◌, List, false, is_some, true, OnOk, IfOk, OnErr};
+ghost use Rattle.std.specs.Prelude.{◌≡◌, ◌<◌, ◌++◌, ◌==◌, List, false, is_some, length, true, OnOk, IfOk, OnErr};
 ghost use Rattle.std.specs.List.{flat_map};
 ghost use Rattle.spans.specs.declared.calls.events.Event.{Event};
 ghost use Rattle.json_lines.specs.Writing.{Copied};
@@ -77,6 +77,13 @@ impl Database {
             reply,
         });
         Ok(())
+    }
+
+    /// Whether no position is left: the next one would be 18446744073709551615.
+    pub fn is_spent(&self) -> bool
+        ensures { (h : List Event) → StandsFor self.now h → result ≡ (length h == 18446744073709551615) }
+    {
+        self.engine.steps() == u64::MAX
     }
 
     /// The last event's answer in numbers: all 0 where no call was made.

@@ -11,3 +11,4 @@ pub mod Progress
 pub mod Ending
 pub mod Counting
 pub mod RowsLeft
+pub mod TooLong

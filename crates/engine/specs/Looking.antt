@@ -1,5 +1,5 @@
 -- What may be asked of a history beside its commands: the versions of keys, and how far it has come (this project's own).
-use Rattle.std.specs.Prelude.{ℕ, List, true, false, ◌≡◌, ◌≤◌, ◌⊎◌, if◌then◌else◌, Option, Some, None, is_some, option_map}
+use Rattle.std.specs.Prelude.{ℕ, List, true, false, ◌≡◌, ◌≤◌, ◌⊎◌, if◌then◌else◌, Option, Some, None, is_some, nat_lt, option_map}
 use Rattle.spans.specs.Effects.{Effect}
 use Rattle.spans.specs.Transactions.{closed_of, is_undecided, owner_of}
 use Rattle.spans.specs.Newest.{newest}
@@ -15,6 +15,10 @@ use Rattle.engine.specs.declared.looking.Places.{Places}
 -- because a collection forgets it
 abbrev pub value_version : List Effect → List ℕ → ℕ → Option ℕ
 value_version p x t = let n = newest (committed_version_of p x) t in if is_some n.after then Some n.ts else None
+
+-- the same from the horizon on. Below it versions may be gone, so none is told
+abbrev pub known_version : List Effect → List ℕ → ℕ → Option ℕ
+known_version p x t = if nat_lt t (horizon_of p) then None else value_version p x t
 
 -- ---- places
 

@@ -1,11 +1,16 @@
 -- How much of a scan or a poll finds room (this project's own). A row has the bytes of its key and its value, and 17 more,
 -- as a message in bytes has.
-use Rattle.std.specs.Prelude.{List, None, Option, Some, filter, if◌then◌else◌, nat_lt, ℕ}
+use Rattle.std.specs.Prelude.{Bool, List, None, Option, Some, false, filter, if◌then◌else◌, is_some, nat_lt, not, ◌==◌, ◌&&◌, ◌≡◌, ℕ}
+use Rattle.spans.specs.Answer.{first_refusal, snapshot_tests, transaction_tests}
 use Rattle.spans.specs.Collection.{horizon_of}
 use Rattle.spans.specs.Effects.{Effect}
 use Rattle.spans.specs.Feeds.{Feed, feed_of, is_cancelled, next_messages}
+use Rattle.spans.specs.Kept.{Place, place_of}
 use Rattle.spans.specs.Keys.{in_span}
 use Rattle.spans.specs.Versions.{is_blocked, visible, written_keys}
+use Rattle.spans.specs.declared.calls.commands.Cmd.{Cmd}
+use Rattle.spans.specs.declared.calls.commands.Cmd.TheVariants.{Poll, Scan, ScanAt}
+use Rattle.spans.specs.declared.calls.replies.Refusal.{Refusal}
 use Rattle.spans.specs.declared.span.Span.{Span}
 use Rattle.feed.specs.Room.{count_or}
 use Rattle.mvto_rules.specs.Room.{end_within}
@@ -29,3 +34,26 @@ count_of p f max bytes (Some feed) = count_or max bytes (next_messages p f feed 
 -- how many messages of the feed, at most max, find room; none of a feed that doesn't live
 abbrev pub poll_count : List Effect → ℕ → (max bytes : ℕ) → ℕ
 poll_count p f max bytes = if is_cancelled p f then 0 else count_of p f max bytes (feed_of p f)
+
+-- ---- answers that are too long
+
+-- none of the tests refuses
+abbrev pub passes : List (Bool × Refusal) → Bool
+passes tests = not (is_some (first_refusal tests))
+
+-- the feed lives, and is the seat's
+abbrev pub is_own : ℕ → Option Place → Bool
+is_own seat None = false
+is_own seat (Some place) = place.seat == seat
+
+-- the answer to a seat's command would have more than so many bytes of rows or messages. What is refused by its first tests
+-- has none; a scan that is blocked has those of the rows before
+abbrev pub is_long : List Effect → (seat most : ℕ) → Cmd → Bool
+is_long p seat most (Scan t span) = passes (transaction_tests p seat t) && is_some (scan_end p t span 18446744073709551615 most)
+is_long p seat most (ScanAt t span) = passes (snapshot_tests p t) && is_some (scan_end p t span 18446744073709551615 most)
+is_long p seat most (Poll f max) = is_own seat (place_of p f) && nat_lt (poll_count p f max most) max
+is_long p seat most _ = false
+
+-- the command is a poll
+abbrev pub IsPoll : Cmd → Type 0
+IsPoll cmd = (f : ℕ) × (max : ℕ) × (cmd ≡ Poll f max)

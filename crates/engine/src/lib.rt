@@ -44,6 +44,7 @@
 //! - `scan_end`: O(log n), and as a `readat` for each key up to the end
 //! - `poll_count`: O(log n), and the messages of a ring that find room; from the store as a few polls, of up to twice as
 //!   many messages as find room, but 15 at least
+//! - `is_long`: O(log n), and as `scan_end` or `poll_count`
 //!
 //! Memory: begin, get, scan, put, del, readat, scanat, protect, open and poll take it before anything changes. Without it
 //! they answer so, and all is as it was: open and poll in `openings` and `polls`, and the others in the rules. Abort,
@@ -60,9 +61,7 @@ ghost use Rattle.spans.specs.Effects.{event, effects_of};
 ghost use Rattle.spans.specs.Kept.{place_of};
 ghost use Rattle.spans.specs.Report.{IsReport};
 ghost use Rattle.spans.specs.Transactions.{closed_of};
-ghost use Rattle.std.specs.Option.{option_copied};
 ghost use Rattle.engine.specs.Layers.{HasHistory};
-ghost use Rattle.engine.specs.Room.{poll_count, scan_end};
 
 mod closings;
 mod collections;
@@ -83,9 +82,7 @@ use crate::layers::Layers;
 pub use looking::Places;
 use spans::calls::{Cmd, Reply};
 use spans::report::Report;
-use spans::span::Span;
 use std::alloc::{AllocError, Global};
-use timestamps::key::Key;
 
 /// The layers, with a count of the commands that were answered.
 pub struct Engine {
@@ -159,21 +156,5 @@ impl Engine {
         ensures { (h : List Event) → StandsFor self.now h → IfOk result (IsReport false (effects_of h)) }
     {
         self.layers.report()
-    }
-
-    /// The key at which a scan at `ts` ends, if its rows are to find room in `rows` rows and `bytes` bytes; none where
-    /// all of the span does, or something stops the reader before. It takes no memory.
-    pub fn scan_end<'a>(&'a self, ts: u64, span: &'a Span, rows: u64, bytes: u64) -> Option<&'a Key>
-        ensures { (h : List Event) → StandsFor self.now h → option_copied result ≡ scan_end (effects_of h) ts span.now rows bytes }
-    {
-        self.layers.scan_end(ts, span, rows, bytes)
-    }
-
-    /// How many of a feed's next messages, at most `max`, find room in `bytes` bytes: `max` where all of them do, and 0
-    /// where it doesn't live. It takes memory for messages that it looks for in the store.
-    pub fn poll_count(&self, feed: u64, max: u64, bytes: u64) -> Result<u64, AllocError>
-        ensures { (h : List Event) → StandsFor self.now h → IfOk result (λ n. n ≡ poll_count (effects_of h) feed max bytes) }
-    {
-        self.layers.poll_count(feed, max, bytes)
     }
 }

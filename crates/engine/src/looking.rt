@@ -7,13 +7,13 @@
 //! commit 10, begin 30       30       0        0         0       30        10
 //! put 30 a, close 50        30       29       0         29      30        10: 30 is undecided
 //! abort 30, close 50                 50       0         50      50        10
-//! protect 45, collect 50             50       45        45      50        (not asked: it is below the horizon)
+//! protect 45, collect 50             50       45        45      50        none: it is below the horizon
 //! ```
-ghost use Rattle.std.specs.Prelude.{◌≡◌, ◌≤◌, List};
+ghost use Rattle.std.specs.Prelude.{◌≡◌, List};
 ghost use Rattle.spans.specs.declared.calls.events.Event.{Event};
 ghost use Rattle.spans.specs.Collection.{horizon_of};
 ghost use Rattle.spans.specs.Effects.{effects_of};
-ghost use Rattle.engine.specs.Looking.{ArePlaces, feed_floor, value_version};
+ghost use Rattle.engine.specs.Looking.{ArePlaces, feed_floor, known_version};
 ghost use Rattle.engine.specs.Progress.{HavePlaces};
 
 use crate::Engine;
@@ -60,11 +60,14 @@ impl Engine {
         self.layers.feeds.floor(feed)
     }
 
-    /// The timestamp of the newest committed version of a key at or below `t`, where that has a value. From the horizon
-    /// on it is the history's.
+    /// The timestamp of the newest committed version of a key at or below `t`, where that has a value. Below the horizon
+    /// it is none.
     pub fn version_at(&self, t: u64, key: &Key) -> Option<u64>
-        ensures { (h : List Event) → StandsFor self.now h → horizon_of (effects_of h) ≤ t → result ≡ value_version (effects_of h) key.now t }
+        ensures { (h : List Event) → StandsFor self.now h → result ≡ known_version (effects_of h) key.now t }
     {
+        if t < self.horizon() {
+            return None;
+        }
         self.layers.rules.version_at(t, key)
     }
 }

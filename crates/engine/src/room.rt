@@ -1,16 +1,99 @@
-//! How far a scan finds room, and how many messages of a feed. A look takes no position, and changes nothing.
-ghost use Rattle.std.specs.Prelude.{◌≡◌, IfOk};
+//! How far a scan finds room, how many messages of a feed, and whether an answer would be too long. A look takes no
+//! position, and changes nothing.
+//!
+//! ```text
+//! begin 10 by seat 0, put 10 a 1, put 10 b 2      each row has 19 bytes
+//!
+//! command         by seat   most   would be too long
+//! scan 10 - -     0         38     no
+//! scan 10 - -     0         37     yes
+//! scan 10 - -     1         37     no: it is refused, because the transaction is another's
+//! scanat 10 - -   0         37     no: it is refused, because 10 isn't closed
+//! ```
+ghost use Rattle.std.specs.Prelude.{List, IfOk, OnErr, ◌≡◌};
 ghost use Rattle.std.specs.Option.{option_copied};
 ghost use Rattle.closing.specs.Standing.{closed_in};
 ghost use Rattle.feed.specs.Room.{IsFeedCount};
 ghost use Rattle.feed.specs.Standing.{live_in};
 ghost use Rattle.mvto_rules.specs.Holding.{closing_of, versions_of};
 ghost use Rattle.mvto_rules.specs.Room.{IsEnd};
+ghost use Rattle.spans.specs.Effects.{effects_of};
+ghost use Rattle.spans.specs.declared.calls.commands.Cmd.TheVariants.{Poll, Scan, ScanAt};
+ghost use Rattle.spans.specs.declared.calls.events.Event.{Event};
+ghost use Rattle.engine.specs.Room.{IsPoll, is_long, poll_count, scan_end};
 
+use crate::Engine;
 use crate::layers::Layers;
+use spans::calls::Cmd;
 use spans::span::Span;
 use std::alloc::AllocError;
 use timestamps::key::Key;
+
+impl Engine {
+    ghost use Rattle.engine.specs.Engine.{StandsFor};
+
+    /// The key at which a scan at `ts` ends, if its rows are to find room in `rows` rows and `bytes` bytes; none where
+    /// all of the span does, or something stops the reader before. It takes no memory.
+    pub fn scan_end<'a>(
+        &'a self,
+        ts: u64,
+        span: &'a Span,
+        rows: u64,
+        bytes: u64,
+    ) -> Option<&'a Key>
+        ensures { (h : List Event) → StandsFor self.now h → option_copied result ≡ scan_end (effects_of h) ts span.now rows bytes }
+    {
+        self.layers.scan_end(ts, span, rows, bytes)
+    }
+
+    /// How many of a feed's next messages, at most `max`, find room in `bytes` bytes: `max` where all of them do, and 0
+    /// where it doesn't live. It takes memory for messages that it looks for in the store.
+    pub fn poll_count(&self, feed: u64, max: u64, bytes: u64) -> Result<u64, AllocError>
+        ensures { (h : List Event) → StandsFor self.now h → IfOk result (λ n. n ≡ poll_count (effects_of h) feed max bytes) }
+    {
+        self.layers.poll_count(feed, max, bytes)
+    }
+
+    /// Whether the answer to a seat's command would have more than `most` bytes of rows or messages. What would be
+    /// refused has none. A scan that an undecided version blocks has the rows before that one. Only a poll's look takes
+    /// memory.
+    pub fn is_long(&self, seat: u8, cmd: &Cmd, most: u64) -> Result<bool, AllocError>
+        ensures long { (h : List Event) → StandsFor self.now h → IfOk result (λ long. long ≡ is_long (effects_of h) seat most cmd.now) }
+        ensures memory { OnErr result (IsPoll cmd.now) }
+    {
+        match cmd {
+            Cmd::Scan { ts, span } => Ok(self.is_scan_long(seat, *ts, span, most)),
+            Cmd::ScanAt { t, span } => Ok(self.is_snapshot_long(seat, *t, span, most)),
+            Cmd::Poll { feed, max } => self.is_poll_long(seat, *feed, *max, most),
+            _ => Ok(false),
+        }
+    }
+
+    fn is_scan_long(&self, seat: u8, ts: u64, span: &Span, most: u64) -> bool
+        ensures { (h : List Event) → StandsFor self.now h → result ≡ is_long (effects_of h) seat most (Scan ts span.now) }
+    {
+        self.layers.rules.is_usable(seat, ts) && self.scan_end(ts, span, u64::MAX, most).is_some()
+    }
+
+    fn is_snapshot_long(&self, seat: u8, t: u64, span: &Span, most: u64) -> bool
+        ensures { (h : List Event) → StandsFor self.now h → result ≡ is_long (effects_of h) seat most (ScanAt t span.now) }
+    {
+        self.layers.rules.is_readable(t) && self.scan_end(t, span, u64::MAX, most).is_some()
+    }
+
+    fn is_poll_long(&self, seat: u8, feed: u64, max: u64, most: u64) -> Result<bool, AllocError>
+        ensures { (h : List Event) → StandsFor self.now h → IfOk result (λ long. long ≡ is_long (effects_of h) seat most (Poll feed max)) }
+    {
+        let Some(owner) = self.layers.feeds.seat(feed) else {
+            return Ok(false);
+        };
+        if owner != seat {
+            return Ok(false);
+        }
+        let count = self.poll_count(feed, max, most)?;
+        Ok(count < max)
+    }
+}
 
 impl Layers {
     ghost use Rattle.engine.specs.Layers.{kept_of};

@@ -1,8 +1,9 @@
-//! What is told without a command: versions of keys, and how far timestamps have come.
-ghost use Rattle.std.specs.Prelude.{◌≡◌};
-ghost use Rattle.kept.specs.Table.{IsOldest};
+//! What is told without a command: versions of keys, how far timestamps have come, and whether a command is refused.
+ghost use Rattle.std.specs.Prelude.{◌≡◌, is_some, not};
+ghost use Rattle.kept.specs.Table.{IsOldest, refusal};
 ghost use Rattle.spans.specs.Newest.{version_at};
 ghost use Rattle.mvto_rules.specs.Looking.{IsReachedIn, kept_value_version, value_at};
+ghost use Rattle.mvto_rules.specs.Snapshots.{snapshot_refusal};
 
 use crate::rules::Rules;
 use timestamps::key::Key;
@@ -44,6 +45,20 @@ impl Rules {
             None => closed,
             Some(greatest) => closed.max(greatest),
         }
+    }
+
+    /// Whether a seat's transaction takes commands: it is the seat's own, and undecided.
+    pub fn is_usable(&self, seat: u8, ts: u64) -> bool
+        ensures { Holds self.now (λ k. result ≡ not (is_some (refusal k seat ts))) }
+    {
+        self.undecided(seat, ts).is_ok()
+    }
+
+    /// Whether a timestamp can be read at: it is closed, and not below the horizon.
+    pub fn is_readable(&self, t: u64) -> bool
+        ensures { Holds self.now (λ k. result ≡ not (is_some (snapshot_refusal k t))) }
+    {
+        self.snapshot_refusal(t).is_none()
     }
 }
 

@@ -37,7 +37,7 @@ impl Rules {
     }
 
     /// Why nothing is read at `t`.
-    fn snapshot_refusal(&self, t: u64) -> Option<Refusal>
+    pub(crate) fn snapshot_refusal(&self, t: u64) -> Option<Refusal>
         ensures { Holds self.now (λ k. result ≡ snapshot_refusal k t) }
     {
         let closed = self.closing.closed();

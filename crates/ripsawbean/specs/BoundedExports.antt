@@ -7,7 +7,7 @@ use Rattle.embedded.specs.Embedded.{StandsFor, HasStepped, last_of}
 use Rattle.embedded.specs.Typed.{HasBulk}
 use Rattle.embedded.specs.declared.bounded.Bounded.{Bounded}
 use Rattle.embedded.specs.declared.database.Database.{Database}
-use Rattle.ripsawbean.specs.TypedExports.{◌or◌, IsSpent, OfHandle, seat_fault}
+use Rattle.ripsawbean.specs.TypedExports.{◌or◌, IsSpent, IsUnspent, OfHandle, seat_fault}
 
 -- no bytes are no low bound
 abbrev pub low_of : List ℕ → Option (List ℕ)
@@ -35,13 +35,13 @@ span_fault low has_high high = bound_fault (low_of low) or bound_fault (high_of 
 abbrev pub StepsWithin : ℕ → Bounded → Database → Database → Type 0
 StepsWithin seat cmd old new = (h : List Event) → StandsFor old h → HasStepped h seat (command_within h cmd) new
 
--- one call was made on a database, or none: parts with a fault make none
+-- one call was made on a database, or none: parts with a fault make none, and want of a position comes before want of memory
 abbrev pub BoundedOn : (fault : Option ℕ) (seat : ℕ) (cmd : Bounded) (old : Database) (number : ℕ) (new : Database) → Type 0
 BoundedOn (Some n) seat cmd old number new = (number ≡ n) × (new ≡ old)
 BoundedOn None seat cmd old number new =
     ((number ≡ 0) × StepsWithin seat cmd old new)
     ⊎ ((number ≡ 14) × StepsWithin seat cmd old new × HasBulk (last_of new))
-    ⊎ ((number ≡ 12) × (new ≡ old))
+    ⊎ ((number ≡ 12) × (new ≡ old) × IsUnspent old)
     ⊎ ((number ≡ 13) × (new ≡ old) × IsSpent old)
 
 -- the same of a handle: of a scan, whose span may have a fault, and of a poll

@@ -14,15 +14,15 @@
 //! | 4 | a bound has more than 257 bytes, or the high one has none; no call was made |
 //! | 6 | the seat is not 0 to 63; no call was made. It is tested before the bounds |
 //! | 12 | no memory for a bound, the key at which the scan ends, or the messages that are looked at; no call was made |
-//! | 13 | no position is left; no call was made |
+//! | 13 | no position is left; no call was made. It is tested before want of memory |
 //! | 14 | the call was made and its answer told; its bytes found no memory: `ripsawbean_bytes` tries again |
 //! | 16 | the handle is closed; nothing was done. It is tested before all else |
 
-ghost use Rattle.std.specs.Prelude.{◌≡◌, None, Some, IfOk, if◌then◌else◌};
+ghost use Rattle.std.specs.Prelude.{◌≡◌, None, Some, IfOk, false, if◌then◌else◌};
 ghost use Rattle.embedded.specs.declared.bounded.Bounded.TheVariants.{Poll, Scan, ScanAt};
 ghost use Rattle.ripsawbean.specs.BoundedExports.{MadePollWithin, MadeScan, high_of, low_of, span_fault, span_of};
-ghost use Rattle.ripsawbean.specs.BoundedParts.{BoundedOf};
-ghost use Rattle.ripsawbean.specs.TypedExports.{Answered, OfHandle, ShownBytes};
+ghost use Rattle.ripsawbean.specs.BoundedParts.{BoundedOf, IsUnfit};
+ghost use Rattle.ripsawbean.specs.TypedExports.{Answered, OfHandle, ShownBytes, is_made};
 ghost use Rattle.ripsawbean.specs.TypedParts.{IsOf};
 
 use crate::handle::Handle;
@@ -261,7 +261,7 @@ fn call(database: &mut Database, seat: u8, cmd: Result<Bounded, Unfit>, answer: 
         return SESSION;
     }
     match cmd {
-        Err(unfit) => number(unfit),
+        Err(unfit) => told(database, unfit),
         Ok(cmd) => match database.make_within(seat, cmd) {
             Err(BoundedError::NoMemory) => NO_MEMORY,
             Err(BoundedError::NoPosition) => SPENT,
@@ -270,5 +270,22 @@ fn call(database: &mut Database, seat: u8, cmd: Result<Bounded, Unfit>, answer: 
                 0
             }
         },
+    }
+}
+
+/// What is told of parts that make no command.
+fn told(database: &Database, unfit: Unfit) -> u8
+    ensures told { IsUnfit unfit database.now result }
+    ensures unmade { is_made result ≡ false }
+{
+    match unfit {
+        Unfit::NoMemory => {
+            if database.is_spent() {
+                SPENT
+            } else {
+                NO_MEMORY
+            }
+        }
+        _ => number(unfit),
     }
 }

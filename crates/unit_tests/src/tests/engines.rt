@@ -6,7 +6,7 @@ mod running;
 mod serving;
 
 use dumping::{HISTORIES, tells};
-use rooms::{CLOSED, OPEN, POLLS, SCANS, find_room};
+use rooms::{CLOSED, LONG, OPEN, POLLS, SCANS, SEATS, are_long, find_room};
 use running::{FIRST, READER, steps};
 use serving::is_served;
 
@@ -42,4 +42,10 @@ fn looks_say_how_far_there_is_room(rt: HostRuntime) {
     assert!(rt; find_room(rt.alloc(), 1, OPEN, SCANS) == Some(true));
     assert!(rt; find_room(rt.alloc(), 1, CLOSED, POLLS) == Some(true));
     assert!(rt; find_room(rt.alloc(), 1024, CLOSED, POLLS) == Some(true));
+}
+
+#[test]
+fn only_what_is_answered_is_too_long(rt: HostRuntime) {
+    assert!(rt; are_long(rt.alloc(), 1, SEATS, LONG) == Some(true));
+    assert!(rt; are_long(rt.alloc(), 1024, SEATS, LONG) == Some(true));
 }

@@ -1,4 +1,4 @@
-//! How far scans and polls of an engine find room.
+//! How far scans and polls of an engine find room, and which answers are too long.
 use super::running::play;
 use engine::Engine;
 use script::scripts::read_script;
@@ -79,6 +79,67 @@ pub(super) const POLLS: (&str, &str) = (
 ",
 );
 
+/// A closed transaction of three rows with 70 bytes, feeds of seats 2 and 1, one that is undecided, and one that ended.
+pub(super) const SEATS: &str = "2 open - - 0
+1 open - - 0
+0 begin 10
+0 put 10 a 12345
+0 put 10 c 1234567890
+0 put 10 d 1
+0 commit 10
+0 close 15
+1 begin 20
+1 put 20 b 12
+0 begin 30
+0 begin 40
+0 abort 40
+2 cancel 2
+";
+
+/// Commands, and behind each how many bytes are let through, and whether its answer would have more. What is refused is
+/// never too long: another seat's transaction or feed, one that ended or never began, what isn't closed. A scan is blocked
+/// behind 23 bytes.
+pub(super) const LONG: (&str, &str) = (
+    "1 scan 20 - -
+1 scan 20 - -
+0 scan 20 - -
+0 scan 30 - -
+0 scan 30 - -
+0 scan 30 c -
+0 scan 10 - -
+0 scan 40 - -
+0 scan 35 - -
+0 scanat 15 - -
+0 scanat 15 - -
+0 scanat 16 - -
+2 poll 1 9
+2 poll 1 9
+1 poll 1 9
+1 poll 2 9
+0 poll 3 9
+2 get 20 a
+",
+    "90 no
+89 yes
+89 no
+22 yes
+23 no
+46 yes
+0 no
+0 no
+0 no
+70 no
+69 yes
+0 no
+87 no
+86 yes
+0 no
+0 no
+0 no
+0 no
+",
+);
+
 /// Whether each of these finds room as it says, after a script by an engine whose feeds hold so many rows.
 pub(super) fn find_room(
     alloc: Global,
@@ -86,16 +147,42 @@ pub(super) fn find_room(
     script: &str,
     asked: (&str, &str),
 ) -> Option<bool> {
+    each_is(alloc, ring, script, asked, |engine, _, cmd, row| finds_room(engine, cmd, row))
+}
+
+/// Whether each of these is too long as it says.
+pub(super) fn are_long(
+    alloc: Global,
+    ring: u32,
+    script: &str,
+    asked: (&str, &str),
+) -> Option<bool> {
+    each_is(alloc, ring, script, asked, is_long_as_told)
+}
+
+fn each_is(
+    alloc: Global,
+    ring: u32,
+    script: &str,
+    asked: (&str, &str),
+    is: impl Fn(&Engine, u8, &Cmd, &str) -> Option<bool>,
+) -> Option<bool> {
     let engine = engine_of(alloc, ring, script)?;
     let cmds = read_script(alloc, asked.0.as_bytes(), 3, Format::One).ok()?;
     let mut count = 0usize;
-    for ((_, cmd), row) in cmds.iter().zip(asked.1.lines()) {
-        if !finds_room(&engine, cmd, row)? {
+    for ((seat, cmd), row) in cmds.iter().zip(asked.1.lines()) {
+        if !is(&engine, *seat, cmd, row)? {
             return Some(false);
         }
         count = count.saturating_add(1);
     }
     Some(count == cmds.len())
+}
+
+fn is_long_as_told(engine: &Engine, seat: u8, cmd: &Cmd, row: &str) -> Option<bool> {
+    let (most, wanted) = row.split_once(' ')?;
+    let long = engine.is_long(seat, cmd, most.parse::<u64>().ok()?).ok()?;
+    Some(long == (wanted == "yes"))
 }
 
 fn engine_of(alloc: Global, ring: u32, script: &str) -> Option<Engine> {
