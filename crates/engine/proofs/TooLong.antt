@@ -1,16 +1,15 @@
--- What the layers tell of a command's first tests is the history's.
-use Rattle.std.proofs.Common.{Bool, List, Option, Some, None, [], ap, false, refl, sym, ℕ, ◌∙◌, ◌∷◌, ◌≡◌}
-use Rattle.std.specs.Prelude.{is_some, nat_lt, not, option_map, ◌==◌}
-use Rattle.spans.specs.Answer.{first_refusal, snapshot_tests, transaction_tests}
+-- What the rules tell of a command's first tests is the history's.
+use Rattle.std.proofs.Common.{Bool, Bor, List, None, Option, Some, [], ap, not, refl, true, ℕ, ◌∙◌, ◌∷◌, ◌≡◌}
+use Rattle.std.specs.Option.{is_some, option_copied}
+use Rattle.std.specs.Prelude.{nat_lt, ◌&&◌}
+use Rattle.spans.specs.Answer.{snapshot_tests, transaction_tests}
 use Rattle.spans.specs.Effects.{Effect}
 use Rattle.spans.specs.Kept.{IsKeptOf, Kept}
 use Rattle.spans.specs.declared.calls.replies.Refusal.TheVariants.{BelowHorizon, NotClosed}
 use Rattle.kept.specs.Table.{refusal}
 use Rattle.kept.proofs.Refusals.{refusal_is}
-use Rattle.feed.specs.Live.{Live}
-use Rattle.feed.specs.Standing.{Standing, live_in, place_in, seat_in}
 use Rattle.mvto_rules.specs.Snapshots.{snapshot_refusal}
-use Rattle.engine.specs.Room.{is_own, passes}
+use Rattle.engine.specs.Room.{passes}
 
 -- those of a transaction
 pub usable_is : (k : Kept) (p : List Effect) → IsKeptOf k p → (seat t : ℕ) (b : Bool) → b ≡ not (is_some (refusal k seat t)) → b ≡ passes (transaction_tests p seat t)
@@ -20,14 +19,10 @@ usable_is k p fits seat t b is = is ∙ ap (λ o. not (is_some o)) (refusal_is k
 pub readable_is : (k : Kept) (p : List Effect) → IsKeptOf k p → (t : ℕ) (b : Bool) → b ≡ not (is_some (snapshot_refusal k t)) → b ≡ passes (snapshot_tests p t)
 readable_is k p fits t b is = is ∙ (λ i. passes ((nat_lt (fits.closed_at i) t, NotClosed (fits.closed_at i)) ∷ (nat_lt t (fits.horizon_at i), BelowHorizon (fits.horizon_at i)) ∷ []))
 
-is_the : ℕ → Option ℕ → Bool
-is_the seat None = false
-is_the seat (Some owner) = owner == seat
+there : {X : Type 0} (o : Option (Bor X)) → is_some o ≡ is_some (option_copied o)
+there None = refl
+there (Some x) = refl
 
--- those of a feed: its seat is that of its place
-pub own_is : (s : Standing) (f seat : ℕ) (o : Option ℕ) → o ≡ seat_in s f → is_own seat (place_in s f) ≡ is_the seat o
-own_is s f seat o is = by (live_in s f) ∙ ap (is_the seat) (sym is)
-  where
-    by : (l : Option Live) → is_own seat (option_map (λ (l : Live). l.place) l) ≡ is_the seat (option_map (λ (l : Live). l.place.seat) l)
-    by None = refl
-    by (Some l) = refl
+-- past the tests a scan that ends somewhere is too long
+pub ends_long : {X : Type 0} (tests : Bool) (found : Option (Bor X)) (end : Option X) → true ≡ tests → option_copied found ≡ end → is_some found ≡ (tests && is_some end)
+ends_long tests found end past is = there found ∙ (λ i. past i && is_some (is i))

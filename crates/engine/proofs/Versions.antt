@@ -1,6 +1,6 @@
 -- From the horizon on, the version that what is kept tells of a key is that of the history.
 use Rattle.std.proofs.Common.{Bool, List, None, Option, Some, ap, arith, cond, false, inl, inr, refl, sym, true, ℕ, ◌<◌, ◌∙◌, ◌≡◌, ◌≤◌, ◌⊎◌}
-use Rattle.std.specs.Prelude.{is_some, nat_le}
+use Rattle.std.specs.Prelude.{is_some, nat_le, nat_lt}
 use Rattle.std.proofs.lemmas.Bool.{both_ways}
 use Rattle.std.proofs.lemmas.Bool.Decides.{nat_tests}
 use Rattle.spans.specs.Collection.{horizon_of, is_dead, version_name}
@@ -16,7 +16,7 @@ use Rattle.spans.proofs.Steps.{by_test, newest_fewer, newest_is, newest_reaches,
 use Rattle.kept.specs.Finding.{kept_committed}
 use Rattle.kept.proofs.Dead.{committed_stands, high_live, kept_is}
 use Rattle.mvto_rules.specs.Looking.{kept_value_version, value_at}
-use Rattle.engine.specs.Looking.{value_version}
+use Rattle.engine.specs.Looking.{known_version, value_version}
 
 -- ---- what is kept
 
@@ -121,3 +121,7 @@ pub told_is : (k : Kept) (p : List Effect) → AllAllowed p → IsKeptOf k p →
 told_is k p all fits x t high =
     ap value_at (newest_same (kept_committed k x) (left_version_of p x) t (λ j low. left_is k p all fits x j))
     ∙ same_told (newest (left_version_of p x) t) (newest (committed_version_of p x) t) (left_newest p x t high) (left_reaches p x t high)
+
+-- from the horizon on the version is told
+pub known_is : (p : List Effect) (x : List ℕ) (t : ℕ) → horizon_of p ≤ t → known_version p x t ≡ value_version p x t
+known_is p x t high = let off : nat_lt t (horizon_of p) ≡ false = grind (arith, nat_tests) in rw off refl
