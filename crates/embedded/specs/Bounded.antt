@@ -1,5 +1,5 @@
 -- Calls whose answer is to find room: the command is made of what a look at the history tells (this project's own).
-use Rattle.std.specs.Prelude.{ℕ, List, ◌<◌, ◌≡◌, length, Result, Ok, Err}
+use Rattle.std.specs.Prelude.{ℕ, List, ◌≡◌, length, Result, Ok, Err}
 use Rattle.spans.specs.Effects.{effects_of}
 use Rattle.spans.specs.declared.calls.commands.Cmd.{Cmd}
 use Rattle.spans.specs.declared.calls.commands.Cmd.TheVariants as command
@@ -26,5 +26,5 @@ command_within h (bounded.Poll feed max bytes) = command.Poll feed (poll_count (
 -- what a call of a seat's command does to a database that holds h. Want of a position comes before want of memory
 abbrev pub MadeWithin : List Event → ℕ → Bounded → Database → Result (Unit {0}) BoundedError → Database → Type 0
 MadeWithin h by cmd old (Ok _) new = HasStepped h by (command_within h cmd) new
-MadeWithin h by cmd old (Err NoMemory) new = (new ≡ old) × (length h < 18446744073709551615)
+MadeWithin h by cmd old (Err NoMemory) new = (new ≡ old) × (length h ≡ 18446744073709551615 → ⊥)
 MadeWithin h by cmd old (Err NoPosition) new = (new ≡ old) × (length h ≡ 18446744073709551615)

@@ -3,3 +3,4 @@ mod LooseValues
 mod HandleValues
 mod HandleSends
 mod Dumping
+mod BoundedCalls

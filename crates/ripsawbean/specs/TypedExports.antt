@@ -38,7 +38,7 @@ IsSpent old = (h : List Event) → StandsFor old h → length h ≡ 184467440737
 
 -- a position is left
 abbrev pub IsUnspent : Database → Type 0
-IsUnspent old = (h : List Event) → StandsFor old h → length h < 18446744073709551615
+IsUnspent old = (h : List Event) → StandsFor old h → length h ≡ 18446744073709551615 → ⊥
 
 -- one call was made on a database, or none: parts with a fault make none, and only long parts want memory
 abbrev pub MadeOn : (fault : Option ℕ) (wants : Type 0) (seat : ℕ) (cmd : Cmd) (old : Database) (number : ℕ) (new : Database) → Type 0

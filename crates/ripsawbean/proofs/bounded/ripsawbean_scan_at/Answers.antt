@@ -1,0 +1,7 @@
+use Rattle.embedded.specs.declared.bounded.Bounded.TheVariants.{ScanAt}
+use Rattle.ripsawbean.specs.BoundedExports.{span_of}
+use Rattle.ripsawbean.proofs.BoundedCalls.{scan_made}
+use Rattle.ripsawbean.proofs.bounded.ripsawbean_scan_at.Goals as goal
+
+pub returns-clause-made : goal.returns-clause-made
+returns-clause-made c = scan_made c.args.seat c.args.low.now c.args.has_high c.args.high.now (ScanAt c.args.timestamp (span_of c.args.low.now c.args.has_high c.args.high.now) c.args.rows c.args.bytes) c.scan_at-cmd.result c.args.handle.now.database c.show.result c.show.new.handle.database c.scan_at-cmd.ensures c.show.ensures.made
