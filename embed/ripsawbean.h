@@ -309,9 +309,8 @@ uint8_t ripsawbean_scan_at(ripsawbean *db, uint8_t seat, uint64_t timestamp, con
                            ripsawbean_answer *answer);
 
 // As ripsawbean_poll, but that the messages have at most `bytes` bytes together. The event is the poll of so many as find
-// room, and of `most` where all do. With fewer bytes than RIPSAWBEAN_MAX_ROW it may be the poll of 0, which tells nothing
-// though messages are left. RIPSAWBEAN_NOMEMORY: there was no memory for the messages that were looked at, and no call was
-// made.
+// room, and of `most` where all do: of 0 where the first has none, as with fewer bytes than RIPSAWBEAN_MAX_ROW it may be.
+// RIPSAWBEAN_NOMEMORY: there was no memory for the messages that were looked at, and no call was made.
 uint8_t ripsawbean_poll_within(ripsawbean *db, uint8_t seat, uint64_t feed, uint64_t most, uint64_t bytes, uint8_t *out, size_t room,
                                size_t *length, ripsawbean_answer *answer);
 
@@ -417,11 +416,10 @@ typedef struct {
 } ripsawbean_taken;
 
 // Makes the calls of lines, one after another, each up to its newline, and shows their texts, one behind another. A
-// faulty line makes no call, and the next one is taken; it ends nothing. Nor does a scan or a poll make one whose answer
-// would have more than `most` bytes of rows or messages, as they are counted above; UINT64_MAX lets all through. One that
-// is refused has none, so its call is made; one that an undecided version blocks has the rows before that one. The texts
-// stand in the first taken->length bytes of out, whole; the rest of out is as it was, and so are the notes behind the first
-// taken->lines.
+// faulty line makes no call, and the next one is taken; it ends nothing. Nor does a line make its call whose answer would
+// have more than `most` bytes of rows or messages, as they are counted above; UINT64_MAX lets all through. What would be
+// refused has none. A scan that a version blocks has the rows before. The texts stand in the first taken->length bytes of
+// out, whole; the rest of out is as it was, and so are the notes behind the first taken->lines.
 //
 //     RIPSAWBEAN_OK         all lines were taken, or there is no room for a further note
 //     RIPSAWBEAN_UNWRITTEN  the last line that was taken made its call, and its text found no room or no memory: its
