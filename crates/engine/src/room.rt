@@ -34,13 +34,7 @@ impl Engine {
 
     /// The key at which a scan at `ts` ends, if its rows are to find room in `rows` rows and `bytes` bytes; none where
     /// all of the span does, or something stops the reader before. It takes no memory.
-    pub fn scan_end<'a>(
-        &'a self,
-        ts: u64,
-        span: &'a Span,
-        rows: u64,
-        bytes: u64,
-    ) -> Option<&'a Key>
+    pub fn scan_end<'a>(&'a self, ts: u64, span: &'a Span, rows: u64, bytes: u64) -> Option<&'a Key>
         ensures { (h : List Event) → StandsFor self.now h → option_copied result ≡ scan_end (effects_of h) ts span.now rows bytes }
     {
         self.layers.scan_end(ts, span, rows, bytes)

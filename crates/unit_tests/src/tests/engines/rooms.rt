@@ -147,7 +147,13 @@ pub(super) fn find_room(
     script: &str,
     asked: (&str, &str),
 ) -> Option<bool> {
-    each_is(alloc, ring, script, asked, |engine, _, cmd, row| finds_room(engine, cmd, row))
+    each_is(
+        alloc,
+        ring,
+        script,
+        asked,
+        |engine, _, cmd, row| finds_room(engine, cmd, row),
+    )
 }
 
 /// Whether each of these is too long as it says.
