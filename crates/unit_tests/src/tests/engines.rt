@@ -6,7 +6,7 @@ mod running;
 mod serving;
 
 use dumping::{HISTORIES, tells};
-use rooms::{CLOSED, LONG, OPEN, POLLS, SCANS, SEATS, are_long, find_room};
+use rooms::{Asked, CLOSED, LONG, OPEN, POLLS, SCANS, SEATS, are_as_told};
 use running::{FIRST, READER, steps};
 use serving::is_served;
 
@@ -39,13 +39,13 @@ fn a_dump_is_told_its_rows_one_by_one(rt: HostRuntime) {
 #[test]
 fn looks_say_how_far_there_is_room(rt: HostRuntime) {
     // rings that hold no message, and all
-    assert!(rt; find_room(rt.alloc(), 1, OPEN, SCANS) == Some(true));
-    assert!(rt; find_room(rt.alloc(), 1, CLOSED, POLLS) == Some(true));
-    assert!(rt; find_room(rt.alloc(), 1024, CLOSED, POLLS) == Some(true));
+    assert!(rt; are_as_told(rt.alloc(), 1, OPEN, Asked::Room, SCANS) == Some(true));
+    assert!(rt; are_as_told(rt.alloc(), 1, CLOSED, Asked::Room, POLLS) == Some(true));
+    assert!(rt; are_as_told(rt.alloc(), 1024, CLOSED, Asked::Room, POLLS) == Some(true));
 }
 
 #[test]
 fn only_what_is_answered_is_too_long(rt: HostRuntime) {
-    assert!(rt; are_long(rt.alloc(), 1, SEATS, LONG) == Some(true));
-    assert!(rt; are_long(rt.alloc(), 1024, SEATS, LONG) == Some(true));
+    assert!(rt; are_as_told(rt.alloc(), 1, SEATS, Asked::Long, LONG) == Some(true));
+    assert!(rt; are_as_told(rt.alloc(), 1024, SEATS, Asked::Long, LONG) == Some(true));
 }

@@ -140,44 +140,32 @@ pub(super) const LONG: (&str, &str) = (
 ",
 );
 
-/// Whether each of these finds room as it says, after a script by an engine whose feeds hold so many rows.
-pub(super) fn find_room(
-    alloc: Global,
-    ring: u32,
-    script: &str,
-    asked: (&str, &str),
-) -> Option<bool> {
-    each_is(
-        alloc,
-        ring,
-        script,
-        asked,
-        |engine, _, cmd, row| finds_room(engine, cmd, row),
-    )
+/// What is asked of a command.
+#[derive(Clone, Copy)]
+pub(super) enum Asked {
+    /// How far it finds room.
+    Room,
+    /// Whether its answer is too long.
+    Long,
 }
 
-/// Whether each of these is too long as it says.
-pub(super) fn are_long(
+/// Whether each of these commands is as it says, after a script by an engine whose feeds hold so many rows.
+pub(super) fn are_as_told(
     alloc: Global,
     ring: u32,
     script: &str,
-    asked: (&str, &str),
-) -> Option<bool> {
-    each_is(alloc, ring, script, asked, is_long_as_told)
-}
-
-fn each_is(
-    alloc: Global,
-    ring: u32,
-    script: &str,
-    asked: (&str, &str),
-    is: impl Fn(&Engine, u8, &Cmd, &str) -> Option<bool>,
+    asked: Asked,
+    told: (&str, &str),
 ) -> Option<bool> {
     let engine = engine_of(alloc, ring, script)?;
-    let cmds = read_script(alloc, asked.0.as_bytes(), 3, Format::One).ok()?;
+    let cmds = read_script(alloc, told.0.as_bytes(), 3, Format::One).ok()?;
     let mut count = 0usize;
-    for ((seat, cmd), row) in cmds.iter().zip(asked.1.lines()) {
-        if !is(&engine, *seat, cmd, row)? {
+    for ((seat, cmd), row) in cmds.iter().zip(told.1.lines()) {
+        let is_so = match asked {
+            Asked::Room => finds_room(&engine, cmd, row)?,
+            Asked::Long => is_long_as_told(&engine, *seat, cmd, row)?,
+        };
+        if !is_so {
             return Some(false);
         }
         count = count.saturating_add(1);
