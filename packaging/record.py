@@ -38,7 +38,7 @@ def said(*words: str) -> str:
 
 def checks_of_house() -> Any:
     """The script `checks` as a module."""
-    loader = importlib.machinery.SourceFileLoader("checks", str(TOP / "checks"))
+    loader = importlib.machinery.SourceFileLoader("checks", str(TOP / "tools" / "checks"))
     made = importlib.util.module_from_spec(importlib.util.spec_from_loader("checks", loader))
     sys.modules["checks"] = made
     loader.exec_module(made)

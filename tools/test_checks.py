@@ -15,7 +15,7 @@ from unittest import mock
 
 TOP = os.path.dirname(os.path.dirname(os.path.abspath(__file__)))
 sys.dont_write_bytecode = True
-loader = importlib.machinery.SourceFileLoader("checks", os.path.join(TOP, "checks"))
+loader = importlib.machinery.SourceFileLoader("checks", os.path.join(TOP, "tools", "checks"))
 checks = importlib.util.module_from_spec(importlib.util.spec_from_loader("checks", loader))
 loader.exec_module(checks)
 # A `try` that plays what it is told to.

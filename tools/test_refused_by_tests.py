@@ -15,7 +15,7 @@ import unittest
 
 TOP = os.path.dirname(os.path.dirname(os.path.abspath(__file__)))
 sys.dont_write_bytecode = True
-loader = importlib.machinery.SourceFileLoader("refused_by_tests", os.path.join(TOP, "refused-by-tests"))
+loader = importlib.machinery.SourceFileLoader("refused_by_tests", os.path.join(TOP, "tools", "refused-by-tests"))
 script = importlib.util.module_from_spec(importlib.util.spec_from_loader("refused_by_tests", loader))
 loader.exec_module(script)
 
@@ -54,7 +54,7 @@ class Runs(unittest.TestCase):
         self.room = tempfile.TemporaryDirectory()
         self.top, self.bin = os.path.join(self.room.name, "house"), os.path.join(self.room.name, "bin")
         self.notes = os.path.join(self.room.name, "notes")
-        for folder in ("crates/low/src", "crates/low/refused-by-tests", "crates/low_tests"):
+        for folder in ("tools", "crates/low/src", "crates/low/refused-by-tests", "crates/low_tests"):
             os.makedirs(os.path.join(self.top, folder))
         for folder in (self.bin, os.path.join(self.room.name, "rooms")):
             os.mkdir(folder)
@@ -62,7 +62,7 @@ class Runs(unittest.TestCase):
         self.write("crates/low_tests/lib.rt", "tests\n")
         self.write("../bin/rt", PLAYER)
         os.chmod(os.path.join(self.bin, "rt"), 0o755)
-        shutil.copy2(os.path.join(TOP, "refused-by-tests"), self.top)
+        shutil.copy2(os.path.join(TOP, "tools", "refused-by-tests"), os.path.join(self.top, "tools"))
 
     def tearDown(self):
         self.room.cleanup()
@@ -80,7 +80,7 @@ class Runs(unittest.TestCase):
             subprocess.run(git, check=True)
         env = {**os.environ, "PATH": self.bin + os.pathsep + os.environ["PATH"], "NOTES": self.notes}
         env.update(TMPDIR=os.path.join(self.room.name, "rooms"), LIBRARY="")
-        words = [sys.executable, os.path.join(self.top, "refused-by-tests")]
+        words = [sys.executable, os.path.join(self.top, "tools", "refused-by-tests")]
         how = {"stdout": subprocess.PIPE, "stderr": subprocess.STDOUT, "text": True}
         return subprocess.Popen(words, env=env, start_new_session=True, **how)
 

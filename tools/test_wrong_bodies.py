@@ -121,7 +121,7 @@ class Runs(unittest.TestCase):
         os.chmod(os.path.join(self.room.name, "bin/rt"), 0o755)
         os.mkdir(os.path.join(self.top, "tools"))
         scripts = ("wrong_bodies", "body_edits", "side_by_side", "origin")
-        for path in ("wrong-bodies", *("tools/%s.py" % it for it in scripts)):
+        for path in ("tools/wrong-bodies", *("tools/%s.py" % it for it in scripts)):
             shutil.copy2(os.path.join(os.path.dirname(HERE), path), os.path.join(self.top, path))
         self.git("init", "-q")
         self.commit()
@@ -149,7 +149,7 @@ class Runs(unittest.TestCase):
             shutil.rmtree(os.path.join(self.top, ".git/wrong-bodies"), ignore_errors=True)
         path = os.path.join(self.room.name, "bin") + os.pathsep + os.environ["PATH"]
         ran = subprocess.run(
-            ["./wrong-bodies", *given],
+            ["tools/wrong-bodies", *given],
             cwd=self.top,
             env={**os.environ, "PATH": path, "NOTES": self.notes},
             capture_output=True,

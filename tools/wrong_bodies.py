@@ -1,5 +1,5 @@
 #!/usr/bin/env python3
-"""Tries the wrong bodies that the gate leaves out, many in one check. The script `wrong-bodies` at the top says how it
+"""Tries the wrong bodies that the gate leaves out, many in one check. The script `wrong-bodies` beside it says how it
 is called.
 
 Proofs are modular: what a function owes follows from its own body and from the contracts of what it calls. So edits in
