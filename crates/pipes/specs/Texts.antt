@@ -1,0 +1,44 @@
+-- Which histories have a text that is read again (this project's own).
+use Rattle.std.specs.Prelude.{ℕ, List, ◌+◌, ◌<◌, ◌≡◌, ◌≤◌, codes, length}
+use Rattle.std.specs.List.{All}
+use Rattle.text_format.specs.declared.Format.{Format}
+use Rattle.spans.specs.declared.calls.events.Event.{Event}
+use Rattle.sessions.specs.Made.{IsHistory}
+use Rattle.sessions.specs.declared.ending.ServeEnd.{ServeEnd}
+use Rattle.sessions.specs.declared.ending.ServeEnd.TheVariants as run
+use Rattle.word_lines.specs.Limits.{IsCommand}
+use Rattle.jobs.specs.Verdicts.{IsVerdict}
+use Rattle.jobs.specs.declared.ending.End.{End}
+use Rattle.jobs.specs.declared.ending.End.TheVariants as ends
+
+-- the session and the command of an event keep the limits of a format
+abbrev pub KeepsFormat : Format → Event → Type 0
+KeepsFormat format e = (e.seat < 64) × IsCommand format e.cmd
+
+-- each event has a position of 64 bits, of which the greatest is never given
+abbrev pub InPositions : ℕ → List Event → Type 0
+InPositions first events = first + length events ≤ 18446744073709551615
+
+-- One history from a position on, the oldest event first, whose commands keep the limits. Its answers are right, and no
+-- more is asked of them: one with a key that no command wrote, or with a count above 64 bits, would contradict the law
+pub record IsWritable (format : Format) (first : ℕ) (events : List Event) : Type 0 where
+  pub history : IsHistory first events
+  pub positions : InPositions first events
+  pub commands : All (KeepsFormat format) events
+
+-- `check` says `yes` of the text, and nothing else. A text with a faulty line would contradict this, and so would one of
+-- events of which one is wrong
+abbrev pub SaysYes : List ℕ → Type 0
+SaysYes text = (end : End) (out : List ℕ) → IsVerdict text end out → (end ≡ ends.Done) × (out ≡ codes "yes\n")
+
+-- at these ends the output of a run is the text of whole events, and of nothing else. At the others a line stands behind
+-- them, or one of them is cut, or nothing was begun
+abbrev pub IsWholeAt : ServeEnd → Type 0
+IsWholeAt run.Done = Unit {0}
+IsWholeAt run.Input = Unit {0}
+IsWholeAt run.Memory = Unit {0}
+IsWholeAt _ = ⊥
+
+-- a run ended so, after events that have a position each
+abbrev pub EndsWhole : ℕ → List Event → ServeEnd → Type 0
+EndsWhole first events e = InPositions first events × IsWholeAt e

@@ -1,0 +1,38 @@
+//! What one part writes the next one takes, as the contracts of functions that do nothing.
+ghost use Rattle.std.specs.Prelude.{List, Ok, length, reverse, ℕ, ◌≡◌, ◌≤◌};
+ghost use Rattle.std.specs.List.{All};
+ghost use Rattle.embedded.specs.Embedded.{StandsFor};
+ghost use Rattle.embedded.specs.declared.database.Database.{Database};
+ghost use Rattle.jobs.specs.Races.{IsRaced};
+ghost use Rattle.pipes.specs.Texts.{EndsWhole, IsWritable, KeepsFormat, SaysYes};
+ghost use Rattle.script.specs.Transcripts.{transcript_at, transcript_text};
+ghost use Rattle.sessions.specs.Devices.{Reads, Writes};
+ghost use Rattle.sessions.specs.Runs.{IsServed};
+ghost use Rattle.sessions.specs.declared.ending.ServeEnd.{ServeEnd};
+ghost use Rattle.shared_db.specs.declared.config.Config.{Config};
+ghost use Rattle.spans.specs.declared.calls.events.Event.{Event};
+ghost use Rattle.text_format.specs.Limits.{format_of};
+ghost use Rattle.text_format.specs.declared.Format.TheVariants.{Two};
+ghost use Rattle.text_format.specs.declared.Format.{Format};
+ghost use Rattle.word_lines.specs.Limits.{IsEvent, KeepsLimit};
+
+/// Each event of a history whose commands keep a format's limits has a text that keeps them too, so the text of them all is
+/// read again, in its format, as these events, and `check` says `yes`.
+pub fn law_of_texts()
+    ensures events { (f : Format) (first : ℕ) (es : List Event) → IsWritable f first es → All (IsEvent f) es }
+    ensures lines { (f : Format) (first : ℕ) (es : List Event) → IsWritable f first es → All (KeepsLimit f) es }
+    ensures read { (f : Format) (first : ℕ) (es : List Event) → IsWritable f first es → transcript_at (format_of (transcript_text f es)) (transcript_text f es) ≡ Ok es }
+    ensures yes { (f : Format) (first : ℕ) (es : List Event) → IsWritable f first es → SaysYes (transcript_text f es) }
+{}
+
+/// `mvfeed run | mvfeed check` and `mvfeed race | mvfeed check` say `yes`: of what a run has written, unless a faulty line, a
+/// write that failed, or a spent position ended it, and of what a race has written of its calls. So of what an embedded
+/// database gave of its events, behind the header of format two.
+///
+/// Positions have 64 bits, so the events of a run are no more than positions are left for. A race's text, which begins at
+/// position 0, has them wherever it is itself no longer than 64 bits can count.
+pub fn law_of_pipes()
+    ensures served { (f : Format) (c : Config) (r r' : Reads) (w w' : Writes) (e : ServeEnd) (s : IsServed f c r r' w w' e) → EndsWhole c.first s.events e → SaysYes s.output }
+    ensures raced { (f : Format) (sessions : ℕ) (text out : List ℕ) → sessions ≤ 64 → length out ≤ 18446744073709551615 → IsRaced f sessions text out → SaysYes out }
+    ensures kept { (d : Database) (h : List Event) → StandsFor d h → All (KeepsFormat Two) h → length h ≤ 18446744073709551615 → SaysYes (transcript_text Two (reverse h)) }
+{}
