@@ -203,7 +203,7 @@ impl Core {
     }
 
     fn feed_beyond(&self) -> Option<u64> {
-        let (number, feed) = self.ledger.lowest_feeds().find(|(number, _)| !self.exempt.contains(number))?;
+        let (number, feed) = self.ledger.lowest_feeds().next()?;
         self.ledger.rows.above(feed.floor).exceeds(self.closing.most()).then_some(number)
     }
 
@@ -222,7 +222,7 @@ impl Core {
     }
 
     fn protection_beyond(&self) -> Option<u64> {
-        let (id, protection) = self.ledger.lowest_protections().next()?;
+        let (id, protection) = self.ledger.lowest_protections().find(|(id, _)| self.exempt != Some(*id))?;
         self.ledger.rows.above(protection.timestamp).exceeds(self.closing.most()).then_some(id)
     }
 

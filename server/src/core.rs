@@ -25,16 +25,17 @@ use crate::outcome::{Outcome, Words};
 use crate::seats::{Owner, Seats, Session, OWN_SEAT};
 use crate::transcript::Transcript;
 use ripsawbean::{
-    unspell, CallError, Command, CommandError, Database, Event, OpenError, Outcome as Did, Record, Refusal, Room,
-    VersionError,
+    unspell, CallError, Command, CommandError, Database, DumpError, DumpPlace, Event, OpenError, Outcome as Did,
+    Record, Refusal, Room, VersionError,
 };
-use std::collections::BTreeSet;
 use std::io::Write;
 use std::sync::Arc;
 use std::time::Instant;
 
 /// Bytes that are kept for the text of an event: more than a line and its answer may have, but for rows and messages.
 const SPARE: usize = 1 << 20;
+/// Bytes of a dump that are written at once, where no line is longer.
+const PIECE: usize = 1 << 14;
 
 pub struct Core {
     database: Database,
@@ -46,8 +47,8 @@ pub struct Core {
     pub closing: Closing,
     pub journal: Journal,
     pub cuts: Cuts,
-    /// Feeds that aren't let go however far they lag.
-    pub exempt: BTreeSet<u64>,
+    /// A checkpoint's protection: it isn't let go however far it lags.
+    pub exempt: Option<u64>,
     pub limits: Limits,
     /// Snapshots that requests hold for a while.
     pub holds: Holds,
@@ -100,7 +101,7 @@ impl Core {
             closing: Closing::new(options),
             journal: Journal::nothing(),
             cuts: Cuts::default(),
-            exempt: BTreeSet::new(),
+            exempt: None,
             limits: Limits::of(options),
             holds: Holds::default(),
             shouts: 0,
@@ -204,6 +205,27 @@ impl Core {
         let mut versions = Vec::new();
         self.database.versions_at(at, keys, &mut versions)?;
         Ok(versions)
+    }
+
+    /// Puts the next piece of a dump behind `out`: of rows at or below `through`, and behind them its end, where that
+    /// closes at no more than `through`. It makes no call. After an error all is as it was.
+    pub fn dump_piece(
+        &mut self,
+        at: u64,
+        through: u64,
+        place: &mut DumpPlace,
+        out: &mut Vec<u8>,
+    ) -> Result<(), DumpError> {
+        let (length, mut room) = (out.len(), PIECE);
+        loop {
+            out.resize(length + room, 0);
+            let written = self.database.dump_piece(at, through, place, &mut out[length..]);
+            out.truncate(length + written.unwrap_or(0));
+            match written {
+                Err(DumpError::NoRoom(wanted)) => room = wanted,
+                written => return written.map(drop),
+            }
+        }
     }
 
     /// Asks what has one right outcome, and shouts where another comes.

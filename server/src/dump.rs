@@ -1,9 +1,9 @@
 //! `GET /dump`: the database as a script, while calls go on. It is a backup, which `--restore` takes, and
 //! `mvfeed run --format 2` runs.
 //!
-//! It has all that was committed at or below closed, as it stood when it was asked for. Its last line says that it is
-//! whole. Its feed holds the horizon meanwhile, so one that is read too slowly is cut as streams are. What waits for its
-//! reader counts as a report does.
+//! It has all that was committed at or below closed, as it stood when it was asked for. Its last line, a `collect`, says
+//! that it is whole. A protection holds the horizon meanwhile, so one that is read too slowly is cut as streams are. What
+//! waits for its reader counts as a report does.
 
 use crate::budget::Held;
 use crate::core::Core;
@@ -37,7 +37,7 @@ pub async fn dump(server: &Arc<Server>, request: Request) -> Result<Response, Re
 
 async fn run(place: Place, mut copy: Copy, sender: Sender, _held: Held) {
     let is_told = tell(&place, &mut copy, &sender).await.is_some();
-    place.server().door.run(|core| core.end_stream(copy.feed()));
+    place.server().door.run(|core| copy.end(core));
     if !is_told {
         sender.cut();
     }
@@ -45,8 +45,8 @@ async fn run(place: Place, mut copy: Copy, sender: Sender, _held: Held) {
 
 /// `None` where it can't be told to its end.
 async fn tell(place: &Place, copy: &mut Copy, sender: &Sender) -> Option<()> {
-    let door = &place.server().door;
-    loop {
+    let (door, is_ending) = (&place.server().door, place.server().is_ending.subscribe());
+    while !*is_ending.borrow() {
         sender.room().await.ok()?;
         let next = door.turn(|core, until| copy.turn(core, until)).ok()?;
         if matches!(next, Next::Take | Next::Done) {
@@ -60,4 +60,5 @@ async fn tell(place: &Place, copy: &mut Copy, sender: &Sender) -> Option<()> {
         }
         tokio::task::yield_now().await;
     }
+    None
 }

@@ -137,7 +137,7 @@ def test_dumps_that_nobody_reads(room: Room, scale: Scale) -> str:
     found = peak(server) - before
     for wire in wires:
         wire.reset()
-    wait_for(lambda: not server.holders("feed"), "the dumps to end")
+    wait_for(lambda: not server.holders("protection"), "the dumps to end")
     figures = "%d MB more, %d of 200 told, others: %s" % (found >> 20, statuses.count(200), latency)
     assert set(statuses) == {200, 503} and found < 96 * MEGABYTE, figures
     return figures

@@ -57,7 +57,7 @@ impl From<Failure> for Error {
 impl fmt::Display for Error {
     fn fmt(&self, f: &mut fmt::Formatter<'_>) -> fmt::Result {
         match self {
-            Error::Broken => f.write_str("its feed was cancelled, or there was no memory for it"),
+            Error::Broken => f.write_str("its protection was released, or there was no memory for it"),
             Error::Failure(failure) => failure.fmt(f),
             Error::Ending => f.write_str("the server ends"),
         }
@@ -79,8 +79,6 @@ pub fn run(server: &Server, runtime: &Handle) {
                 counts.checkpoints.fetch_add(1, Relaxed);
             }
             Err(Error::Ending) => return,
-            // Its feed was ended with all others.
-            Err(_) if server.door.run(|core| core.limits.is_draining) => return,
             Err(error) => server.log.error("checkpoint_failed", &[("why", error.to_string().into())]),
         }
     }
@@ -130,7 +128,7 @@ impl Making {
         let head = core.journal_head();
         let (number, drafts) = core.journal.switch(head).ok_or(Error::Ending)?;
         let copy = Copy::begin(core, Series::checkpoint(number), core.ledger.greatest)?;
-        core.exempt.insert(copy.feed());
+        core.exempt = Some(copy.protection());
         Ok(Making { copy, drafts, draft: None, answers: remembered.count(), bytes: 0 })
     }
 
@@ -188,9 +186,9 @@ impl Making {
         Ok(self.bytes)
     }
 
-    /// Its feed ends, also where it came to nothing.
+    /// Nothing is held for it any more, also where it came to nothing.
     pub fn end(&self, core: &mut Core) {
-        core.exempt.remove(&self.copy.feed());
-        core.end_stream(self.copy.feed());
+        core.exempt = None;
+        self.copy.end(core);
     }
 }

@@ -1,18 +1,22 @@
 //! A copy of the database as a script, while calls go on: what a checkpoint and a dump have in common.
 //!
-//! It is an initial feed at the horizon: the map there, and then each version above it, by timestamp. The rows of one
-//! timestamp are one transaction. So the copy makes a database that answers as this one does from the horizon on.
+//! It is the library's dump, piece by piece: each version that is left, by timestamp, at its own. The rows of one timestamp
+//! are one transaction. So the copy makes a database that answers as this one does from the horizon on.
 //!
 //! ```text
 //! 0 readat .. database/1914d5866a08f6aa
-//! 0 begin 9, 0 put 9 a 1, 0 put 9 b 7, 0 commit 9          the map at the horizon 9
+//! 0 begin 5, 0 put 5 a 1, 0 commit 5                       a version of the map at the horizon 9
 //! 0 begin 12, 0 del 12 a, 0 commit 12                      a version above it
-//! 0 close 30, 0 collect 9
-//! 0 readat .. end                                          so it is whole
+//! 0 close 30
+//! 0 collect 9                                              so it is whole
 //! ```
 //!
-//! 1. It has exactly what was committed at or below `greatest`, and what is dead at the horizon is left out.
-//! 2. Its feed holds the horizon until the copy is dropped by `end`.
+//! The dump of the whole database would close at all that began. Whoever is undecided then, and commits later, would be
+//! refused behind it. So the copy ends at a timestamp to which closed comes first, and has an end of its own there.
+//!
+//! 1. A piece has rows at or below closed alone: nothing commits there any more.
+//! 2. It has exactly what was committed at or below `to`, and what is dead at the horizon is left out.
+//! 3. A protection holds the horizon until the copy is dropped by `end`. Where that is released it is broken.
 
 use super::answers::Answered;
 use super::frame::Chain;
@@ -21,27 +25,24 @@ use super::rules::{holds, Rule};
 use super::store::Series;
 use crate::core::Core;
 use crate::outcome::Outcome;
-use crate::pace;
 use crate::seats::Owner;
-use ripsawbean::{Command, Message, Row, Span};
+use ripsawbean::{Command, DumpPlace};
 use std::io::Write;
 use std::time::Instant;
 
 /// Bytes of lines that are one batch.
 const ENOUGH: usize = 1 << 20;
+/// With this the last line of a copy begins, and no other one.
+const END: &[u8] = b"0 collect ";
 
 pub struct Copy {
-    feed: u64,
+    protection: u64,
     horizon: u64,
-    greatest: u64,
+    to: u64,
+    place: DumpPlace,
     chain: Chain,
     number: u64,
-    /// The transaction whose rows come.
-    writes: Option<u64>,
     lines: Vec<u8>,
-    told: Vec<u8>,
-    /// Where closed stood when all was told.
-    seen: Option<u64>,
 }
 
 /// What comes next.
@@ -56,32 +57,35 @@ pub enum Next {
     Done,
 }
 
-/// The feed has ended, or there was no memory: the copy can't be finished.
+/// The horizon is held no longer, or there was no memory: the copy can't be finished.
 #[derive(Clone, Copy, Debug, PartialEq, Eq)]
 pub struct Broken;
 
+/// Whether a copy ends in these lines.
+pub fn is_end(lines: &[u8]) -> bool {
+    let last = lines.split_inclusive(|&byte| byte == b'\n').next_back();
+    last.is_some_and(|last| last.starts_with(END))
+}
+
 impl Copy {
-    /// Begins a copy of all that is committed at or below a timestamp.
-    pub fn begin(core: &mut Core, series: Series, greatest: u64) -> Result<Copy, Broken> {
-        let horizon = core.ledger.horizon;
-        let feed = match core.ask(Owner::Server, Command::OpenInitial { span: Span::ALL, cursor: horizon }) {
-            Ok(Outcome::Opened { feed, .. }) => feed,
+    /// Begins a copy of all that is committed at or below a timestamp, or at or below closed where that is higher.
+    pub fn begin(core: &mut Core, series: Series, to: u64) -> Result<Copy, Broken> {
+        let (horizon, closed) = (core.ledger.horizon, core.ledger.closed);
+        let protection = match core.ask(Owner::Server, Command::Protect { t: horizon }) {
+            Ok(Outcome::Protected { id, .. }) => id,
             _ => return Err(Broken),
         };
-        // Closing doesn't wait for it: it takes its time.
-        core.ledger.set_waits(feed, true);
-        let lines = Note::Database(core.identity.clone()).to_string().into_bytes();
-        let chain = Chain::new(&core.identity, series);
-        let closed = core.ledger.closed;
-        let greatest = if holds(Rule::TheCopyReachesWhatBegan) { greatest.max(closed) } else { closed };
-        Ok(Copy { feed, horizon, greatest, chain, number: 0, writes: None, lines, told: Vec::new(), seen: None })
+        let to = if holds(Rule::TheCopyReachesWhatBegan) { to.max(closed) } else { closed };
+        let (chain, lines) = (Chain::new(&core.identity, series), Note::Database(core.identity.clone()).to_string());
+        Ok(Copy { protection, horizon, to, place: DumpPlace::start(), chain, number: 0, lines: lines.into_bytes() })
     }
 
-    pub fn feed(&self) -> u64 {
-        self.feed
+    /// The protection that holds the horizon.
+    pub fn protection(&self) -> u64 {
+        self.protection
     }
 
-    /// Adds answers to keys, before anything was polled. A dump has none: its identity is another one.
+    /// Adds answers to keys, before any row. A dump has none: its identity is another one.
     pub fn add(&mut self, answers: &[Answered]) {
         answers.iter().for_each(|answered| answered.write(&mut self.lines));
     }
@@ -91,8 +95,11 @@ impl Copy {
         self.lines.len() >= ENOUGH
     }
 
-    /// Polls until this time, or until something has to be done.
+    /// Takes pieces until this time, or until something has to be done.
     pub fn turn(&mut self, core: &mut Core, until: Instant) -> Result<Next, Broken> {
+        if !core.ledger.protections.contains_key(&self.protection) {
+            return Err(Broken);
+        }
         loop {
             let next = self.step(core)?;
             if next != Next::More || Instant::now() >= until {
@@ -102,27 +109,15 @@ impl Copy {
     }
 
     fn step(&mut self, core: &mut Core) -> Result<Next, Broken> {
-        if self.seen == Some(core.ledger.closed) {
-            return Ok(Next::Wait);
-        }
-        self.told.clear();
-        let count = match core.poll(self.feed, pace::PLAIN, &mut self.told) {
-            Ok(Outcome::Messages { count, .. }) => count,
-            _ => return Err(Broken),
-        };
-        core.ledger.set_waits(self.feed, true);
-        let is_all = pace::is_all(pace::PLAIN, count, self.told.len());
-        self.seen = is_all.then_some(core.ledger.closed);
-        let told = std::mem::take(&mut self.told);
-        let is_over = self.take_messages(&told)?;
-        self.told = told;
-        if is_over || (is_all && core.ledger.closed >= self.greatest) {
+        let through = if holds(Rule::TheCopyWaitsForClosed) { self.to.min(core.ledger.closed) } else { self.to };
+        core.dump_piece(self.to, through, &mut self.place, &mut self.lines).map_err(|_| Broken)?;
+        if self.place.through() >= self.to {
             self.finish();
             return Ok(Next::Done);
         }
         Ok(match () {
             () if self.is_full() => Next::Take,
-            () if is_all => Next::Wait,
+            () if self.place.through() >= through => Next::Wait,
             () => Next::More,
         })
     }
@@ -136,47 +131,17 @@ impl Copy {
         bytes
     }
 
-    /// Whether all at or below `greatest` was told.
-    fn take_messages(&mut self, told: &[u8]) -> Result<bool, Broken> {
-        for line in std::str::from_utf8(told).map_err(|_| Broken)?.lines() {
-            match Message::of(line).ok_or(Broken)? {
-                Message::Row(row) if row.updated > self.greatest => return Ok(true),
-                Message::Row(row) => self.row(&row),
-                Message::Resolved(timestamp) if timestamp >= self.greatest => return Ok(true),
-                Message::Resolved(_) => {}
-            }
-        }
-        Ok(false)
-    }
-
-    fn row(&mut self, row: &Row) {
-        let ts = row.updated;
-        if self.writes != Some(ts) {
-            self.commit();
-            self.writes = Some(ts);
-            self.line(Command::Begin { ts });
-        }
-        match &row.after {
-            Some(value) => self.line(Command::Put { ts, key: &row.key, value }),
-            None => self.line(Command::Del { ts, key: &row.key }),
-        }
-    }
-
-    fn commit(&mut self) {
-        if let Some(ts) = self.writes.take() {
-            self.line(Command::Commit { ts });
-        }
-    }
-
+    /// Where nothing has begun above it, the dump has written the same by itself.
     fn finish(&mut self) {
-        self.commit();
-        self.line(Command::Close { to: self.greatest });
-        self.line(Command::Collect { to: self.horizon });
-        self.lines.extend_from_slice(Note::End.to_string().as_bytes());
+        if !self.place.has_ended() {
+            let (close, collect) = (Command::Close { to: self.to }, Command::Collect { to: self.horizon });
+            // Writing to a vector can't fail.
+            let _ = write!(self.lines, "0 {close}\n0 {collect}\n");
+        }
     }
 
-    fn line(&mut self, command: Command<'_>) {
-        // Writing to a vector can't fail.
-        let _ = writeln!(self.lines, "0 {command}");
+    /// Its protection ends, also where it came to nothing.
+    pub fn end(&self, core: &mut Core) {
+        core.release(self.protection);
     }
 }

@@ -9,7 +9,6 @@
 //! 0 readat 18446744073709551615 noname/prices
 //! 0 readat 18446744073709551615 key/8042/5d2f0c..1a/8be3a1..f0/9/put
 //! 0 readat 18446744073709551615 told/..
-//! 0 readat 18446744073709551615 end
 //! ```
 
 use super::answers::Key;
@@ -39,8 +38,6 @@ pub enum Note {
     /// A request that has committed, and a piece of the text that it was told.
     Key(Key),
     Told(Vec<u8>),
-    /// All that had to be written was written.
-    End,
 }
 
 /// A name's place.
@@ -85,7 +82,6 @@ impl Note {
             "name" => name_in(rest),
             "noname" if is_word => Some(Note::NoName(rest.into())),
             "key" => Key::in_words(rest).map(Note::Key),
-            "end" if text == "end" => Some(Note::End),
             _ => None,
         }
     }
@@ -102,7 +98,6 @@ impl Note {
             Note::NoName(name) => format!("noname/{name}"),
             Note::Key(key) => key.words(),
             Note::Told(piece) => return [TOLD, piece].concat(),
-            Note::End => "end".to_string(),
         };
         words.into_bytes()
     }
@@ -150,7 +145,6 @@ mod tests {
             Note::NoName("a".into()),
             Note::Key(Key::in_words(&format!("17/{:032x}/{:032x}/9/put", 1, u128::MAX)).expect("a key")),
             Note::Told(b"{\"a\": \xff}\n".to_vec()),
-            Note::End,
         ] {
             let line = note.to_string();
             assert_eq!(Note::of(line.as_bytes()), Some(note), "{line}");
@@ -162,8 +156,7 @@ mod tests {
     fn other_lines_are_no_notes() {
         for words in [
             "",
-            "end/",
-            "ends",
+            "end",
             "generation/07",
             "generation/x",
             "name/a/1/2",
@@ -187,7 +180,7 @@ mod tests {
             let line = [CARRIER, words.as_bytes(), b"\n"].concat();
             assert_eq!(Note::of(&line), None, "{words}");
         }
-        assert_eq!(Note::of(b"0 readat 7 end\n"), None);
-        assert_eq!(Note::of(&[CARRIER, b"end"].concat()), None);
+        assert_eq!(Note::of(b"0 readat 7 noname/a\n"), None);
+        assert_eq!(Note::of(&[CARRIER, b"noname/a"].concat()), None);
     }
 }

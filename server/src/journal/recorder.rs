@@ -289,8 +289,7 @@ impl Journal {
         if holds(Rule::NothingIsCalledBehindTheEnd) {
             (self.is_over, self.last) = (true, Ticket::NEVER);
         }
-        let end = Note::End.to_string();
-        self.writer.as_ref().map_or(Ticket::NONE, |writer| writer.end(greatest, end.as_bytes()))
+        self.writer.as_ref().map_or(Ticket::NONE, |writer| writer.end(greatest))
     }
 }
 

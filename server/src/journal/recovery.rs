@@ -1,7 +1,7 @@
 //! The database as a journal tells it: the newest checkpoint, and what was recorded from where it begins.
 //!
 //! ```text
-//! checkpoint-3            the map at the horizon, what was committed above it, close G, collect H
+//! checkpoint-3            each version that was left, close G, collect H
 //! journal-3, journal-4    what was recorded since; the last one may end in a torn batch, which is given up
 //! closehard MARK          what a crash is
 //! ```
@@ -11,6 +11,7 @@
 //! 3. A torn batch goes, and older series, only after all that stands was read.
 
 use super::answers::{Answered, Answers};
+use super::copy::is_end;
 use super::frame::{Batches, Chain, Fault};
 use super::note::{Kept, Note};
 use super::rules::{holds, Rule};
@@ -163,7 +164,6 @@ struct Told {
     answers: Answers,
     /// What the transaction that is read has written.
     writing: Amount,
-    is_ended: bool,
 }
 
 impl Reading {
@@ -174,8 +174,7 @@ impl Reading {
     fn take_all(&mut self, store: &mut dyn Store, all: &Found) -> Result<(), Failure> {
         if all.has_checkpoint {
             let series = Series::checkpoint(all.base);
-            self.take(store, series)?;
-            if !self.told.is_ended || self.torn > 0 {
+            if !self.take(store, series)? || self.torn > 0 {
                 return Err(Failure::NotWhole { name: store.name(series), at: self.whole });
             }
             self.told.base = self.told.closed;
@@ -198,8 +197,9 @@ impl Reading {
         Ok(())
     }
 
-    fn take(&mut self, store: &mut dyn Store, series: Series) -> Result<(), Failure> {
-        let name = store.name(series);
+    /// Reads a series: whether its last batch ends as a copy does.
+    fn take(&mut self, store: &mut dyn Store, series: Series) -> Result<bool, Failure> {
+        let (name, mut is_whole) = (store.name(series), false);
         let mut batches = Batches::new(store.read(series)?, series);
         while let Some(batch) = batches.next().map_err(|fault| failure_of(&name, fault))? {
             if holds(Rule::TheMarkIsWritten) {
@@ -207,16 +207,17 @@ impl Reading {
                 self.told.mark = batch.mark;
             }
             take_lines(&mut self.database, &mut self.told, batch.lines, &name)?;
+            is_whole = is_end(batch.lines);
         }
         (self.last, self.whole, self.torn) = (series, batches.whole(), batches.torn());
-        let Some((number, chain)) = batches.last() else { return Ok(()) };
+        let Some((number, chain)) = batches.last() else { return Ok(false) };
         let (found, wanted) = (batches.identity().to_string(), &self.told.identity);
         if !wanted.is_empty() && found != *wanted {
             return Err(Failure::OtherDatabase { name, found, wanted: wanted.clone() });
         }
         self.told.identity = found;
         self.position = (series.kind == Kind::Journal).then_some(Position { series, number, chain, mark: 0, bytes: 0 });
-        Ok(())
+        Ok(is_whole)
     }
 
     /// Where the writing goes on, and the lines with which it begins: those of a series' head where it has none.
@@ -306,7 +307,6 @@ impl Told {
     }
 
     fn take_note(&mut self, note: Note) -> Option<()> {
-        self.is_ended = note == Note::End;
         match note {
             Note::Place(place) => self.place = Some(place),
             Note::Generation(generation) => self.generation = self.generation.max(generation),
@@ -317,7 +317,7 @@ impl Told {
             Note::NoName(name) => drop(self.names.remove(&name)),
             Note::Key(key) => self.answers.key(key)?,
             Note::Told(piece) => self.answers.piece(&piece)?,
-            Note::Database(_) | Note::End => {}
+            Note::Database(_) => {}
         }
         Some(())
     }

@@ -3,6 +3,7 @@
 //! It gets an identity of its own: what is committed from here on isn't what the other one commits. Names aren't in a
 //! dump, because what a consumer has stored names the other identity.
 
+use super::copy::is_end;
 use super::frame::{Batches, Chain};
 use super::note::Note;
 use super::recovery::failure_of;
@@ -22,7 +23,7 @@ pub fn restore(store: &mut dyn Store, file: &Path, identity: &str) -> Result<(),
     let (name, series) = (file.display().to_string(), Series::checkpoint(1));
     let mut batches = Batches::new(File::open(file).map_err(|error| Failure::file(file, error))?, DUMP);
     let mut draft = store.draft(series.number)?;
-    let (mut chain, mut is_ended) = (Chain::new(identity, series), false);
+    let (mut chain, mut is_whole) = (Chain::new(identity, series), false);
     let head = Note::Database(identity.into()).to_string();
     while let Some(batch) = batches.next().map_err(|fault| failure_of(&name, fault))? {
         let first = batch.lines.iter().position(|&byte| byte == b'\n').map_or(0, |end| end + 1);
@@ -31,9 +32,9 @@ pub fn restore(store: &mut dyn Store, file: &Path, identity: &str) -> Result<(),
         let mut bytes = Vec::with_capacity(lines.len() + 160);
         chain.add(batch.number, 0, &lines, &mut bytes);
         draft.write(&bytes)?;
-        is_ended = lines.ends_with(Note::End.to_string().as_bytes());
+        is_whole = is_end(&lines);
     }
-    if !is_ended || batches.torn() > 0 {
+    if !is_whole || batches.torn() > 0 {
         return Err(Failure::NotWhole { name, at: batches.whole() });
     }
     draft.finish()?;

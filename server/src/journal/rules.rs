@@ -42,6 +42,7 @@ pub enum Rule {
     // Checkpoints.
     TheSwitchComesFirst,
     TheCopyReachesWhatBegan,
+    TheCopyWaitsForClosed,
     AnswersAreCarried,
 }
 

@@ -15,6 +15,7 @@ use std::sync::Arc;
 use std::time::{Duration, Instant};
 
 mod bits;
+mod copies;
 mod disk;
 mod ghost;
 mod keys;
@@ -269,7 +270,7 @@ fn checkpoint(core: &mut Core, remembered: &Remembered) {
     making.take_draft().expect("it is begun");
     making.write_answers(remembered).expect("they are written");
     loop {
-        let next = making.turn(core, Instant::now() + Duration::from_secs(9)).expect("its feed is there");
+        let next = making.turn(core, Instant::now() + Duration::from_secs(9)).expect("it is held");
         // Closed has to come to where transactions were decided before.
         core.settle(Instant::now() + Duration::from_secs(1));
         making.write(next).expect("it is written");
@@ -359,7 +360,7 @@ fn a_dump_begins_a_new_database() {
     let mut copy = copy::Copy::begin(&mut core, DUMP, closed).expect("it begins");
     assert_eq!(copy.turn(&mut core, Instant::now() + Duration::from_secs(9)), Ok(Next::Done));
     let dump = copy.take();
-    core.end_stream(copy.feed());
+    copy.end(&mut core);
     let file = crate::testing::file(&dump);
     let place = folder();
     let restoring = Asked { restore: Some(file), ..asked(&place) };

@@ -243,9 +243,8 @@ impl Writer {
     }
 
     /// The last batch, with the mark where it really stands.
-    pub fn end(&self, mark: u64, lines: &[u8]) -> Ticket {
+    pub fn end(&self, mark: u64) -> Ticket {
         let mut queue = self.shared.queue.lock();
-        queue.lines.extend_from_slice(lines);
         queue.mark = mark;
         queue.is_over = true;
         self.shared.gathered.notify_one();

@@ -47,7 +47,7 @@ fn whole() -> Bytes {
     let mut making = Making::begin(&mut core, &none).expect("no other is on its way");
     write_all();
     making.take_draft().expect("it is begun");
-    while making.turn(&mut core, Instant::now()).expect("its feed is there") != Next::Done {}
+    while making.turn(&mut core, Instant::now()).expect("it is held") != Next::Done {}
     making.write(Next::Done).expect("it is written");
     making.finish().expect("it is finished");
     making.end(&mut core);

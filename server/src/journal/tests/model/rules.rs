@@ -62,6 +62,7 @@ fn each_rule_that_is_left_out_is_noticed() {
         Rule::FailedWritesEnd,
         Rule::TheSwitchComesFirst,
         Rule::TheCopyReachesWhatBegan,
+        Rule::TheCopyWaitsForClosed,
         Rule::AnswersAreCarried,
     ];
     let unseen: Vec<Rule> = all
