@@ -6,4 +6,6 @@ The work is a transaction that begins, puts a row, reads it and commits; in Redi
 transaction of a put and a range, in PostgreSQL an upsert and a select. Rates are of transactions, because that is what
 all four have. Latency is from sending the row to a reader's having it. Pages of rows and feeds with the values before
 are of this server alone.
+
+`server/bench durable` has commits that wait for the disk, by `durable`.
 """

@@ -1,9 +1,10 @@
-"""Runs all measurements once, and writes them as tables."""
+"""Runs all measurements once, and writes them as tables. The word `durable` asks for those that wait for the disk."""
 
 import os
 import sys
 from collections.abc import Callable
 
+from . import durable
 from .figures import Found
 from .loaded import Etcd, Ours, Redis, build_load
 from .postgres import Postgres
@@ -114,4 +115,7 @@ def rows(ours: Ours, scale: float) -> None:
     print("| the same with `before` | %s | |" % Found(feeds.before).told_rate(), flush=True)
 
 
-main(float(sys.argv[1]) if len(sys.argv) > 1 else 1.0)
+words = sys.argv[1:]
+is_durable = words[:1] == ["durable"]
+scale = float(words[is_durable]) if len(words) > is_durable else 1.0
+durable.main(scale) if is_durable else main(scale)

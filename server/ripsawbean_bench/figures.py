@@ -15,6 +15,8 @@ class Found:
     p99: float | None = None
     processor: float | None = None
     before: float | None = None  # rows a second with the values before
+    rows: int = 0
+    journal: float | None = None  # bytes that the server has written to its journal for each row
 
     def told_rate(self) -> str:
         return "-" if self.rate is None else "{:,.0f}".format(self.rate)
@@ -24,6 +26,9 @@ class Found:
 
     def told_processor(self) -> str:
         return "-" if self.processor is None else "%.1f" % self.processor
+
+    def told_journal(self) -> str:
+        return "-" if self.journal is None else "%.0f" % self.journal
 
 
 NOTHING = Found()

@@ -1,4 +1,5 @@
-"""The peers that server/load asks: this server, Redis and etcd, each started for itself, with its data in memory."""
+"""The peers that server/load asks: this server, Redis and etcd, each started for itself. Where nothing else is said their
+data is in memory."""
 
 import contextlib
 import json
@@ -35,12 +36,13 @@ class Loaded:
 
     def __init__(self, command: list[str], port: int):
         self.port = port
+        began = time.monotonic()
         self.process = subprocess.Popen(command, stdout=subprocess.DEVNULL, stderr=subprocess.DEVNULL)
-        end = time.monotonic() + 60
         while not self._listens():
-            if time.monotonic() > end or self.process.poll() is not None:
+            if time.monotonic() > began + LONGEST or self.process.poll() is not None:
                 raise SystemExit("bench: %s doesn't start: %s" % (self.name, " ".join(command)))
-            time.sleep(0.05)
+            time.sleep(0.02)
+        self.started = time.monotonic() - began  # seconds
 
     def _listens(self) -> bool:
         with contextlib.suppress(OSError):
@@ -64,7 +66,8 @@ class Loaded:
         used = processor_seconds(self.process.pid) - used
         found = json.loads(done.stdout)
         processor = used / found["rows"] * 1e6
-        return Found(found.get("rate"), found.get("p50"), found.get("p99"), processor, found.get("before"))
+        rows = int(found["rows"])
+        return Found(found.get("rate"), found.get("p50"), found.get("p99"), processor, found.get("before"), rows)
 
     def transactions(self, way: str, clients: int, count: int, rows: int, ahead: int) -> Found:
         return self.load(way, "transactions", clients, max(count // clients, rows), rows, ahead)
@@ -94,19 +97,18 @@ class Ours(Loaded):
     name = "Ripsawbean"
     kinds = {"requests": "call", "transactions": "transact", "keyed": "keyed", "messages": "session", "lines": "lines"}
 
-    def __init__(self) -> None:
+    def __init__(self, *options: str):
         port = free_port()
-        super().__init__([os.environ.get("SERVER") or str(SERVER / "run"), "--port", str(port)], port)
+        super().__init__([os.environ.get("SERVER") or str(SERVER / "run"), "--port", str(port), *options], port)
 
 
 class Redis(Loaded):
     name = "Redis"
     kinds = {"requests": "redis", "transactions": "redis", "messages": "redis"}
 
-    def __init__(self) -> None:
-        port = free_port()
-        super().__init__(
-            ["redis-server", "--port", str(port), "--bind", "127.0.0.1", "--save", "", "--appendonly", "no"], port)
+    def __init__(self, *options: str):
+        port, kept = free_port(), options or ("--appendonly", "no")
+        super().__init__(["redis-server", "--port", str(port), "--bind", "127.0.0.1", "--save", "", *kept], port)
 
 
 class Etcd(Loaded):

@@ -1,4 +1,5 @@
-"""PostgreSQL with logical decoding: pgbench and psql write, pg_recvlogical reads. It doesn't wait for the disk."""
+"""PostgreSQL with logical decoding: pgbench and psql write, pg_recvlogical reads. It doesn't wait for the disk, unless it
+is told to."""
 
 import asyncio
 import glob
@@ -20,7 +21,8 @@ AS_POSTGRES = ["setpriv", "--reuid", "postgres", "--regid", "postgres", "--clear
 INSERT = "insert into t values (1000, '%s') on conflict (k) do update set v = excluded.v;\n"
 FILL = "create table f as select 'first' || n as k, lpad(n::text, 12, '0') as v from generate_series(1, %d) n"
 MOST_READERS = 100  # each is a process of PostgreSQL's, and one of pg_recvlogical
-ROW = """\\set k random(0, 99)
+# Each client has keys of its own, as those of the others have.
+ROW = """\\set k :client_id * 100 + random(0, 99)
 begin;
 insert into t values (:k, 'v') on conflict (k) do update set v = 'v';
 select v from t where k = :k;
@@ -31,7 +33,7 @@ commit;
 class Postgres:
     name = "PostgreSQL"
 
-    def __init__(self) -> None:
+    def __init__(self, **settings: str):
         self.programs = sorted(glob.glob("/usr/lib/postgresql/*/bin"))[-1]
         self.folder = tempfile.mkdtemp()
         self.as_user = AS_POSTGRES if os.getuid() == 0 else []
@@ -39,7 +41,7 @@ class Postgres:
             shutil.chown(self.folder, "postgres")
         self._run("initdb", "-D", self.folder + "/data", "-A", "trust", "--no-sync")
         with open(self.folder + "/data/postgresql.conf", "a") as lines:
-            lines.writelines("%s = %s\n" % setting for setting in SETTINGS.items())
+            lines.writelines("%s = %s\n" % setting for setting in {**SETTINGS, **settings}.items())
             lines.write("unix_socket_directories = '%s'\n" % self.folder)
         self._run("pg_ctl", "-D", self.folder + "/data", "-w", "-l", self.folder + "/log", "start")
         self._sql("create table t (k int primary key, v text)")

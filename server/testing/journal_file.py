@@ -35,13 +35,13 @@ def batches_in(data: bytes) -> list[Batch]:
 
 def framed(batches: list[Batch], series: str) -> bytes:
     identity = batches[0].lines[0].split(b"database/")[1].strip().decode()
-    out, chain = b"", zlib.crc32(("%s/%s" % (identity, series)).encode())
+    out, chain = [], zlib.crc32(("%s/%s" % (identity, series)).encode())
     for batch in batches:
         lines = b"".join(batch.lines)
         chain = zlib.crc32(lines, chain)
         words = b"batch/%d/%d/%08x/%d" % (batch.number, len(lines), chain, batch.mark)
-        out += b"%b%b/%08x\n%b" % (CARRIER, words, zlib.crc32(words), lines)
-    return out
+        out.append(b"%b%b/%08x\n%b" % (CARRIER, words, zlib.crc32(words), lines))
+    return b"".join(out)
 
 
 def last_journal(folder: str) -> str:
