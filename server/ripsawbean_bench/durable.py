@@ -98,7 +98,7 @@ def commits(scale: float) -> None:
     try:
         print(HEAD_OF_RATES, flush=True)
         for name, way, clients, count, ahead in WORKS:
-            count = max(int(count * scale), 10 * clients)
+            count = max(int(count * scale), 10 * clients, 200)
             found = [peer.transactions(way, clients, count, 1, ahead) for peer in peers]
             plain, kept, *others = (one.told_rate() for one in found)
             told = [plain, kept, found[1].told_processor(), found[1].told_journal(), *others]
