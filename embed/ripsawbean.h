@@ -52,8 +52,7 @@ typedef struct {
     bool is_open; // private
 } ripsawbean;
 
-// A closed handle.
-#define RIPSAWBEAN_INITIALIZER {NULL, false}
+#define RIPSAWBEAN_INITIALIZER {NULL, false} // a closed handle
 
 // The version of this page, 0.1.0: major, minor and patch have a byte each. The ABI is the number in the shared library's
 // name and in the version of its symbols. It rises where a function or a struct changes or goes.
@@ -112,10 +111,8 @@ enum {
     RIPSAWBEAN_NOFEED = 22,       // the line's command opens no feed, or opens it above RIPSAWBEAN_MAX_TIMESTAMP
     RIPSAWBEAN_NOVALUE = 23,      // the key has no value
 
-    // By ripsawbean_versions_at alone.
-    RIPSAWBEAN_BELOWHORIZON = 24, // the timestamp is below the horizon, so versions may be gone
-
-    // By a note of ripsawbean_calls alone.
+    // The first by ripsawbean_versions_at alone, the second by a note of ripsawbean_calls alone.
+    RIPSAWBEAN_BELOWHORIZON = 24,  // the timestamp is below the horizon, so versions may be gone
     RIPSAWBEAN_ANSWERTOOLONG = 25, // the rows or messages have more bytes than are let through: no call was made
 
     // By ripsawbean_open and ripsawbean_replica_open, before anything else is looked at. The handle is as it was.
@@ -278,19 +275,23 @@ uint8_t ripsawbean_bytes(ripsawbean *db, uint8_t *out, size_t room, size_t *leng
 
 // ---- ANSWERS WITH A BOUND. A row, or a message, has the bytes of its key and its value, and 17 more.
 //
-//     ripsawbean_scan(&db, 0, 10, low, low_length, low, 0, 0, 1000, sizeof out, out, sizeof out, &length, &answer);
+//     ripsawbean_scan(&db, 0, 10, low, low_length, low, 0, 0, 1000, sizeof out - RIPSAWBEAN_MAX_END, out, sizeof out, &length,
+//                     &answer);
 //     // rows are read by ripsawbean_read_message; where a message of kind RIPSAWBEAN_MESSAGE_END stands behind them, its
 //     // key is the low bound of the next scan
 
 #define RIPSAWBEAN_MAX_ROW 65809 // bytes of a row of the greatest size: with less room a scan may end at its first key
+#define RIPSAWBEAN_MAX_END 274   // bytes of a scan's end at most. It stands behind the rows, and no bound counts it
 
 // Reads the keys of a span in a transaction, or at a closed timestamp (the commands "scan" and "scanat"), as far as their
 // rows find room: at most `rows` rows, of at most `bytes` bytes together. The event is the scan of that beginning of the
-// span. `low` of no bytes is no low bound; where has_high is 0 there is no high one, and `high` isn't looked at.
+// span, but of all of it where another's undecided version before that end, or at it, is in the way: "blocked". `low` of no
+// bytes is no low bound; where has_high is 0 there is no high one, and `high` isn't looked at.
 //
 // Rows are shown as messages of kind RIPSAWBEAN_MESSAGE_ROW whose timestamp is the scan's. Behind them stands a message of
 // kind RIPSAWBEAN_MESSAGE_END whose key, of up to 257 bytes, is the high bound of the event's span, unless that has none.
-// Where it isn't the caller's own bound, rows are left: the next scan goes on there.
+// Where it isn't the caller's own bound, rows are left: the next scan goes on there. The end's bytes come on top of
+// `bytes`, so a room of no more may cut it off: then *length is above room. A scan that is refused shows no end.
 //
 //     RIPSAWBEAN_OK         the call was made, and answer says what came of it. *length is the whole length of the rows and
 //                           their end; out as for a value. ripsawbean_bytes shows them again
@@ -418,8 +419,8 @@ typedef struct {
 // Makes the calls of lines, one after another, each up to its newline, and shows their texts, one behind another. A
 // faulty line makes no call, and the next one is taken; it ends nothing. Nor does a line make its call whose answer would
 // have more than `most` bytes of rows or messages, as they are counted above; UINT64_MAX lets all through. What would be
-// refused has none. A scan that a version blocks has the rows before. The texts stand in the first taken->length bytes of
-// out, whole; the rest of out is as it was, and so are the notes behind the first taken->lines.
+// refused has none, but a scan that would be "blocked" has the rows before what blocks it. The texts stand in the first
+// taken->length bytes of out, whole; the rest of out is as it was, and so are the notes behind the first taken->lines.
 //
 //     RIPSAWBEAN_OK         all lines were taken, or there is no room for a further note
 //     RIPSAWBEAN_UNWRITTEN  the last line that was taken made its call, and its text found no room or no memory: its
@@ -444,7 +445,7 @@ typedef struct {
     uint64_t limit;   // how far a collection can go now
     uint64_t oldest;  // the least undecided timestamp; RIPSAWBEAN_NONE where none is undecided
     uint64_t reached; // the greatest timestamp that began or was closed: each that is above it is free
-    uint64_t floor;   // through where the feed has told all; RIPSAWBEAN_NONE where it doesn't live
+    uint64_t floor;   // through where the feed has told all but an initial one's first rows; RIPSAWBEAN_NONE where it doesn't live
 } ripsawbean_standing;
 
 // Tells how far the database, and the feed of this number, have come. It takes no memory. RIPSAWBEAN_OK, or *standing is
@@ -503,7 +504,7 @@ typedef struct {
 // Shows a piece of the dump that rebuilds the database as it is now: the lines of as many rows behind the place as have
 // room. The dump closes at the greatest of `at`, the closed timestamp and all that began: `at` is 0, or what `mvfeed dump
 // --at` is given. A piece goes only to `through`: UINT64_MAX, or a timestamp, and where nothing more is left up to there,
-// the place is that of all its rows. docs/EMBEDDING.md says how to make calls between two pieces.
+// the place is that of all its rows, or the dump has ended. docs/EMBEDDING.md says how to make calls between two pieces.
 //
 //     RIPSAWBEAN_OK         out begins with the piece, of *length bytes, and *place and key tell where the next one begins.
 //                           At a place where the dump has ended nothing is shown, and it stays so
@@ -525,8 +526,7 @@ typedef struct {
     bool is_open; // private
 } ripsawbean_replica;
 
-// A closed handle.
-#define RIPSAWBEAN_REPLICA_INITIALIZER {NULL, false}
+#define RIPSAWBEAN_REPLICA_INITIALIZER {NULL, false} // a closed handle
 
 // Opens a closed handle on an empty replica of the feed that a line opens, as "0 openinitial - - 10\n": the line of the
 // call that opened the feed will do. A replica of an initial feed is told its rows. One of another feed has none of the
