@@ -18,7 +18,8 @@ pub struct Places {
     pub oldest: Option<u64>,
     /// The greatest timestamp that began or was closed: each that is above it is free.
     pub reached: u64,
-    /// Through where the feed has told all, where one is asked for and lives.
+    /// How far the feed lets a collection go, where one is asked for and lives. It has told all through there, but for the
+    /// first rows of an initial feed, whose floor is its cursor from the start.
     pub floor: Option<u64>,
 }
 
@@ -36,7 +37,7 @@ pub enum Held {
     Feed {
         /// Its number.
         number: u64,
-        /// Through where it has told all.
+        /// How far it lets a collection go.
         floor: u64,
     },
     /// A protection, which holds a collection.
@@ -78,7 +79,7 @@ pub fn version() -> (u8, u8, u8) {
 /// # }
 /// ```
 impl Database {
-    /// How far the database has come, and through where the feed of this number has told all. It takes no memory.
+    /// How far the database has come, and the floor of the feed of this number. It takes no memory.
     pub fn places(&mut self, feed: Option<u64>) -> Places {
         let standing = self.open.places(feed.unwrap_or(NO_FEED));
         Places {
