@@ -91,13 +91,13 @@ enum {
     RIPSAWBEAN_REPLY = 10,         // a fault of transcripts: no function here returns it
     RIPSAWBEAN_FOLLOW = 11,        // a fault of transcripts: no function here returns it
 
-    // There was no memory for the line, or for a database to open: no call was made, and the same one may be made
+    // There was no memory for the line, a look, or a database to open: no call was made, and the same one may be made
     // again. ripsawbean_calls says it of the next line alone: go on behind the first taken->bytes. Where the line
     // was read and memory is wanting in the call itself, its answer is "nomemory": an event that changed nothing else.
     // Its text may want memory as well, as any text: see RIPSAWBEAN_UNWRITTEN.
     RIPSAWBEAN_NOMEMORY = 12,
     RIPSAWBEAN_SPENT = 13,     // no position is left after 18446744073709551615 calls: no call was made. A fault is told first
-    RIPSAWBEAN_UNWRITTEN = 14, // the call was made, or had been; its text, or a poll's messages, found no memory. Ask again.
+    RIPSAWBEAN_UNWRITTEN = 14, // the call was made, or had been; its text, messages or rows found no memory. Ask again.
                                // Of ripsawbean_dump: the next lines have no room
     RIPSAWBEAN_RING = 15,      // the ring is not 1 to 65536
     RIPSAWBEAN_CLOSED = 16,    // the handle is closed
