@@ -12,8 +12,8 @@
 //
 // Lines and texts are those of the program mvfeed, format two. docs/GUIDE.md has each command and each answer, and
 // docs/EMBEDDING.md says how to build, link and use this library. It is proved, function by function, but for this
-// page's three inline helpers (ripsawbean_read_message, ripsawbean_status_name, ripsawbean_answer_name), which are
-// tested. What this page asks of its caller is what the proofs take for granted.
+// page's three inline helpers (ripsawbean_read_message, ripsawbean_status_name, ripsawbean_answer_name) and the look at
+// the processor, which are tested. What this page asks of its caller is what the proofs take for granted.
 //
 // THE HANDLE belongs to the program, which may keep it anywhere: on its stack, in a struct, on its heap. All zero bytes
 // are a closed handle. Only the functions of this page write its members. An open handle may be moved, and is then used
