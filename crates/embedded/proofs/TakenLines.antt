@@ -112,6 +112,6 @@ let_through most h line read old new out out' (Err NoMemory) is short t = (t.0, 
 let_through most h line read old new out out' (Err Spent) is short t = (t.0, t.1, t.2)
 
 -- one whose answer is too long is passed over
-pub passed_over : (most : ℕ) (h : List Event) (line : List ℕ) (read : ℕ × Cmd) (old : Database) (out : List ℕ) → command_at Two table 64 line ≡ Ok read → is_too_long (effects_of h) read.0 most read.1 ≡ true → IsTaken most h line old out out (Ok (record { length = 0; status = 25 })) old
-passed_over most h line read old out is long =
-    (record { line = line; note = record { length = 0; status = 25 }; shown = [] }, h, refl, refl, inr (record { read = read; is = is; long = long; note = refl; shown = refl; database = refl; history = refl }), refl)
+pub passed_over : (most : ℕ) (h : List Event) (line : List ℕ) (read : ℕ × Cmd) (old : Database) (out : List ℕ) → command_at Two table 64 line ≡ Ok read → is_too_long (effects_of h) read.0 most read.1 ≡ true → (length h ≡ 18446744073709551615 → ⊥) → IsTaken most h line old out out (Ok (record { length = 0; status = 25 })) old
+passed_over most h line read old out is long unspent =
+    (record { line = line; note = record { length = 0; status = 25 }; shown = [] }, h, refl, refl, inr (record { read = read; is = is; long = long; unspent = unspent; note = refl; shown = refl; database = refl; history = refl }), refl)

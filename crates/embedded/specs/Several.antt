@@ -64,6 +64,7 @@ pub record IsPassedOver (most : ℕ) (h : List Event) (d : Database) (s : Step) 
   pub read : ℕ × Cmd
   pub is : command_at Two table 64 s.line ≡ Ok read
   pub long : is_too_long (effects_of h) read.0 most read.1 ≡ true
+  pub unspent : length h ≡ 18446744073709551615 → ⊥
   pub note : s.note ≡ record { length = 0; status = 25 }
   pub shown : s.shown ≡ []
   pub database : d' ≡ d
@@ -83,7 +84,7 @@ IsPollLine most line = (x : ℕ × Cmd) × (command_at Two table 64 line ≡ Ok 
 
 -- a line can't be called: as by itself, or where it is such a poll's, and the look finds no memory
 abbrev pub IsUncalled : (most : ℕ) → List Event → List ℕ → Database → CallError → Type 0
-IsUncalled most h line d NoMemory = Called h line d (Err NoMemory) d ⊎ IsPollLine most line
+IsUncalled most h line d NoMemory = Called h line d (Err NoMemory) d ⊎ (IsPollLine most line × (length h ≡ 18446744073709551615 → ⊥))
 IsUncalled most h line d error = Called h line d (Err error) d
 
 -- a line was taken by a step, whose text stands at the front of the room; or it can't be called, and all is as it was

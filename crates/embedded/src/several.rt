@@ -123,6 +123,10 @@ impl Database {
         ensures taken { (h : List Event) → StandsFor self.old h → IsTaken most h line.now self.old out.old out.new result self.new }
         ensures room { IfOk result (λ done. (done.status ≡ 14) ⊎ (done.length ≤ length out.old)) }
     {
+        // want of a position is told before all else
+        if self.is_spent() {
+            return Err(CallError::Spent);
+        }
         match self.is_too_long(seat, &cmd, most) {
             Err(_) => Err(CallError::NoMemory),
             Ok(true) => Ok(Done {

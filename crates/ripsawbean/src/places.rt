@@ -23,7 +23,7 @@ pub struct PlacesRecord {
     pub oldest: u64,
     /// The greatest timestamp that began or was closed: each that is above it is free.
     pub reached: u64,
-    /// Through where the feed has told all, where it lives.
+    /// The floor of the feed: through where it has told all, but for what an initial one tells first.
     pub floor: u64,
 }
 
