@@ -62,9 +62,10 @@ class Writer:
         return reads
 
     def drawn_writes(self) -> list[tuple[str, str | None]]:
-        """At least one of them has a value, by which the transaction is found."""
-        keys = [self.drawn_key() for _ in range(self.dice.randrange(1, 6))]
-        return [(key, None if at and self.dice.random() < 0.25 else self.drawn_value()) for at, key in enumerate(keys)]
+        """The value of the first one is kept, and by it the transaction is found. Others may be overwritten."""
+        first, *others = (self.drawn_key() for _ in range(self.dice.randrange(1, 6)))
+        drawn = [(key, None if self.dice.random() < 0.25 else self.drawn_value()) for key in others if key != first]
+        return [(first, self.drawn_value()), *drawn]
 
     def read(self, session: Session, line: str) -> list[object]:
         """What a read was answered. It is asked again where an older transaction is in its way."""
