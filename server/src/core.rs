@@ -207,8 +207,8 @@ impl Core {
         Ok(versions)
     }
 
-    /// Puts the next piece of a dump behind `out`: of rows at or below `through`, and behind them its end, where that
-    /// closes at no more than `through`. It makes no call. After an error all is as it was.
+    /// Puts the next piece behind `out` of a dump that closes at `at` or above: rows at or below `through`, and behind them
+    /// the dump's end, where it closes there or below. It makes no call. After an error all is as it was.
     pub fn dump_piece(
         &mut self,
         at: u64,
