@@ -33,14 +33,20 @@ def last_words(program: Program) -> str:
     return "%s: %s" % (os.path.basename(program.log), " / ".join(program.words()[-300:].strip().split("\n")[-3:]))
 
 
+def words_of(why: Exception) -> list[str]:
+    """Where it was raised, and what it says: of long words the first and the last ones."""
+    words = "".join(traceback.format_exception_only(why)).strip().split("\n")
+    return traceback.format_tb(why.__traceback__)[-1].strip().split("\n") + words[:2] + words[2:][-4:]
+
+
 def attack(test: Test, scale: Scale, tally: Tally) -> None:
     name = test.__name__.removeprefix("test_").replace("_", " ")
     began, faults, figures = time.monotonic(), [], ""
     with Room() as room:
         try:
             figures = test(room, scale)
-        except Exception:
-            faults = traceback.format_exc().strip().split("\n")[-6:] + [last_words(one) for one in room.programs]
+        except Exception as why:
+            faults = words_of(why) + [last_words(one) for one in room.programs]
     tally.told("%s (%.0f s)" % (name, time.monotonic() - began), faults, figures)
 
 
