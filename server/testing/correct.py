@@ -89,7 +89,7 @@ class Load:
 
     def writer(self, at: int) -> Program:
         name = "w%d.%d" % (at, self.dice.randrange(1 << 30))
-        words = (str(self.server.port), name, name, self.room.file("writer%d.log" % at))
+        words = (str(self.server.port), name, name, self.room.file("writer%d.told" % at))
         return self.room.start(self.room.script("writer%d" % at, "correct_writer.py", *words))
 
     def consumer(self, at: int) -> Consumer:
@@ -271,7 +271,7 @@ class Verdict:
 
     def __init__(self, load: Load, rows: dict[bytes, bytes]):
         self.load, self.faults = load, list(load.faults)
-        self.transactions = transactions_in(glob.glob(load.room.file("writer*.log")))
+        self.transactions = transactions_in(glob.glob(load.room.file("writer*.told")))
         self.all_streams = load.streams()
         seen = values_of(load, self.all_streams, self.transactions, rows)
         self.models = {identity: Model(many, seen) for identity, many in self.transactions.items()}

@@ -35,6 +35,15 @@ def identity_at(port: int) -> str:
     return identity
 
 
+def whole_lines_of(log: str) -> int:
+    """Opens a log to write on. A kill may cut a line at a page's end, and what is left of it is dropped."""
+    with open(log, "a+b") as file:
+        file.seek(0)
+        told = file.read()
+        file.truncate(told.rfind(b"\n") + 1)
+    return os.open(log, os.O_APPEND | os.O_WRONLY)
+
+
 class Aborted(Exception):
     """The transaction has ended, or is given up."""
 
@@ -42,7 +51,7 @@ class Aborted(Exception):
 class Writer:
     def __init__(self, port: int, name: str, seed: str, log: str):
         self.port, self.name, self.dice = port, name, random.Random(seed)
-        self.log = os.open(log, os.O_CREAT | os.O_APPEND | os.O_WRONLY)
+        self.log = whole_lines_of(log)
         self.serial = itertools.count()
 
     def note(self, **what: object) -> None:

@@ -52,7 +52,7 @@ class DurableLoad(Load):
         self.keyed = [self.keyed_writer(at) for at in range(self.keyed_writers)]
 
     def keyed_log(self, at: int) -> str:
-        return self.room.file("writer-keyed%d.log" % at)
+        return self.room.file("writer-keyed%d.told" % at)
 
     def keyed_writer(self, at: int) -> Program:
         name = "k%d.%d" % (at, self.dice.randrange(1 << 30))
