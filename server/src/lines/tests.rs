@@ -2,7 +2,7 @@
 
 use super::*;
 use crate::gate::{Right, Who};
-use crate::testing::{answers, core, end, session, texts};
+use crate::testing::{answers, core, end, session, texts, tidy, Dice};
 use ripsawbean::{Command, Span};
 use std::time::Duration;
 
@@ -426,4 +426,94 @@ fn what_was_told_says_whether_all_went_well() {
     assert_eq!(told("begin\ncommit 1\nput . a 1\ncommit .\n"), (false, true));
     assert_eq!(told("begin\ncommit .\nget . a\nput . a 1\n"), (false, true));
     assert_eq!(told("begin\nput . a\nput . a 1\ncommit .\n"), (true, false));
+}
+
+/// A line of a command and some words, most of which are right for one of them. Now and then a byte is changed.
+fn drawn_line(dice: &mut Dice) -> Vec<u8> {
+    const COMMANDS: [&str; 23] = [
+        "begin",
+        "begin",
+        "begin",
+        "put",
+        "put",
+        "get",
+        "del",
+        "scan",
+        "commit",
+        "commit",
+        "abort",
+        "close",
+        "closehard",
+        "readat",
+        "scanat",
+        "open",
+        "openinitialevery",
+        "poll",
+        "cancel",
+        "protect",
+        "release",
+        "collect",
+        "stats",
+    ];
+    const WORDS: [&str; 16] =
+        [".", ".", ".", "a", "a", "b", "c", "-", "0", "1", "2", "40", "%20", "%41", "", "9223372036854775808"];
+    let mut line = dice.of(&COMMANDS).to_string();
+    (0..dice.below(5)).for_each(|_| line = format!("{line} {}", dice.of(&WORDS)));
+    let mut line = line.into_bytes();
+    if dice.one_in(8) {
+        let at = dice.below(line.len() as u64) as usize;
+        line[at] = dice.below(256) as u8;
+    }
+    line.push(b'\n');
+    line
+}
+
+/// The events of a text, each whole, and how many events and faults it has. Each fault names its own line.
+fn events_and_faults(text: &str, first_line: u64) -> (Vec<&str>, u64) {
+    let (mut events, mut line, mut rest) = (Vec::new(), first_line, text);
+    while !rest.is_empty() {
+        let (head, _) = rest.split_once('\n').expect("a whole line");
+        let counted = head.rsplit_once(" => ").and_then(|(_, answer)| answer.rsplit_once(' '));
+        let more = match counted {
+            Some(("rows" | "messages", count)) => count.parse().expect("a count"),
+            _ => 0,
+        };
+        let end = rest.split_inclusive('\n').take(1 + more).map(str::len).sum();
+        match head.starts_with("fault ") {
+            true => assert!(head.starts_with(&format!("fault {line} ")), "{head} is of line {line}"),
+            false => events.push(&rest[..end]),
+        }
+        (line, rest) = (line + 1, &rest[end..]);
+    }
+    (events, line - first_line)
+}
+
+/// Each is answered by one event of the transcript or by one fault, in its order, in printable ASCII.
+#[test]
+fn any_bytes_are_answered_line_by_line() {
+    let mut dice = Dice::new(51);
+    let mut core = core(&["--history", "0", "--max-held", "3", "--max-lag", "50", "--ahead", "50"]);
+    let mut one = session(&mut core);
+    dice.each(|dice| {
+        let mut data: Vec<u8> = (0..dice.below(12)).flat_map(|_| drawn_line(dice)).collect();
+        data.truncate(data.len() - dice.below(2).min(data.len() as u64) as usize);
+        let wanted = data.split_inclusive(|&byte| byte == b'\n').count() as u64;
+        let (first_line, next) = (one.lines + 1, core.transcript.next());
+        let mut lines = Lines::new(data);
+        let far = Instant::now() + Duration::from_secs(60);
+        assert_eq!(lines.turn(&mut core, &mut one, far), Ok(Turn::Done));
+        assert!(lines.answers.iter().all(|byte| matches!(byte, b'\n' | b' '..=b'~')), "{:?}", lines.answers);
+        let text = String::from_utf8(lines.answers).expect("ASCII");
+        let (events, count) = events_and_faults(&text, first_line);
+        assert_eq!((count, one.lines + 1 - first_line), (wanted, wanted), "{text}");
+        let (kept, _) = core.transcript.piece(next, u64::MAX, usize::MAX).expect("they are kept");
+        assert_eq!(String::from_utf8(kept).as_deref(), Ok(events.concat().as_str()));
+        core.settle(Instant::now());
+        if dice.one_in(20) {
+            end(&mut core, &one);
+            one = session(&mut core);
+            tidy(&mut core);
+        }
+    });
+    assert_eq!(core.shouts, 0);
 }
