@@ -21,6 +21,7 @@ import threading
 import time
 import zlib
 from collections.abc import Callable
+from typing import Any
 
 from attack_beside import Scale
 from handmade import Session, Wire
@@ -30,6 +31,7 @@ MEGABYTE = 1 << 20
 WRITERS = 4
 VALUE = "x" * 16_000
 LONG = 200  # characters of a line beyond which a digest stands for it
+Report = dict[str, Any]
 COUNTED = re.compile(r"(?:rows|messages) (\d+)")  # an answer with so many lines behind it
 SECONDS_AT_LIMIT = 2.5  # how long the writers go on once they were told that there is no memory
 
@@ -125,16 +127,15 @@ class Reader(threading.Thread):
                 pass
             time.sleep(0.1)
 
-    def read(self) -> None:
-        """Asks for what is new. An answer that was cut is left out, and asked for again."""
+    def read(self) -> bool:
+        """Asks for what is new: whether it was told. An answer that was cut is left out, and asked for again."""
         status, headers, text = fetch(self.server, "/transcript?since=%d" % self.next)
         if status == 410:
             first = int(json.loads(text)["first"])
             self.dropped.update(range(self.next, first))
             self.next = first
-            return
         if status != 200:
-            return
+            return False
         places = [int(one.split(" ", 1)[0]) for one in heads_of(text.removeprefix("mvfeed 2\n"))]
         wanted = list(range(self.next, int(headers["ripsawbean-next"])))
         if places != wanted:
@@ -143,6 +144,7 @@ class Reader(threading.Thread):
                 self.next, headers["ripsawbean-next"], len(missing), missing[:5], len(places)))
         self.events.update(zip(places, heads_of(text.removeprefix("mvfeed 2\n"))))
         self.next = max(int(headers["ripsawbean-next"]), self.next)
+        return True
 
 
 def fetch(server: Server, path: str) -> tuple[int, dict[str, str], str]:
@@ -176,11 +178,18 @@ def compare_answers(writers: list[Writer], reader: Reader) -> list[str]:
     return faults
 
 
+def reports_of(server: Server) -> tuple[list[Report], dict[str, list[Report]]] | None:
+    """/state, and /holders by kind. None where a call was made meanwhile, as by a collection."""
+    before = server.holders("server")[0]["next"]
+    state = [json.loads(one) for one in server.ask("GET", "/state")[1].splitlines()]
+    known = {kind: server.holders(kind) for kind in ("transaction", "protection", "feed", "server")}
+    return (state, known) if known["server"][0]["next"] == before else None
+
+
 def compare_reports(server: Server) -> list[str]:
     """What the server knows, with what the database itself says."""
-    state = [json.loads(one) for one in server.ask("GET", "/state")[1].splitlines()]
-    known = {kind: server.holders(kind) for kind in ("server", "transaction", "protection", "feed")}
     faults = []
+    state, known = wait_for(lambda: reports_of(server), "a moment without a call")
     for kind, name in (("transaction", "timestamp"), ("protection", "number"), ("feed", "number")):
         ours, theirs = (sorted(one[name] for one in many) for many in (known[kind], (s for s in state if s["kind"] == kind)))
         if ours != theirs:
@@ -201,8 +210,7 @@ def is_quiet(server: Server) -> bool:
 
 def reads_on(reader: Reader) -> bool:
     try:
-        reader.read()
-        return True
+        return reader.read()
     except OSError:
         return False
 
