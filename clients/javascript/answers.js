@@ -8,8 +8,14 @@ export const PAGE = 1000;
 export const AGAIN = [408, 502, 503, 504];
 
 export const sleep = (ms, signal) => new Promise((done) => {
-  const timer = setTimeout(done, ms);
-  signal?.addEventListener("abort", () => (clearTimeout(timer), done()), { once: true });
+  const end = () => {
+    clearTimeout(timer);
+    signal?.removeEventListener("abort", end); // else each pause would leave one
+    done();
+  };
+  const timer = setTimeout(end, ms);
+  signal?.addEventListener("abort", end);
+  if (signal?.aborted) end();
 });
 
 /** Drawn pauses between tries, which grow, until the time is over. */

@@ -10,7 +10,7 @@
 
 import { AGAIN, numberIn, PAGE, Pauses, sleep } from "./answers.js";
 import { Gone, Lost, OtherDatabase, Outrun, refused } from "./errors.js";
-import { behind, fromBase64, pathOf, percent, textOf } from "./values.js";
+import { behind, fromBase64, known, pathOf, percent, textOf } from "./values.js";
 
 const SILENCE = 60_000; // milliseconds without a byte after which a stream's server is taken for dead
 const HOLD = 30; // seconds for which a snapshot that was cut is held from page to page
@@ -21,7 +21,8 @@ const IDLE = 1000; // milliseconds after which it stores a place although no row
 const isAbove = (one, other) => BigInt(one) > BigInt(other);
 
 export class Feed {
-  constructor(client, lo, hi, { place = null, before = false, anew = false, signal } = {}, name) {
+  constructor(client, lo, hi, options, name) {
+    const { place = null, before = false, anew = false, signal } = known(options, "place", "before", "anew", "signal");
     Object.assign(this, { client, lo, hi, before, anew, signal, name, generation: "0" });
     this.begin(place);
   }
@@ -54,8 +55,9 @@ export class Feed {
     const control = new AbortController();
     const stop = () => control.abort();
     this.signal?.addEventListener("abort", stop);
+    if (this.signal?.aborted) stop();
     try {
-      const response = await this.open(control.signal);
+      const response = await this.open(control);
       const identity = response.headers.get("Ripsawbean-Identity"), cursor = numberIn(response, "Ripsawbean-From");
       this.generation = response.headers.get("Ripsawbean-Generation") ?? "0";
       if (!this.anew) this.client._pin(response);
@@ -74,10 +76,11 @@ export class Feed {
   }
 
   /** A stream from the place, or from nothing where there is none. */
-  async open(signal) {
+  async open(control) {
     const place = { from: this.place?.timestamp, identity: this.place?.identity };
     const path = pathOf("/feed", this.lo, this.hi, { before: this.before ? 1 : undefined, consumer: this.name, ...place });
-    const response = await this.client._open(path, { headers: this.client._headers(this.anew ? null : this.client.identity), signal });
+    const headers = this.client._headers(this.anew ? null : this.client.identity);
+    const response = await this.client._open(path, control, SILENCE, { headers });
     if (response.status === 200) return response;
     const error = refused(response.status, await response.text().catch(() => ""));
     if (AGAIN.includes(response.status)) throw new Lost(error);
@@ -128,6 +131,7 @@ export class Feed {
   async *restOfSnapshot() {
     const { snapshot } = this;
     for (let lo = this.last ? behind(this.last.key) : this.lo; lo !== null; ) {
+      if (this.signal?.aborted) throw new Lost("it is ended");
       const page = await this.client._pageOnce(lo, this.hi, snapshot, this.limit, HOLD).catch((why) => {
         if (!(why instanceof Gone || (why instanceof OtherDatabase && this.anew))) throw why;
         this.begin(null);

@@ -22,20 +22,27 @@
 import { AGAIN, Answer, nonsense, PAGE, Pauses, sleep } from "./answers.js";
 import { ConditionFailed, Gone, Lost, OtherDatabase, OutcomeUnknown, refused, Unreachable } from "./errors.js";
 import { consume, Feed } from "./feeds.js";
-import { argumentIn, behind, bytesOf, del, get, pathOf, percent, put, resultOf, rowOf, textOf, unchanged, versionIs } from "./values.js";
+import { argumentIn, behind, bytesOf, del, get, known, pathOf, percent, put, resultOf, rowOf, textOf, unchanged, versionIs } from "./values.js";
 
 export * from "./errors.js";
 export { del, exists, get, put, scan, unchanged, valueIs, versionIs } from "./values.js";
 
 /** A write was sent to a server that has another database now. */
 const LEFT_BEHIND = "another database answers now, and the write may have committed in the one before";
+/**
+ * Milliseconds for the first answer's head. Node 20 overlooks that a process's first connection has ended while it
+ * compiles its parser, and would wait for ever.
+ */
+const FIRST = 2000;
+const LONGEST_TIMER = 2 ** 31 - 1;
 const NOT_SENT = ["ECONNREFUSED", "ENOTFOUND", "EAI_AGAIN", "UND_ERR_CONNECT_TIMEOUT"];
 
 export class Client {
-  constructor(url, { token, timeout = 20_000, identity = null, fetch = globalThis.fetch } = {}) {
+  constructor(url, options) {
+    const { token, timeout = 20_000, identity = null, fetch = globalThis.fetch } = known(options, "token", "timeout", "identity", "fetch");
     const { protocol, username, search, hash, href } = new URL(url);
     if (!/^https?:$/.test(protocol) || username || search || hash) throw new TypeError(`${url} is no http://HOST:PORT or https://HOST:PORT`);
-    Object.assign(this, { url: href.replace(/\/$/, ""), timeout, identity, _fetch: fetch });
+    Object.assign(this, { url: href.replace(/\/$/, ""), timeout, identity, _fetch: fetch, _longest: FIRST });
     this._token = token ? { Authorization: `Bearer ${token}` } : {};
   }
 
@@ -43,20 +50,20 @@ export class Client {
     return (await this.row(key, options)).value;
   }
 
-  async row(key, { at } = {}) {
-    return (await this._read(key, at)).row;
+  async row(key, options) {
+    return (await this._read(key, known(options, "at").at)).row;
   }
 
-  async put(key, value, { if: condition } = {}) {
-    return (await this.txn([put(key, value)], condition && [condition])).timestamp;
+  async put(key, value, options) {
+    return this._write(put(key, value), options);
   }
 
-  async delete(key, { if: condition } = {}) {
-    return (await this.txn([del(key)], condition && [condition])).timestamp;
+  async delete(key, options) {
+    return this._write(del(key), options);
   }
 
   async txn(then, conditions, otherwise) {
-    const body = JSON.stringify({ ...(conditions?.length && { if: conditions }), then, ...(otherwise && { else: otherwise }) });
+    const body = JSON.stringify({ ...(conditions && conditions.length !== 0 && { if: conditions }), then, ...(otherwise && { else: otherwise }) });
     const headers = { "Idempotency-Key": keyOfWrite(), "Content-Type": "application/json" };
     const told = (await this._call("POST", "/transact", body, headers)).json();
     return { timestamp: told.timestamp, branch: told.branch, written: told.written, results: told.results.map(resultOf) };
@@ -86,11 +93,13 @@ export class Client {
     }
   }
 
-  async page(lo, hi, { at, limit = PAGE, hold } = {}) {
+  async page(lo, hi, options) {
+    const { at, limit = PAGE, hold } = known(options, "at", "limit", "hold");
     return pageOf(await this._call("GET", pathOf("/rows", lo, hi, { at, limit, hold })));
   }
 
-  async *scan(lo, hi, { at, page = PAGE } = {}) {
+  async *scan(lo, hi, options) {
+    let { at, page = PAGE } = known(options, "at", "page");
     for (let start = lo; ; ) {
       const found = await this.page(start, hi, { at, limit: page });
       yield* found.rows;
@@ -105,6 +114,11 @@ export class Client {
 
   consume(name, options) {
     return consume(this, name, options);
+  }
+
+  async _write(step, options) {
+    const { if: condition } = known(options, "if");
+    return (await this.txn([step], condition && [condition])).timestamp;
   }
 
   // ---- what is sent, and what an answer means
@@ -160,19 +174,31 @@ export class Client {
   }
 
   async _send(method, path, body, headers, timeout) {
-    const response = await this._open(path, { method, body, headers, signal: AbortSignal.timeout(timeout) });
+    const control = new AbortController();
+    const timer = endLater(control, timeout);
     try {
+      const response = await this._open(path, control, timeout, { method, body, headers });
       return new Answer(response, new Uint8Array(await response.arrayBuffer()));
     } catch (why) {
-      throw new Lost(why);
+      throw why instanceof Lost ? why : new Lost(why);
+    } finally {
+      clearTimeout(timer);
     }
   }
 
-  async _open(path, options) {
+  /** The head of an answer, which comes within the timeout. Until one has come, each try is given twice the time of the last. */
+  async _open(path, control, timeout, options) {
+    const longest = Math.min(timeout, this._longest);
+    const timer = endLater(control, longest, () => (this._longest = 2 * longest));
     try {
-      return await this._fetch.call(globalThis, this.url + path, { cache: "no-store", redirect: "manual", ...options });
+      const all = { cache: "no-store", redirect: "manual", ...options, signal: control.signal };
+      const response = await this._fetch.call(globalThis, this.url + path, all);
+      this._longest = Infinity;
+      return response;
     } catch (why) {
       throw new Lost(why, !NOT_SENT.includes(why.cause?.code));
+    } finally {
+      clearTimeout(timer);
     }
   }
 
@@ -210,6 +236,14 @@ function pageOf(answer) {
   const following = next === null ? null : argumentIn(next, "lo");
   if (following?.length === 0) throw nonsense(answer.status, "has no place for the page behind it");
   return { timestamp, rows: rows.map(rowOf), next: following && textOf(following) };
+}
+
+/** A timer, which keeps Node running: else a program that waits would just end. */
+function endLater(control, ms, before = () => {}) {
+  return setTimeout(() => {
+    before();
+    control.abort(new Error(`no answer came for ${Math.round(ms)} milliseconds`));
+  }, Math.min(ms, LONGEST_TIMER));
 }
 
 function keyOfWrite() {

@@ -51,6 +51,13 @@ export function argumentIn(path, name) {
   return Uint8Array.from(letters, (it) => (it.length > 1 ? parseInt(it.slice(1), 16) : it.charCodeAt(0)));
 }
 
+/** Options, where all have a name that is known. Else one that is spelled wrong, such as a condition, would be overlooked. */
+export function known(options, ...names) {
+  const unknown = Object.keys(options ?? {}).find((name) => !names.includes(name));
+  if (unknown !== undefined) throw new TypeError(`there is no option ${unknown}, but ${names.join(", ")}`);
+  return options ?? {};
+}
+
 // ---- the parts of a transaction
 
 const span = (lo, hi) => [lo, hi].map((bound) => (bound?.length ? toJson(bound) : null));
