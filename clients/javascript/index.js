@@ -189,7 +189,7 @@ export class Client {
   /** The head of an answer, which comes within the timeout. Until one has come, each try is given twice the time of the last. */
   async _open(path, control, timeout, options) {
     const longest = Math.min(timeout, this._longest);
-    const timer = endLater(control, longest, () => (this._longest = 2 * longest));
+    const timer = endLater(control, longest, () => (this._longest = Math.max(this._longest, 2 * longest)));
     try {
       const all = { cache: "no-store", redirect: "manual", ...options, signal: control.signal };
       const response = await this._fetch.call(globalThis, this.url + path, all);
