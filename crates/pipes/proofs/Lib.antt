@@ -5,3 +5,5 @@ pub mod Answers
 pub mod Lengths
 pub mod Texts
 pub mod Pipes
+pub mod MessageTexts
+pub mod TakenLines
