@@ -7,3 +7,5 @@ pub mod Texts
 pub mod Pipes
 pub mod MessageTexts
 pub mod TakenLines
+pub mod Followers
+pub mod Shown

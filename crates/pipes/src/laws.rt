@@ -1,15 +1,18 @@
 //! What one part writes the next one takes, as the contracts of functions that do nothing.
-ghost use Rattle.std.specs.Prelude.{List, Ok, length, reverse, ℕ, ◌≡◌, ◌≤◌};
+ghost use Rattle.std.specs.Prelude.{List, None, Ok, Some, length, reverse, ℕ, ◌≡◌, ◌≤◌};
 ghost use Rattle.std.specs.List.{All};
 ghost use Rattle.embedded.specs.Embedded.{StandsFor};
 ghost use Rattle.embedded.specs.declared.database.Database.{Database};
+ghost use Rattle.follow.specs.declared.options.FollowOptions.{FollowOptions};
 ghost use Rattle.jobs.specs.Races.{IsRaced};
+ghost use Rattle.pipes.specs.Followers.{IsFollowing, TakesAll, TellsMaps, told_in, told_lines};
 ghost use Rattle.pipes.specs.Texts.{EndsWhole, IsWritable, KeepsFormat, SaysYes};
 ghost use Rattle.script.specs.Transcripts.{transcript_at, transcript_text};
 ghost use Rattle.sessions.specs.Devices.{Reads, Writes};
 ghost use Rattle.sessions.specs.Runs.{IsServed};
 ghost use Rattle.sessions.specs.declared.ending.ServeEnd.{ServeEnd};
 ghost use Rattle.shared_db.specs.declared.config.Config.{Config};
+ghost use Rattle.spans.specs.Effects.{effects_of};
 ghost use Rattle.spans.specs.declared.calls.events.Event.{Event};
 ghost use Rattle.text_format.specs.Limits.{format_of};
 ghost use Rattle.text_format.specs.declared.Format.TheVariants.{Two};
@@ -35,4 +38,14 @@ pub fn law_of_pipes()
     ensures served { (f : Format) (c : Config) (r r' : Reads) (w w' : Writes) (e : ServeEnd) (s : IsServed f c r r' w w' e) → EndsWhole c.first s.events e → SaysYes s.output }
     ensures raced { (f : Format) (sessions : ℕ) (text out : List ℕ) → sessions ≤ 64 → length out ≤ 18446744073709551615 → IsRaced f sessions text out → SaysYes out }
     ensures kept { (d : Database) (h : List Event) → StandsFor d h → All (KeepsFormat Two) h → length h ≤ 18446744073709551615 → SaysYes (transcript_text Two (reverse h)) }
+{}
+
+/// A follower of a feed takes exactly the messages that the feed told: from the transcript of all events, where it is given
+/// the feed's number, and from the feed's lines alone, where it is given none. It ends early at no line. Behind each
+/// resolved message it tells the rows of the feed's span in the map at that timestamp, and where it tells between them that
+/// its rows are complete, they are the map's too.
+pub fn law_of_followers()
+    ensures picked { (es : List Event) (o : FollowOptions) (n : ℕ) → IsFollowing es o n → o.feed ≡ Some n → TakesAll o (transcript_text o.format es) (told_in es n) }
+    ensures alone { (es : List Event) (o : FollowOptions) (n : ℕ) → IsFollowing es o n → o.feed ≡ None → TakesAll o (told_lines es n) (told_in es n) }
+    ensures maps { (es : List Event) (o : FollowOptions) (n : ℕ) (w : IsFollowing es o n) → TellsMaps (effects_of (reverse es)) w.feed o (told_in es n) }
 {}

@@ -1,0 +1,59 @@
+-- Which followers follow a feed of a history, and what they are to take and to show (this project's own).
+use Rattle.std.specs.Prelude.{ℕ, List, [], ◌∷◌, ◌++◌, ◌≡◌, Some, reverse}
+use Rattle.std.specs.List.{flat_map}
+use Rattle.json_lines.specs.Messages.{message_line}
+use Rattle.spans.specs.declared.calls.events.Event.{Event}
+use Rattle.spans.specs.declared.calls.messages.Message.{Message}
+use Rattle.spans.specs.declared.calls.messages.Message.TheVariants as messages
+use Rattle.spans.specs.Consumer.{view_of}
+use Rattle.spans.specs.Effects.{Effect, effects_of}
+use Rattle.spans.specs.Feeds.{Feed, feed_of, told_to}
+use Rattle.spans.specs.Serial.{Map, map_at, span_part}
+use Rattle.replica.specs.Starts.{IsStartOf}
+use Rattle.follow.specs.declared.options.FollowOptions.{FollowOptions}
+use Rattle.follow.specs.Followed.{start_of}
+use Rattle.follow.specs.Following.{followed_at, followed_through}
+use Rattle.follow.specs.Reports.{shown_before}
+use Rattle.pipes.specs.Texts.{IsWritable}
+
+-- the follower's options are those of the feed that was opened: its span, and a start with which its consumer is to begin
+pub record Follows (p : List Effect) (n : ℕ) (feed : Feed) (o : FollowOptions) : Type 0 where
+  pub opened : feed_of p n ≡ Some feed
+  pub span : o.span ≡ feed.span
+  pub starts : IsStartOf p feed (start_of o.span o.start)
+
+-- the same of a history that has a text in the follower's format. A follower of another feed's span would contradict the law,
+-- and so would a start with other rows than the span has at the feed's cursor
+pub record IsFollowing (es : List Event) (o : FollowOptions) (n : ℕ) : Type 0 where
+  pub first : ℕ
+  pub writable : IsWritable o.format first es
+  pub feed : Feed
+  pub follows : Follows (effects_of (reverse es)) n feed o
+
+-- what a history told a feed, the oldest message first
+abbrev pub told_in : List Event → ℕ → List Message
+told_in es n = told_to (effects_of (reverse es)) n
+
+-- the lines of these messages, one behind the other
+abbrev pub told_lines : List Event → ℕ → List ℕ
+told_lines es n = flat_map message_line (told_in es n)
+
+-- of a text the follower takes these messages and no others, and ends early at no line
+abbrev pub TakesAll : FollowOptions → List ℕ → List Message → Type 0
+TakesAll o text ms = followed_at o text ≡ followed_through ms
+
+-- the rows that a follower has after the messages
+abbrev pub rows_after : FollowOptions → List Message → Map
+rows_after o ms = view_of (start_of o.span o.start).rows ms
+
+-- rows are the feed's span's part of the map at t
+abbrev pub AreMapAt : List Effect → Feed → ℕ → Map → Type 0
+AreMapAt p feed t rows = (x : List ℕ) → rows x ≡ span_part feed.span (map_at p t) x
+
+-- what is told of the messages is the map's. Behind one that resolves a timestamp the rows are the map there. Before one that
+-- shows the rows to be complete, where that is told, they are the map at the timestamp that is told
+pub record TellsMaps (p : List Effect) (feed : Feed) (o : FollowOptions) (ms : List Message) : Type 0 where
+  pub resolved : (before behind : List Message) (t : ℕ) → ms ≡ before ++ messages.Resolved t ∷ behind
+      → AreMapAt p feed t (rows_after o (before ++ messages.Resolved t ∷ []))
+  pub complete : (before behind : List Message) (m : Message) (t : ℕ) → ms ≡ before ++ m ∷ behind → shown_before o before m ≡ Some t
+      → AreMapAt p feed t (rows_after o before)
