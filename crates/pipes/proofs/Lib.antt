@@ -9,3 +9,4 @@ pub mod MessageTexts
 pub mod TakenLines
 pub mod Followers
 pub mod Shown
+pub mod Reported

@@ -10,10 +10,17 @@ use Rattle.spans.specs.Effects.{Effect, effects_of}
 use Rattle.spans.specs.Feeds.{Feed, feed_of, told_to}
 use Rattle.spans.specs.Serial.{Map, map_at, span_part}
 use Rattle.replica.specs.Starts.{IsStartOf}
+use Rattle.ticket_lock.specs.Lists.{StartsWith}
+use Rattle.sessions.specs.Devices.{Reads, Writes}
+use Rattle.sessions.specs.Runs.{MayHold}
+use Rattle.follow.specs.declared.ending.FollowEnd.{FollowEnd}
+use Rattle.follow.specs.declared.ending.FollowEnd.TheVariants as ends
+use Rattle.follow.specs.declared.fault.FollowFault.{FollowFault}
 use Rattle.follow.specs.declared.options.FollowOptions.{FollowOptions}
+use Rattle.follow.specs.Ends.{IsFollowed}
 use Rattle.follow.specs.Followed.{start_of}
 use Rattle.follow.specs.Following.{followed_at, followed_through}
-use Rattle.follow.specs.Reports.{shown_before}
+use Rattle.follow.specs.Reports.{IsFollowReport, shown_before}
 use Rattle.pipes.specs.Texts.{IsWritable}
 
 -- the follower's options are those of the feed that was opened: its span, and a start with which its consumer is to begin
@@ -57,3 +64,15 @@ pub record TellsMaps (p : List Effect) (feed : Feed) (o : FollowOptions) (ms : L
       → AreMapAt p feed t (rows_after o (before ++ messages.Resolved t ∷ []))
   pub complete : (before behind : List Message) (m : Message) (t : ℕ) → ms ≡ before ++ m ∷ behind → shown_before o before m ≡ Some t
       → AreMapAt p feed t (rows_after o before)
+
+-- how a follower of a text with these messages ended: it took the first of them. Where it was done it took and reported them
+-- all. No line was at fault, and line 0 is none: rows to begin with may be
+pub record IsReported (o : FollowOptions) (ms took : List Message) (output : List ℕ) (e : FollowEnd) : Type 0 where
+  pub begins : StartsWith ms took
+  pub whole : e ≡ ends.Done → (took ≡ ms) × IsFollowReport o ms output
+  pub faultless : (line : ℕ) (fault : FollowFault) → e ≡ ends.Fault line fault → line ≡ 0
+
+-- each follower that has read the text, or its beginning, ended so
+abbrev pub ReportsAll : FollowOptions → List ℕ → List Message → Type 0
+ReportsAll o text ms = (r r' : Reads) (w w' : Writes) (e : FollowEnd) (s : IsFollowed o r r' w w' e)
+    → MayHold s.input r'.ended text → IsReported o ms s.messages s.output e

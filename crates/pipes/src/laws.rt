@@ -5,7 +5,7 @@ ghost use Rattle.embedded.specs.Embedded.{StandsFor};
 ghost use Rattle.embedded.specs.declared.database.Database.{Database};
 ghost use Rattle.follow.specs.declared.options.FollowOptions.{FollowOptions};
 ghost use Rattle.jobs.specs.Races.{IsRaced};
-ghost use Rattle.pipes.specs.Followers.{IsFollowing, TakesAll, TellsMaps, told_in, told_lines};
+ghost use Rattle.pipes.specs.Followers.{IsFollowing, ReportsAll, TakesAll, TellsMaps, told_in, told_lines};
 ghost use Rattle.pipes.specs.Texts.{EndsWhole, IsWritable, KeepsFormat, SaysYes};
 ghost use Rattle.script.specs.Transcripts.{transcript_at, transcript_text};
 ghost use Rattle.sessions.specs.Devices.{Reads, Writes};
@@ -14,6 +14,7 @@ ghost use Rattle.sessions.specs.declared.ending.ServeEnd.{ServeEnd};
 ghost use Rattle.shared_db.specs.declared.config.Config.{Config};
 ghost use Rattle.spans.specs.Effects.{effects_of};
 ghost use Rattle.spans.specs.declared.calls.events.Event.{Event};
+ghost use Rattle.spans.specs.declared.calls.messages.Message.{Message};
 ghost use Rattle.text_format.specs.Limits.{format_of};
 ghost use Rattle.text_format.specs.declared.Format.TheVariants.{Two};
 ghost use Rattle.text_format.specs.declared.Format.{Format};
@@ -43,9 +44,11 @@ pub fn law_of_pipes()
 /// A follower of a feed takes exactly the messages that the feed told: from the transcript of all events, where it is given
 /// the feed's number, and from the feed's lines alone, where it is given none. It ends early at no line. Behind each
 /// resolved message it tells the rows of the feed's span in the map at that timestamp, and where it tells between them that
-/// its rows are complete, they are the map's too.
+/// its rows are complete, they are the map's too. What `follow` reports of a text is the report of the messages that are
+/// taken of it.
 pub fn law_of_followers()
     ensures picked { (es : List Event) (o : FollowOptions) (n : ℕ) → IsFollowing es o n → o.feed ≡ Some n → TakesAll o (transcript_text o.format es) (told_in es n) }
     ensures alone { (es : List Event) (o : FollowOptions) (n : ℕ) → IsFollowing es o n → o.feed ≡ None → TakesAll o (told_lines es n) (told_in es n) }
     ensures maps { (es : List Event) (o : FollowOptions) (n : ℕ) (w : IsFollowing es o n) → TellsMaps (effects_of (reverse es)) w.feed o (told_in es n) }
+    ensures reported { (o : FollowOptions) (text : List ℕ) (ms : List Message) → TakesAll o text ms → ReportsAll o text ms }
 {}
