@@ -134,7 +134,7 @@ class Load:
         self.room.start(second)
         time.sleep(self.dice.uniform(0.3, 1.5))
         first.child.send_signal(signal.SIGCONT)
-        end = time.monotonic() + 20
+        end = time.monotonic() + LONGEST
         while time.monotonic() < end and not (first.has_ended() or second.has_ended()):
             time.sleep(0.05)
         if first.has_ended():
