@@ -49,6 +49,8 @@ pub struct Closing {
     has_failed: bool,
     /// Whether the timer knows of it.
     is_told: bool,
+    /// Where closed stands, and since when committed rows above it wait.
+    waits: Option<(u64, Instant)>,
     /// As far as collections may go by now.
     aim: u64,
 }
@@ -74,6 +76,7 @@ impl Closing {
             due: None,
             has_failed: false,
             is_told: false,
+            waits: None,
             aim: 0,
         }
     }
@@ -89,9 +92,9 @@ impl Closing {
         self.has_failed
     }
 
-    /// Since when a closing has been due that wasn't done.
-    pub fn due_since(&self) -> Option<Instant> {
-        self.due
+    /// Since when committed rows wait to be closed. It begins anew where closed moves, and others still wait.
+    pub fn waits_since(&self) -> Option<Instant> {
+        self.waits.map(|(_, since)| since)
     }
 }
 
@@ -109,9 +112,16 @@ impl Core {
         if self.close_at().is_some_and(|at| at <= now) {
             self.close();
         }
+        self.note_waiting(now);
         let is_due = self.closing.due.is_some() && !self.closing.is_told;
         self.closing.is_told |= is_due;
         Settled { moved: std::mem::take(&mut self.ledger.moved), is_due }
+    }
+
+    fn note_waiting(&mut self, now: Instant) {
+        let closed = self.ledger.closed;
+        let since = self.closing.waits.filter(|&(at, _)| at == closed).map_or(now, |(_, since)| since);
+        self.closing.waits = self.ledger.rows.has_waiting().then_some((closed, since));
     }
 
     /// When the closing that is due has to be done.

@@ -83,6 +83,11 @@ impl ClosedRows {
         }
     }
 
+    /// Whether there are commits above closed.
+    pub fn has_waiting(&self) -> bool {
+        !self.waiting.is_empty()
+    }
+
     /// What is closed above a timestamp. All of the closing in which it lies is counted too.
     pub fn above(&self, timestamp: u64) -> Amount {
         self.total - self.steps.get(self.place(timestamp)).map_or(Amount::default(), |step| step.1)

@@ -123,9 +123,9 @@ fn of_database(text: &mut Text, core: &Core, server: &Server) {
     let oldest = ledger.eldest().map_or(Duration::ZERO, |(since, _)| since.elapsed());
     let name = "ripsawbean_oldest_transaction_seconds";
     text.gauge(name, "Age of the undecided transaction that began first.", oldest.as_secs_f64());
-    let delay = core.closing.due_since().map_or(Duration::ZERO, |since| since.elapsed());
+    let delay = core.closing.waits_since().map_or(Duration::ZERO, |since| since.elapsed());
     let name = "ripsawbean_closing_delay_seconds";
-    text.gauge(name, "For how long a closing has been due.", delay.as_secs_f64());
+    text.gauge(name, "For how long committed rows have waited to be closed.", delay.as_secs_f64());
     let refusals = ledger.refusals.iter().map(|(name, count)| (*name, *count));
     text.labelled(("ripsawbean_refusals_total", "counter"), "Refusals and faults by name.", "name", refusals);
     let ends = ledger.ends.iter().map(|(reason, count)| (*reason, *count));

@@ -3,7 +3,7 @@
 
 use super::*;
 use crate::seats::Session;
-use crate::testing::{answers, core, core_and_log, end, session, tidy, Dice};
+use crate::testing::{answers, core, core_and_log, end, say, session, tidy, Dice};
 use ripsawbean::Database;
 
 const COMMANDS: [&str; 22] = [
@@ -97,6 +97,24 @@ fn an_answer_that_is_not_foretold_is_shouted() {
     core.close();
     assert_eq!(core.shouts, 1);
     assert!(said.text().contains("close 1 => closed 0 0, and not closed 1 0"), "{}", said.text());
+}
+
+#[test]
+fn what_waits_to_be_closed_waits_since_its_commit_or_since_closed_moved() {
+    let mut core = core(&[]);
+    let [mut one, mut two, mut three] = [0; 3].map(|_| session(&mut core));
+    say(&mut core, &mut one, "begin\n");
+    say(&mut core, &mut two, "begin\n");
+    assert_eq!(core.closing.waits_since(), None);
+    say(&mut core, &mut three, "begin\nput . a 1\ncommit .\n");
+    let since = core.closing.waits_since();
+    assert!(since.is_some());
+    say(&mut core, &mut three, "begin\nput . a 2\ncommit .\n");
+    assert_eq!(core.closing.waits_since(), since);
+    say(&mut core, &mut one, "abort .\n");
+    assert!(core.closing.waits_since() > since, "closed has moved");
+    say(&mut core, &mut two, "abort .\n");
+    assert_eq!((core.closing.waits_since(), core.ledger.closed), (None, 4));
 }
 
 #[test]
