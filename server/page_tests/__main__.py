@@ -1,4 +1,4 @@
-"""Goes through the page with keys alone, and keeps four pictures of it."""
+"""Goes through the page with keys alone, and keeps four pictures of it. A folder that is named gets four under load too."""
 
 import asyncio
 import os
@@ -15,7 +15,8 @@ from .strangers import strangers
 
 SERVER = pathlib.Path(__file__).resolve().parent.parent
 RUN = os.environ.get("SERVER", SERVER / "run")
-FOLDER = pathlib.Path(sys.argv[1]) if len(sys.argv) > 1 else SERVER.parent / "docs" / "server"
+IS_NAMED = len(sys.argv) > 1
+FOLDER = pathlib.Path(sys.argv[1]) if IS_NAMED else SERVER.parent / "docs" / "server"
 LOOKS = ((1280, 900, "light", 0.75), (1280, 900, "dark", 0.75), (400, 850, "light", 0.75), (400, 850, "dark", 0.75))
 
 
@@ -68,8 +69,10 @@ async def under_load():
             await loaded.numbers(tab, loading)
             await loaded.a_pause(tab)
             await loaded.a_held_event(tab)
-            for width, height, scheme, _ in LOOKS:
+            for width, height, scheme, scale in LOOKS:
                 await look(tab, width, height, scheme)
+                if IS_NAMED:
+                    await tab.keep(FOLDER / ("loaded-%d-%s.png" % (width, scheme)), scale)
             await loaded.no_stutter(tab, loading)
             no_complaints(tab)
 

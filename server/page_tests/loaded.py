@@ -11,6 +11,8 @@ NAMES = TEXTS.replace("textContent", "firstChild.data") % ".name"
 DRAWN = "document.querySelector('#picture .drawing').innerHTML.length + %s" % SENTENCE
 LATER = "[...document.querySelectorAll('.event[aria-selected=true] ~ .event')].length"
 VITALS = "document.getElementById('vitals').textContent"
+HAVE_WAITED = """['oldest', 'closing'].every((key) =>
+    parseFloat(document.querySelector(`.tile[data-key=${key}] b`).textContent) > 4)"""  # the page may be a second late
 ROWS = "document.getElementById('events').textContent"
 LONGEST_TASK = 50  # milliseconds of the processor: from there on a task is seen as a stutter
 SEEN = """(() => {
@@ -45,6 +47,7 @@ async def numbers(tab, load):
     commits, rows = number(await tile(tab, "commits")), number(await tile(tab, "rows"))
     expect("%g commits a second, of 5 to 9 calls each" % commits, shown / 9.5 < commits < shown / 4.5)
     expect("memory is told", number(await tile(tab, "memory")) > 10)
+    await tab.until(HAVE_WAITED)
     oldest, delay = number(await tile(tab, "oldest")), number(await tile(tab, "closing"))
     expect("the oldest transaction is of %g seconds, and closing waits for it" % oldest, oldest > 4 and delay > 4)
     first = await tab.value("document.querySelector('#holders li').textContent")
