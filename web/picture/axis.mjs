@@ -1,9 +1,27 @@
 // Where timestamps stand from left to right. They are drawn to scale where that can be read. Else wide gaps are made
 // narrow, and each timestamp at which something happened keeps a place of its own.
-import { ascending } from "./words.mjs";
+import { LETTER } from "./sheet.mjs";
+import { ascending, brief } from "./words.mjs";
 
 const NARROW = 24; // pixels between neighbours, at least, where they are drawn to scale
+const BETWEEN = 8; // pixels between two numbers
 const TAIL = 64; // pixels behind the last point, at least, for what stands from there on
+
+// A room, shared by weights. Where `needs` has room at all, none gets less than it needs.
+function shared(room, weights, needs) {
+  const sum = (list) => list.reduce((a, b) => a + b, 0);
+  const isEnough = needs !== null && sum(needs) <= room;
+  let shares = weights.map((it) => (it / sum(weights)) * room);
+  if (!isEnough) return shares;
+  const isWanting = weights.map(() => false);
+  while (shares.some((it, i) => it < needs[i])) {
+    shares.forEach((it, i) => (isWanting[i] ||= it < needs[i]));
+    const left = room - sum(needs.filter((_, i) => isWanting[i]));
+    const free = sum(weights.filter((_, i) => !isWanting[i]));
+    shares = weights.map((it, i) => (isWanting[i] ? needs[i] : (it / free) * left));
+  }
+  return shares;
+}
 
 export class Axis {
   /** Of all points `count` are shown, and `later` of them are left out at the right. The edges are in pixels. */
@@ -25,10 +43,15 @@ export class Axis {
     const narrowest = room / scale.reduce((a, b) => a + b, 0);
     this.isToScale = gaps.length < 2 || narrowest >= NARROW;
     const weights = this.isToScale ? scale : scale.map((it) => 1 + Math.min(2, Math.log2(it) / 3));
-    const whole = weights.reduce((a, b) => a + b, 0);
     const places = [this.left];
-    for (const it of weights) places.push(places.at(-1) + (it / whole) * room);
+    for (const it of shared(room, weights, this.isToScale ? null : this.#needs())) places.push(places.at(-1) + it);
     return places;
+  }
+
+  // What the numbers of two neighbours need between them.
+  #needs() {
+    const halves = this.points.map((it) => (brief(it).length * LETTER) / 2);
+    return halves.slice(1).map((it, i) => halves[i] + it + BETWEEN);
   }
 
   /** The place of a timestamp. One outside of what is shown stands at the edge. */

@@ -2,8 +2,8 @@
 import { markup } from "./markup.mjs";
 import * as meanings from "./meanings.mjs";
 import { resolvedReason } from "./reasons.mjs";
-import { circle, LETTER, line, LONGEST, ofSeat, seatColour } from "./sheet.mjs";
-import { brief, briefSpanOf, rough, shortWordOf, wordOf } from "./words.mjs";
+import { circle, LEAST, LETTER, lettersIn, line, LONGEST, ofSeat, seatColour } from "./sheet.mjs";
+import { brief, briefSpanOf, rough, short, shortened, shortWordOf, wordOf } from "./words.mjs";
 
 const STEP = 16; // pixels from one row of a timestamp to the next
 const MOST_ROWS = 4; // rows of a timestamp, one above the other
@@ -61,19 +61,32 @@ function drawStack(sheet, moment, feed, rows, base, next) {
   const yOf = (i) => base - 12 - STEP * i;
   const top = yOf(Math.min(rows.length, MOST_ROWS) - 1);
   sheet.shapes.push(ofSeat(feed.seat, kindOf(feed), line("stem", [x, base], [x, top])));
-  shown.forEach((row, i) => drawRow(sheet, moment, feed, row, [x, yOf(i)], room));
+  const words = cutWordsOf(shown, lettersIn(room));
+  shown.forEach((row, i) => drawRow(sheet, moment, feed, row, { x, y: yOf(i), room, cut: words[i] }));
   const more = rows.length - shown.length;
   if (more > 0) sheet.shapes.push(sheet.text(x + 8, top + 4, `+${more}`, 4 * LETTER, "small"));
 }
 
-function drawRow(sheet, moment, feed, row, [x, y], room) {
-  const value = row.value === null ? "✕" : shortWordOf(row.value, LONGEST);
-  const word = `${wordOf(row.key)} ${value}`;
+const valueOf = (row) => (row.value === null ? "✕" : shortWordOf(row.value, LONGEST));
+
+// Keys and values of rows, cut so that there is room for both: the keys stay apart, and a value has a third at least.
+// Where next to nothing of a key would be left there are no words.
+function cutWordsOf(rows, most) {
+  const keys = rows.map((it) => wordOf(it.key));
+  const longest = Math.max(...keys.map((it) => it.length));
+  const values = rows.map((it) => short(valueOf(it), Math.max(Math.floor(most / 3), most - longest - 1)));
+  const left = Math.max(0, most - 1 - Math.max(...values.map((it) => it.length)));
+  if (left < Math.min(LEAST, longest)) return rows.map(() => "");
+  return shortened(keys, left).map((key, i) => `${key} ${values[i]}`);
+}
+
+function drawRow(sheet, moment, feed, row, { x, y, room, cut }) {
+  const word = `${wordOf(row.key)} ${valueOf(row)}`;
   const mark = {
     id: `row ${feed.number} ${wordOf(row.key)} ${row.ts}`, x, name: `feed ${feed.number} told ${word} of ${row.ts}`,
     meaning: () => meanings.rowMeaning(feed, row), isFresh: row.event === moment.event,
   };
-  const shapes = [circle("hit", x, y, 8), circle("row", x, y, 3.6), sheet.text(x + 8, y + 4, word, room)];
+  const shapes = [circle("hit", x, y, 8), circle("row", x, y, 3.6), sheet.text(x + 8, y + 4, word, room, "", cut)];
   sheet.mark(mark, ofSeat(feed.seat, kindOf(feed), shapes));
 }
 

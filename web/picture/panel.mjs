@@ -3,6 +3,8 @@ import { markup } from "./markup.mjs";
 import { seatColour } from "./sheet.mjs";
 import { counted, short, spanOf, wordOf } from "./words.mjs";
 
+const LONGEST_KEY = 20; // letters
+
 /** The state in sentences, and a line for each feed. */
 export function panelOf(state) {
   const feeds = state.feeds.map((it) => feedOf(it, state.database));
@@ -41,12 +43,18 @@ function feedOf(feed, database) {
   const isWhole = feed.complete !== null;
   const told = isWhole ? `has told all through ${feed.complete}` : `is still telling the map at ${feed.cursor}`;
   const lag = feed.behind === 0n ? "not behind closed" : `${feed.behind} behind closed`;
-  const row = feed.updated === null ? "" : ` Its last row is ${short(wordOf(feed.key), 20)} of ${feed.updated}.`;
+  const row = feed.updated !== null && markup` Its last row is ${cut(wordOf(feed.key))} of ${feed.updated}.`;
   const isHolder = database.holder === "feed" && database.holder_number === feed.number;
   const holding = isHolder && markup` <strong>It holds the horizon at ${feed.floor}.</strong>`;
   return markup`<li style="--seat: ${seatColour(feed.seat)}"><b>feed ${feed.number}</b> of session ${feed.seat},
     ${span}: it ${told}, and is ${lag}.${row}${holding}
     <span class="lag" aria-hidden="true"><i style="width: ${shareTold(feed, database.closed)}%"></i></span></li>`;
+}
+
+// A key that is cut is whole in its tooltip, and for whoever has it read aloud.
+function cut(word) {
+  if (word.length <= LONGEST_KEY) return word;
+  return markup`<span role="img" title="${word}" aria-label="${word}">${short(word, LONGEST_KEY)}</span>`;
 }
 
 // How much of what is closed above the cursor was told, in percent.

@@ -3,10 +3,13 @@ import { markup } from "./markup.mjs";
 import { short } from "./words.mjs";
 
 export const LETTER = 7.25; // pixels of a letter, which has one width for all
+export const LEAST = 4; // letters that a text is cut to
 export const LONGEST = 300; // letters of a value, for a name and a tooltip; its meaning has it whole
 
-const LEAST = 4; // letters that a text is cut to
 const BESIDE = 12; // pixels between a lane's name and the lane
+
+/** How many letters there is room for. */
+export const lettersIn = (room) => Math.max(0, Math.floor(room / LETTER));
 
 export class Sheet {
   ground = [];
@@ -28,15 +31,17 @@ export class Sheet {
 
   /** How many letters of a name there is room for. */
   get letters() {
-    return Math.floor((this.left - BESIDE) / LETTER);
+    return lettersIn(this.left - BESIDE);
   }
 
   end(height) {
     this.y += height;
   }
 
+  // What is cut is whole in its tooltip, and for whoever has it read aloud.
   #word(kind, word, shown, y, colour) {
-    this.shapes.push(markup`<text class="${kind}" x="${this.left - BESIDE}" y="${y}" style="fill: ${colour}">
+    const aloud = shown !== word && markup` role="img" aria-label="${word}"`;
+    this.shapes.push(markup`<text class="${kind}" x="${this.left - BESIDE}" y="${y}" style="fill: ${colour}"${aloud}>
       ${shown}<title>${word}</title></text>`);
   }
 
@@ -47,12 +52,12 @@ export class Sheet {
       aria-label="${name}">${shape}</g>`);
   }
 
-  /** A text that is cut where its room ends. Where that would leave next to nothing there is none. */
-  text(x, y, word, room, kind = "") {
-    const most = Math.floor(room / LETTER);
-    if (most < LEAST && word.length > most) return "";
-    const whole = word.length > most && markup`<title>${word}</title>`;
-    return markup`<text class="${kind}" x="${x}" y="${y}">${short(word, most)}${whole}</text>`;
+  /** A text that is cut where its room ends, as `cut` or in the middle. If next to nothing would be left, it is none. */
+  text(x, y, word, room, kind = "", cut = null) {
+    const most = lettersIn(room);
+    if (word.length <= most) return markup`<text class="${kind}" x="${x}" y="${y}">${word}</text>`;
+    if (most < LEAST || cut === "") return "";
+    return markup`<text class="${kind}" x="${x}" y="${y}">${cut ?? short(word, most)}<title>${word}</title></text>`;
   }
 }
 

@@ -17,17 +17,32 @@ export function wordOf(bytes) {
 
 /** A word that is longer than there is room for, cut in the middle: keys that begin alike differ at their ends. */
 export function short(word, most) {
+  return cutBehind(word, halfOf(most), most);
+}
+
+const halfOf = (most) => Math.ceil(Math.max(0, most - 1) / 2);
+
+// Of a word that is too long so many first letters, and as many last ones as there is room for.
+function cutBehind(word, head, most) {
   if (word.length <= most) return word;
-  const kept = Math.max(0, most - 1);
-  const head = Math.ceil(kept / 2);
-  return `${word.slice(0, head)}…${word.slice(word.length - kept + head)}`;
+  return `${word.slice(0, head)}…${word.slice(word.length - Math.max(0, most - 1) + head)}`;
 }
 
 /**
- * Words for one list, each cut as `short` does. Those that would then look alike are shown from where they differ on:
- * of lib/a-dev/12 and lib/a-doc/12 with 6 letters …-dev…, and …-doc….
+ * Words for one list. Each is cut in the middle, behind as many first letters as leave no two alike: of lib/a/12/name
+ * and lib/a/13/name with 9 letters li…2/name, and li…3/name. Where no number of letters does that, see `apart`.
  */
 export function shortened(words, most) {
+  for (let head = halfOf(most); head > 0; head--) {
+    const shown = words.map((it) => cutBehind(it, head, most));
+    if (new Set(shown).size === words.length) return shown;
+  }
+  return apart(words, most);
+}
+
+// Each is cut as `short` does. Those that would then look alike are shown from where they differ on: of lib/dev/12/name
+// and lib/doc/12/name with 8 letters …/dev/1…, and …/doc/1….
+function apart(words, most) {
   const shown = new Map(words.map((it) => [it, short(it, most)]));
   const alike = (word) => words.filter((it) => it !== word && shown.get(it) === shown.get(word));
   for (const word of words) {
@@ -41,7 +56,7 @@ export function shortened(words, most) {
   return words.map((it) => shown.get(it));
 }
 
-const ended = (word, most) => (word.length > most ? `${word.slice(0, most - 1)}…` : word);
+const ended = (word, most) => (word.length > most ? `${word.slice(0, Math.max(0, most - 1))}…` : word);
 
 /** The word of these bytes, cut to so many letters. What is left out of long ones isn't spelled for it. */
 export function shortWordOf(bytes, most) {

@@ -8,7 +8,8 @@ import { drawn as drawnOfReadme } from "../../docs/pictures/history.mjs";
 import { drawingOf } from "../picture/drawing.mjs";
 import { markup } from "../picture/markup.mjs";
 import { historyOf, reasonOf, stateOf, stateText } from "../picture/picture.mjs";
-import { bytesOf, short, wordOf } from "../picture/words.mjs";
+import { panelOf } from "../picture/panel.mjs";
+import { bytesOf, short, shortened, wordOf } from "../picture/words.mjs";
 import { exampleTranscripts, guideTranscripts, read } from "./guide.mjs";
 
 const last = (history) => history.after(history.events.length - 1);
@@ -268,6 +269,56 @@ test("live feeds come before cancelled ones, and what has no room is counted", (
   assert.deepEqual(lanes(8), ["34512", 0]);
   assert.deepEqual(lanes(4), ["3452", 1]);
   assert.deepEqual(lanes(2), ["34", 3]);
+});
+
+test("keys of one list are cut in the middle so that they stay apart", () => {
+  const names = ["12/name", "13/name", "13/street"].map((it) => `customers/${it}`);
+  assert.deepEqual(shortened(names, 12), ["custo…2/name", "custo…3/name", "custo…street"]);
+  assert.deepEqual(shortened(["lib/a/12/name", "lib/a/13/name"], 9), ["li…2/name", "li…3/name"]);
+  assert.deepEqual(shortened(["lib/dev/12/name", "lib/doc/12/name"], 8), ["…/dev/1…", "…/doc/1…"]);
+  assert.deepEqual(shortened(["apple", "a-word-of-18-letters"], 18), ["apple", "a-word-of…-letters"]);
+  for (let most = 1; most < 20; most++)
+    for (const it of shortened(names, most)) assert.ok(it.length <= Math.max(2, most), `${it} has room for ${most}`);
+});
+
+// Three keys that end differently, and what a feed told of them.
+const LONG_KEYS = ["17/name", "17/street", "18/name"].map((it) => `customers/europe/${it}`);
+const LONG_STORY = "0 0 begin 10 => started\n" +
+  LONG_KEYS.map((it, i) => `${i + 1} 0 put 10 ${it} a-value-that-is-long => written\n`).join("") +
+  "4 0 commit 10 => committed 3\n5 0 close 15 => closed 15 0\n6 1 open - - 0 => opened 1\n" +
+  "7 1 poll 1 9 => messages 4\n" +
+  LONG_KEYS.map((it) => `${JSON.stringify({ after: "Mw==", key: btoa(it), updated: "10" })}\n`).join("") +
+  '{"resolved":"15"}\n';
+
+test("a key that is cut has its ends, and is whole in its tooltip and for whoever has it read aloud", () => {
+  const { svg } = drawn(LONG_STORY, { width: 354 });
+  const lanes = [...`${svg}`.matchAll(/<text class="name"([^>]*)>\s*(\S+)<title>(\S+)<\/title>/g)];
+  const keys = lanes.filter((it) => LONG_KEYS.includes(it[3]));
+  assert.deepEqual(keys.map((it) => it[2]), ["custo…7/name", "custo…street", "custo…8/name"]);
+  for (const [, attributes, , whole] of keys) assert.ok(attributes.includes(` role="img" aria-label="${whole}"`));
+  const rows = [...`${svg}`.matchAll(/<text class="" x="\S+" y="\S+">(\S+ \S+)<title>(\S+ 3)<\/title>/g)];
+  assert.deepEqual(rows.map((it) => it[2]), LONG_KEYS.map((it) => `${it} 3`));
+  for (const [, shown, whole] of rows) assert.ok(shown.includes("…") && shown.slice(-6) === whole.slice(-6), shown);
+  assert.equal(new Set(rows.map((it) => it[1])).size, 3);
+  const panel = `${panelOf(stateOf(stateText(last(historyOf(LONG_STORY)))))}`;
+  assert.match(panel, /<span role="img" title="customers\/europe\/18\/name" aria-label="customers\/europe\/18\/name">cu/);
+});
+
+test("a row of which next to nothing would be left has no words, and its mark has them", () => {
+  const row = (key, ts) => `${JSON.stringify({ after: "Mw==", key: btoa(key), updated: `${ts}` })}\n`;
+  const { svg, marks } = drawn("0 0 close 40 => closed 40 0\n1 1 open - - 0 => opened 1\n2 1 poll 1 9 => messages 2\n" +
+    row("apple", 29) + row("pear", 30), { width: 354 });
+  assert.deepEqual([...`${svg}`.matchAll(/>(\S+ 3)</g)].map((it) => it[1]), ["pear 3"]);
+  assert.ok(marks.some((it) => it.name === "feed 1 told apple 3 of 29"));
+});
+
+test("each timestamp has its number where all have room", () => {
+  const begun = (all) => all.map((it, i) => `${i} 0 begin ${it} => started\n`).join("");
+  const numbers = (all, width) => [...`${drawn(begun(all), { width }).svg}`.matchAll(/class="tick"[^>]*>(\d+)</g)];
+  const near = [10, 15, 20, 25, 29, 30, 40];
+  assert.deepEqual(numbers(near, 354).map((it) => Number(it[1])), [0, ...near]);
+  const crowd = Array.from({ length: 30 }, (_, i) => 1000 + i * i);
+  assert.ok(numbers(crowd, 354).length < crowd.length);
 });
 
 test("long words are cut in the middle, and a mark tells them whole", () => {
