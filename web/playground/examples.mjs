@@ -1,40 +1,21 @@
-// Short histories to begin with. Most of them are those of docs/GUIDE.md, which says more about each.
+// Short histories to begin with: the page opens with the first. Most of them are those of docs/GUIDE.md, which says more
+// about each.
 
 export const EXAMPLES = {
-  shop: {
-    title: "All of it together",
-    lines: `2 open - - 0
-3 open k q 0
-0 begin 10
+  two: {
+    title: "Two sessions, a feed and a read",
+    lines: `0 begin 10
 0 put 10 apple 3
-0 put 10 kiwi 8
-1 begin 14
-1 put 14 pear 5
+0 put 10 pear 5
 0 commit 10
-1 put 14 kiwi 9
-1 commit 14
 0 close 15
-2 poll 1 10
-0 begin 22
-0 put 22 apple 4
-1 begin 26
-1 get 26 pear
-1 del 26 kiwi
-1 commit 26
-0 commit 22
-0 close 28
-2 poll 1 10
-3 poll 2 2
-0 collect 28
-0 begin 34
-0 put 34 pear 6
-1 begin 38
-1 scan 38 a b
-0 begin 32
-0 put 32 apple 7`,
+1 open - - 0
+1 poll 1 10
+1 begin 20
+1 get 20 apple`,
   },
   first: {
-    title: "Reads stay right: a write below a read comes too late",
+    title: "A write below a read comes too late",
     lines: `0 begin 10
 0 put 10 apple 3
 0 put 10 pear 5
@@ -61,7 +42,7 @@ export const EXAMPLES = {
 0 commit 11`,
   },
   scan: {
-    title: "A scan reads the keys too that aren't there",
+    title: "A scan reads keys that aren't there, too",
     lines: `0 begin 20
 0 scan 20 - -
 1 begin 10
@@ -77,7 +58,7 @@ export const EXAMPLES = {
 1 get 20 a`,
   },
   closing: {
-    title: "Closing stops below an undecided transaction",
+    title: "Closing stops below what is undecided",
     lines: `0 begin 10
 0 put 10 a 1
 0 close 100
@@ -177,5 +158,37 @@ export const EXAMPLES = {
 1 release 1
 0 collect 40
 0 readat 10 a`,
+  },
+  shop: {
+    title: "All of it together",
+    lines: `2 open - - 0
+3 open k q 0
+0 begin 10
+0 put 10 apple 3
+0 put 10 kiwi 8
+1 begin 14
+1 put 14 pear 5
+0 commit 10
+1 put 14 kiwi 9
+1 commit 14
+0 close 15
+2 poll 1 10
+0 begin 22
+0 put 22 apple 4
+1 begin 26
+1 get 26 pear
+1 del 26 kiwi
+1 commit 26
+0 commit 22
+0 close 28
+2 poll 1 10
+3 poll 2 2
+0 collect 28
+0 begin 34
+0 put 34 pear 6
+1 begin 38
+1 scan 38 a b
+0 begin 32
+0 put 32 apple 7`,
   },
 };

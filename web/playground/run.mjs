@@ -13,17 +13,23 @@ export class Run {
     this.#db = library.open();
   }
 
-  /** Makes the call of a line without its newline. A faulty line makes none, and is kept with the name of its fault. */
+  /** Makes the call of a line without its newline, and gives null. A faulty line makes none, and gives its fault's name. */
   call(line) {
     try {
       const text = this.#db.call(`${line}\n`);
       this.history.add(text);
       this.#states.push(this.#db.state());
       this.entries.push({ place: this.history.events.length - 1, text });
+      return null;
     } catch (error) {
       if (!(error instanceof StatusError)) throw error;
-      this.entries.push({ line, fault: error.message });
+      return error.message;
     }
+  }
+
+  /** Keeps a faulty line among what was said. */
+  keep(line, fault) {
+    this.entries.push({ line, fault });
   }
 
   /** The state's text after an event, as the database told it then, or undefined where the module can't tell. */

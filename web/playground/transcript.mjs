@@ -3,13 +3,7 @@
 import { markup } from "../picture/markup.mjs";
 import { REFUSALS } from "../picture/picture.mjs";
 import { seatColour } from "../picture/sheet.mjs";
-
-const FAULTS = {
-  wordcount: "the wrong number of words", unknowncommand: "no command has this name",
-  number: "no number stands where one belongs", keylength: "a key has 1 to 256 bytes",
-  valuelength: "a value has 65536 bytes at most", session: "a session is 0 to 63",
-  badbyte: "a word that spells no bytes", linetoolong: "the line is too long",
-};
+import { explain } from "./faults.mjs";
 
 export class Transcript {
   #element;
@@ -70,6 +64,5 @@ export class Transcript {
 }
 
 function faulty({ line, fault }) {
-  const why = FAULTS[fault] ?? "no call was made";
-  return markup`<div class="fault">${line}: <span class="no">${fault}</span>, ${why}</div>`;
+  return markup`<div class="fault">${line}: <span class="no">${fault}</span>. ${explain(line, fault).says}</div>`;
 }

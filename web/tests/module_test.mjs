@@ -5,9 +5,11 @@ import { execFileSync, spawnSync } from "node:child_process";
 import { readFileSync } from "node:fs";
 import test from "node:test";
 import { drawingOf } from "../picture/drawing.mjs";
-import { historyOf, reasonOf, stateOf, stateText } from "../picture/picture.mjs";
+import { historyOf, REFUSALS, reasonOf, stateOf, stateText } from "../picture/picture.mjs";
 import { answerOf, load, messagesOf, NEEDS, rowsOf, spell, StatusError, unspell } from "../ripsawbean.mjs";
+import { COMMANDS } from "../playground/commands.mjs";
 import { EXAMPLES } from "../playground/examples.mjs";
+import { explain } from "../playground/faults.mjs";
 import { TOUR } from "../playground/tour.mjs";
 import { exampleTranscripts, guideTranscripts, scriptOf } from "./guide.mjs";
 import { randomScript } from "./scripts.mjs";
@@ -106,6 +108,48 @@ test("the page's examples, beside the native library", () => {
     assert.equal(run(script), native, title);
     assert.doesNotMatch(native, /status/, title);
   }
+});
+
+test("each example of a command's usage is taken, and no call is refused", () => {
+  const db = library.open();
+  db.call("0 begin 20\n");
+  const commands = COMMANDS.flatMap((it) => it.commands);
+  const answers = commands.map(({ example }) => answerOf(db.call(`0 ${example}\n`)).split(" ")[0]);
+  assert.equal(answers.length, 21);
+  assert.deepEqual(answers.filter((it) => REFUSALS.has(it)), []);
+  db.close();
+});
+
+// Of each line its fault, and the form that is told below its box; both are the database's and the page's own words.
+test("each faulty line is explained, with the form of the command that was meant", () => {
+  const db = library.open();
+  for (const [line, fault, form] of [
+    ["put 10 apple", "wordcount", "put TS KEY VALUE"], ["stats 1", "wordcount", "stats"],
+    ["putt 10 a 1", "unknowncommand", "put TS KEY VALUE"], ["nothing", "unknowncommand", undefined],
+    ["begin ten", "number", "begin TS"], ["open a b x", "number", "open LO HI CURSOR"],
+    [`poll 1 ${2n ** 64n}`, "number", "poll FEED MAX"], ["close 01", "number", "close TO"],
+    ["del 10 -", "keylength", "del TS KEY"], [`scan 10 a ${"k".repeat(258)}`, "keylength", "scan TS LO HI"],
+    [`put 10 a ${"v".repeat(65537)}`, "valuelength", "put TS KEY VALUE"],
+    ["get 10 é", "badbyte", "get TS KEY"], [`get 10 ${"x".repeat(200000)}`, "linetoolong", "get TS KEY"],
+  ]) {
+    assert.throws(() => db.call(`0 ${line}\n`), { message: fault });
+    const { says, command } = explain(line, fault, { seat: 0 });
+    assert.match(says, /^(?!.*(undefined|null))\S.{10,160}[.?]$/);
+    assert.equal(command?.form, form, line);
+  }
+  assert.equal(db.text(), "");
+  db.close();
+});
+
+test("what an explanation proposes for a spelling is taken", () => {
+  const db = library.open();
+  db.call("0 begin 10\n");
+  for (const word of ["é", "50%", "%41", "%c3%a9", "%zz", "日本", "a%2"]) {
+    assert.throws(() => db.call(`0 put 10 k ${word}\n`), { message: "badbyte" });
+    const [, proposed] = /^Write (\S+) for /.exec(explain(`put 10 k ${word}`, "badbyte", { seat: 0 }).says);
+    assert.equal(answerOf(db.call(`0 put 10 k ${proposed}\n`)), "written", word);
+  }
+  db.close();
 });
 
 test("the tour is answered as it says", () => {

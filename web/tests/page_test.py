@@ -19,6 +19,7 @@ WIDTHS = (1280, 400)
 SCHEMES = ("light", "dark")
 LEAST_CONTRAST = 4.5
 STORIES = re.findall(r"^  (\w+): \{$", (WEB / "playground" / "examples.mjs").read_text(), flags=re.M)
+OPENING = re.search(r'title: "(.*)"', (WEB / "playground" / "examples.mjs").read_text())[1]
 STEPS = [f"tour-{number}" for number in range(1, 11)]
 
 
@@ -149,21 +150,124 @@ class Working(Page):
             self.open(f"tour-{step}")
             self.assertIn(words, self.one("#tour p").text)
 
+    def test_the_tour_is_left_at_each_step_and_the_database_stays(self):
+        for step in STEPS:
+            self.open(step)
+            before = self.transcript()
+            self.one("#tour [data-step=leave]").send_keys(Keys.ENTER)
+            self.assertEqual(self.one("#tour .main").text, "Take the tour")
+            self.assertTrue(self.ask("document.activeElement.matches('#tour .main')"))
+            self.assertEqual(self.transcript(), before)
+        self.press(Keys.ENTER)
+        self.until(lambda: self.one("#tour b").text.startswith("1 of 10"))
+        self.browser.back()
+        self.browser.back()
+        self.until(lambda: self.one("#tour b").text.startswith("10 of 10"))
+
+    def test_it_opens_on_two_sessions_and_one_read(self):
+        self.open()
+        self.assertEqual(len(self.all(".seat")), 2)
+        self.assertEqual(self.ask("document.getElementById('examples').selectedOptions[0].text"), OPENING)
+        self.assertEqual(self.answers()[-1], "value 3")
+        marks = [it.get_attribute("data-mark") for it in self.all(".mark")]
+        self.assertEqual(len([it for it in marks if it.startswith("read ")]), 1)
+        self.assertEqual([it for it in marks if it.startswith("resolved ")], ["resolved 1 15"])
+        self.assertEqual(self.one("#seat-0").get_attribute("placeholder"), "such as begin 30")
+        self.assertEqual(self.one("#seat-1").get_attribute("placeholder"), "such as commit 20")
+
     def test_calls_are_typed(self):
         self.open("new")
         self.tab_to("#seat-0")
-        self.press("begin 10", Keys.ENTER, "put 10 a 1", Keys.ENTER, "put 10 a", Keys.ENTER)
-        self.assertEqual(self.answers(), ["started", "written"])
-        self.assertEqual(self.one(".fault").text, "0 put 10 a: wordcount, the wrong number of words")
-        self.assertEqual(self.one(".own").text, "undecided 10")
-        self.press(Keys.UP, Keys.UP, Keys.ENTER)
+        self.press("begin 10", Keys.ENTER, "put  10 a 1 ", Keys.ENTER, "get 10", Keys.UP, Keys.ENTER)
         self.assertEqual(self.answers(), ["started", "written", "written"])
+        self.assertEqual(self.one(".own").text, "undecided 10")
+        self.press("get 10", Keys.UP, Keys.UP, Keys.DOWN, Keys.DOWN, " a", Keys.ENTER)
+        self.assertEqual(self.answers()[3:], ["value 1"])
         self.tab_to("#more")
         self.press(Keys.ENTER)
-        self.assertTrue(self.ask("document.activeElement.matches('#seat-3')"))
+        self.assertTrue(self.ask("document.activeElement.matches('#seat-2')"))
         self.press("commit 10", Keys.ENTER)
         self.assertEqual(self.answers()[-1], "notowner")
         self.assertEqual(self.sentence(), "Session 0 began transaction 10: it alone goes on with it.")
+
+    def wrong(self, seat):
+        return [it.text for it in self.all(f"#wrong-{seat} p")]
+
+    def test_a_wrong_command_stays_in_its_box(self):
+        self.open("new")
+        self.tab_to("#seat-0")
+        self.press("begin 10", Keys.ENTER, "put 10 a", Keys.HOME, Keys.ENTER)
+        usage = "put TS KEY VALUE, such as put 10 apple 3"
+        self.assertEqual(self.wrong(0), ["put takes 3 words behind it, and here are 2.", usage])
+        self.assertEqual(self.ask("document.activeElement.value"), "put 10 a")
+        self.assertEqual(self.ask("document.activeElement.selectionStart"), len("put 10 a"))
+        self.assertEqual(self.ask("document.activeElement.selectionEnd"), len("put 10 a"))
+        self.assertEqual(self.one("#seat-0").get_attribute("aria-invalid"), "true")
+        self.assertIn(usage, self.described("#seat-0"))
+        self.assertEqual(self.answers(), ["started"])
+        self.one("#more").click()
+        self.assertEqual([len(self.wrong(it)) for it in range(3)], [2, 0, 0])
+        self.one("#seat-0").send_keys(" 1", Keys.ENTER)
+        self.assertEqual(self.answers(), ["started", "written"])
+        self.assertEqual(self.wrong(0), [])
+        self.assertEqual(self.one("#seat-0").get_attribute("aria-invalid"), "false")
+        for back in (Keys.BACKSPACE, Keys.UP):
+            self.press("x", Keys.ENTER)
+            self.assertEqual(len(self.wrong(0)), 1)
+            self.press(back)
+            self.assertEqual(self.wrong(0), [])
+
+    def test_a_pasted_line_is_answered_with_what_to_leave_out(self):
+        self.open("new")
+        self.one("#seat-0").send_keys("begin 10", Keys.ENTER)
+        for seat, line, said in [
+            (0, "0 get 10 a", "Leave out the session: this box is session 0's."),
+            (1, "0 0 begin 10 => started", "Leave out the position, the session and the answer: this box is session 1's."),
+            (0, "get . a", "write the transaction's timestamp, here 10."),
+        ]:
+            self.paste(f"#seat-{seat}", line)
+            self.press(Keys.ENTER)
+            self.assertIn(said, self.wrong(seat)[0])
+            self.assertEqual(self.one(f"#seat-{seat}").get_attribute("value"), line)
+        self.paste("#seat-0", "0 begin 20\n0 commit 20\n")
+        self.assertIn("these are 2", self.wrong(0)[0])
+        self.assertEqual(self.answers(), ["started"])
+
+    def paste(self, selector, text):
+        self.command("Browser.grantPermissions", permissions=["clipboardReadWrite", "clipboardSanitizedWrite"])
+        self.one(selector).clear()
+        self.one(selector).click()
+        self.browser.execute_async_script("navigator.clipboard.writeText(arguments[0]).then(arguments[1])", text)
+        self.press(Keys.CONTROL + "v")
+
+    def test_faulty_lines_of_a_script_are_told_in_the_transcript(self):
+        self.open("new")
+        self.run_script("0 begin 10\n0 put 10 a\n1 0 commit 10 => committed 0\n")
+        self.assertEqual(self.answers(), ["started"])
+        self.assertEqual([it.text for it in self.all(".fault")], [
+            "0 put 10 a: wordcount. put takes 3 words behind it, and here are 2.",
+            "1 0 commit 10 => committed 0: unknowncommand. Leave out the position and the answer.",
+        ])
+
+    def test_long_keys_are_cut_in_the_middle_and_read_whole(self):
+        keys = [f"customers/europe/germany/{it}" for it in ("17/name", "17/street", "18/name")]
+        for width in WIDTHS:
+            self.size(width)
+            self.open("new")
+            self.run_script("0 begin 10\n" + "".join(f"0 put 10 {it} 1\n" for it in keys))
+            shown = self.ask("[...document.querySelectorAll('.picture .name')].map((it) => it.firstChild.data.trim())")
+            cut = [it for it in shown if "…" in it]
+            self.assertEqual(len(set(cut)), 3)
+            for one, key in zip(cut, keys):
+                head, tail = one.split("…")
+                self.assertTrue(head and tail and key.startswith(head) and key.endswith(tail), one)
+            nodes = self.command("Accessibility.getFullAXTree")["nodes"]
+            aloud = [it["name"]["value"] for it in nodes if not it["ignored"] and it["role"]["value"] == "image"]
+            self.assertEqual(aloud, keys)
+
+    def described(self, selector):
+        described = self.one(selector).get_attribute("aria-describedby")
+        return self.one(f"#{described}").text
 
     def test_a_new_database_begins_again_and_again(self):
         self.open("first")
@@ -275,6 +379,33 @@ class Legible(Page):
     def test_no_text_of_the_picture_lies_on_another(self):
         self.see(lambda _: self.assertEqual(self.ask(OVERLAPS), []))
 
+    def test_each_timestamp_of_the_tour_has_its_number(self):
+        for width in WIDTHS:
+            self.size(width)
+            for name in STEPS:
+                with self.subTest(width=width, name=name):
+                    self.open(name)
+                    ticks = self.ask("document.querySelectorAll('.picture line.axis').length") - 1
+                    self.assertEqual(len(self.all(".picture .tick")), ticks)
+
+    def test_no_title_of_an_example_is_cut_off(self):
+        for width in WIDTHS:
+            self.size(width)
+            self.open()
+            with self.subTest(width=width):
+                self.assertEqual(self.ask(CUT_TITLES), [])
+
+    def test_no_word_round_the_picture_is_cut_off(self):
+        for width in WIDTHS:
+            self.size(width)
+            self.open()
+            self.one("#seat-0").send_keys("put 10 " + 20 * "a-long-key/", Keys.ENTER)
+            self.one("#seat-1").send_keys("0 1 get . " + 20 * "a-long-key/" + " => none", Keys.ENTER)
+            self.ask("document.querySelectorAll('details').forEach((it) => it.open = true)")
+            with self.subTest(width=width):
+                self.assertLessEqual(self.ask("document.documentElement.scrollWidth"), width)
+                self.assertEqual(self.ask(CUT_WORDS), [])
+
     def test_contrast(self):
         for scheme in SCHEMES:
             self.scheme(scheme)
@@ -294,6 +425,22 @@ CUT_OFF = """[...document.querySelectorAll(".drawing text")].filter((it) => {
   const isWide = own.left < all.left - 1 || own.right > all.right + 1;
   return own.width && (isWide || own.top < all.top - 1 || own.bottom > all.bottom + 1);
 }).map((it) => it.textContent)"""
+# The titles that need a wider select than there is: each alone in one that is as wide as its title.
+CUT_TITLES = """(() => {
+  const select = document.getElementById("examples");
+  const alone = select.cloneNode();
+  alone.style.width = "max-content";
+  select.after(alone);
+  const wide = (option) => (alone.replaceChildren(option.cloneNode(true)), alone.getBoundingClientRect().width);
+  const room = select.getBoundingClientRect().width;
+  const cut = [...select.options].filter((it) => wide(it) > room + 1).map((it) => it.text);
+  alone.remove();
+  return cut;
+})()"""
+# What is wider within than its own box, but for boxes to type into.
+CUT_WORDS = """[...document.querySelectorAll("header *, #tour *, aside *")].filter((it) =>
+  !it.matches("input, textarea, select, option") && it.clientWidth > 0 && it.scrollWidth > it.clientWidth + 1)
+  .map((it) => it.outerHTML.slice(0, 80))"""
 OVERLAPS = """(() => {
   const texts = [...document.querySelectorAll(".drawing text")];
   const meet = (one, other) => {
