@@ -304,12 +304,28 @@ test("a key that is cut has its ends, and is whole in its tooltip and for whoeve
   assert.match(panel, /<span role="img" title="customers\/europe\/18\/name" aria-label="customers\/europe\/18\/name">cu/);
 });
 
+// A feed that told one row at 40, and a next one.
+function drawnRows(first, next, ts) {
+  const row = ([key, value], ts) => `${JSON.stringify({ after: btoa(value), key: btoa(key), updated: `${ts}` })}\n`;
+  return drawn("0 0 close 80 => closed 80 0\n1 1 open - - 0 => opened 1\n2 1 poll 1 9 => messages 2\n" +
+    row(first, 40) + row(next, ts), { width: 354 });
+}
+
 test("a row of which next to nothing would be left has no words, and its mark has them", () => {
-  const row = (key, ts) => `${JSON.stringify({ after: "Mw==", key: btoa(key), updated: `${ts}` })}\n`;
-  const { svg, marks } = drawn("0 0 close 40 => closed 40 0\n1 1 open - - 0 => opened 1\n2 1 poll 1 9 => messages 2\n" +
-    row("apple", 29) + row("pear", 30), { width: 354 });
-  assert.deepEqual([...`${svg}`.matchAll(/>(\S+ 3)</g)].map((it) => it[1]), ["pear 3"]);
-  assert.ok(marks.some((it) => it.name === "feed 1 told apple 3 of 29"));
+  for (const ts of [41, 60]) {
+    const { svg, marks } = drawnRows(["apple", "3"], ["pear", "3"], ts);
+    assert.deepEqual([...`${svg}`.matchAll(/>(\S+ 3)</g)].map((it) => it[1]), ["pear 3"]);
+    assert.ok(marks.some((it) => it.name === "feed 1 told apple 3 of 40"));
+  }
+});
+
+test("a long value has what its key leaves, and the key of a long one two thirds", () => {
+  const shown = (key, value) => /<text class=""[^>]*>([^<]*)<title>/.exec(drawnRows(["a", "1"], [key, value], 60).svg)[1];
+  const [many, few] = [shown("b", "v".repeat(50)), shown("k".repeat(50), "v".repeat(50))];
+  assert.match(many, /^b v+…v+$/);
+  assert.match(few, /^k+…k+ v+…v+$/);
+  assert.equal(many.length, few.length);
+  assert.equal(few.split(" ")[1].length, Math.floor(few.length / 3));
 });
 
 test("each timestamp has its number where all have room", () => {

@@ -42,6 +42,24 @@ test("a name that is nearly one finds it, and another finds none", () => {
   assert.equal(commandNamed("constructor"), undefined);
 });
 
+test("a fault is told at its place", () => {
+  for (const [line, fault, said] of [
+    ["stats 1", "wordcount", "stats takes no word behind it, and here is 1."],
+    ["begin", "wordcount", "begin takes 1 word behind it, and here are none."],
+    ["put 10 a", "wordcount", "put takes 3 words behind it, and here are 2."],
+    ["insert 1", "unknowncommand", "No command has the name insert. All of them stand below, under Commands."],
+    ["close 01", "number", "A number doesn't begin with a zero: write 1 for 01."],
+    ["openevery a b 1 x", "number", "GAP is a number, and x is none."],
+    ["poll 1 99999999999999999999", "number", "A number is 18446744073709551615 at most, and 99999999999999999999 is greater."],
+    ["del 10 -", "keylength", "A key has 1 byte at least, and - is none. The key - is spelled %2D."],
+    [`get 10 ${"k".repeat(257)}`, "keylength", "A key has 256 bytes at most."],
+    ["put 10 é 1", "badbyte", "Write %C3%A9 for é."],
+    ["put 10 a 50%", "badbyte", "Write 50%25 for 50%."],
+    ["get 10 日", "badbyte", "Write %E6%97%A5 for 日."],
+    [`get ${"x".repeat(60)} a`, "number", `TS is a number, and ${"x".repeat(20)}…${"x".repeat(19)} is none.`],
+  ]) assert.equal(explain(line, fault, { seat: 0 }).says, said);
+});
+
 const says = (line, seat, undecided = null) => explain(line, "unknowncommand", { seat, undecided }).says;
 
 test("a pasted line with a session or a position is answered with what to leave out", () => {
