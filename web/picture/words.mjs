@@ -28,16 +28,21 @@ function cutBehind(word, head, most) {
   return `${word.slice(0, head)}…${word.slice(word.length - Math.max(0, most - 1) + head)}`;
 }
 
+const BEFORE = 2; // letters that are shown before the place where words differ
+
 /**
  * Words for one list. Each is cut in the middle, behind as many first letters as leave no two alike: of lib/a/12/name
- * and lib/a/13/name with 9 letters li…2/name, and li…3/name. Where no number of letters does that, see `apart`.
+ * and lib/a/13/name with 10 letters l…/12/name, and l…/13/name. Where no number of letters does that, see `apart`.
  */
 export function shortened(words, most) {
-  for (let head = halfOf(most); head > 0; head--) {
-    const shown = words.map((it) => cutBehind(it, head, most));
-    if (new Set(shown).size === words.length) return shown;
-  }
-  return apart(words, most);
+  const cutBy = (head) => words.map((it) => cutBehind(it, head, most));
+  const areApart = (head) => new Set(cutBy(head)).size === words.length;
+  const half = halfOf(most);
+  let head = half;
+  while (head > 0 && !areApart(head)) head--;
+  if (head === 0) return apart(words, most);
+  const fewer = Math.max(1, head - BEFORE);
+  return cutBy(head < half && areApart(fewer) ? fewer : head);
 }
 
 // Each is cut as `short` does. Those that would then look alike are shown from where they differ on: of lib/dev/12/name

@@ -273,8 +273,9 @@ test("live feeds come before cancelled ones, and what has no room is counted", (
 
 test("keys of one list are cut in the middle so that they stay apart", () => {
   const names = ["12/name", "13/name", "13/street"].map((it) => `customers/${it}`);
-  assert.deepEqual(shortened(names, 12), ["custo…2/name", "custo…3/name", "custo…street"]);
-  assert.deepEqual(shortened(["lib/a/12/name", "lib/a/13/name"], 9), ["li…2/name", "li…3/name"]);
+  assert.deepEqual(shortened(names, 12), ["cus…/12/name", "cus…/13/name", "cus…3/street"]);
+  assert.deepEqual(shortened(["lib/a/12/name", "lib/a/13/name"], 10), ["l…/12/name", "l…/13/name"]);
+  assert.deepEqual(shortened(["lib/12/a-long-end", "low/12/a-long-end"], 9), ["lib/…-end", "low/…-end"]);
   assert.deepEqual(shortened(["lib/dev/12/name", "lib/doc/12/name"], 8), ["…/dev/1…", "…/doc/1…"]);
   assert.deepEqual(shortened(["apple", "a-word-of-18-letters"], 18), ["apple", "a-word-of…-letters"]);
   for (let most = 1; most < 20; most++)
@@ -294,7 +295,7 @@ test("a key that is cut has its ends, and is whole in its tooltip and for whoeve
   const { svg } = drawn(LONG_STORY, { width: 354 });
   const lanes = [...`${svg}`.matchAll(/<text class="name"([^>]*)>\s*(\S+)<title>(\S+)<\/title>/g)];
   const keys = lanes.filter((it) => LONG_KEYS.includes(it[3]));
-  assert.deepEqual(keys.map((it) => it[2]), ["custo…7/name", "custo…street", "custo…8/name"]);
+  assert.deepEqual(keys.map((it) => it[2]), ["cus…/17/name", "cus…7/street", "cus…/18/name"]);
   for (const [, attributes, , whole] of keys) assert.ok(attributes.includes(` role="img" aria-label="${whole}"`));
   const rows = [...`${svg}`.matchAll(/<text class="" x="\S+" y="\S+">(\S+ \S+)<title>(\S+ 3)<\/title>/g)];
   assert.deepEqual(rows.map((it) => it[2]), LONG_KEYS.map((it) => `${it} 3`));
