@@ -285,6 +285,11 @@ impl Core {
         self.closing.memory.is_full(self.ledger.written)
     }
 
+    /// Whether more was written since memory was looked at than can wait.
+    pub fn has_to_look(&self, now: Instant) -> bool {
+        self.closing.memory.is_due(self.ledger.written, now)
+    }
+
     /// Looks at the memory that the server takes.
     pub fn watch_memory(&mut self, resident: u64) {
         let rows = self.ledger.rows.total;
@@ -309,8 +314,11 @@ pub const STEPS: [Step; 9] = [
 ];
 
 /// The work of a second.
-pub async fn tidy(door: &Door, resident: u64) {
-    door.run(|core| core.watch_memory(resident));
+pub async fn tidy(door: &Door, resident: Option<u64>) {
+    // Where the kernel doesn't tell it now, it is as full as it was.
+    if let Some(resident) = resident {
+        door.run(|core| core.watch_memory(resident));
+    }
     for step in STEPS {
         door.turns(step).await;
     }

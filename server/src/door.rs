@@ -5,7 +5,8 @@
 //!
 //! 1. No one holds the lock over an await: `run` takes a closure that can't have one.
 //! 2. When the lock is given back, closing was done where it is due, or its time is known to `due`.
-//! 3. `moved` changes after the lock was given back, so who is woken finds it free.
+//! 3. How full memory is was looked at soon after the last rows were written.
+//! 4. `moved` changes after the lock was given back, so who is woken finds it free.
 //!
 //! ```text
 //! door.run(|core| core.ledger.closed)                       a short look
@@ -14,6 +15,7 @@
 
 use crate::core::Core;
 use crate::journal::{Durable, Ticket};
+use crate::process;
 use parking_lot::Mutex;
 use std::time::{Duration, Instant};
 use tokio::sync::{watch, Notify};
@@ -48,7 +50,13 @@ impl Door {
     pub fn run<R>(&self, work: impl FnOnce(&mut Core) -> R) -> R {
         let mut core = self.core.lock();
         let result = work(&mut core);
-        let settled = core.settle(Instant::now());
+        let now = Instant::now();
+        if core.has_to_look(now) {
+            if let Some(resident) = process::resident() {
+                core.watch_memory(resident);
+            }
+        }
+        let settled = core.settle(now);
         drop(core);
         if settled.moved {
             self.ring();

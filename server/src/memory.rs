@@ -1,4 +1,5 @@
-//! How full memory is: `closing` looks each second, and `lines` refuses rows above `--max-memory`.
+//! How full memory is: `lines` refuses rows above `--max-memory`. `closing` looks each second, and `door` behind work that
+//! has written.
 //!
 //! Resident memory alone would say `full` for ever, because a process keeps what it once had: room of versions that
 //! were collected is used again, and isn't given back. So from the moment at which memory was full, what is written and
@@ -7,7 +8,13 @@
 //! 1. It is full while resident memory is above the limit, unless more was collected since than was written.
 //! 2. Where resident memory grows nonetheless, counting begins anew.
 //! 3. Between two looks it becomes full once more was written than there was room for.
+//! 4. Rows are written for `OFTEN` at most until it is looked at again, because each takes more than it counts: its event
+//!    is kept for the transcript, and feeds keep it at hand. What is taken above the limit is `reserve`'s.
 
+use std::time::{Duration, Instant};
+
+/// How long rows are written until it is looked at anew.
+const OFTEN: Duration = Duration::from_millis(20);
 /// Bytes that a version takes beside its key and value, as docs/OPERATING.md measures it.
 pub const ROW: u64 = 164;
 
@@ -19,6 +26,7 @@ pub struct Memory {
     room: Option<u64>,
     /// What was written when it was looked at.
     written: u64,
+    looked: Option<Instant>,
 }
 
 /// What was counted when memory was found full.
@@ -32,7 +40,13 @@ struct Full {
 impl Memory {
     /// No limit where it is `None`.
     pub fn new(most: Option<u64>) -> Memory {
-        Memory { most, full: None, room: Some(u64::MAX), written: 0 }
+        Memory { most, full: None, room: Some(u64::MAX), written: 0, looked: None }
+    }
+
+    /// Whether it has to be looked at now, where so much was written since the start.
+    pub fn is_due(&self, written: u64, now: Instant) -> bool {
+        let is_old = |at| now.saturating_duration_since(at) >= OFTEN;
+        self.most.is_some() && written != self.written && self.looked.is_none_or(is_old)
     }
 
     /// Whether it is full once so much was written since the start.
@@ -48,7 +62,7 @@ impl Memory {
     /// What there is now: resident bytes, and bytes that versions took and gave back since the start.
     pub fn look(&mut self, resident: u64, written: u64, freed: u64) {
         let Some(most) = self.most else { return };
-        self.written = written;
+        (self.written, self.looked) = (written, Some(Instant::now()));
         if resident <= most {
             (self.full, self.room) = (None, Some(most - resident));
             return;
@@ -108,6 +122,17 @@ mod tests {
         memory.look(1010, 171, 0);
         memory.look(1010, 171, 50);
         assert!(!memory.is_full(221) && memory.is_full(222));
+    }
+
+    #[test]
+    fn it_is_looked_at_again_once_rows_are_written_and_some_time_is_over() {
+        let now = Instant::now();
+        assert!(!Memory::new(None).is_due(1, now));
+        let mut memory = Memory::new(Some(1000));
+        assert!(memory.is_due(1, now) && !memory.is_due(0, now));
+        memory.look(500, 7, 0);
+        let soon = Instant::now() + OFTEN;
+        assert!(!memory.is_due(8, now) && memory.is_due(8, soon) && !memory.is_due(7, soon));
     }
 
     #[test]

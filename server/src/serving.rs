@@ -318,7 +318,7 @@ async fn each_second(server: Arc<Server>) {
     seconds.set_missed_tick_behavior(MissedTickBehavior::Delay);
     loop {
         seconds.tick().await;
-        closing::tidy(&server.door, process::resident().unwrap_or(0)).await;
+        closing::tidy(&server.door, process::resident()).await;
         server.connections.tidy();
         server.log.tidy();
     }
