@@ -45,6 +45,7 @@ mod form;
 mod gate;
 #[cfg(test)]
 mod guide;
+mod heap;
 mod histogram;
 mod http;
 mod journal;
@@ -98,6 +99,11 @@ fn main() -> ExitCode {
             return ExitCode::from(WRONG);
         }
     };
+    if let Err(error) = heap::be_one() {
+        eprintln!(
+            "ripsawbean-server: each thread has a heap of its own, because the program can't begin anew: {error}"
+        );
+    }
     match serving::serve(options) {
         Ok(()) => ExitCode::SUCCESS,
         Err(failure) => {
