@@ -8,7 +8,7 @@
 //! let (response, sender) = Response::stream(..)              a body that comes piece by piece
 //! ```
 //!
-//! 1. A body has a limit of bytes and of time, and so have all together that aren't whole (`budget`). What is too long
+//! 1. A body has a limit of bytes and of time, and so have all together that aren't answered (`budget`). What is too long
 //!    is read away for a while, so that its client, which still sends, gets to read the answer.
 //! 2. A piece is handed over once the one before was taken, so at most two wait beside what the socket holds.
 //! 3. A connection that serves a request is busy until its answer was handed to the socket, but for `BUFFER` bytes.
@@ -91,6 +91,8 @@ pub struct Request {
     pub who: Who,
     pub connection: Arc<Connection>,
     bodies: Arc<Budget>,
+    /// Its body counts as long as it is answered.
+    held: Option<Held>,
     inner: hyper::Request<hyper::Body>,
 }
 
@@ -108,9 +110,9 @@ impl Request {
     /// The body, of so many bytes at most, that comes within this time.
     pub async fn body(&mut self, most: usize, within: Duration) -> Result<Vec<u8>, Refusal> {
         let end = Instant::now() + within;
-        let held = self.bodies.begin(self.connection.peer.ip());
+        let mut held = self.bodies.begin(self.connection.peer.ip());
         let read = {
-            let reading = whole(self.inner.body_mut(), most, held);
+            let reading = whole(self.inner.body_mut(), most, &mut held);
             tokio::pin!(reading);
             match at_once(reading.as_mut()).await {
                 Some(read) => Ok(read),
@@ -121,7 +123,10 @@ impl Request {
             }
         };
         let refusal = match read {
-            Ok(Ok(data)) => return Ok(data),
+            Ok(Ok(data)) => {
+                self.held = Some(held);
+                return Ok(data);
+            }
             Ok(Err(refusal)) => refusal,
             Err(_) => return Err(Refusal::slow()),
         };
@@ -147,7 +152,7 @@ async fn at_once<T>(work: Pin<&mut impl Future<Output = T>>) -> Option<T> {
     }
 }
 
-async fn whole(body: &mut hyper::Body, most: usize, mut held: Held) -> Result<Vec<u8>, Refusal> {
+async fn whole(body: &mut hyper::Body, most: usize, held: &mut Held) -> Result<Vec<u8>, Refusal> {
     let told = usize::try_from(body.size_hint().lower()).unwrap_or(usize::MAX);
     if told > most {
         return Err(Refusal::too_long());
@@ -415,7 +420,7 @@ async fn answer(
     let busy = connection.asks();
     let (path, query) = (inner.uri().path().to_string(), inner.uri().query().unwrap_or("").to_string());
     let method = method_of(&inner);
-    let request = Request { method, path, query, who, connection, bodies: server.bodies.clone(), inner };
+    let request = Request { method, path, query, who, connection, bodies: server.bodies.clone(), held: None, inner };
     let answered = match request.header(IDENTITY).is_none_or(|named| named == server.identity.as_bytes()) {
         true => routes::handle(&server, request).await,
         false => Err(other_database(&server, request).await),

@@ -120,7 +120,7 @@ impl Refusal {
     }
 
     pub fn too_many_bodies() -> Refusal {
-        Refusal::busy("bodies", "bodies that are on their way take as much memory as they may")
+        Refusal::busy("bodies", "bodies that aren't answered yet take as much memory as they may")
     }
 
     pub fn too_many_reports() -> Refusal {

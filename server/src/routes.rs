@@ -28,7 +28,7 @@ pub struct Server {
     pub gate: Gate,
     pub log: Arc<Log>,
     pub connections: Arc<Connections>,
-    /// Bytes of bodies that aren't whole yet.
+    /// Bytes of bodies that aren't answered yet.
     pub bodies: Arc<Budget>,
     /// Bytes of reports that aren't taken yet.
     pub reports: Arc<Budget>,
