@@ -28,16 +28,14 @@ mod strict;
 pub mod transact;
 
 use self::bytes::Spelling;
-use crate::gate::Who;
 use crate::http::{Request, Response};
 use crate::journal::{Answered, Form};
 use crate::query::Arguments;
 use crate::refusal::Refusal;
 use crate::routes::Server;
-use crate::session;
+use crate::session::{self, Place};
 use ::bytes::Bytes;
 use std::time::Duration;
-use tokio::sync::OwnedSemaphorePermit;
 
 /// How long a body may take.
 const BODY: Duration = Duration::from_secs(10);
@@ -68,7 +66,7 @@ impl Answer {
         &self.form
     }
 
-    fn into_response(self, place: Option<OwnedSemaphorePermit>) -> Response {
+    fn into_response(self, place: Option<Place>) -> Response {
         let Answer { timestamp, form, is_again } = self;
         let json = |text: Bytes| Response::whole("application/json; charset=utf-8", text);
         let written = || {
@@ -84,7 +82,10 @@ impl Answer {
             response = response.with("idempotent-replayed", "true");
         }
         match place {
-            Some(place) => response.keeping(place),
+            Some(mut place) => {
+                place.unread.set(response.length());
+                response.keeping(place)
+            }
             None => response,
         }
     }
@@ -100,9 +101,9 @@ async fn body_of(server: &Server, request: &mut Request, most: usize) -> Result<
 }
 
 /// A place of an answer that may be long, so that slow readers don't fill the memory.
-fn place_of_answer(server: &Server, who: &Who) -> Result<OwnedSemaphorePermit, Refusal> {
+fn place_of_answer(server: &Server, request: &Request) -> Result<Place, Refusal> {
     let busy = |_| Refusal::busy("answers", "as many long answers wait for their readers as may");
-    session::place_of_answer(server, who).map_err(busy)
+    session::place_of_answer(server, &request.who, &request.connection).map_err(busy)
 }
 
 /// How bytes are told.

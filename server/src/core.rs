@@ -399,7 +399,7 @@ impl Core {
 }
 
 /// Whether a line's answer has no bound of its own.
-fn may_be_long(line: &[u8]) -> bool {
+pub fn may_be_long(line: &[u8]) -> bool {
     let command = line.split(|&byte| byte == b' ').next();
     matches!(command, Some(b"scan" | b"scanat" | b"poll"))
 }

@@ -30,6 +30,8 @@ pub enum Turn {
     More,
     /// It goes on once this is durable.
     Until(Ticket),
+    /// It goes on once there is room for a long answer.
+    Crowded,
 }
 
 pub struct Door {
@@ -77,7 +79,7 @@ impl Door {
         loop {
             match self.turn(&mut work) {
                 Turn::Done => return,
-                Turn::More => tokio::task::yield_now().await,
+                Turn::More | Turn::Crowded => tokio::task::yield_now().await,
                 Turn::Until(ticket) => self.until(ticket).await,
             }
         }

@@ -234,6 +234,14 @@ impl Response {
         response
     }
 
+    /// Bytes of its body, where that is there.
+    pub fn length(&self) -> usize {
+        match &self.body.content {
+            Content::Whole(bytes) => bytes.len(),
+            Content::Pieces(..) => 0,
+        }
+    }
+
     /// Keeps something until the answer was handed to the socket.
     pub fn keeping(mut self, kept: impl Send + Sync + 'static) -> Response {
         self.body.kept = Some(Kept(Box::new(kept)));

@@ -27,8 +27,10 @@
 //!    lines from 1.
 //! 2. A faulty line makes no call, and the session goes on.
 //! 3. Codes below 64 are the database's own, which docs/GUIDE.md lists. Those from 64 on are the server's.
+//! 4. A line whose answer may be long waits until unread answers have room: `Lines::has_room`.
 
-use crate::core::Core;
+use crate::budget::FREE;
+use crate::core::{may_be_long, Core};
 use crate::door::Turn;
 use crate::faults::why;
 use crate::gate::Right;
@@ -102,7 +104,8 @@ impl Fault {
     }
 }
 
-/// A call was made and its text is lost for want of memory. The session has to end, as its client can't know of it.
+/// An answer is lost for want of memory, perhaps that of a call that was made. The session has to end, as its client
+/// can't know of it.
 #[derive(Clone, Copy, Debug, PartialEq, Eq)]
 pub struct Lost;
 
@@ -112,6 +115,8 @@ pub struct Lines {
     data: Vec<u8>,
     taken: usize,
     pub answers: Vec<u8>,
+    /// Whether an answer that may be long has room, beside those that others haven't read. Who has the lock sets it.
+    pub has_room: bool,
     pub told: Told,
     /// What the answers rest on.
     pub rests: Ticket,
@@ -130,11 +135,17 @@ pub struct Told {
 
 impl Lines {
     pub fn new(data: Vec<u8>) -> Lines {
-        Lines { data, taken: 0, answers: Vec::new(), told: Told::default(), rests: Ticket::NONE }
+        let (told, rests) = (Told::default(), Ticket::NONE);
+        Lines { data, taken: 0, answers: Vec::new(), has_room: true, told, rests }
+    }
+
+    /// Whether a line was taken.
+    pub fn is_begun(&self) -> bool {
+        self.taken > 0
     }
 
     /// Takes lines until this time, one at least. Once the answers are too long, no further call is made. Where it gives
-    /// `Turn::Until`, the next line waits for that.
+    /// `Turn::Until` or `Turn::Crowded`, the next line waits for that.
     pub fn turn(&mut self, core: &mut Core, session: &mut Session, until: Instant) -> Result<Turn, Lost> {
         core.journal.begin();
         let turn = self.take(core, session, until);
@@ -149,12 +160,15 @@ impl Lines {
             if let Err(ticket) = cover(core, &rest[..end]) {
                 return Ok(Turn::Until(ticket));
             }
+            if !self.has_room && (self.answers.len() > FREE || may_be_long(&rest[..end])) {
+                return Ok(Turn::Crowded);
+            }
             session.lines += 1;
             let (line, out) = (&rest[..end], &mut self.answers);
             if out.len() < core.limits.max_reply {
                 take(core, session, line, &mut self.told, out)?;
             } else {
-                self.told.tell(core, session, Fault::ReplyTooLong, line, out);
+                self.told.tell(core, session, Fault::ReplyTooLong, line, out)?;
             }
             self.taken += end;
             if Instant::now() >= until {
@@ -170,10 +184,7 @@ fn take(core: &mut Core, session: &mut Session, line: &[u8], told: &mut Told, ou
     told.is_spoiled &= !begins;
     let has_dot = has_dot(session, line);
     let made = match prepared(core, session, line, told.is_spoiled && has_dot) {
-        Err(fault) => {
-            told.tell(core, session, fault, line, out);
-            return Ok(());
-        }
+        Err(fault) => return told.tell(core, session, fault, line, out),
         Ok(None) => core.call(session, line, out),
         Ok(Some(other)) => core.call(session, &other, out),
     };
@@ -186,14 +197,14 @@ fn take(core: &mut Core, session: &mut Session, line: &[u8], told: &mut Told, ou
                 told.has_refusal = true;
                 told.is_spoiled |= has_dot;
             }
+            Ok(())
         }
         Err(CallError::Line(fault)) => told.fault(core, session, fault.code(), fault.name(), line, out),
         Err(CallError::NoMemory) => told.fault(core, session, 12, "nomemory", line, out),
         Err(CallError::Spent) => told.fault(core, session, 13, "spent", line, out),
         Err(CallError::AnswerTooLong) => told.fault(core, session, 25, "answertoolong", line, out),
-        Err(CallError::Unwritten) => return Err(Lost),
+        Err(CallError::Unwritten) => Err(Lost),
     }
-    Ok(())
 }
 
 /// Whether the timestamp that a line brings into the database is below the mark that outlives a crash.
@@ -210,8 +221,15 @@ fn cover(core: &mut Core, line: &[u8]) -> Result<(), Ticket> {
 }
 
 impl Told {
-    fn tell(&mut self, core: &mut Core, session: &Session, fault: Fault, line: &[u8], out: &mut Vec<u8>) {
-        self.fault(core, session, fault.code(), fault.name(), line, out);
+    fn tell(
+        &mut self,
+        core: &mut Core,
+        session: &Session,
+        fault: Fault,
+        line: &[u8],
+        out: &mut Vec<u8>,
+    ) -> Result<(), Lost> {
+        self.fault(core, session, fault.code(), fault.name(), line, out)
     }
 
     fn fault(
@@ -222,13 +240,16 @@ impl Told {
         name: &'static str,
         line: &[u8],
         out: &mut Vec<u8>,
-    ) {
+    ) -> Result<(), Lost> {
         core.ledger.refused(name);
         // What was left out follows from another fault, or from a refusal.
         self.has_fault |= name != Fault::Skipped.name();
         self.is_spoiled = true;
-        // Writing to a vector can't fail.
-        let _ = writeln!(out, "fault {} {code} {name} {}", session.lines, why(name, line));
+        let told = format!("fault {} {code} {name} {}\n", session.lines, why(name, line));
+        // Answers may be long already, and have to move where they grow.
+        out.try_reserve(told.len()).map_err(|_| Lost)?;
+        out.extend_from_slice(told.as_bytes());
+        Ok(())
     }
 }
 

@@ -127,6 +127,10 @@ impl Refusal {
         Refusal::busy("reports", "reports that their readers haven't taken need as much memory as they may")
     }
 
+    pub fn crowded() -> Refusal {
+        Refusal::busy("answers", "answers that their readers haven't taken need as much memory as they may")
+    }
+
     pub fn no_memory() -> Refusal {
         Refusal::new(503, "nomemory", "try again")
     }

@@ -32,6 +32,8 @@ pub struct Server {
     pub bodies: Arc<Budget>,
     /// Bytes of reports that aren't taken yet.
     pub reports: Arc<Budget>,
+    /// Bytes of answers to lines, and of rows and transactions, that aren't taken yet.
+    pub unread: Arc<Budget>,
     pub streams: streams::Streams,
     pub metrics: metrics::Metrics,
     pub remembered: remembered::Remembered,

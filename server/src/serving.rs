@@ -25,6 +25,7 @@ use crate::refusal::Refusal;
 use crate::reports;
 use crate::routes::Server;
 use crate::seats::SEATS;
+use crate::session;
 use crate::streams::Streams;
 use crate::tasks::Tasks;
 use crate::tls::{self, Acceptor};
@@ -161,6 +162,7 @@ fn put_together(opened: Opened, options: Options, address: SocketAddr, log: Arc<
         connections: Connections::new(options.max_connections, options.patience),
         bodies: Budget::new(options.max_message.saturating_mul(usize::from(SEATS)), Refusal::too_many_bodies),
         reports: Budget::new(reports::UNREAD, Refusal::too_many_reports),
+        unread: Budget::new(session::UNREAD, Refusal::crowded),
         streams: Streams::default(),
         metrics: Metrics::default(),
         remembered: Remembered::new(options.remember, answers),

@@ -5,9 +5,11 @@
 //! 1. A session has a seat as long as its `Seated` lives. However that ends, what the session left in the database ends
 //!    with it, and then the seat is free.
 //! 2. Lines are taken in turns, and between two of them everyone else is let in.
-//! 3. No more calls' answers wait for their readers than there are seats.
+//! 3. No more calls' answers wait for their readers than there are seats, and all unread answers together have a bound
+//!    of bytes: `UNREAD`, and one message's answers more. A line whose answer may be long waits for the others' readers.
 //! 4. Where an answer's text was lost for want of memory, the session ends: nobody is told that a call wasn't made.
 
+use crate::budget::Held;
 use crate::connections::Connection;
 use crate::door::Turn;
 use crate::gate::{Right, Who};
@@ -24,10 +26,14 @@ use std::sync::Arc;
 use std::time::{Duration, Instant};
 use tokio::sync::OwnedSemaphorePermit;
 
+/// Bytes that all answers may have which their clients haven't read, beside those of the message that is answered.
+pub const UNREAD: usize = 64 << 20;
 /// Bytes of an answer that its connection has room for.
 const SHORT: usize = 1 << 16;
 /// How long a body may take.
 const BODY: Duration = Duration::from_secs(10);
+/// A request that waits for others' readers looks so often whether it is to end.
+const LOOK: Duration = Duration::from_millis(250);
 /// How long a connection may take to become a WebSocket.
 const UPGRADE: Duration = Duration::from_secs(10);
 
@@ -86,10 +92,10 @@ pub async fn call(server: &Arc<Server>, mut request: Request) -> Result<Response
     }
     let start = Instant::now();
     // A body that comes slowly holds no seat. An answer that is taken slowly counts as one: it may be long.
-    let place = place_of_answer(server, &who)?;
+    let mut place = place_of_answer(server, &who, &connection)?;
     let mut seated = Seated::take(server, who, &connection)?;
     let mut lines = Lines::new(data);
-    let told = answer(&mut seated, &mut lines).await;
+    let told = answer(&mut seated, &mut lines, &mut place.unread).await;
     // Seats are free while the answer waits for the disk, and so is the place of a short one.
     drop(seated);
     let place = Some(place).filter(|_| lines.answers.len() > SHORT);
@@ -115,28 +121,51 @@ fn status_of(told: Told) -> u16 {
     }
 }
 
-/// So many answers are there at once at most, the last one of someone who may operate.
-pub fn place_of_answer(server: &Server, who: &Who) -> Result<OwnedSemaphorePermit, Refusal> {
-    let kept = usize::from(!who.may(Right::Operate));
-    let place = server.answers.clone().try_acquire_owned().ok().filter(|_| server.answers.available_permits() >= kept);
-    place.ok_or_else(Refusal::no_seats)
+/// The place of an answer until its client has taken it, and what it counts.
+pub struct Place {
+    _permit: OwnedSemaphorePermit,
+    pub unread: Held,
 }
 
-async fn answer(seated: &mut Seated, lines: &mut Lines) -> Result<(), Refusal> {
+/// So many answers are there at once at most, the last one of someone who may operate.
+pub fn place_of_answer(server: &Server, who: &Who, connection: &Connection) -> Result<Place, Refusal> {
+    let kept = usize::from(!who.may(Right::Operate));
+    let permit = server.answers.clone().try_acquire_owned().ok().filter(|_| server.answers.available_permits() >= kept);
+    let unread = server.unread.begin(connection.peer.ip());
+    permit.map(|_permit| Place { _permit, unread }).ok_or_else(Refusal::no_seats)
+}
+
+async fn answer(seated: &mut Seated, lines: &mut Lines, unread: &mut Held) -> Result<(), Refusal> {
     let Seated { server, session } = seated;
     let refused = |error, why| Err(Refusal::new(500, error, why));
+    let mut crowded: Option<tokio::time::Instant> = None;
     loop {
         let turn = server.door.turn(|core, until| {
             core.seats.hears(session.seat);
-            lines.turn(core, session, until)
+            lines.has_room = unread.has_room();
+            let turn = lines.turn(core, session, until);
+            unread.set(lines.answers.len());
+            turn
         });
         match turn {
             Ok(Turn::Done) => return Ok(()),
-            Ok(Turn::More) if session.ended_by().is_some() => {
+            Ok(Turn::More | Turn::Crowded) if session.ended_by().is_some() => {
                 return refused("ended", "an operator has ended the session: lines were taken, and others weren't")
             }
-            Ok(Turn::More) => tokio::task::yield_now().await,
+            Ok(Turn::More) => {
+                crowded = None;
+                tokio::task::yield_now().await;
+            }
             Ok(Turn::Until(ticket)) => server.door.until(ticket).await,
+            Ok(Turn::Crowded)
+                if crowded.get_or_insert_with(tokio::time::Instant::now).elapsed() > server.options.patience =>
+            {
+                return match lines.is_begun() {
+                    false => Err(Refusal::crowded()),
+                    true => refused("answers", "lines were taken, and others weren't: others don't read their answers"),
+                }
+            }
+            Ok(Turn::Crowded) => drop(tokio::time::timeout(LOOK, unread.room()).await),
             Err(Lost) => return refused("unwritten", "lines were taken, and there is no memory for their answers"),
         }
     }
@@ -209,17 +238,49 @@ mod tests {
     use super::*;
     use crate::testing::server;
 
+    fn connection(server: &Server, last: u8) -> Arc<Connection> {
+        server.connections.come(([192, 0, 2, last], 1).into()).expect("a place")
+    }
+
     #[test]
     fn as_many_answers_wait_as_there_are_seats_and_the_last_is_an_operators() {
         let server = server(&[]);
-        let writer = Who::of("writer", &[Right::Read, Right::Write]);
-        let mut places: Vec<_> = std::iter::from_fn(|| place_of_answer(&server, &writer).ok()).collect();
+        let (writer, connection) = (Who::of("writer", &[Right::Read, Right::Write]), connection(&server, 1));
+        let place = |who: &Who| place_of_answer(&server, who, &connection);
+        let mut places: Vec<_> = std::iter::from_fn(|| place(&writer).ok()).collect();
         assert_eq!(places.len(), 63);
-        places.push(place_of_answer(&server, &Who::anyone()).expect("one is kept"));
-        assert!(place_of_answer(&server, &Who::anyone()).is_err());
+        places.push(place(&Who::anyone()).expect("one is kept"));
+        assert!(place(&Who::anyone()).is_err());
         places.pop();
-        assert!(place_of_answer(&server, &writer).is_err());
+        assert!(place(&writer).is_err());
         places.pop();
-        assert!(place_of_answer(&server, &writer).is_ok());
+        assert!(place(&writer).is_ok());
+    }
+
+    #[tokio::test(start_paused = true)]
+    async fn a_long_answer_waits_for_other_readers_and_a_short_one_does_not() {
+        let server = server(&["--patience", "5"]);
+        let (connection, who) = (connection(&server, 1), Who::anyone());
+        let mut unread = server.unread.begin(connection.peer.ip());
+        unread.set(UNREAD);
+        let ask = |text: &'static str| {
+            let (server, connection, who) = (server.clone(), connection.clone(), who.clone());
+            async move {
+                let mut place = place_of_answer(&server, &who, &connection).expect("a place");
+                let mut seated = Seated::take(&server, who, &connection).expect("a seat");
+                let mut lines = Lines::new(text.as_bytes().to_vec());
+                let told = answer(&mut seated, &mut lines, &mut place.unread).await;
+                (told.err().map(|refusal| (refusal.status, refusal.error)), lines.answers.len())
+            }
+        };
+        assert_eq!(ask("begin\nput . a 1\nget . a\ncommit .\n").await.0, None);
+        assert_eq!(ask("scanat 0 - -\n").await, (Some((503, "answers")), 0));
+        let (refused, told) = ask("stats\nscanat 0 - -\n").await;
+        assert!(refused == Some((500, "answers")) && told > 0);
+        let (waits, reads) = (ask("scanat 0 - -\n"), async {
+            tokio::time::sleep(Duration::from_secs(1)).await;
+            drop(unread);
+        });
+        assert_eq!(tokio::join!(waits, reads).0 .0, None);
     }
 }

@@ -7,7 +7,8 @@
 //! 1. Each message is answered by one message, in their order.
 //! 2. Between two turns whatever has come is read, so pings are answered and a client that is gone is found out: lines
 //!    that wait behind are then not taken any more.
-//! 3. What is read ahead, and what waits to be written, has a bound, and so has the number of messages that wait.
+//! 3. What is read ahead, and what waits to be written, has a bound, and so has the number of messages that wait. What
+//!    all sessions together have to write has one too: a line whose answer may be long waits for the others' readers.
 //! 4. A client that says nothing is asked by a ping after `--heartbeat`, and let go where it says nothing for half as
 //!    long again.
 //! 5. Whoever ends the session waits for one turn, and for a slow reader no longer than `LINGER`.
@@ -15,13 +16,14 @@
 
 mod end;
 
+use crate::budget::Held;
 use crate::connections::Connection;
 use crate::door::Turn;
 use crate::http::Stream;
 use crate::journal::Ticket;
 use crate::lines::{Lines, Lost};
 use crate::session::Seated;
-use crate::ws::{encode, Decoder, Incoming, Outgoing};
+use crate::ws::{encode, Decoder, Incoming, Outgoing, HEAD};
 use bytes::BytesMut;
 use end::{say_goodbye, End, LINGER};
 use std::collections::VecDeque;
@@ -37,6 +39,8 @@ const READ: usize = 1 << 16;
 const AHEAD: usize = 1 << 16;
 /// Bytes of answers beyond which they are written before the next message is taken.
 const WRITE: usize = 1 << 16;
+/// A session that waits for others' readers looks so often what its own client does.
+const LOOK: Duration = Duration::from_millis(50);
 
 pub struct Socket {
     stream: Box<dyn Stream>,
@@ -49,6 +53,10 @@ pub struct Socket {
     /// Their bytes, with those that a message takes beside its text.
     ahead: usize,
     out: Vec<u8>,
+    /// What its client hasn't read counts here.
+    unread: Held,
+    /// Since when its next line waits for others' readers.
+    crowded: Option<tokio::time::Instant>,
     /// What the answers among it rest on.
     rests: Ticket,
     /// Why the session ends, once all that waits is answered.
@@ -72,8 +80,10 @@ impl Socket {
     pub fn new(stream: Box<dyn Stream>, connection: Arc<Connection>, seated: Seated) -> Socket {
         Socket {
             stream,
-            connection,
             decoder: Decoder::new(seated.server.options.max_message),
+            unread: seated.server.unread.begin(connection.peer.ip()),
+            crowded: None,
+            connection,
             seated,
             buffer: BytesMut::new(),
             waiting: VecDeque::new(),
@@ -94,7 +104,7 @@ impl Socket {
         };
         // What isn't durable isn't told at the end either.
         let is_durable = timeout(LINGER, self.seated.server.door.until(self.rests)).await.is_ok();
-        let Socket { stream, seated, out, connection, .. } = self;
+        let Socket { stream, seated, out, connection, unread: _unread, .. } = self;
         let (out, end) = if is_durable { (out, end) } else { (Vec::new(), end.without_answers()) };
         end.tell(&seated.server.log, seated.session.seat, &connection.peer.to_string());
         // The seat is free before the client reads that the session has ended.
@@ -207,18 +217,33 @@ impl Socket {
     async fn answer_all(&mut self) -> Result<(), End> {
         while !self.waiting.is_empty() {
             let turn = self.turn().map_err(|Lost| End::UNWRITTEN)?;
-            if self.out.len() >= WRITE || turn == Turn::Done {
+            if self.out.len() >= WRITE || matches!(turn, Turn::Done | Turn::Crowded) {
                 self.write().await?;
             }
             if turn != Turn::Done {
                 self.check_end()?;
                 self.look().await?;
             }
-            if let Turn::Until(ticket) = turn {
-                self.until(ticket).await?;
+            match turn {
+                Turn::Until(ticket) => self.until(ticket).await?,
+                Turn::Crowded => self.room().await?,
+                Turn::Done | Turn::More => self.crowded = None,
             }
         }
         self.write().await
+    }
+
+    /// Waits for others' readers, but not for ever.
+    async fn room(&mut self) -> Result<(), End> {
+        let since = *self.crowded.get_or_insert_with(tokio::time::Instant::now);
+        if since.elapsed() > self.seated.server.options.patience {
+            return Err(End::CROWDED);
+        }
+        tokio::select! {
+            () = self.unread.room() => Ok(()),
+            () = self.connection.cut_off() => Err(End::Stuck),
+            () = sleep(LOOK) => Ok(()),
+        }
     }
 
     /// Whether someone ends the session, whose client may send on and on.
@@ -234,16 +259,19 @@ impl Socket {
 
     /// Answers messages until the turn is over, or there is enough to write.
     fn turn(&mut self) -> Result<Turn, Lost> {
-        let Socket { seated, waiting, ahead, out, rests, .. } = self;
+        let Socket { seated, waiting, ahead, out, unread, rests, .. } = self;
         let Seated { server, session } = seated;
         server.door.turn(|core, until| {
             core.seats.hears(session.seat);
             while let Some(first) = waiting.front_mut() {
-                let turn = first.lines.turn(core, session, until)?;
-                if turn != Turn::Done {
-                    return Ok(turn);
+                first.lines.has_room = unread.has_room();
+                let turn = first.lines.turn(core, session, until);
+                unread.set(out.len() + first.lines.answers.len());
+                if turn? != Turn::Done {
+                    return turn;
                 }
                 *rests = (*rests).max(first.lines.rests);
+                out.try_reserve(HEAD + first.lines.answers.len()).map_err(|_| Lost)?;
                 encode(Outgoing::Text(&first.lines.answers), out);
                 server.metrics.calls.note(first.since.elapsed());
                 *ahead -= first.bytes;
@@ -270,6 +298,7 @@ impl Socket {
         self.out.clear();
         // A long answer isn't kept room for.
         self.out.shrink_to(WRITE);
+        self.unread.set(self.waiting.front().map_or(0, |first| first.lines.answers.len()));
         written.map_err(|_| self.lost())
     }
 }

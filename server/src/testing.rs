@@ -16,6 +16,7 @@ use crate::refusal::Refusal;
 use crate::reports;
 use crate::routes::Server;
 use crate::seats::{Session, SEATS};
+use crate::session;
 use crate::streams::Streams;
 use crate::tasks::Tasks;
 use std::collections::VecDeque;
@@ -79,6 +80,7 @@ pub fn server(words: &[&str]) -> Arc<Server> {
         connections: Connections::new(options.max_connections, options.patience),
         bodies: Budget::new(options.max_message.saturating_mul(usize::from(SEATS)), Refusal::too_many_bodies),
         reports: Budget::new(reports::UNREAD, Refusal::too_many_reports),
+        unread: Budget::new(session::UNREAD, Refusal::crowded),
         streams: Streams::default(),
         metrics: Metrics::default(),
         remembered: Remembered::new(options.remember, VecDeque::new()),

@@ -23,7 +23,7 @@ mod handshake;
 mod tests;
 
 pub use decoder::{Decoder, Incoming};
-pub use frames::{encode, Ended, Outgoing};
+pub use frames::{encode, Ended, Outgoing, HEAD};
 pub use handshake::{accept, Asked};
 
 /// Why a connection ends, as a close frame says it.

@@ -141,7 +141,7 @@ fn read_at(core: &mut Core, key: &[u8], at: u64) -> Result<Read, Refusal> {
 
 async fn read_by_transaction(server: &Server, key: &[u8], until: Instant) -> Result<Read, Refusal> {
     let plan = Plan { then: vec![Step::Get { key: Cow::Borrowed(key) }], ..Plan::default() };
-    let End::Committed(mut committed) = run_until(server, &plan, until, None).await? else {
+    let End::Committed(mut committed) = run_until(server, &plan, until, None, None).await? else {
         return Err(Stop::Unexpected.refusal());
     };
     match committed.results.pop() {
@@ -185,7 +185,7 @@ async fn write(server: &Arc<Server>, mut request: Request, kind: Kind) -> Result
         Kind::Delete if !is_matched => no_value(failed.timestamp),
         _ => other_version(failed),
     };
-    let answered = answer_once(server, asked, &plan, start + wait, &form_of, refused).await;
+    let answered = answer_once(server, asked, &plan, start + wait, &form_of, refused, None).await;
     server.metrics.transactions.note(start.elapsed());
     Ok(answered?.into_response(None))
 }

@@ -13,6 +13,7 @@ use super::plan::{Bounds, MOST_ROWS, ROWS};
 use super::run::{Row, Stop};
 use super::transact::tell_rows;
 use super::{bytes::MOST_BOUND, seconds_in, spelling_in, wait_in};
+use crate::budget::Held;
 use crate::core::Core;
 use crate::http::{Request, Response};
 use crate::query::{arguments, percent_encoded, Arguments};
@@ -40,10 +41,11 @@ pub async fn rows(server: &Arc<Server>, request: Request) -> Result<Response, Re
     if !span.is_within(request.who.keys()) {
         return Err(Refusal::other_keys());
     }
-    let place = super::place_of_answer(server, &request.who)?;
+    let mut place = super::place_of_answer(server, &request)?;
     let start = Instant::now();
     let until = start + wait;
-    let Shown { timestamp, rows, next } = in_turns(server, span, given.number("at"), until, limit, hold).await?;
+    let Shown { timestamp, rows, next } =
+        in_turns(server, span, given.number("at"), until, limit, hold, &place.unread).await?;
     let next = next.map(|lo| path_of(&given, &lo, timestamp));
     let mut out = format!("{{\"timestamp\":\"{timestamp}\",\"rows\":").into_bytes();
     tell_rows(&mut out, &rows, spelling);
@@ -52,6 +54,7 @@ pub async fn rows(server: &Arc<Server>, request: Request) -> Result<Response, Re
         Some(next) => out.extend_from_slice(format!(",\"next\":\"{next}\"}}\n").as_bytes()),
         None => out.extend_from_slice(b",\"next\":null}\n"),
     }
+    place.unread.set(out.len());
     server.metrics.transactions.note(start.elapsed());
     let response = Response::whole("application/json; charset=utf-8", out)
         .with("ripsawbean-timestamp", timestamp.to_string())
@@ -71,9 +74,14 @@ async fn in_turns(
     until: Instant,
     limit: usize,
     hold: Option<Duration>,
+    unread: &Held,
 ) -> Result<Shown, Refusal> {
     loop {
-        let shown = at_snapshot(server, at, until, |core, at| page(core, &span, at, limit, hold)).await?;
+        let shown = at_snapshot(server, at, until, |core, at| match unread.has_room() {
+            true => page(core, &span, at, limit, hold),
+            false => Err(Refusal::crowded()),
+        });
+        let shown = shown.await?;
         match shown.next {
             Some(next) if shown.rows.is_empty() => (at, span.lo) = (Some(shown.timestamp), Cow::Owned(next)),
             _ => return Ok(shown),

@@ -96,6 +96,8 @@ pub enum Stop {
     BelowHorizon(u64),
     NoMemory,
     Full,
+    /// Unread answers leave no room for a long one.
+    Crowded,
     Draining,
     TooMuch,
     ReplyTooLong,
@@ -122,6 +124,7 @@ impl Stop {
             }
             Stop::NoMemory => Refusal::busy("nomemory", "there is no memory for it: nothing was changed"),
             Stop::Full => Refusal::busy("full", "the server's memory is full: keys can be deleted, and not put"),
+            Stop::Crowded => Refusal::crowded(),
             Stop::Draining => Refusal::busy("draining", "the server is about to end"),
             Stop::TooMuch => Refusal::new(
                 422,

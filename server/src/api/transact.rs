@@ -17,6 +17,7 @@ use super::plan::Plan;
 use super::remembered::{Asked, Begun, Keep};
 use super::run::{run, Branch, Committed, End, Failed, Row, Stop, Told};
 use super::{body_of, spelling_in, wait_in, Answer};
+use crate::budget::Held;
 use crate::http::{Request, Response};
 use crate::journal::Form;
 use crate::query::arguments;
@@ -35,10 +36,11 @@ pub async fn transact(server: &Arc<Server>, mut request: Request) -> Result<Resp
     let asked = server.remembered.asked(&request, &body)?;
     let plan = Plan::of(&body)?;
     plan.check(&request.who)?;
-    let place = plan.answers_at_length().then(|| super::place_of_answer(server, &request.who)).transpose()?;
+    let place = plan.answers_at_length().then(|| super::place_of_answer(server, &request)).transpose()?;
     let form_of = |committed: &Committed<'_>| Form::Text(text_of(committed, spelling).into());
     let refused = |failed: Failed<'_>| refusal_of(&failed, spelling);
-    let answered = answer_once(server, asked, &plan, start + wait, &form_of, refused).await;
+    let unread = place.as_ref().map(|place| &place.unread);
+    let answered = answer_once(server, asked, &plan, start + wait, &form_of, refused, unread).await;
     server.metrics.transactions.note(start.elapsed());
     Ok(answered?.into_response(place))
 }
@@ -51,12 +53,13 @@ pub async fn answer_once(
     until: Instant,
     form_of: &(dyn Fn(&Committed<'_>) -> Form + Sync),
     refused: impl Fn(Failed<'_>) -> Refusal,
+    unread: Option<&Held>,
 ) -> Result<Answer, Refusal> {
     let running = match server.remembered.begin(asked, until).await? {
         Begun::Told(answer) => return Ok(answer),
         Begun::Runs(running) => running,
     };
-    match run_until(server, plan, until, Some(&Keep { running: &running, form_of })).await? {
+    match run_until(server, plan, until, Some(&Keep { running: &running, form_of }), unread).await? {
         End::Committed(mut committed) => {
             let form = committed.form.take().unwrap_or_else(|| form_of(&committed));
             Ok(Answer::new(committed.timestamp, form))
@@ -65,15 +68,20 @@ pub async fn answer_once(
     }
 }
 
-/// Runs a plan, anew as long as it is blocked, until then.
+/// Runs a plan, anew as long as it is blocked, until then. Where its answer may be long it says what counts it.
 pub async fn run_until<'p>(
     server: &Server,
     plan: &'p Plan<'_>,
     until: Instant,
     keep: Option<&Keep<'_>>,
+    unread: Option<&Held>,
 ) -> Result<End<'p>, Refusal> {
     loop {
-        match server.door.run(|core| run(core, plan, keep)) {
+        let ran = server.door.run(|core| match unread.is_none_or(Held::has_room) {
+            true => run(core, plan, keep),
+            false => Err(Stop::Crowded),
+        });
+        match ran {
             Ok(end) => return Ok(end),
             Err(Stop::Blocked(by, mut decision)) => {
                 if tokio::time::timeout_at(until.into(), decision.changed()).await.is_err() {

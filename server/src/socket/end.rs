@@ -6,6 +6,7 @@
 //! 1002, 1003, 1007, 1009 and a sentence               the client has broken a rule of WebSocket, or a limit
 //! 1008 "operator", "silent", "heartbeat"              the session was told to end, or its client answers no ping
 //! 1011 "unwritten", "disk"                            an answer has no memory, or waits for the disk
+//! 1013 "answers"                                      a line waits too long for others to read their answers
 //! ```
 //!
 //! 1. Whenever the server ends a session whose client takes bytes, a close frame says why.
@@ -24,6 +25,7 @@ use tokio::time::timeout;
 /// Codes of a close frame beside those of `ws`.
 pub const POLICY: u16 = 1008;
 pub const INTERNAL: u16 = 1011;
+pub const LATER: u16 = 1013;
 /// How long a client may take to read why the session ends, and how much it may send meanwhile.
 pub const LINGER: Duration = Duration::from_secs(2);
 const LINGER_BYTES: usize = 64 << 20;
@@ -50,6 +52,7 @@ impl End {
     pub const HEARTBEAT: End = End::Closed(POLICY, "heartbeat");
     pub const UNWRITTEN: End = End::Closed(INTERNAL, "unwritten");
     pub const DISK: End = End::Closed(INTERNAL, "disk");
+    pub const CROWDED: End = End::Closed(LATER, "answers");
 
     pub fn by(by: EndedBy) -> End {
         match by {

@@ -12,6 +12,9 @@ use std::fmt::{self, Display};
 /// The most bytes of a control frame.
 pub const CONTROL: usize = 125;
 
+/// The most bytes of the head of a frame that is sent.
+pub const HEAD: usize = 10;
+
 const LAST: u8 = 0x80;
 const RESERVED: u8 = 0x70;
 const MASKED: u8 = 0x80;
@@ -160,7 +163,7 @@ pub fn encode(frame: Outgoing, out: &mut Vec<u8>) {
 
 fn put(opcode: Opcode, front: &[u8], payload: &[u8], out: &mut Vec<u8>) {
     let length = front.len() + payload.len();
-    out.reserve(10 + length);
+    out.reserve(HEAD + length);
     out.push(LAST | opcode as u8);
     match (u8::try_from(length), u16::try_from(length)) {
         (Ok(short @ 0..=125), _) => out.push(short),
