@@ -19,7 +19,9 @@ use crate::process;
 use crate::query::arguments;
 use crate::refusal::Refusal;
 use crate::reports::Report;
+use crate::reserve::reserve;
 use crate::routes::Server;
+use crate::serving;
 use std::fmt::{Display, Write};
 use std::sync::atomic::Ordering::Relaxed;
 use std::sync::Arc;
@@ -163,6 +165,8 @@ fn of_server(text: &mut Text, server: &Server) {
     let (messages, bytes) = server.streams.told();
     text.counter("ripsawbean_stream_messages_total", "Messages that streams were told.", messages);
     text.counter("ripsawbean_stream_bytes_total", "Bytes of messages that streams were told.", bytes);
+    let reserve = reserve(&server.options, serving::workers());
+    text.gauge("ripsawbean_memory_reserve_bytes", "What may be taken above --max-memory, at most.", reserve);
     let name = "ripsawbean_call_seconds";
     text.head(name, "histogram", "Time from a message of lines, or a body of them, to its answer.");
     server.metrics.calls.write(&mut text.text, name).expect("a string takes what is written");

@@ -1,8 +1,10 @@
 //! The process's own numbers, as the kernel tells them in /proc/self.
 //!
-//! `metrics` tells them, and `closing` asks how much memory is taken. A number that the kernel doesn't tell is none.
+//! `metrics` tells them, `closing` and `door` ask how much memory is taken, and `serving` how much may be. A number that
+//! the kernel doesn't tell is none.
 
 use std::fs;
+use std::path::Path;
 
 /// What the kernel counts by, where it doesn't say so: Linux tells programs hundredths of a second everywhere.
 const TICKS_A_SECOND: u64 = 100;
@@ -17,6 +19,22 @@ pub fn resident() -> Option<u64> {
 /// Processor time in seconds, the kernel's for the process too.
 pub fn cpu_seconds() -> Option<f64> {
     Some(ticks_in(&fs::read_to_string("/proc/self/stat").ok()?)? as f64 / ticks_a_second() as f64)
+}
+
+/// The least limit of memory that the system sets: of addresses, or of the group that the process is in.
+pub fn memory_limit() -> Option<u64> {
+    let addresses =
+        rlimit::getrlimit(rlimit::Resource::AS).ok().map(|(soft, _)| soft).filter(|&most| most != rlimit::INFINITY);
+    let group = fs::read_to_string("/proc/self/cgroup").ok().and_then(|text| group_limit(&text));
+    addresses.into_iter().chain(group).min()
+}
+
+/// The least limit of a group of the second version, and of those above it.
+fn group_limit(text: &str) -> Option<u64> {
+    let path = text.lines().find_map(|line| line.strip_prefix("0::/"))?;
+    let groups = Path::new("/sys/fs/cgroup").join(path);
+    let limits = groups.ancestors().filter_map(|group| fs::read_to_string(group.join("memory.max")).ok());
+    limits.filter_map(|limit| limit.trim().parse().ok()).min()
 }
 
 /// Open files.

@@ -23,6 +23,7 @@ use crate::options::Options;
 use crate::process;
 use crate::refusal::Refusal;
 use crate::reports;
+use crate::reserve::reserve;
 use crate::routes::Server;
 use crate::seats::SEATS;
 use crate::session;
@@ -88,7 +89,11 @@ impl Failure {
 
 /// Serves until a signal comes.
 pub fn serve(options: Options) -> Result<(), Failure> {
-    let runtime = tokio::runtime::Builder::new_multi_thread().enable_all().build().map_err(Failure::System)?;
+    let runtime = tokio::runtime::Builder::new_multi_thread()
+        .worker_threads(workers())
+        .enable_all()
+        .build()
+        .map_err(Failure::System)?;
     let result = runtime.block_on(run(options));
     // What doesn't end by itself has had its time.
     runtime.shutdown_background();
@@ -98,6 +103,7 @@ pub fn serve(options: Options) -> Result<(), Failure> {
 async fn run(mut options: Options) -> Result<(), Failure> {
     let log = Arc::new(Log::new(options.log_level, options.log_json));
     allow_files(&mut options, &log);
+    warn_of_near_limit(&options, &log);
     let opened = open(&options, log.clone()).await?;
     let kept = opened.kept.clone();
     let listener = listener(SocketAddr::new(options.address, options.port))?;
@@ -206,6 +212,21 @@ fn allow_files(options: &mut Options, log: &Log) {
     if most < options.max_connections {
         log.warn("few_files", &[("files", allowed.into()), ("connections", most.into())]);
         options.max_connections = most;
+    }
+}
+
+/// Threads that work for connections: tokio's, one a processor.
+pub fn workers() -> usize {
+    std::thread::available_parallelism().map_or(1, usize::from)
+}
+
+/// A limit of memory that may be reached before rows are refused, or by what isn't rows.
+fn warn_of_near_limit(options: &Options, log: &Log) {
+    let (most, reserve) = (options.max_memory, reserve(options, workers()));
+    let Some(limit) = process::memory_limit().filter(|_| most > 0) else { return };
+    if limit < most.saturating_add(reserve) {
+        let fields = [("limit", limit.into()), ("max_memory", most.into()), ("reserve", reserve.into())];
+        log.warn("memory_limit_near", &fields);
     }
 }
 

@@ -126,6 +126,19 @@ pub fn tell(out: &mut Vec<u8>, bytes: &[u8], spelling: Spelling) {
     }
 }
 
+/// Bytes that the text of these has as `Spelling::Text` tells them, but for its quotes.
+pub fn length_of(bytes: &[u8]) -> usize {
+    let length = |byte| match byte {
+        b'"' | b'\\' | b'\n' | b'\r' | b'\t' | b'\x08' | b'\x0c' => 2,
+        ..b' ' => 6,
+        _ => 1,
+    };
+    match std::str::from_utf8(bytes) {
+        Ok(text) => text.bytes().map(length).sum(),
+        Err(_) => "{\"base64\":}".len() + 4 * bytes.len().div_ceil(3),
+    }
+}
+
 /// The same as a value of its own.
 pub fn told(bytes: &[u8], spelling: Spelling) -> Value {
     match std::str::from_utf8(bytes) {
@@ -219,13 +232,15 @@ mod tests {
     #[test]
     fn what_is_told_is_taken_again() {
         let mut dice = Dice::new(22);
-        let pieces: [&[u8]; 8] = [b"a", b"\"", b"\\", b"\n", b"\x00", b"\xff", b"\xc3\xbc", b"\xed\xa0\x80"];
+        let pieces: [&[u8]; 10] =
+            [b"a", b"\"", b"\\", b"\n", b"\x00", b"\x0c", b"\x7f", b"\xff", b"\xc3\xbc", b"\xed\xa0\x80"];
         dice.each(|dice| {
             let bytes = dice.some(&pieces, 6);
             for spelling in [Spelling::Text, Spelling::Base64] {
                 let mut out = Vec::new();
                 tell(&mut out, &bytes, spelling);
                 assert_eq!(told(&bytes, spelling), serde_json::from_slice::<Value>(&out).unwrap());
+                assert!(spelling != Spelling::Text || out.len() == length_of(&bytes) + 2);
                 assert_eq!(value_in(Json::of(&out).unwrap()).as_deref(), Ok(bytes.as_slice()));
             }
         });

@@ -14,6 +14,7 @@
 //! 2. When `run` returns, the transaction is decided. Where there was no memory to abort it, --max-age does it.
 //! 3. It reads at most `MOST_READ` rows, and tells at most --max-reply bytes.
 
+use super::bytes::length_of;
 use super::pages::{Page, Unread, MOST_BYTES};
 use super::plan::{Bounds, Condition, Plan, Step};
 use super::remembered::Keep;
@@ -303,7 +304,7 @@ impl<'p> Running<'_, 'p> {
             Ok(Outcome::Nothing) => {}
             other => return Err(self.stop("get", other)),
         }
-        self.count(key.len() + value.as_ref().map_or(0, Vec::len))?;
+        self.count(length_of(key) + value.as_deref().map_or(0, length_of))?;
         Ok(self.row(Cow::Borrowed(key), value))
     }
 
@@ -315,7 +316,7 @@ impl<'p> Running<'_, 'p> {
 
     fn scan(&mut self, span: &Bounds<'_>, limit: usize) -> Result<Told<'p>, Stop> {
         let Page { rows, next } = self.read(span.span(), limit)?;
-        self.count(rows.iter().map(|(key, value)| key.len() + value.len() + ROW_BYTES).sum())?;
+        self.count(rows.iter().map(|(key, value)| length_of(key) + length_of(value) + ROW_BYTES).sum())?;
         let rows = rows.into_iter().map(|(key, value)| self.row(Cow::Owned(key), Some(value))).collect();
         Ok(Told::Rows { rows, more: next.is_some() })
     }

@@ -1,0 +1,127 @@
+//! What the server may take beside the rows that `--max-memory` counts, at most: the reserve.
+//!
+//! At `--max-memory` rows are refused, and all else goes on: connections come, bodies and messages are read, answers
+//! wait for their readers. Each of these has a bound, and the reserve is their sum. So a limit of the system's that lies
+//! at `--max-memory` and the reserve, or above, is never reached, and nothing that asks for memory is refused it.
+//!
+//! ```text
+//! 0 .. --max-memory                rows
+//!      .. and the reserve          all else, whatever clients do
+//! ```
+//!
+//! 1. Each part is a bound that another module keeps. A vector that grows by itself may have twice its bytes.
+//! 2. `serving` warns at its start where a limit is nearer, and `metrics` tells how much the reserve is.
+
+use crate::api::pages;
+use crate::budget::FREE;
+use crate::journal;
+use crate::options::Options;
+use crate::reports;
+use crate::seats::SEATS;
+use crate::session;
+
+/// The program itself, its tables, and what the C library keeps between its pieces.
+const PROGRAM: usize = 48 << 20;
+/// Addresses of a thread's stack.
+const STACK: usize = 2 << 20;
+/// Threads beside those that work for connections: the first one, the journal's, checkpoints'.
+const THREADS: usize = 4;
+/// What a connection has in hand: 64 kB in each direction, as much of a body and of an answer that don't count, and TLS.
+const CONNECTION: usize = 5 << 16;
+/// A piece of a stream, with values before. One is made, one waits, and one is written.
+const PIECE: usize = 1 << 19;
+const PIECES: usize = 3;
+/// What an event of the transcript takes beside its text.
+const EVENT: usize = 32;
+/// What an answer that is remembered takes beside its text.
+const REMEMBERED: usize = 200;
+/// Bytes of text for a byte of a row: each may be spelled `%00`.
+const SPELLED: usize = 3;
+/// Messages of a session: one comes, one waits, one is answered, and a line of it is spelled anew.
+const MESSAGES: usize = 4;
+/// Copies of what is committed that wait for the disk: one gathers, and one is written.
+const BATCHES: usize = 2;
+
+/// The reserve in bytes, for so many threads that work for connections.
+pub fn reserve(options: &Options, workers: usize) -> u64 {
+    parts(options, workers).iter().fold(0, |sum: u64, &part| sum.saturating_add(part as u64))
+}
+
+fn parts(options: &Options, workers: usize) -> [usize; 9] {
+    let Options { max_message, max_reply, max_answer, max_connections, max_feeds, keep, keep_bytes, .. } = *options;
+    let (seats, twice) = (usize::from(SEATS), |bytes: usize| bytes.saturating_mul(2));
+    let messages = max_message.saturating_mul(seats * MESSAGES);
+    let bodies = max_message.saturating_mul(seats);
+    let waiting = messages.saturating_add(bodies).saturating_mul(SPELLED * BATCHES);
+    [
+        PROGRAM + STACK * (workers + THREADS),
+        keep_bytes.saturating_add(keep.saturating_mul(EVENT + EVENT / 8)),
+        max_connections.saturating_mul(CONNECTION),
+        twice(bodies),
+        messages,
+        answers(max_reply, max_answer, workers),
+        twice(reports::UNREAD),
+        max_feeds.saturating_mul(PIECE * PIECES),
+        journal::MOST_BYTES + journal::MOST * REMEMBERED + if options.data.is_some() { waiting } else { 0 },
+    ]
+}
+
+/// What answers take: unread ones, short ones that don't count, and those that are made. One message is answered at a
+/// time, whose answers are copied once, and a line's text stands in the library's wrapper too. Of rows and transactions
+/// each thread makes one.
+fn answers(max_reply: usize, max_answer: usize, workers: usize) -> usize {
+    let short = usize::from(SEATS) * 8 * FREE;
+    let line = max_answer.saturating_mul(SPELLED);
+    let message = max_reply.saturating_add(line);
+    let made = message.saturating_mul(3).saturating_add(line.saturating_mul(2));
+    let plan = max_reply.max(2 * pages::MOST_BYTES as usize).saturating_mul(3 * workers);
+    (2 * session::UNREAD + short).saturating_add(made).saturating_add(plan)
+}
+
+#[cfg(test)]
+mod tests {
+    use super::*;
+    use crate::testing::options;
+
+    const SMALL: [&str; 14] = [
+        "--max-message",
+        "65536",
+        "--max-reply",
+        "65536",
+        "--max-answer",
+        "131072",
+        "--max-connections",
+        "100",
+        "--max-feeds",
+        "8",
+        "--keep-bytes",
+        "1000000",
+        "--keep",
+        "1000",
+    ];
+
+    #[test]
+    fn what_is_bounded_lower_needs_less() {
+        let (usual, small) = (reserve(&options(&[]), 4), reserve(&options(&SMALL), 4));
+        assert!(usual < 2 << 30 && small < 512 << 20, "{} MB, {} MB", usual >> 20, small >> 20);
+        assert!(reserve(&options(&SMALL), 8) > small);
+    }
+
+    #[test]
+    fn each_bound_counts() {
+        let usual = reserve(&options(&[]), 4);
+        let names = ["max-message", "max-reply", "max-answer", "max-connections", "max-feeds", "keep", "keep-bytes"];
+        for name in names {
+            let most = format!("{}", 1u64 << if name.starts_with("keep") { 40 } else { 20 });
+            let more = reserve(&options(&[&format!("--{name}"), &most]), 4);
+            assert!(more != usual, "--{name}");
+        }
+        assert!(reserve(&options(&["--data", "kept"]), 4) > usual);
+    }
+
+    #[test]
+    fn bounds_without_an_end_give_the_greatest_number() {
+        let most = format!("{}", 1u64 << 62);
+        assert!(reserve(&options(&["--keep", &most, "--keep-bytes", &most]), 4) > 1 << 62);
+    }
+}
