@@ -53,7 +53,7 @@ impl Transcript {
     }
 
     /// Events from one position to below another, as bytes: whole ones, until there are `most` bytes. With them comes
-    /// the position to go on from. There are none where the first is kept no longer.
+    /// the position to go on from. There are none where the first is kept no longer, or where there is no memory.
     pub fn piece(&self, from: u64, until: u64, most: usize) -> Option<(Vec<u8>, u64)> {
         let skipped = usize::try_from(from.checked_sub(self.first)?).unwrap_or(usize::MAX);
         let count = usize::try_from(until.saturating_sub(from)).unwrap_or(usize::MAX);
@@ -62,6 +62,7 @@ impl Transcript {
             if data.len() >= most {
                 break;
             }
+            data.try_reserve(text.len()).ok()?;
             data.extend_from_slice(text.as_bytes());
             next += 1;
         }
