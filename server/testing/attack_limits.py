@@ -9,7 +9,9 @@ along. In the end
     /holders tells the same as the database's own report, /state
     the server answers: it may end for want of memory, but never live on and be deaf
 
-A server with `--max-memory` below its limit may not end either.
+A server with `--max-memory` below its limit may not end either. Where the limit lies above it by the reserve that the
+server itself tells, it may not end whatever clients hold meanwhile: answers, reports and streams that they don't read,
+bodies and messages that they don't end.
 """
 
 import contextlib
@@ -20,11 +22,11 @@ import re
 import threading
 import time
 import zlib
-from collections.abc import Callable
+from collections.abc import Callable, Iterator
 from typing import Any
 
 from attack_beside import Scale
-from handmade import Session, Wire
+from handmade import TEXT, Session, Wire, fill, framed
 from machine import LONGEST, Room, Server, wait_for
 
 MEGABYTE = 1 << 20
@@ -215,20 +217,32 @@ def reads_on(reader: Reader) -> bool:
         return False
 
 
+Crowd = Callable[[Server], contextlib.AbstractContextManager[object]]
+
+
 def run_at(room: Room, megabytes: int, has_own_limit: bool) -> tuple[str, list[str]]:
     """How a run ended, and what was wrong."""
     options = ["--keep", "10000000", "--keep-bytes", str(megabytes * MEGABYTE // 3), "--history", "1"]
     if has_own_limit:
         options += ["--max-memory", str(megabytes * MEGABYTE // 3)]
-    limit = ("prlimit", "--as=%d" % (megabytes * MEGABYTE))
-    server = room.start(Server(room.path, *options, before=limit))
+    server = room.start(limited(room, megabytes * MEGABYTE, options))
+    return run_on(server, has_own_limit)
+
+
+def limited(room: Room, addresses: int, options: list[str]) -> Server:
+    return Server(room.path, *options, before=("prlimit", "--as=%d" % addresses))
+
+
+def run_on(server: Server, has_own_limit: bool, crowd: Crowd = contextlib.nullcontext) -> tuple[str, list[str]]:
+    """The same of a server that has begun. The crowd comes once there is no memory for more rows."""
     at_limit, over, read_over = threading.Event(), threading.Event(), threading.Event()
     writers = [Writer(server, number, at_limit, over) for number in range(WRITERS)]
     reader = Reader(server, read_over)
     for one in (*writers, reader):
         one.start()
     has_come = at_limit.wait(LONGEST)
-    time.sleep(SECONDS_AT_LIMIT)
+    with crowd(server):
+        time.sleep(SECONDS_AT_LIMIT)
     over.set()
     for one in writers:
         one.join(LONGEST)
@@ -269,4 +283,92 @@ def test_limits(room: Room, scale: Scale, runs: int = 3) -> str:
     return "; ".join(figures[:6])
 
 
-TESTS: list[Callable[[Room, Scale], str]] = [test_limits]
+# ---- clients that hold all that they may
+
+SMALL = ["--max-message", "262144", "--max-reply", "4000000", "--max-answer", "1000000", "--max-connections", "256",
+         "--max-feeds", "48", "--keep-bytes", "8000000", "--history", "1"]
+MOST = 100 * MEGABYTE  # of --max-memory
+LONG_BODY = 262_143
+
+
+def peak_of_addresses(server: Server) -> int:
+    with open("/proc/%d/status" % server.child.pid) as lines:
+        return next(int(line.split()[1]) for line in lines if line.startswith("VmPeak")) << 10
+
+
+def reserve_of(room: Room, options: list[str]) -> int:
+    """What a server with these options may take beside its rows, as it says."""
+    server = room.start(Server(room.path, *options))
+    lines = server.ask("GET", "/metrics")[1].splitlines()
+    server.kill()
+    return next(int(line.split()[1]) for line in lines if line.startswith("ripsawbean_memory_reserve_bytes "))
+
+
+def asked(server: Server, path: str) -> Wire:
+    wire = Wire(server.port, little=True, timeout=20)
+    wire.ask("GET", path)
+    return wire
+
+
+def unended_body(server: Server) -> Wire:
+    wire = Wire(server.port, timeout=20)
+    head = "POST /call HTTP/1.1\r\nHost: 127.0.0.1:%d\r\nContent-Length: %d\r\n\r\n" % (server.port, LONG_BODY + 1)
+    wire.send(head.encode() + b"x" * LONG_BODY)
+    return wire
+
+
+def unended_message(server: Server) -> Wire:
+    session = Session(server.port)
+    session.send(framed(b"stats\n" * (LONG_BODY // 6), TEXT)[:-6])
+    return session
+
+
+def unread_answers(server: Server) -> Wire:
+    """Some fifty rows of 16,000 bytes, again and again."""
+    session = Session(server.port, little=True)
+    session.tell("begin\n" + "scan . w0/0000001 w0/0000050\n" * 9)
+    return session
+
+
+@contextlib.contextmanager
+def holding(server: Server) -> Iterator[None]:
+    kinds: list[tuple[int, Callable[[Server], Wire]]] = [
+        (40, unread_answers), (15, unended_message), (60, unended_body), (24, lambda it: asked(it, "/feed")),
+        (24, lambda it: asked(it, "/dump")), (20, lambda it: asked(it, "/transcript")),
+        (20, lambda it: asked(it, "/rows?limit=10000"))]
+    wires = []
+    for count, come in kinds:
+        for _ in range(count):
+            with contextlib.suppress(OSError):  # it may be refused
+                wires.append(come(server))
+    try:
+        yield
+    finally:
+        for wire in wires:
+            wire.reset()
+
+
+def test_a_reserve_is_enough(room: Room, scale: Scale) -> str:
+    """At a limit of --max-memory and the reserve a server lives on, and takes no call back, whoever holds what."""
+    options = [*SMALL, "--max-memory", str(MOST)]
+    reserve = reserve_of(room, options)
+    server = room.start(limited(room, MOST + reserve, options))
+    how, faults = run_on(server, True, holding)
+    assert not faults, "; ".join(faults[:6])
+    figures = "%s; %d MB of addresses at most, of %d MB" % (how, peak_of_addresses(server) >> 20, MOST + reserve >> 20)
+    assert peak_of_addresses(server) < MOST + reserve, figures
+    return figures
+
+
+def test_threads_lay_no_addresses_aside(room: Room, scale: Scale) -> str:
+    """A server of few rows takes few addresses, however many of its threads work."""
+    server = room.start(Server(room.path))
+    for one in [Session(server.port) for _ in range(16)]:
+        fill(one, "few/%d/" % one.socket.getsockname()[1], 500)
+    found = peak_of_addresses(server)
+    assert found < 128 * MEGABYTE, "%d MB" % (found >> 20)
+    return "%d MB" % (found >> 20)
+
+
+TESTS: list[Callable[[Room, Scale], str]] = [
+    test_limits, test_a_reserve_is_enough, test_threads_lay_no_addresses_aside]
