@@ -103,7 +103,7 @@ mod tests {
     #[test]
     fn what_is_bounded_lower_needs_less() {
         let (usual, small) = (reserve(&options(&[]), 4), reserve(&options(&SMALL), 4));
-        assert!(usual < 2 << 30 && small < 512 << 20, "{} MB, {} MB", usual >> 20, small >> 20);
+        assert!(usual < 2 << 30 && small < 640 << 20, "{} MB, {} MB", usual >> 20, small >> 20);
         assert!(reserve(&options(&SMALL), 8) > small);
     }
 
@@ -112,7 +112,7 @@ mod tests {
         let usual = reserve(&options(&[]), 4);
         let names = ["max-message", "max-reply", "max-answer", "max-connections", "max-feeds", "keep", "keep-bytes"];
         for name in names {
-            let most = format!("{}", 1u64 << if name.starts_with("keep") { 40 } else { 20 });
+            let most = format!("{}", 1u64 << if name.starts_with("keep") { 40 } else { 19 });
             let more = reserve(&options(&[&format!("--{name}"), &most]), 4);
             assert!(more != usual, "--{name}");
         }
