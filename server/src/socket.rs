@@ -199,7 +199,7 @@ impl Socket {
                 Ok(Some(Incoming::Ping(data))) => encode(Outgoing::Pong(&data), &mut self.out),
                 Ok(Some(Incoming::Pong(_))) => {}
                 Ok(Some(Incoming::Close { code, .. })) => self.end = Some(End::ByClient(code)),
-                Err(ended) => self.end = Some(End::Broken(ended)),
+                Err(ended) => self.end = Some(End::of(ended)),
             }
         }
         Ok(())

@@ -34,4 +34,5 @@ pub mod code {
     pub const NO_TEXT: u16 = 1003;
     pub const NO_UTF8: u16 = 1007;
     pub const TOO_LONG: u16 = 1009;
+    pub const LATER: u16 = 1013;
 }

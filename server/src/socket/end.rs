@@ -6,7 +6,8 @@
 //! 1002, 1003, 1007, 1009 and a sentence               the client has broken a rule of WebSocket, or a limit
 //! 1008 "operator", "silent", "heartbeat"              the session was told to end, or its client answers no ping
 //! 1011 "unwritten", "disk"                            an answer has no memory, or waits for the disk
-//! 1013 "answers"                                      a line waits too long for others to read their answers
+//! 1013 "answers", "nomemory"                          a line waits too long for others to read their answers, or there
+//!                                                     is no memory for a message, of which no line was taken
 //! ```
 //!
 //! 1. Whenever the server ends a session whose client takes bytes, a close frame says why.
@@ -25,7 +26,6 @@ use tokio::time::timeout;
 /// Codes of a close frame beside those of `ws`.
 pub const POLICY: u16 = 1008;
 pub const INTERNAL: u16 = 1011;
-pub const LATER: u16 = 1013;
 /// How long a client may take to read why the session ends, and how much it may send meanwhile.
 pub const LINGER: Duration = Duration::from_secs(2);
 const LINGER_BYTES: usize = 64 << 20;
@@ -52,12 +52,20 @@ impl End {
     pub const HEARTBEAT: End = End::Closed(POLICY, "heartbeat");
     pub const UNWRITTEN: End = End::Closed(INTERNAL, "unwritten");
     pub const DISK: End = End::Closed(INTERNAL, "disk");
-    pub const CROWDED: End = End::Closed(LATER, "answers");
+    pub const CROWDED: End = End::Closed(code::LATER, "answers");
 
     pub fn by(by: EndedBy) -> End {
         match by {
             EndedBy::Operator => End::Closed(POLICY, "operator"),
             EndedBy::Silence => End::Closed(POLICY, "silent"),
+        }
+    }
+
+    /// By what the decoder says. Where there is no memory the client has broken no rule.
+    pub fn of(ended: Ended) -> End {
+        match ended {
+            Ended { code: code::LATER, why } => End::Closed(code::LATER, why),
+            ended => End::Broken(ended),
         }
     }
 
@@ -133,16 +141,17 @@ mod tests {
     fn who_is_let_go_is_a_warning() {
         let said = Said::default();
         let log = Log::to(Level::Warn, false, Box::new(said.clone()));
-        for end in [End::HEARTBEAT, End::Stuck, End::DISK, End::by(EndedBy::Silence)] {
+        let wanting = End::of(Ended { code: 1013, why: "nomemory" });
+        for end in [End::HEARTBEAT, End::Stuck, End::DISK, End::CROWDED, End::by(EndedBy::Silence), wanting] {
             end.tell(&log, 7, "192.0.2.1:9");
         }
-        let broken = End::Broken(Ended { code: 1002, why: "a rule is broken" });
+        let broken = End::of(Ended { code: 1002, why: "a rule is broken" });
         for end in [End::SHUTDOWN, End::Gone, End::ByClient(None), broken] {
             end.tell(&log, 8, "192.0.2.1:9");
         }
         let text = said.text();
-        assert_eq!(text.matches("warn session_let_go seat=7 peer=192.0.2.1:9 why=").count(), 4, "{text}");
-        assert!(text.lines().count() == 4 && text.contains("why=heartbeat\n"), "{text}");
+        assert_eq!(text.matches("warn session_let_go seat=7 peer=192.0.2.1:9 why=").count(), 6, "{text}");
+        assert!(text.lines().count() == 6 && text.contains("why=heartbeat\n"), "{text}");
     }
 
     #[tokio::test]

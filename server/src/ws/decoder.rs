@@ -176,18 +176,20 @@ impl Decoder {
 impl Text {
     fn add(&mut self, piece: &[u8], mask: [u8; 4], before: u64, most: usize) -> Result<(), Ended> {
         let start = self.bytes.len();
-        self.make_room(start + piece.len(), most);
+        self.make_room(start + piece.len(), most)?;
         self.bytes.extend_from_slice(piece);
         unmask(&mut self.bytes[start..], mask, before);
         self.check()
     }
 
-    /// Doubles the room, but not beyond the most that a message may have.
-    fn make_room(&mut self, needed: usize, most: usize) {
-        if needed > self.bytes.capacity() {
-            let wanted = needed.max(2 * self.bytes.capacity()).min(most);
-            self.bytes.reserve_exact(wanted - self.bytes.len());
+    /// Doubles the room, but not beyond the most that a message may have. Nothing of it was taken, so where there is no
+    /// memory it may be sent again.
+    fn make_room(&mut self, needed: usize, most: usize) -> Result<(), Ended> {
+        if needed <= self.bytes.capacity() {
+            return Ok(());
         }
+        let wanted = needed.max(2 * self.bytes.capacity()).min(most);
+        self.bytes.try_reserve_exact(wanted - self.bytes.len()).map_err(|_| frames::NO_MEMORY)
     }
 
     /// Checks what came, but for the beginning of a character at its end.

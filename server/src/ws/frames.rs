@@ -49,6 +49,7 @@ pub const NOT_AT_ITS_END: Ended = broken("a message begins within another");
 pub const CLOSE_CODE: Ended = broken("a close frame has no such code");
 pub const NO_TEXT: Ended = Ended { code: code::NO_TEXT, why: "lines are text" };
 pub const NO_UTF8: Ended = Ended { code: code::NO_UTF8, why: "a text is no UTF-8" };
+pub const NO_MEMORY: Ended = Ended { code: code::LATER, why: "nomemory" };
 pub const TOO_LONG: Ended = Ended { code: code::TOO_LONG, why: "a message is longer than --max-message" };
 
 #[derive(Debug, Clone, Copy, PartialEq, Eq)]
