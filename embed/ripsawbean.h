@@ -104,18 +104,18 @@ enum {
     RIPSAWBEAN_OPEN = 17,      // the handle is open already
 
     // By the functions of a replica alone. After each of them the replica is as it was.
-    RIPSAWBEAN_NOMESSAGE = 18,    // the line is no message's: no JSON, or not as a feed tells it
-    RIPSAWBEAN_NOTAFTER = 19,     // a row at or before what was taken: below a resolved timestamp, or not after the last row
+    RIPSAWBEAN_NOMESSAGE = 18,    // the line is no message's, no JSON or not as a feed tells it; or rows to begin with are none
+    RIPSAWBEAN_NOTAFTER = 19,     // a row at or before what was taken: below a resolved timestamp, or not after the row before it
     RIPSAWBEAN_OUTSIDESPAN = 20,  // a row whose key lies outside the span
     RIPSAWBEAN_RESOLVEDBACK = 21, // a resolved timestamp at or below the last one, or below the last row
-    RIPSAWBEAN_NOFEED = 22,       // the line's command opens no feed, or opens it above RIPSAWBEAN_MAX_TIMESTAMP
+    RIPSAWBEAN_NOFEED = 22,       // the line's command opens no feed, or opens it above RIPSAWBEAN_MAX_TIMESTAMP; or an initial one with rows
     RIPSAWBEAN_NOVALUE = 23,      // the key has no value
 
     // The first by ripsawbean_versions_at alone, the second by a note of ripsawbean_calls alone.
     RIPSAWBEAN_BELOWHORIZON = 24,  // the timestamp is below the horizon, so versions may be gone
     RIPSAWBEAN_ANSWERTOOLONG = 25, // the rows or messages have more bytes than are let through: no call was made
 
-    // By ripsawbean_open and ripsawbean_replica_open, before anything else is looked at. The handle is as it was.
+    // By what opens a database or a replica, before anything else is looked at. The handle is as it was.
     RIPSAWBEAN_PROCESSOR = 26      // the processor lacks what the code needs: on x86-64, what x86-64-v2 has
 };
 
@@ -155,11 +155,7 @@ uint8_t ripsawbean_text(ripsawbean *db, uint8_t *out, size_t room, size_t *lengt
 // Shows what an operator may ask of the database now, as lines of JSON: how far it is closed and collected, and what
 // holds both back; the undecided transactions; the protections; the feeds, and how far each has come. docs/GUIDE.md
 // shows one. It makes no call, and the text of the last event stays. It costs what it shows, whatever the database
-// holds.
-//
-//     RIPSAWBEAN_OK         *length is the whole length of the text; out as for ripsawbean_call
-//     RIPSAWBEAN_UNWRITTEN  there is no memory for the text; *length is 0 and out is as it was. It may be asked for again
-//     RIPSAWBEAN_CLOSED     *length is 0 and out is as it was
+// holds. RIPSAWBEAN_OK, _UNWRITTEN and _CLOSED say of its text what they say by ripsawbean_text.
 uint8_t ripsawbean_state(ripsawbean *db, uint8_t *out, size_t room, size_t *length);
 
 // Frees the database, and leaves the handle closed. It may be opened again. A closed handle stays closed.
@@ -530,14 +526,18 @@ typedef struct {
 
 // Opens a closed handle on an empty replica of the feed that a line opens, as "0 openinitial - - 10\n": the line of the
 // call that opened the feed will do. A replica of an initial feed is told its rows. One of another feed has none of the
-// rows that its span held at the cursor: open it as an initial one, and take those rows first, as messages at the
-// cursor, keys rising. At cursor 0 there are none.
-//
-//     RIPSAWBEAN_OK        it is open
-//     RIPSAWBEAN_OPEN      whatever the line is; tested first
-//     RIPSAWBEAN_WORDCOUNT to _BADBYTE, RIPSAWBEAN_NOFEED, RIPSAWBEAN_NOMEMORY
-//                          it is still closed
+// rows that its span held at the cursor: ripsawbean_replica_begin opens it with them. At cursor 0 there are none.
+// RIPSAWBEAN_OK, or the handle is as it was: RIPSAWBEAN_OPEN, which is tested first, RIPSAWBEAN_WORDCOUNT to _BADBYTE,
+// _NOFEED, _NOMEMORY.
 uint8_t ripsawbean_replica_open(ripsawbean_replica *replica, const uint8_t *line, size_t line_length);
+
+// The same of a feed that is not initial, with rows to begin with: lines "row KEY VALUE\n", keys rising, or no bytes. They
+// are what a scan found at the cursor, as its text has them below its first line; or what ripsawbean_replica_rows showed
+// of a replica that was told all through the cursor. RIPSAWBEAN_OK, or the handle is as it was, by the first test that
+// isn't passed: RIPSAWBEAN_OPEN; RIPSAWBEAN_WORDCOUNT to _BADBYTE, _NOFEED; of the rows _NOMESSAGE, where a line is none
+// of a row, _NOTAFTER, where their keys don't rise, _OUTSIDESPAN. Or RIPSAWBEAN_NOMEMORY.
+uint8_t ripsawbean_replica_begin(ripsawbean_replica *replica, const uint8_t *line, size_t line_length, const uint8_t *rows,
+                                 size_t rows_length);
 
 // Takes the line of a message, with its newline, as a poll's text has it. RIPSAWBEAN_OK, or nothing changed:
 // RIPSAWBEAN_NOMESSAGE, _NOTAFTER, _OUTSIDESPAN, _RESOLVEDBACK, _NOMEMORY, _CLOSED. A resolved message wants no memory.
@@ -545,14 +545,14 @@ uint8_t ripsawbean_replica_take(ripsawbean_replica *replica, const uint8_t *line
 
 // Asked before a message is taken: *at is the timestamp at which the rows are the map as they stand, where the message
 // shows it. The first row of a timestamp t above the cursor shows it of t - 1. Else *at is RIPSAWBEAN_NONE. Nothing is
-// taken. A replica that goes on with the rows of another passes over the timestamp at which it begins: some of its rows
-// may be of the next timestamp. RIPSAWBEAN_OK, or *at is RIPSAWBEAN_NONE: RIPSAWBEAN_NOMESSAGE, _NOMEMORY, _CLOSED.
+// taken. A replica that goes on with the rows of another passes over the timestamp at which it begins, also below: some
+// of its rows may be of the next. RIPSAWBEAN_OK, or *at is RIPSAWBEAN_NONE: RIPSAWBEAN_NOMESSAGE, _NOMEMORY, _CLOSED.
 uint8_t ripsawbean_replica_ready(ripsawbean_replica *replica, const uint8_t *line, size_t line_length, uint64_t *at);
 
 // *through is the timestamp through which all was told: every later message is above it, and a feed that is opened
 // there goes on without a gap. RIPSAWBEAN_NONE among the first rows of an initial feed. *at is the timestamp at which
-// the rows are the map after a resolved message, and RIPSAWBEAN_NONE after a row. RIPSAWBEAN_OK, or both are
-// RIPSAWBEAN_NONE: RIPSAWBEAN_CLOSED.
+// the rows are the map after a resolved message, the cursor at first where the feed is not initial, and RIPSAWBEAN_NONE
+// after a row. RIPSAWBEAN_OK, or both are RIPSAWBEAN_NONE: RIPSAWBEAN_CLOSED.
 uint8_t ripsawbean_replica_complete(ripsawbean_replica *replica, uint64_t *through, uint64_t *at);
 
 // Shows the value of a key, both as bytes. *length is the whole length of the value, and out begins with as much of it

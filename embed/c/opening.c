@@ -7,6 +7,8 @@
 
 uint8_t proved_ripsawbean_open(ripsawbean *db, uint32_t ring);
 uint8_t proved_ripsawbean_replica_open(ripsawbean_replica *replica, const uint8_t *line, size_t line_length);
+uint8_t proved_ripsawbean_replica_begin(ripsawbean_replica *replica, const uint8_t *line, size_t line_length,
+                                        const uint8_t *rows, size_t rows_length);
 
 // What x86-64-v2 has beside the first x86-64, as the first leaf of cpuid tells it.
 static const unsigned int wanted = bit_SSE3 | bit_SSSE3 | bit_SSE4_1 | bit_SSE4_2 | bit_CMPXCHG16B | bit_POPCNT;
@@ -22,4 +24,10 @@ uint8_t ripsawbean_open(ripsawbean *db, uint32_t ring) {
 
 uint8_t ripsawbean_replica_open(ripsawbean_replica *replica, const uint8_t *line, size_t line_length) {
     return can_run() ? proved_ripsawbean_replica_open(replica, line, line_length) : RIPSAWBEAN_PROCESSOR;
+}
+
+uint8_t ripsawbean_replica_begin(ripsawbean_replica *replica, const uint8_t *line, size_t line_length,
+                                 const uint8_t *rows, size_t rows_length) {
+    if (!can_run()) return RIPSAWBEAN_PROCESSOR;
+    return proved_ripsawbean_replica_begin(replica, line, line_length, rows, rows_length);
 }

@@ -6,6 +6,10 @@ static uint8_t opened(ripsawbean_replica *replica, const char *line) {
     return ripsawbean_replica_open(replica, line_of(line, strlen(line)), strlen(line));
 }
 
+static uint8_t begun(ripsawbean_replica *replica, const char *line, const char *rows) {
+    return ripsawbean_replica_begin(replica, line_of(line, strlen(line)), strlen(line), other_of(rows, strlen(rows)), strlen(rows));
+}
+
 static uint8_t taken(ripsawbean_replica *replica, const char *line) {
     return ripsawbean_replica_take(replica, line_of(line, strlen(line)), strlen(line));
 }
@@ -68,6 +72,36 @@ static void closed_ones(void) {
     CHECK(!replica.is_open && replica.at == NULL);
 }
 
+// Rows to begin with: the first test that isn't passed tells, and the handle stays closed.
+static void rows_to_begin_with(void) {
+    doing = "rows to begin with";
+    ripsawbean_replica replica = RIPSAWBEAN_REPLICA_INITIALIZER;
+    CHECK(begun(&replica, "0 open - - 5", "none") == RIPSAWBEAN_NONEWLINE);
+    CHECK(begun(&replica, "0 open - -\n", "none") == RIPSAWBEAN_WORDCOUNT);
+    CHECK(begun(&replica, "64 open - - 5\n", "") == RIPSAWBEAN_SESSION);
+    CHECK(begun(&replica, "0 poll 1 1\n", "none") == RIPSAWBEAN_NOFEED);
+    CHECK(begun(&replica, "0 openinitial - - 5\n", "") == RIPSAWBEAN_NOFEED);
+    CHECK(begun(&replica, "0 openinitialevery - - 5 1\n", "") == RIPSAWBEAN_NOFEED);
+    CHECK(begun(&replica, "0 open - - 9223372036854775808\n", "none") == RIPSAWBEAN_NOFEED);
+    CHECK(begun(&replica, "0 open a c 5\n", "row d 1\nrow a 1") == RIPSAWBEAN_NOMESSAGE);
+    CHECK(begun(&replica, "0 open a c 5\n", "row d 1\n\n") == RIPSAWBEAN_NOMESSAGE);
+    CHECK(begun(&replica, "0 open a c 5\n", "row %61 1\n") == RIPSAWBEAN_NOMESSAGE);
+    CHECK(begun(&replica, "0 open a c 5\n", "row d 1\nrow d 1\n") == RIPSAWBEAN_NOTAFTER);
+    CHECK(begun(&replica, "0 open a c 5\n", "row b 1\nrow c 1\n") == RIPSAWBEAN_OUTSIDESPAN);
+    CHECK(!replica.is_open && replica.at == NULL);
+
+    CHECK(begun(&replica, "63 openevery a c 0 3\n", "row a 1\nrow b -\n") == RIPSAWBEAN_OK);
+    CHECK(begun(&replica, "none", "none") == RIPSAWBEAN_OPEN); // tested before the line
+    CHECK(complete(&replica, 0, 0) == RIPSAWBEAN_OK && rows(&replica, "row a 1\nrow b -\n") == RIPSAWBEAN_OK);
+    CHECK(taken(&replica, "{\"after\":null,\"key\":\"YQ==\",\"updated\":\"1\"}\n") == RIPSAWBEAN_OK);
+    CHECK(complete(&replica, 0, RIPSAWBEAN_NONE) == RIPSAWBEAN_OK && rows(&replica, "row b -\n") == RIPSAWBEAN_OK);
+    ripsawbean_replica_close(&replica);
+    CHECK(begun(&replica, "0 open - - 9223372036854775807\n", "") == RIPSAWBEAN_OK);
+    CHECK(complete(&replica, RIPSAWBEAN_MAX_TIMESTAMP, RIPSAWBEAN_MAX_TIMESTAMP) == RIPSAWBEAN_OK);
+    CHECK(rows(&replica, "") == RIPSAWBEAN_OK);
+    ripsawbean_replica_close(&replica);
+}
+
 // Messages of an initial feed with a least gap, and lines between them that are none of its.
 static void messages(void) {
     doing = "messages";
@@ -116,6 +150,10 @@ static uint8_t open_it(ripsawbean_replica *replica) {
     return opened(replica, "0 open - - 5\n");
 }
 
+static uint8_t begin_it(ripsawbean_replica *replica) {
+    return begun(replica, "0 open - - 5\n", long_rows);
+}
+
 static uint8_t ask_ready(ripsawbean_replica *replica) {
     uint64_t time = 12345;
     uint8_t status = ripsawbean_replica_ready(replica, line_of(long_row, strlen(long_row)), strlen(long_row), &time);
@@ -162,6 +200,9 @@ static void refuse_each(ripsawbean_replica *replica, action *act, bool is_open, 
 static void want_of_memory(void) {
     doing = "want of memory";
     ripsawbean_replica replica = RIPSAWBEAN_REPLICA_INITIALIZER;
+    refuse_each(&replica, begin_it, false, "");
+    CHECK(complete(&replica, 5, 5) == RIPSAWBEAN_OK && rows(&replica, long_rows) == RIPSAWBEAN_OK);
+    ripsawbean_replica_close(&replica);
     refuse_each(&replica, open_it, false, "");
     refuse_each(&replica, ask_ready, true, "");
     refuse_each(&replica, take_row, true, "");
@@ -174,6 +215,7 @@ static void want_of_memory(void) {
 int main(void) {
     make_guarded(300, 4096);
     closed_ones();
+    rows_to_begin_with();
     messages();
     want_of_memory();
     printf("replica edges: %lu checks, %lu growths refused\n", checks, growths_refused);

@@ -190,23 +190,23 @@ static void give(follower *f, const message *m) {
 
 // Opens a replica of a feed that was opened so, which begins with these rows of its cursor where it is no initial one.
 static void begin(follower *f, const char *command, const char *gap, const char *rows) {
-    bool is_told = strstr(command, "initial") != NULL || f->cursor > 0; // at 0 there is no row
+    bool is_initial = strstr(command, "initial") != NULL;
     char line[200];
     snprintf(line, sizeof line, "0 %s %s %s %" PRIu64 "%s\n", command, lo_of(f), hi_of(f), f->cursor, gap);
-    if (is_told) snprintf(line, sizeof line, "0 openinitial %s %s %" PRIu64 "\n", lo_of(f), hi_of(f), f->cursor);
-    CHECK(ripsawbean_replica_open(&f->handle, line_of(line, strlen(line)), strlen(line)) == RIPSAWBEAN_OK);
-    f->resolved = f->through = is_told && f->cursor > 0 ? f->cursor - 1 : f->cursor;
-    f->complete = is_told ? RIPSAWBEAN_NONE : f->cursor;
+    const uint8_t *opening = line_of(line, strlen(line)), *told = other_of(rows, strlen(rows));
+    if (is_initial) CHECK(ripsawbean_replica_open(&f->handle, opening, strlen(line)) == RIPSAWBEAN_OK);
+    else CHECK(ripsawbean_replica_begin(&f->handle, opening, strlen(line), told, strlen(rows)) == RIPSAWBEAN_OK);
+    f->resolved = f->through = is_initial && f->cursor > 0 ? f->cursor - 1 : f->cursor;
+    f->complete = is_initial ? RIPSAWBEAN_NONE : f->cursor;
     f->has_row = false;
-    for (unsigned key = 0; key < KEYS; key++) f->has[key] = NO_VALUE;
-    see(f);
-    if (strstr(command, "initial") != NULL || f->cursor == 0) return;
-    for (unsigned key = 0; key < KEYS; key++)
+    for (unsigned key = 0; key < KEYS; key++) {
+        f->has[key] = NO_VALUE;
         for (unsigned value = 0; value < VALUES; value++) {
             snprintf(line, sizeof line, "row %s %s\n", keys[key].spelled, values[value].spelled);
-            message m = row(key, value, f->cursor);
-            if (strstr(rows, line) != NULL) give(f, &m);
+            if (!is_initial && strstr(rows, line) != NULL) f->has[key] = value;
         }
+    }
+    see(f);
 }
 
 // ---- histories

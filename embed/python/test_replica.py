@@ -65,27 +65,33 @@ class Taking(unittest.TestCase):
                 call()
 
     def test_rows_to_begin_with(self):
-        rows = [(b"b", b"2"), (b"a", b"1")]
-        with Replica(None, None, 5, rows=rows) as replica:
-            self.assertEqual((replica.rows(), replica.complete_through), (sorted(rows), None))
+        rows = [(b"b", b"2"), (b"a ", b""), (b"-", b"-")]
+        for cursor in (0, 5, (1 << 63) - 1):
+            with Replica(None, None, cursor, rows=rows) as replica:
+                self.assertEqual(replica.rows(), sorted(rows))
+                self.assertEqual((replica.complete_through, replica.complete_at), (cursor, cursor))
+        with Replica(None, None, 5, rows=[]) as replica:
+            self.assertEqual((replica.rows(), replica.complete_at), ([], 5))
             self.assertEqual(replica.ready(Row(b"a", None, 7)), 6)
-        with Replica(None, None, 0, rows=rows) as replica:
-            self.assertEqual((replica.rows(), replica.complete_at), ([], 0))
-        with warnings.catch_warnings():
-            warnings.simplefilter("error")
-            with self.assertRaises(ripsawbean.OutsideSpan):
-                Replica(b"b", None, 5, rows=rows)
+        for error, asked in (
+            (ripsawbean.OutsideSpan, ((b"b", None, 5), rows)), (ripsawbean.NotAfter, ((None, None, 5), rows + rows)),
+            (ripsawbean.NoMessage, ((None, None, 5), [(b"", b"1")])), (ripsawbean.NoFeed, ((None, None, 5, True), rows)),
+            (ripsawbean.NoFeed, ((None, None, 1 << 63), [])), (ripsawbean.KeyLength, ((b"k" * 258, None, 5), [])),
+        ):
+            with warnings.catch_warnings(), self.assertRaises(error):
+                warnings.simplefilter("error")
+                Replica(*asked[0], rows=asked[1])
 
 
 class Reading:
     """What a replica has taken, by the definitions, read plainly."""
 
-    def __init__(self, span, cursor, tells_rows):
-        """`tells_rows` says that the rows at the cursor come as messages."""
+    def __init__(self, span, cursor, rows):
+        """`rows` are those that it begins with, or None where they come as messages at the cursor."""
         self.span, self.cursor = span, cursor
-        self.resolved = self.through = max(cursor - 1, 0) if tells_rows else cursor
-        self.complete = None if tells_rows else cursor
-        self.last, self.rows = None, {}
+        self.resolved = self.through = max(cursor - 1, 0) if rows is None else cursor
+        self.complete = None if rows is None else cursor
+        self.last, self.rows = None, dict(rows or ())
 
     def fault(self, message):
         """Why a message is refused, or None."""
@@ -124,9 +130,7 @@ class Follower:
     def __init__(self, test, span, cursor, initial, rows):
         self.test = test
         self.replica = Replica(*span, cursor, initial, rows)
-        self.reading = Reading(span, cursor, initial or cursor > 0)
-        for key, value in rows if cursor > 0 else ():
-            self.reading.take(Row(key, value, cursor))
+        self.reading = Reading(span, cursor, rows)
         self.see()
 
     def give(self, message):
@@ -217,7 +221,7 @@ class History:
         command = "open" + ("initial" if initial else "") + ("every" if gap else "")
         self.feed = self.db.make(command, *self.span, self.closed, *gap).number
         self.went_on = None
-        self.follow(self.closed, initial, () if initial else self.scan(self.closed))
+        self.follow(self.closed, initial, None if initial else self.scan(self.closed))
 
     def go_on(self):
         """A new feed and new replicas, from where the steady one was told all, also between resolved messages."""

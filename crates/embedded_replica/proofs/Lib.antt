@@ -1,1 +1,3 @@
 pub mod Opening
+pub mod Seeding
+pub mod PairLines

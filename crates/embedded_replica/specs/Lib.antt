@@ -1,1 +1,2 @@
 pub mod Consumers
+pub mod Seeds

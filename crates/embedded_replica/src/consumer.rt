@@ -3,7 +3,9 @@ ghost use Rattle.std.specs.Prelude.{◌≡◌, [], IfOk, IfErr, OnErr};
 ghost use Rattle.replica.specs.Replicas.{through_in, complete_in, Follows};
 ghost use Rattle.replica.specs.Starts.{seeded_start};
 ghost use Rattle.embedded_replica.specs.Consumers.{replica_of, opening_of, OpensFeed, Begins, BeginsBy, IsUnopened, HasTaken, IsRefused, IsReady, IsNoMessage, IsNoKey, Shows, ShowsRows};
+ghost use Rattle.embedded_replica.specs.Seeds.{seeded_of, BeginsWith, SeededBy, IsUnseeded, IsUnseededBy};
 
+use crate::reading::pairs_of;
 use crate::showing::text_of;
 use json_lines::buffer::copy_front;
 use json_lines::{MessageFault, read_message};
@@ -45,6 +47,24 @@ pub enum BeginError {
     NoMemory,
 }
 
+/// Why no consumer begins by a line and rows, in the order of the tests.
+#[derive(Clone, Copy, Debug)]
+pub enum SeedingError {
+    /// The line is faulty.
+    Fault(LineFault),
+    /// The line's command opens no feed that begins with rows: none at all, an initial one, or one above the greatest
+    /// timestamp.
+    NoFeed,
+    /// The text isn't lines of rows: the first fault.
+    Rows(LineFault),
+    /// The keys don't rise.
+    NotAfter,
+    /// A key lies outside the span.
+    OutsideSpan,
+    /// A growth of memory was refused.
+    NoMemory,
+}
+
 /// Why a line was not taken. Nothing changed.
 #[derive(Clone, Copy, Debug)]
 pub enum TakeError {
@@ -58,7 +78,7 @@ impl Consumer {
     /// The consumer of the feed that a line's command opens, from any seat: a line of format two, with its newline.
     ///
     /// It begins empty. One of an initial feed is told what the span held at the cursor; any other is to be told only
-    /// of a feed whose span held nothing there.
+    /// of a feed whose span held nothing there, else `begin` makes it.
     pub fn open(alloc: Global, line: &[u8]) -> Result<Consumer, BeginError>
         ensures ok { IfOk result (λ c. Begins line.now (replica_of c)) }
         ensures err { IfErr result (IsUnopened line.now) }
@@ -72,6 +92,26 @@ impl Consumer {
             Ok(Some(replica)) => Ok(Consumer { alloc, replica }),
             Ok(None) => Err(BeginError::NoFeed),
             Err(_) => Err(BeginError::NoMemory),
+        }
+    }
+
+    /// The consumer of the feed, no initial one, that a line's command opens, from any seat: a line of format two, with
+    /// its newline. It begins with rows: lines `row KEY VALUE`, as a scan's answer has them and `rows` shows them, or no
+    /// bytes.
+    ///
+    /// They are what the span held at the cursor, or what another consumer had that was told all through there.
+    pub fn begin(alloc: Global, line: &[u8], rows: &[u8]) -> Result<Consumer, SeedingError>
+        ensures ok { IfOk result (λ c. BeginsWith line.now rows.now (replica_of c)) }
+        ensures err { IfErr result (IsUnseeded line.now rows.now) }
+    {
+        let cmd = match read_command(alloc, line, MAX_SEATS, Format::Two) {
+            Ok((_, cmd)) => cmd,
+            Err(ReadError::Fault(fault)) => return Err(SeedingError::Fault(fault)),
+            Err(ReadError::NoMemory) => return Err(SeedingError::NoMemory),
+        };
+        match seeded(alloc, cmd, rows) {
+            Ok(replica) => Ok(Consumer { alloc, replica }),
+            Err(error) => Err(error),
         }
     }
 
@@ -196,5 +236,43 @@ fn empty(alloc: Global, span: Span, cursor: u64) -> Result<Replica, AllocError>
         Err(Fault::NoMemory) => Err(AllocError),
         // no rows are no fault
         Err(Fault::NotAfter | Fault::OutsideSpan | Fault::ResolvedBack) => unreachable!(),
+    }
+}
+
+/// The span and the cursor of the feed that a command opens, if it opens one at a timestamp that isn't initial.
+fn seeded_of(cmd: Cmd) -> Option<(Span, u64)>
+    ensures { result ≡ seeded_of cmd }
+{
+    let Opening {
+        span,
+        cursor,
+        initial,
+    } = opening_of(cmd)?;
+    if initial || cursor > MAX {
+        return None;
+    }
+    Some((span, cursor))
+}
+
+/// The replica that begins with the rows of a text, of the feed that a command opens.
+fn seeded(alloc: Global, cmd: Cmd, rows: &[u8]) -> Result<Replica, SeedingError>
+    ensures ok { IfOk result (SeededBy cmd rows.now) }
+    ensures err { IfErr result (IsUnseededBy cmd rows.now) }
+{
+    let Some((span, cursor)) = seeded_of(cmd) else {
+        return Err(SeedingError::NoFeed);
+    };
+    let pairs = match pairs_of(alloc, rows) {
+        Ok(pairs) => pairs,
+        Err(ReadError::Fault(fault)) => return Err(SeedingError::Rows(fault)),
+        Err(ReadError::NoMemory) => return Err(SeedingError::NoMemory),
+    };
+    match Replica::new(alloc, span, cursor, pairs) {
+        Ok(replica) => Ok(replica),
+        Err(Fault::NotAfter) => Err(SeedingError::NotAfter),
+        Err(Fault::OutsideSpan) => Err(SeedingError::OutsideSpan),
+        Err(Fault::NoMemory) => Err(SeedingError::NoMemory),
+        // rows are no resolved message
+        Err(Fault::ResolvedBack) => unreachable!(),
     }
 }

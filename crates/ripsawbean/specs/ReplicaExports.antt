@@ -12,9 +12,12 @@ use Rattle.replica.specs.Replicas.{view_in, through_in, complete_in}
 use Rattle.embedded_replica.specs.declared.consumer.Consumer.{Consumer}
 use Rattle.embedded_replica.specs.declared.consumer.BeginError.{BeginError}
 use Rattle.embedded_replica.specs.declared.consumer.BeginError.TheVariants as opening
+use Rattle.embedded_replica.specs.declared.consumer.SeedingError.{SeedingError}
+use Rattle.embedded_replica.specs.declared.consumer.SeedingError.TheVariants as seeding
 use Rattle.embedded_replica.specs.declared.consumer.TakeError.{TakeError}
 use Rattle.embedded_replica.specs.declared.consumer.TakeError.TheVariants as taking
 use Rattle.embedded_replica.specs.Consumers.{replica_of, Begins, IsUnopened, HasTaken, IsRefused, IsReady, IsNoMessage, AreKey, IsNoKey, ShowsRows}
+use Rattle.embedded_replica.specs.Seeds.{BeginsWith, IsUnseeded}
 
 -- a timestamp as a number; where there is none, a number that is no timestamp
 abbrev pub number_or_none : Option ℕ → ℕ
@@ -26,6 +29,14 @@ abbrev pub open_number : BeginError → ℕ
 open_number (opening.Fault f) = code_of f
 open_number opening.NoFeed = 22
 open_number opening.NoMemory = 12
+
+abbrev pub begin_number : SeedingError → ℕ
+begin_number (seeding.Fault f) = code_of f
+begin_number seeding.NoFeed = 22
+begin_number (seeding.Rows f) = 18
+begin_number seeding.NotAfter = 19
+begin_number seeding.OutsideSpan = 20
+begin_number seeding.NoMemory = 12
 
 abbrev pub line_number : MessageFault → ℕ
 line_number lines.NotJson = 18
@@ -55,6 +66,13 @@ Opened line (Some old) number new = (number ≡ 17) × (new ≡ Some old)
 Opened line None zero (Some new) = Begins line (replica_of new)
 Opened line None zero None = ⊥
 Opened line None (suc n) new = (new ≡ None) × (error : BeginError) × IsUnopened line error × (suc n ≡ open_number error)
+
+-- the same of a consumer that begins by the line and with the rows
+abbrev pub Begun : (line rows : List ℕ) → Option Consumer → ℕ → Option Consumer → Type 0
+Begun line rows (Some old) number new = (number ≡ 17) × (new ≡ Some old)
+Begun line rows None zero (Some new) = BeginsWith line rows (replica_of new)
+Begun line rows None zero None = ⊥
+Begun line rows None (suc n) new = (new ≡ None) × (error : SeedingError) × IsUnseeded line rows error × (suc n ≡ begin_number error)
 
 -- the line was taken, or nothing changed
 abbrev pub TakenBy : List ℕ → Consumer → ℕ → Consumer → Type 0

@@ -75,6 +75,7 @@ ghost use Rattle.word_lines.specs.Table.{table};
 ghost use Rattle.embedded.specs.declared.database.CallError.TheVariants.{NoMemory};
 ghost use Rattle.ripsawbean.specs.Exports.{refusal_of, Opened, Numbered, Called, Asked, Rewritten, Told, ToldOf, number_of};
 
+mod beginning;
 mod bounded;
 mod dump;
 mod handle;

@@ -1,8 +1,9 @@
 //! The functions of a replica, which C calls: the consumer's half of a feed.
 //!
 //! A program owns a [`ReplicaHandle`], all zero bytes at first. `ripsawbean_replica_open` puts the replica behind it of
-//! the feed that a line opens, and `ripsawbean_replica_close` frees it again. Between them the lines of the feed's
-//! messages are taken. The rules of handles, pointers, threads and memory are those of the database's functions.
+//! the feed that a line opens, `ripsawbean_replica_begin` one that begins with rows, and `ripsawbean_replica_close`
+//! frees it again. Between them the lines of the feed's messages are taken. The rules of handles, pointers, threads and
+//! memory are those of the database's functions.
 //!
 //! ```text
 //!                             line                                           number   told
@@ -17,14 +18,17 @@
 //! | Number | What it says | By |
 //! |---|---|---|
 //! | 0 | done | all |
-//! | 1 to 9 | the line's fault by its code; nothing was done | open |
+//! | 1 to 9 | the line's fault by its code; nothing was done | open, begin |
 //! | 4 | the bytes are too few or too many for a key | get |
 //! | 12 | no memory; nothing was done | all but complete |
-//! | 16 | the handle is closed; nothing was done | all but open |
-//! | 17 | the handle is open; nothing was done | open |
+//! | 16 | the handle is closed; nothing was done | all but open and begin |
+//! | 17 | the handle is open; nothing was done | open, begin |
 //! | 18 | the line is no message's; nothing was done | take, ready |
+//! | 18 | the text isn't lines of rows; nothing was done | begin |
 //! | 19, 20, 21 | its row comes too early, lies outside the span, its timestamp too early; nothing was done | take |
+//! | 19, 20 | the keys don't rise, or one lies outside the span; nothing was done | begin |
 //! | 22 | the line's command opens no feed, or opens it above the greatest timestamp | open |
+//! | 22 | the same, or the feed is an initial one | begin |
 //! | 23 | the key has no value | get |
 
 ghost use Rattle.std.specs.Prelude.{◌≡◌, None};
@@ -42,16 +46,16 @@ use replica::Fault;
 use std::alloc::Global;
 use timestamps::key::KeyError;
 
-/// The line is no message of a feed.
-const NO_MESSAGE: u8 = 18;
+/// The line is no message of a feed, or the text has a line that is none of a row.
+pub(crate) const NO_MESSAGE: u8 = 18;
 /// A row comes too early.
-const NOT_AFTER: u8 = 19;
+pub(crate) const NOT_AFTER: u8 = 19;
 /// A row lies outside the span.
-const OUTSIDE_SPAN: u8 = 20;
+pub(crate) const OUTSIDE_SPAN: u8 = 20;
 /// A resolved timestamp comes too early.
 const RESOLVED_BACK: u8 = 21;
 /// The line's command opens no feed.
-const NO_FEED: u8 = 22;
+pub(crate) const NO_FEED: u8 = 22;
 /// The key has no value.
 const NO_VALUE: u8 = 23;
 /// No timestamp.

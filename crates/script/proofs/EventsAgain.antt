@@ -143,7 +143,7 @@ module _ (format : Format) where
 -- ---- the lines that follow
 
 -- what is written of a thing is one line, which is read as this thing
-abbrev IsLineOf : {A : Type 0} → (List ℕ → Result A LineFault) → (A → List ℕ) → A → Type 0
+abbrev pub IsLineOf : {A : Type 0} → (List ℕ → Result A LineFault) → (A → List ℕ) → A → Type 0
 IsLineOf read show x = ((rest : List ℕ) → lines_of (show x ++ rest) ≡ show x ∷ lines_of rest) × (read (show x) ≡ Ok x)
 
 module _ (format : Format) where
@@ -151,7 +151,7 @@ module _ (format : Format) where
   row_words_are row is = ((omega arith, refl), (bytes_word row.0 is.0.2, (bytes_word row.1 is.1.1, tt)))
 
   -- the line of a row
-  row_again : (row : List ℕ × List ℕ) → IsPair format row → IsLineOf (row_line_at format) row_line row
+  pub row_again : (row : List ℕ × List ℕ) → IsPair format row → IsLineOf (row_line_at format) row_line row
   unfolding row_line_at pair_of pair_at
   row_again row is =
       let ws = codes "row" ∷ spelling row.0 ∷ spelling row.1 ∷ [] in

@@ -118,7 +118,7 @@ fn take_message(
 
 /// Reads the line of a row, with its newline.
 #[tactic(auto, unfolding(crate::specs::EventLines::row_line_at))]
-fn read_row(alloc: Global, line: &[u8], format: Format) -> Result<(Key, Value), ReadError>
+pub fn read_row(alloc: Global, line: &[u8], format: Format) -> Result<(Key, Value), ReadError>
     ensures { Gives (λ x. x) result (row_line_at format line.now) }
 {
     let text = text_of(line, format)?;

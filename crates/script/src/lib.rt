@@ -19,7 +19,8 @@
 //! 4  2 0 commit 10 => written 1    reply at line 4: `written` takes no number
 //! ```
 //!
-//! `word_lines` reads the words of a line, and the commands.
+//! `word_lines` reads the words of a line, and the commands. Rows alone, as a replica begins with them, are read by
+//! `following::read_row` of each line, which `lines::first_line` cuts off.
 //!
 //! Costs, in looks at each byte:
 //!
@@ -38,10 +39,10 @@
 
 pub mod events;
 pub mod fault;
-mod following;
+pub mod following;
 mod headings;
 pub mod laws;
-mod lines;
+pub mod lines;
 mod reply_reading;
 mod reply_table;
 pub mod scripts;

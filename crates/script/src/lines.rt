@@ -71,7 +71,7 @@ impl<'a> Lines<'a> {
 }
 
 /// The first line of a text, with its newline where it has one, and what stands behind it.
-fn first_line(text: &[u8]) -> (&[u8], &[u8])
+pub fn first_line(text: &[u8]) -> (&[u8], &[u8])
     requires { 0 < length text.now }
     ensures lines { lines_of text.now ≡ result.0.now ∷ lines_of result.1.now }
     ensures shorter { length result.1.now < length text.now }

@@ -111,13 +111,13 @@ class NotTaken(Error, ValueError):
 
 
 class NoMessage(NotTaken):
-    """The line is no message's."""
+    """The line is no message's, or what a replica is to begin with are no rows."""
 
     status = 18
 
 
 class NotAfter(NotTaken):
-    """A row at or before what was taken: below a resolved timestamp, or not after the last row."""
+    """A row at or before what was taken: below a resolved timestamp, or not after the row before it."""
 
     status = 19
 
@@ -135,7 +135,7 @@ class ResolvedBack(NotTaken):
 
 
 class NoFeed(Error, ValueError):
-    """A replica's cursor is above the greatest timestamp."""
+    """A replica's cursor is above the greatest timestamp, or an initial one has rows to begin with."""
 
     status = 22
 

@@ -4,11 +4,11 @@ import ctypes
 from typing import Iterable, List, Optional, Tuple, Union
 
 from .errors import NoValue
-from .events import Message, Row, bytes_of, line_of, rows_of, word_of
+from .events import Message, line_of, rows_of, spell, word_of
 from .handles import BYTES, NONE, ROOM, TIME, TIME_AT, Opened, functions
 
 _replica = functions(
-    "ripsawbean_replica_", open=BYTES, take=BYTES, ready=[*BYTES, TIME_AT], complete=[TIME_AT, TIME_AT],
+    "ripsawbean_replica_", open=BYTES, begin=BYTES + BYTES, take=BYTES, ready=[*BYTES, TIME_AT], complete=[TIME_AT, TIME_AT],
     get=BYTES + ROOM, rows=ROOM, close=[],
 )
 
@@ -18,8 +18,8 @@ class Replica(Opened):
 
     It is for a feed that was opened on the bytes `lo` to `hi`, or None for no bound, at `cursor`. An initial feed tells it the rows
     there. For another feed `rows` has them, pairs of a key and its value: what a scan at the cursor found, or what a replica had
-    at its `complete_through`. After such a replica's rows pass over a `ready` of the cursor itself, since some of them may be of
-    the next timestamp. A context manager closes it at the end of its block.
+    at its `complete_through`. After such a replica's rows pass over a `ready` and a `complete_at` of the cursor itself, since
+    some of them may be of the next timestamp. A context manager closes it at the end of its block.
     """
 
     _free = _replica.close
@@ -29,18 +29,13 @@ class Replica(Opened):
         rows: Optional[Iterable[Tuple[bytes, bytes]]] = None,
     ):
         super().__init__()
-        # Rows to begin with are told as an initial feed tells them: at the cursor, before all others. Nothing is there
-        # at 0, since a feed from 0 tells all of it.
-        first = sorted(rows) if rows is not None and cursor else None
-        command = "open" if first is None and not initial else "openinitial"
+        command = "openinitial" if initial else "open"
         line = ("0 %s %s %s %d\n" % (command, word_of(lo), word_of(hi), cursor)).encode("ascii")
-        _replica.open(self._at, line, len(line))
-        try:
-            for key, value in first or ():
-                self.take(Row(key, value, cursor))
-        except BaseException:
-            self.close()
-            raise
+        if rows is None:
+            _replica.open(self._at, line, len(line))
+            return
+        text = "".join("row %s %s\n" % (spell(key), spell(value)) for key, value in sorted(rows)).encode("ascii")
+        _replica.begin(self._at, line, len(line), text, len(text))
 
     def take(self, message: Union[Message, str, bytes]) -> None:
         """Takes the next message, or the line of one. Where it raises NotTaken or NoMemory nothing changed."""

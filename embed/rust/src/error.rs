@@ -143,12 +143,25 @@ pub enum PollError {
 pub enum ReplicaError {
     /// The command's line is faulty, or a key that is asked for has no byte or above 256.
     Line(LineFault),
-    /// The command opens no feed, or opens it above the greatest timestamp.
+    /// The command opens no feed, or opens it above the greatest timestamp; or an initial one, with rows to begin with.
     NoFeed,
     /// There was no memory for it.
     NoMemory,
     /// The processor lacks what the library's code needs, which is x86-64-v2.
     Processor,
+}
+
+/// Why no replica begins with rows.
+#[derive(Clone, Copy, Debug, PartialEq, Eq, Hash)]
+pub enum BeginError {
+    /// It is no feed's, or there was no memory for it.
+    Replica(ReplicaError),
+    /// A key has no byte or above 256, or a value above 65536.
+    NoRows,
+    /// The keys don't rise.
+    NotAfter,
+    /// A key lies outside the span.
+    OutsideSpan,
 }
 
 /// Why a message was not taken. Nothing changed.
@@ -178,6 +191,17 @@ impl ReplicaError {
     }
 }
 
+impl BeginError {
+    pub(crate) fn of(status: u8) -> BeginError {
+        match status {
+            18 => BeginError::NoRows,
+            19 => BeginError::NotAfter,
+            20 => BeginError::OutsideSpan,
+            _ => BeginError::Replica(ReplicaError::of(status)),
+        }
+    }
+}
+
 impl TakeError {
     pub(crate) fn of(status: u8) -> TakeError {
         match status {
@@ -202,6 +226,17 @@ impl fmt::Display for ReplicaError {
     }
 }
 
+impl fmt::Display for BeginError {
+    fn fmt(&self, f: &mut fmt::Formatter<'_>) -> fmt::Result {
+        match self {
+            BeginError::Replica(error) => error.fmt(f),
+            BeginError::NoRows => f.write_str("a key or a value has too few or too many bytes"),
+            BeginError::NotAfter => f.write_str("the keys don't rise"),
+            BeginError::OutsideSpan => f.write_str("a key lies outside the span"),
+        }
+    }
+}
+
 impl fmt::Display for TakeError {
     fn fmt(&self, f: &mut fmt::Formatter<'_>) -> fmt::Result {
         f.write_str(match self {
@@ -215,6 +250,7 @@ impl fmt::Display for TakeError {
 }
 
 impl Error for ReplicaError {}
+impl Error for BeginError {}
 impl Error for TakeError {}
 
 impl NoMemory {

@@ -59,8 +59,8 @@ pub use command::{Command, Span};
 pub use database::{Database, Messages};
 pub use dump::DumpPlace;
 pub use error::{
-    CallError, CommandError, DumpError, LineFault, NoMemory, OpenError, PollError, Refusal, ReplicaError, TakeError,
-    Unwritten, VersionError,
+    BeginError, CallError, CommandError, DumpError, LineFault, NoMemory, OpenError, PollError, Refusal, ReplicaError,
+    TakeError, Unwritten, VersionError,
 };
 pub use event::{Event, Message, Row};
 pub use looks::{version, Held, Places};

@@ -1,11 +1,11 @@
 //! Replicas: the consumer's half of a feed.
 
 use crate::command::Command;
-use crate::error::{ReplicaError, TakeError};
+use crate::error::{BeginError, ReplicaError, TakeError};
 use crate::event::Message;
 use crate::raw::{OpenReplica, Status};
-use crate::word::unspell;
-use std::fmt;
+use crate::word::{unspell, Spelled};
+use std::fmt::{self, Write};
 
 /// The rows of one feed's span, kept by the feed's messages, which may come from another process.
 pub struct Replica {
@@ -15,10 +15,36 @@ pub struct Replica {
 }
 
 impl Replica {
-    /// The empty replica of the feed that a command opens. An initial feed tells it the rows at its cursor. For any
-    /// other open it as an initial one, and take those rows first, as messages at the cursor, keys rising.
+    /// The empty replica of the feed that a command opens. An initial feed tells it the rows at its cursor. A replica of
+    /// any other is to [begin](Replica::begin) with them.
     pub fn open(command: Command<'_>) -> Result<Replica, ReplicaError> {
         let open = OpenReplica::new(format!("0 {command}\n").as_bytes()).map_err(ReplicaError::of)?;
+        Ok(Replica { open, out: vec![0; 4096] })
+    }
+
+    /// The replica of the feed, no initial one, that a command opens, with rows to begin with, keys rising: what a scan
+    /// found at the cursor, or the [rows](Replica::rows) of a replica that was told all through there. Some of another
+    /// replica's rows may be of the next timestamp. So pass over a [ready](Replica::ready) and a
+    /// [complete_at](Replica::complete_at) of the cursor itself.
+    ///
+    /// ```
+    /// use ripsawbean::{Command, Replica, Span};
+    /// let mut old = Replica::begin(Command::Open { span: Span::ALL, cursor: 10 }, [(b"apple", b"3")]).expect("it opens");
+    /// let cursor = old.complete_through().expect("it was told all through 10");
+    /// let rows = old.rows().expect("memory");
+    /// let mut new = Replica::begin(Command::Open { span: Span::ALL, cursor }, rows).expect("it opens");
+    /// assert_eq!(new.get(b"apple"), Ok(Some(b"3".as_slice())));
+    /// ```
+    pub fn begin<K: AsRef<[u8]>, V: AsRef<[u8]>>(
+        command: Command<'_>,
+        rows: impl IntoIterator<Item = (K, V)>,
+    ) -> Result<Replica, BeginError> {
+        let mut text = String::new();
+        for (key, value) in rows {
+            writeln!(text, "row {} {}", Spelled(key.as_ref()), Spelled(value.as_ref())).expect("a string takes all");
+        }
+        let line = format!("0 {command}\n");
+        let open = OpenReplica::begin(line.as_bytes(), text.as_bytes()).map_err(BeginError::of)?;
         Ok(Replica { open, out: vec![0; 4096] })
     }
 
@@ -39,7 +65,8 @@ impl Replica {
         self.open.complete().0
     }
 
-    /// The timestamp at which the rows are the map, after a resolved message. None after a row.
+    /// The timestamp at which the rows are the map, after a resolved message; the cursor at first, where the feed is not
+    /// initial. None after a row.
     pub fn complete_at(&mut self) -> Option<u64> {
         self.open.complete().1
     }

@@ -20,11 +20,15 @@ struct Reading {
 }
 
 impl Reading {
-    /// `tells_rows` says that the rows at the cursor come as messages.
-    fn new(span: Span<'static>, cursor: u64, tells_rows: bool) -> Reading {
-        let start = if tells_rows { cursor.saturating_sub(1) } else { cursor };
-        let complete = (!tells_rows).then_some(cursor);
-        Reading { span, cursor, resolved: start, through: start, complete, last: None, rows: BTreeMap::new() }
+    /// An initial feed tells the rows at the cursor as messages.
+    fn of_initial(span: Span<'static>, cursor: u64) -> Reading {
+        let start = cursor.saturating_sub(1);
+        Reading { span, cursor, resolved: start, through: start, complete: None, last: None, rows: BTreeMap::new() }
+    }
+
+    fn with_rows(span: Span<'static>, cursor: u64, rows: &Rows) -> Reading {
+        let rows = rows.iter().cloned().collect();
+        Reading { span, cursor, resolved: cursor, through: cursor, complete: Some(cursor), last: None, rows }
     }
 
     fn fault(&self, message: &Message) -> Option<TakeError> {
@@ -86,24 +90,19 @@ struct Follower {
 impl Follower {
     /// Of the feed that the command opens, with the rows at its cursor where it is no initial feed.
     fn new(opening: Command<'static>, rows: &Rows) -> Follower {
-        let (span, cursor, is_initial) = match opening {
-            Command::Open { span, cursor } | Command::OpenEvery { span, cursor, .. } => (span, cursor, false),
+        let (replica, reading) = match opening {
+            Command::Open { span, cursor } | Command::OpenEvery { span, cursor, .. } => {
+                let rows_lent = rows.iter().map(|(key, value)| (key, value));
+                let replica = Replica::begin(opening, rows_lent).expect("it begins");
+                (replica, Reading::with_rows(span, cursor, rows))
+            }
             Command::OpenInitial { span, cursor } | Command::OpenInitialEvery { span, cursor, .. } => {
-                (span, cursor, true)
+                (Replica::open(opening).expect("it opens"), Reading::of_initial(span, cursor))
             }
             other => panic!("{other} opens no feed"),
         };
-        let tells_rows = is_initial || cursor > 0;
-        let command = if tells_rows { Command::OpenInitial { span, cursor } } else { opening };
-        let replica = Replica::open(command).expect("it opens");
-        let mut follower = Follower { replica, reading: Reading::new(span, cursor, tells_rows) };
+        let mut follower = Follower { replica, reading };
         follower.see();
-        if tells_rows && !is_initial {
-            for (key, value) in rows {
-                let row = Row { key: key.clone(), after: Some(value.clone()), updated: cursor };
-                assert_eq!(follower.give(&Message::Row(row)), None);
-            }
-        }
         follower
     }
 

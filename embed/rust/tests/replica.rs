@@ -1,6 +1,6 @@
 //! Which messages a replica takes, and what it shows.
 
-use ripsawbean::{Command, Message, Replica, ReplicaError, Row, Span, TakeError};
+use ripsawbean::{BeginError, Command, Message, Replica, ReplicaError, Row, Span, TakeError};
 
 fn row(key: &[u8], after: Option<&[u8]>, updated: u64) -> Message {
     Message::Row(Row { key: key.to_vec(), after: after.map(<[u8]>::to_vec), updated })
@@ -26,4 +26,34 @@ fn messages_are_taken_or_refused() {
     assert!(matches!(replica.get(b""), Err(ReplicaError::Line(_))));
     let far = Replica::open(Command::Open { span: Span::ALL, cursor: u64::MAX });
     assert_eq!(far.map(|_| ()), Err(ReplicaError::NoFeed));
+}
+
+#[test]
+fn rows_to_begin_with() {
+    let span = Span { lo: b"a", hi: Some(b"c") };
+    let begin = |command, rows: &[(&[u8], &[u8])]| Replica::begin(command, rows.iter().copied());
+    for cursor in [0, 5, i64::MAX as u64] {
+        let mut replica = begin(Command::Open { span, cursor }, &[(b"a", b"-"), (b"b ", b"")]).expect("it opens");
+        assert_eq!(replica.rows(), Ok(vec![(b"a".to_vec(), b"-".to_vec()), (b"b ".to_vec(), vec![])]));
+        assert_eq!((replica.complete_through(), replica.complete_at()), (Some(cursor), Some(cursor)));
+    }
+    let mut empty = begin(Command::OpenEvery { span, cursor: 5, gap: 2 }, &[]).expect("it opens");
+    assert_eq!(empty.ready(&row(b"a", None, 7)), Ok(Some(6)));
+    let refused = |command, rows: &[(&[u8], &[u8])]| begin(command, rows).map(|_| ()).unwrap_err();
+    let command = Command::Open { span, cursor: 5 };
+    assert_eq!(refused(command, &[(b"d", b"1"), (b"", b"1")]), BeginError::NoRows);
+    assert_eq!(refused(command, &[(b"b", b"1"), (b"a", b"1")]), BeginError::NotAfter);
+    assert_eq!(refused(command, &[(b"a", b"1"), (b"c", b"1")]), BeginError::OutsideSpan);
+    let no_feed = BeginError::Replica(ReplicaError::NoFeed);
+    for command in [
+        Command::OpenInitial { span, cursor: 5 },
+        Command::OpenInitialEvery { span, cursor: 5, gap: 2 },
+        Command::Open { span, cursor: u64::MAX },
+        Command::Stats,
+    ] {
+        assert_eq!(refused(command, &[(b"d", b"1")]), no_feed);
+    }
+    let lo = [b'k'; 258];
+    let command = Command::Open { span: Span { lo: &lo, hi: None }, cursor: 5 };
+    assert!(matches!(refused(command, &[]), BeginError::Replica(ReplicaError::Line(_))));
 }

@@ -1,0 +1,25 @@
+use Rattle.std.proofs.Common.{◌≡◌, ℕ, false, List, Option, Some, None, refl, sym, ap, ◌∙◌}
+use Rattle.std.specs.Prelude.{is_some}
+use Rattle.text_format.specs.declared.Format.TheVariants.{Two}
+use Rattle.word_lines.specs.Memory.{WantsMemory, verb_at}
+use Rattle.word_lines.specs.Table.{table}
+use Rattle.embedded_replica.specs.declared.consumer.Consumer.{Consumer}
+use Rattle.embedded_replica.specs.declared.consumer.SeedingError.TheVariants.{NoMemory}
+use Rattle.embedded_replica.specs.Consumers.{replica_of}
+use Rattle.embedded_replica.proofs.Seeding.{begins_wants}
+use Rattle.ripsawbean.specs.ReplicaExports.{Begun}
+use Rattle.ripsawbean.specs.declared.replica_handle.ReplicaHandle.{ReplicaHandle}
+use Rattle.ripsawbean.proofs.beginning.ripsawbean_replica_begin.Goals as goal
+
+-- a closed handle stays closed where there is no memory
+stays_closed : (line rows : List ℕ) (old new : Option Consumer) → is_some old ≡ false → new ≡ old → WantsMemory (verb_at Two table 64 line) → Begun line rows old 12 new
+stays_closed line rows None new closed same wants = (same, NoMemory, wants, refl)
+stays_closed line rows (Some d) new closed same wants = absurd cc
+
+pub returns-clause-begun : goal.returns-clause-begun
+returns-clause-begun c =
+    stays_closed c.args.line.now c.args.rows.now c.args.handle.now.consumer c.is_open.new.self.consumer (sym c.is_open.ensures.0 ∙ c.if-is_open.false) (ap (λ (h : ReplicaHandle). h.consumer) c.is_open.ensures.1)
+    (begins_wants c.args.line.now c.args.rows.now (replica_of c.in-Ok.consumer) c.in-Ok.ensures.ok)
+
+pub returns-clause-memory : goal.returns-clause-memory
+returns-clause-memory c = λ is. begins_wants c.args.line.now c.args.rows.now (replica_of c.in-Ok.consumer) c.in-Ok.ensures.ok
