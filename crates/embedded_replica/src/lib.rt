@@ -33,7 +33,7 @@
 //! a row with a value once more, `get` for a key of more than 24 bytes, and `rows` for its text, which is given back at
 //! once. `begin` takes it for its line and its rows.
 //!
-//! Tests: those of the wrappers in `embed`, by the built library.
+//! Tests: `unit_tests`, of `begin`; those of the wrappers in `embed`, by the built library.
 #![tactic(auto)]
 
 mod consumer;

@@ -8,6 +8,7 @@
 //! words       timestamps, keys, values, bounds: their limits and order; the parts of a span without some keys; leases
 //! texts       texts that are read, with their faults, and texts that are written
 //! replicas    which messages a replica takes, and the rows, keys and timestamp that it then has
+//! consumers   with which rows a replica begins that is called by text
 //! engines     where each feed is served from, after each line of a script; a run of a list of calls; how far looks
 //!             find room; which row a dump has still to write
 //! ```

@@ -1,5 +1,6 @@
 //! What no clause says of crates by themselves.
 
+mod consumers;
 mod engines;
 mod replicas;
 mod texts;
