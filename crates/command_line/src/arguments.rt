@@ -5,6 +5,7 @@
 
 use crate::examples::example_of;
 use crate::following::{Seeded, seeded_of, shown_of, start_of, with_shown, with_start};
+use crate::usages::usage_of;
 use crate::version::VERSION;
 use clap::error::ErrorKind;
 use clap::{Arg, ArgAction, ArgMatches, Command, Error, value_parser};
@@ -96,7 +97,8 @@ fn first<'a>(alloc: Global) -> Arg<'a> {
 }
 
 fn ring<'a>(alloc: Global) -> Arg<'a> {
-    let help = "How many rows a feed holds before it is behind, 1 to 65536 [default: 1024]";
+    let help =
+        "How many rows a feed keeps at hand, 1 to 65536; no answer depends on it [default: 1024]";
     option(alloc, "ring", "N", help).value_parser(value_parser!(u32).range(1..=65536))
 }
 
@@ -150,6 +152,7 @@ pub(crate) fn option<'a>(alloc: Global, name: &'a str, value: &'a str, help: &'a
 fn subcommand<'a>(alloc: Global, name: &'a str, about: &'a str) -> Command<'a> {
     Command::new(alloc, name)
         .about(about)
+        .override_usage(usage_of(name))
         .after_help(example_of(name))
 }
 

@@ -1,6 +1,7 @@
-//! The examples that end the help of each command, with what they print. `examples/check` runs them.
+//! How the help of each command ends: what it reads and writes, and an example with what it prints. `examples/check` runs
+//! the examples.
 
-/// The example of a command.
+/// The end of a command's help.
 pub(crate) fn example_of(command: &str) -> &'static str {
     match command.as_bytes() {
         b"run" => RUN,
@@ -12,25 +13,40 @@ pub(crate) fn example_of(command: &str) -> &'static str {
     }
 }
 
-const RUN: &str = "Example:
+const RUN: &str =
+    "It reads a script from standard input, and writes its transcript to standard output.
+
+Example:
   $ printf '0 begin 10\\n0 put 10 a 1\\n0 commit 10\\n' | mvfeed run
   0 0 begin 10 => started
   1 0 put 10 a 1 => written
   2 0 commit 10 => committed 1";
 
-const RACE: &str = "Example:
+const RACE: &str =
+    "It reads a script from standard input, and writes a transcript to standard output.
+
+Example:
   $ printf '0 begin 10\\n1 begin 20\\n' | mvfeed race 2 | mvfeed check
   yes";
 
-const CHECK: &str = "Example:
+const CHECK: &str =
+    "It reads a transcript from standard input, and writes the verdict to standard output.
+
+Example:
   $ printf '0 0 begin 10 => started\\n1 0 commit 10 => ended\\n' | mvfeed check
   no 1";
 
-const STATE: &str = "Example:
+const STATE: &str =
+    "It reads a transcript from standard input, and writes lines of JSON to standard output.
+
+Example:
   $ printf '0 3 begin 10 => started\\n1 3 put 10 a 1 => written\\n' | mvfeed state | tail -n 1
   {\"kind\":\"transaction\",\"timestamp\":\"10\",\"seat\":\"3\",\"keys\":\"1\"}";
 
-const DUMP: &str = "Example:
+const DUMP: &str =
+    "It reads a transcript from standard input, and writes a script to standard output.
+
+Example:
   $ printf '0 begin 10\\n0 put 10 a 1\\n0 commit 10\\n1 begin 20\\n' | mvfeed run | mvfeed dump
   0 begin 10
   0 put 10 a 1
@@ -38,7 +54,10 @@ const DUMP: &str = "Example:
   0 close 20
   0 collect 0";
 
-const FOLLOW: &str = "Example:
+const FOLLOW: &str =
+    "It reads messages, as lines of JSON, from standard input, and writes its report to standard output.
+
+Example:
   $ printf '{\"after\":\"MQ==\",\"key\":\"YQ==\",\"updated\":\"10\"}\\n{\"resolved\":\"12\"}\\n' | mvfeed follow --cursor 0 --view
   resolved 12 1
   row a 1";

@@ -1,4 +1,6 @@
 //! What `mvfeed follow` is asked for: how its rows begin, and what is told of them.
+ghost use Rattle.std.specs.Prelude.{◌≡◌};
+ghost use Rattle.command_line.specs.Doing.{options_from};
 
 use crate::arguments::{as_timestamp, format_of, option};
 use clap::{Arg, ArgAction, ArgGroup, ArgMatches, Command};
@@ -18,7 +20,9 @@ pub struct Seeded {
 
 impl Seeded {
     /// What is followed from a seed on.
-    pub fn options(&self, seed: Seed) -> FollowOptions {
+    pub fn options(&self, seed: Seed) -> FollowOptions
+        ensures { result ≡ options_from self.now seed }
+    {
         let Seed { span, cursor, rows } = seed;
         FollowOptions {
             span,

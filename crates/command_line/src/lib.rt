@@ -1,8 +1,9 @@
-//! The command line of `mvfeed`: which job its words ask for, and which exit status and sentence the job's end leaves the
-//! caller.
+//! The command line of `mvfeed`: which job its words ask for, what each job does, and which exit status and sentence its
+//! end leaves the caller.
 //!
-//! `mvfeed` hands [`job_in`] its words, does the [`Job`], and hands [`status`] the end. Nothing here reads or writes
-//! but the sentence on standard error, and help and version on standard output.
+//! `mvfeed` hands [`job_in`] its words, and [`done`] the [`Job`] with standard input, standard output and the text of the
+//! file that the job names. Nothing else here reads or writes but the sentence on standard error, and help and version on
+//! standard output.
 //!
 //! ```text
 //! words                          asked for                                status, standard error
@@ -13,20 +14,33 @@
 //! mvfeed dump --at 90            a dump that closes at 90 or above         the same
 //! mvfeed follow --cursor 0       a follower of all keys that starts at 0  0 at NoMessages, and that there are none
 //! mvfeed run --seats 0           refused                                  1, and clap's text
+//! mvfeed run FILE                refused                                  the same, and `mvfeed run < FILE`
 //! ```
 //!
-//! No clause says what a command line asks for: `clap` promises no more than that its calls are safe. Tests in
-//! `job_tests` do. Memory is taken for the words and what they ask for.
+//! 1. Each job is done on its devices, and the status is its end's: `Did` in `specs/Doing.antt`, which [`done`] ensures.
+//!    `specs/Statuses.antt` has the status of each end.
+//! 2. `specs/Sentences.antt` has the sentence of each end, byte for byte.
+//! 3. [`status::refused`] leaves 1 for words that clap refuses.
+//! 4. No clause says what a command line asks for, which text a hint has, or that standard error was told. Tests in
+//!    `job_tests` say the first two.
+//!
+//! Memory is taken for the words and what they ask for, and for the job. The text of a seed's file is given back before
+//! its feed is followed.
 //!
 //! Tests: `job_tests`.
 #![tactic(auto)]
 
 mod arguments;
+mod doing;
 mod examples;
 mod faults;
 mod following;
+pub mod sentences;
 pub mod status;
+mod usages;
 mod version;
 
 pub use arguments::{Job, command, job_in};
+pub use doing::done;
 pub use following::Seeded;
+pub use usages::hint_of;

@@ -1,27 +1,14 @@
 //! What the program leaves its caller: an exit status, and a sentence where there is more to say.
+ghost use Rattle.std.specs.Prelude.{◌≡◌};
+ghost use Rattle.std.specs.Process.{exit_status};
+ghost use Rattle.clap.specs.Values.{kind_of};
+ghost use Rattle.command_line.specs.Statuses.{IsRefusal, status_of, status_of_follower};
 
-use crate::faults::{words_of_line, words_of_message};
+use crate::sentences::{MEMORY, NO_SCAN, OUTPUT, Sentence, sentence_of, sentence_of_follower};
 use clap::Error;
-use follow::FollowEnd;
+use follow::{FollowEnd, SeedError};
 use jobs::End;
-use sessions::OpenError;
-use std::fmt;
 use std::process::ExitCode;
-
-/// The word where a growth of memory was refused.
-pub const MEMORY: &str = "memory";
-
-/// The word where standard input could not be read to its end.
-const INPUT: &str = "input";
-
-/// The word where standard output took no more.
-const OUTPUT: &str = "output";
-
-/// The word where nothing is left to number another call, or another line, by.
-const SPENT: &str = "spent";
-
-/// The words where an argument of the command line is other bytes than text.
-pub const NO_TEXT: &str = "an argument is not UTF-8";
 
 /// The exit status where the program failed.
 const FAILED: u8 = 1;
@@ -33,7 +20,9 @@ const FAULTY: u8 = 2;
 const NO: u8 = 3;
 
 /// The exit status of a job's end: 0 where all was done, 2 for a faulty line, 3 for what is not right, else 1.
-pub fn status_of(end: End) -> u8 {
+pub fn status_of(end: End) -> u8
+    ensures { result ≡ status_of end }
+{
     match end {
         End::Done => 0,
         End::Faulty { .. } => FAULTY,
@@ -43,7 +32,9 @@ pub fn status_of(end: End) -> u8 {
 }
 
 /// The exit status of a follower's end: 0 where all was done, 2 for a faulty line, else 1.
-pub fn status_of_follower(end: FollowEnd) -> u8 {
+pub fn status_of_follower(end: FollowEnd) -> u8
+    ensures { result ≡ status_of_follower end }
+{
     match end {
         FollowEnd::Done | FollowEnd::NoMessages => 0,
         FollowEnd::Fault { .. } => FAULTY,
@@ -51,77 +42,23 @@ pub fn status_of_follower(end: FollowEnd) -> u8 {
     }
 }
 
-/// What standard error is told.
-#[derive(Clone, Copy)]
-pub enum Sentence {
-    /// A word or more for themselves.
-    Words(&'static str),
-    /// What is wrong with a line, counted from 1.
-    Line { number: u64, words: &'static str },
-    /// Which event can't be right.
-    Event { position: u64 },
-}
-
-impl fmt::Display for Sentence {
-    fn fmt<W: fmt::Write>(&self, f: &mut fmt::Formatter<W>) -> fmt::Result {
-        match self {
-            Sentence::Words(words) => f.write_str(words),
-            Sentence::Line { number, words } => write!(f, "line {number} {words}"),
-            Sentence::Event { position } => {
-                write!(f, "the event at position {position} can't be right")
-            }
-        }
-    }
-}
-
-/// What standard error is told of an end.
-pub fn sentence_of(end: End) -> Option<Sentence> {
-    let sentence = match end {
-        End::Done => return None,
-        End::Faulty { line, fault } => Sentence::Line {
-            number: line,
-            words: words_of_line(fault),
-        },
-        End::No { position } => Sentence::Event { position },
-        End::Spent => Sentence::Words(SPENT),
-        End::Open(OpenError::SeatCount) => Sentence::Words("seats"),
-        End::Open(OpenError::RingSize) => Sentence::Words("ring"),
-        End::Open(OpenError::NoMemory) | End::Memory => Sentence::Words(MEMORY),
-        End::Input => Sentence::Words(INPUT),
-        End::Output => Sentence::Words(OUTPUT),
-        End::Thread => Sentence::Words("thread"),
-    };
-    Some(sentence)
-}
-
-/// What standard error is told of a follower's end.
-pub fn sentence_of_follower(end: FollowEnd) -> Option<Sentence> {
-    let sentence = match end {
-        FollowEnd::Done => return None,
-        FollowEnd::NoMessages => Sentence::Words("the input has no message to follow"),
-        FollowEnd::Fault { line, fault } => Sentence::Line {
-            number: line,
-            words: words_of_message(fault),
-        },
-        FollowEnd::Spent => Sentence::Words(SPENT),
-        FollowEnd::Input => Sentence::Words(INPUT),
-        FollowEnd::Output => Sentence::Words(OUTPUT),
-        FollowEnd::Memory => Sentence::Words(MEMORY),
-    };
-    Some(sentence)
-}
-
 /// The exit status of an end, of which standard error is told where there is more to say.
-pub fn told(rt: &impl Eprint, end: End) -> ExitCode {
+pub fn told(rt: &impl Eprint, end: End) -> ExitCode
+    ensures { exit_status result ≡ status_of end }
+{
     left(rt, status_of(end), sentence_of(end))
 }
 
 /// The exit status of a follower's end, of which standard error is told where there is more to say.
-pub fn told_of_follower(rt: &impl Eprint, end: FollowEnd) -> ExitCode {
+pub fn told_of_follower(rt: &impl Eprint, end: FollowEnd) -> ExitCode
+    ensures { exit_status result ≡ status_of_follower end }
+{
     left(rt, status_of_follower(end), sentence_of_follower(end))
 }
 
-fn left(rt: &impl Eprint, status: u8, sentence: Option<Sentence>) -> ExitCode {
+fn left(rt: &impl Eprint, status: u8, sentence: Option<Sentence>) -> ExitCode
+    ensures { exit_status result ≡ status }
+{
     if let Some(sentence) = sentence {
         tell(rt, sentence);
     }
@@ -129,16 +66,43 @@ fn left(rt: &impl Eprint, status: u8, sentence: Option<Sentence>) -> ExitCode {
 }
 
 /// The exit status of a failure, of which standard error is told.
-pub fn failed(rt: &impl Eprint, words: &'static str) -> ExitCode {
+pub fn failed(rt: &impl Eprint, words: &'static str) -> ExitCode
+    ensures { exit_status result ≡ 1 }
+{
     tell(rt, Sentence::Words(words));
     ExitCode::from(FAILED)
 }
 
+/// The exit status where the file that a job names has no seed, of which standard error is told.
+pub(crate) fn unseeded(rt: &impl Eprint, error: SeedError) -> ExitCode
+    ensures { exit_status result ≡ 1 }
+{
+    match error {
+        SeedError::NoMemory => failed(rt, MEMORY),
+        SeedError::NoScan => failed(rt, NO_SCAN),
+        SeedError::Fault { line, .. } => faulty_seed(rt, line),
+    }
+}
+
+fn faulty_seed(rt: &impl Eprint, line: u64) -> ExitCode
+    ensures { exit_status result ≡ 1 }
+{
+    // The status stands also where standard error can't be told why.
+    let _ = eprintln!(rt; "mvfeed: line {line} of the seed's file is faulty");
+    ExitCode::from(FAILED)
+}
+
 /// The exit status of a command line that asks for no run: for help or the version, which is printed, or for what
-/// the program doesn't do.
-pub fn refused<R: Print + Eprint>(rt: &R, error: &Error) -> ExitCode {
+/// the program doesn't do. `hint` is what the caller may have meant, and is told behind the refusal.
+pub fn refused<R: Print + Eprint>(rt: &R, error: &Error, hint: Option<&str>) -> ExitCode
+    ensures { IsRefusal (kind_of error.now) → exit_status result ≡ 1 }
+{
     let printed = error.print(rt);
     if error.exit_code() != 0 {
+        if let Some(hint) = hint {
+            // The status stands also where standard error can't be told why.
+            let _ = eprintln!(rt; "\nThe input is standard input: {hint}");
+        }
         return ExitCode::from(FAILED);
     }
     if printed.is_err() {

@@ -5,6 +5,7 @@ mod changes;
 mod closings;
 mod command_lines;
 mod devices;
+mod doing;
 mod dumps;
 mod failing_once;
 mod feeds;

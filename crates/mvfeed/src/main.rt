@@ -20,24 +20,18 @@
 //! resolved 5 0
 //! ```
 //!
-//! What each command does is a function of the crate `jobs`, or of `follow`, over its options, a source and a sink, that
-//! answers how it ended. Which job the words ask for, and which status and sentence an end leaves, is said by the crate
-//! `command_line`. Here they meet standard input and output.
+//! What each command does is said by the crate `command_line`, over its options, a source and a sink, with the status and
+//! the sentence that it leaves. Here it meets standard input and output, and the file that a command names.
 //!
 //! Tests: `examples/check`, outside the gate.
 #![tactic(auto)]
 
-use command_line::{Job, Seeded, command, job_in, status};
-use follow::{FollowOptions, SeedError, follow_io, seed_of};
-use jobs::{check_io, dump_io, race_io, run_io, state_io};
-use races::Open;
-use sessions::{Reading, Sink, Source, Writing};
-use std::alloc::Global;
+use command_line::sentences::{MEMORY, NO_SEED_FILE, NO_TEXT};
+use command_line::{Job, command, done, hint_of, job_in, status};
+use sessions::{Reading, Writing};
 use std::env::Env;
 use std::fs::Files;
 use std::process::ExitCode;
-use std::sync::Wait;
-use std::thread::Threads;
 use std::{fs, io};
 
 fn main(rt: HostRuntime) -> ExitCode {
@@ -46,85 +40,37 @@ fn main(rt: HostRuntime) -> ExitCode {
         Err(word) => return status::failed(&rt, word),
     };
     let Ok(command) = command(rt.alloc()) else {
-        return status::failed(&rt, status::MEMORY);
+        return status::failed(&rt, MEMORY);
     };
     match job_in(rt.alloc(), command, words.as_slice()) {
         Ok(job) => {
+            let Ok(seed) = seed_text(&rt, &job) else {
+                return status::failed(&rt, NO_SEED_FILE);
+            };
             let mut input = Reading::new(rt.reader());
             let mut output = Writing::new(io::writer(&rt));
-            done(&rt, rt.alloc(), job, &mut input, &mut output)
+            done(&rt, rt.alloc(), job, seed, &mut input, &mut output)
         }
-        Err(refused) => status::refused(&rt, &refused),
+        Err(refused) => {
+            let hint = hint_of(rt.alloc(), &refused, words.as_slice());
+            status::refused(&rt, &refused, hint)
+        }
     }
 }
 
-/// The status that a job leaves.
-fn done<S: Source, K: Sink, R: Threads + Wait + Sync + Files + AllocGlobal + Eprint>(
-    rt: &R,
-    alloc: Global,
-    job: Job,
-    input: &mut S,
-    output: &mut K,
-) -> ExitCode {
-    let end = match job {
-        Job::Run(options, format) => run_io(rt, alloc, options, format, input, output),
-        Job::Race(options) => race_io(rt, alloc, options, &Open, input, output),
-        Job::Check => check_io(alloc, input, output),
-        Job::State(detail) => state_io(alloc, detail, input, output),
-        Job::Dump(at) => dump_io(alloc, at, input, output),
-        Job::Follow(options) => return followed(rt, alloc, options, input, output),
-        Job::FollowSeed(seeded) => {
-            return match options_of(rt, &seeded) {
-                Ok(options) => followed(rt, alloc, options, input, output),
-                Err(failed) => failed,
-            };
-        }
-    };
-    status::told(rt, end)
-}
-
-/// The status that a follower leaves.
-fn followed<S: Source, K: Sink>(
-    rt: &impl Eprint,
-    alloc: Global,
-    options: FollowOptions,
-    input: &mut S,
-    output: &mut K,
-) -> ExitCode {
-    status::told_of_follower(rt, follow_io(alloc, options, input, output))
-}
-
-/// What is followed from the seed of a file on.
-fn options_of<R: Files + AllocGlobal + Eprint>(
-    rt: &R,
-    seeded: &Seeded,
-) -> Result<FollowOptions, ExitCode> {
-    let Ok(text) = fs::read(rt, seeded.file.as_str()) else {
-        return Err(status::failed(rt, "the seed's file can't be read"));
-    };
-    match seed_of(rt.alloc(), &text) {
-        Ok(seed) => Ok(seeded.options(seed)),
-        Err(SeedError::NoMemory) => Err(status::failed(rt, status::MEMORY)),
-        Err(SeedError::NoScan) => Err(status::failed(
-            rt,
-            "the seed's file has no scanat that was answered with rows",
-        )),
-        Err(SeedError::Fault { line, .. }) => Err(faulty_seed(rt, line)),
+/// The text of the file that a job names, or none.
+fn seed_text<R: Files + AllocGlobal>(rt: &R, job: &Job) -> io::Result<Vec<u8>> {
+    match job {
+        Job::FollowSeed(seeded) => fs::read(rt, seeded.file.as_str()),
+        _ => Ok(Vec::new(rt.alloc())),
     }
-}
-
-/// The status where a line of the seed's file is faulty.
-fn faulty_seed(rt: &impl Eprint, line: u64) -> ExitCode {
-    // The status stands also where standard error can't be told why.
-    let _ = eprintln!(rt; "mvfeed: line {line} of the seed's file is faulty");
-    ExitCode::from(1)
 }
 
 /// The words of the command line, or what to say where they can't be had.
 fn words<R: Env + AllocGlobal>(rt: &R) -> Result<Vec<String>, &'static str> {
     let words = std::env::args(rt).map_err(|error| match error.kind() {
-        io::ErrorKind::InvalidData => status::NO_TEXT,
-        _ => status::MEMORY,
+        io::ErrorKind::InvalidData => NO_TEXT,
+        _ => MEMORY,
     })?;
-    words.collect(rt.alloc()).map_err(|_| status::MEMORY)
+    words.collect(rt.alloc()).map_err(|_| MEMORY)
 }

@@ -1,8 +1,7 @@
 //! What the program's command lines ask for, and what it leaves its caller.
 
-use command_line::status::{
-    Sentence, sentence_of, sentence_of_follower, status_of, status_of_follower,
-};
+use command_line::sentences::{Sentence, sentence_of, sentence_of_follower};
+use command_line::status::{status_of, status_of_follower};
 use command_line::{Job, command, job_in};
 use follow::{FollowEnd, FollowFault, FollowOptions, span_of};
 use jobs::End;
@@ -141,12 +140,12 @@ fn is_text(wanted: &str, told: Result<String, AllocError>) -> Option<bool> {
     Some(told.ok()?.as_str() == wanted)
 }
 
-fn job_of_words(alloc: Global, words: &str) -> Option<Job> {
+pub(super) fn job_of_words(alloc: Global, words: &str) -> Option<Job> {
     let words = words_in(alloc, words)?;
     job_in(alloc, command(alloc).ok()?, words.as_slice()).ok()
 }
 
-fn words_in<'a>(alloc: Global, words: &'a str) -> Option<Vec<&'a str>> {
+pub(super) fn words_in<'a>(alloc: Global, words: &'a str) -> Option<Vec<&'a str>> {
     let mut list = Vec::new(alloc);
     for word in words.split(',') {
         list.push(word).ok()?;

@@ -1,0 +1,61 @@
+-- What the program does: which job runs on which devices, and which status it leaves (this project).
+use Rattle.std.specs.Prelude.{ℕ, List, ◌≡◌, ◌⊎◌, unwrap_or}
+use Rattle.sessions.specs.Devices.{Reads, Writes}
+use Rattle.jobs.specs.declared.ending.End.{End}
+use Rattle.jobs.specs.Answers.{IsAnswered, IsSilentAt}
+use Rattle.jobs.specs.Dumps.{IsDumped}
+use Rattle.jobs.specs.Ends.{IsRun}
+use Rattle.jobs.specs.Races.{IsRace}
+use Rattle.jobs.specs.States.{IsState}
+use Rattle.jobs.specs.Verdicts.{IsVerdict}
+use Rattle.follow.specs.declared.ending.FollowEnd.{FollowEnd}
+use Rattle.follow.specs.declared.options.FollowOptions.{FollowOptions}
+use Rattle.follow.specs.declared.options.Start.TheVariants as starts
+use Rattle.follow.specs.declared.seed.Seed.{Seed}
+use Rattle.follow.specs.declared.seed.SeedError.{SeedError}
+use Rattle.follow.specs.Ends.{CouldBegin, IsFollowed}
+use Rattle.follow.specs.Seeds.{IsSeedOf, IsUnseeded}
+use Rattle.command_line.specs.declared.arguments.Job.{Job}
+use Rattle.command_line.specs.declared.arguments.Job.TheVariants as jobs
+use Rattle.command_line.specs.declared.following.Seeded.{Seeded}
+use Rattle.command_line.specs.Statuses.{status_of, status_of_follower}
+
+-- what is followed from a seed on: the seed's span, timestamp and rows, and all else as it was asked for
+abbrev pub options_from : Seeded → Seed → FollowOptions
+options_from asked seed = record {
+  span = seed.span;
+  start = starts.Seed seed.cursor seed.rows;
+  feed = asked.feed;
+  shown = asked.shown;
+  complete = asked.complete;
+  format = asked.format;
+}
+
+-- a job ended, by one of these ends, and left the end's status
+abbrev pub HasEnded : (End → Type 0) → (status : ℕ) → Type 0
+HasEnded ended status = (end : End) × ended end × (status ≡ status_of end)
+
+-- the answer to the whole input was written, unless a device or memory failed; where memory ran out, nothing was
+abbrev pub HasAnswered : (List ℕ → End → List ℕ → Type 0) → Reads → Reads → Writes → Writes → (status : ℕ) → Type 0
+HasAnswered answers r r' w w' status = HasEnded (λ end. IsAnswered answers r r' w w' end × IsSilentAt end w w') status
+
+-- a feed was followed
+abbrev pub HasFollowed : FollowOptions → Reads → Reads → Writes → Writes → (status : ℕ) → Type 0
+HasFollowed options r r' w w' status =
+    (end : FollowEnd) × IsFollowed options r r' w w' end × CouldBegin options r r' end × (status ≡ status_of_follower end)
+
+-- a feed was followed from the seed of a text on; or the text has none, and then nothing was read or written
+abbrev pub HasFollowedSeed : Seeded → (seed : List ℕ) → Reads → Reads → Writes → Writes → (status : ℕ) → Type 0
+HasFollowedSeed asked seed r r' w w' status =
+    ((found : Seed) × IsSeedOf seed found × HasFollowed (options_from asked found) r r' w w' status)
+    ⊎ ((error : SeedError) × IsUnseeded seed error × (r' ≡ r) × (w' ≡ w) × (status ≡ 1))
+
+-- what a job did on its devices, where the file that it names, if any, has this text, and the status that it left
+abbrev pub Did : Job → (seed : List ℕ) → Reads → Reads → Writes → Writes → (status : ℕ) → Type 0
+Did (jobs.Run config format) seed r r' w w' status = HasEnded (λ end. IsRun format config r r' w w' end) status
+Did (jobs.Race options) seed r r' w w' status = HasEnded (λ end. IsAnswered (IsRace options) r r' w w' end) status
+Did jobs.Check seed r r' w w' status = HasAnswered IsVerdict r r' w w' status
+Did (jobs.State detail) seed r r' w w' status = HasAnswered (IsState detail) r r' w w' status
+Did (jobs.Dump at) seed r r' w w' status = HasAnswered (IsDumped (unwrap_or at 0)) r r' w w' status
+Did (jobs.Follow options) seed r r' w w' status = HasFollowed options r r' w w' status
+Did (jobs.FollowSeed asked) seed r r' w w' status = HasFollowedSeed asked seed r r' w w' status

@@ -1,0 +1,3 @@
+pub mod Statuses
+pub mod Sentences
+pub mod Doing

@@ -1,0 +1,104 @@
+-- What standard error is told of each end and of each fault (this project).
+use Rattle.std.specs.Prelude.{ℕ, List, ◌++◌, codes, decimal, Option, Some, None}
+use Rattle.spelled_words.specs.declared.fault.LineFault.{LineFault}
+use Rattle.spelled_words.specs.declared.fault.LineFault.TheVariants as faults
+use Rattle.shared_db.specs.declared.config.OpenError.{OpenError}
+use Rattle.shared_db.specs.declared.config.OpenError.TheVariants as reasons
+use Rattle.jobs.specs.declared.ending.End.{End}
+use Rattle.jobs.specs.declared.ending.End.TheVariants as ends
+use Rattle.follow.specs.declared.ending.FollowEnd.{FollowEnd}
+use Rattle.follow.specs.declared.ending.FollowEnd.TheVariants as follow_ends
+use Rattle.follow.specs.declared.fault.FollowFault.{FollowFault}
+use Rattle.follow.specs.declared.fault.FollowFault.TheVariants as follow_faults
+use Rattle.command_line.specs.declared.faults.TheConstants.{
+  BAD_BYTE,
+  BASE64,
+  FOLLOW,
+  KEY_OR_BOUND_LENGTH,
+  KEY_OR_VALUE_LENGTH,
+  NOT_AFTER,
+  NOT_JSON,
+  NO_NEWLINE,
+  NO_NUMBER,
+  OUTSIDE_SPAN,
+  REPLY,
+  RESOLVED_BACK,
+  SESSION,
+  SHAPE,
+  TIMESTAMP,
+  TOO_LONG,
+  UNKNOWN_COMMAND,
+  VALUE_LENGTH,
+  WORD_COUNT,
+}
+use Rattle.command_line.specs.declared.sentences.Sentence.{Sentence}
+use Rattle.command_line.specs.declared.sentences.Sentence.TheVariants as sentences
+use Rattle.command_line.specs.declared.sentences.TheConstants.{EVENT, INPUT, LINE, MEMORY, NO_MESSAGE, OUTPUT, RING, SEATS, SPENT, THREAD, WRONG}
+
+-- the words for a fault of a script or of a transcript
+abbrev pub words_of_line : LineFault → List ℕ
+words_of_line faults.WordCount = WORD_COUNT.now
+words_of_line faults.UnknownCommand = UNKNOWN_COMMAND.now
+words_of_line faults.Number = NO_NUMBER.now
+words_of_line faults.KeyLength = KEY_OR_BOUND_LENGTH.now
+words_of_line faults.ValueLength = VALUE_LENGTH.now
+words_of_line faults.Session = SESSION.now
+words_of_line faults.NoNewline = NO_NEWLINE.now
+words_of_line faults.LineTooLong = TOO_LONG.now
+words_of_line faults.BadByte = BAD_BYTE.now
+words_of_line faults.Reply = REPLY.now
+words_of_line faults.Follow = FOLLOW.now
+
+-- the words for a fault of a feed that is followed
+abbrev pub words_of_message : FollowFault → List ℕ
+words_of_message follow_faults.NotJson = NOT_JSON.now
+words_of_message follow_faults.Shape = SHAPE.now
+words_of_message follow_faults.Number = TIMESTAMP.now
+words_of_message follow_faults.Base64 = BASE64.now
+words_of_message follow_faults.Length = KEY_OR_VALUE_LENGTH.now
+words_of_message follow_faults.NoNewline = NO_NEWLINE.now
+words_of_message follow_faults.LineTooLong = TOO_LONG.now
+words_of_message follow_faults.NotAfter = NOT_AFTER.now
+words_of_message follow_faults.OutsideSpan = OUTSIDE_SPAN.now
+words_of_message follow_faults.ResolvedBack = RESOLVED_BACK.now
+
+-- what is wrong with a line, and which event can't be right
+abbrev pub line_text : ℕ → List ℕ → List ℕ
+line_text number words = LINE.now ++ (codes " " ++ (decimal number ++ (codes " " ++ words)))
+
+abbrev pub event_text : ℕ → List ℕ
+event_text position = EVENT.now ++ (codes " " ++ (decimal position ++ (codes " " ++ WRONG.now)))
+
+-- what a sentence says
+abbrev pub text_of : Sentence → List ℕ
+text_of (sentences.Words words) = words.now
+text_of (sentences.Line number words) = line_text number words.now
+text_of (sentences.Event position) = event_text position
+
+-- the word for a database that was not opened
+abbrev pub word_of_reason : OpenError → List ℕ
+word_of_reason reasons.SeatCount = SEATS.now
+word_of_reason reasons.RingSize = RING.now
+word_of_reason reasons.NoMemory = MEMORY.now
+
+-- what is told of an end: nothing where all was done
+abbrev pub sentence_of : End → Option (List ℕ)
+sentence_of ends.Done = None
+sentence_of (ends.Faulty line fault) = Some (line_text line (words_of_line fault))
+sentence_of (ends.No position) = Some (event_text position)
+sentence_of ends.Spent = Some SPENT.now
+sentence_of (ends.Open reason) = Some (word_of_reason reason)
+sentence_of ends.Input = Some INPUT.now
+sentence_of ends.Output = Some OUTPUT.now
+sentence_of ends.Memory = Some MEMORY.now
+sentence_of ends.Thread = Some THREAD.now
+
+-- the same of a follower's end
+abbrev pub sentence_of_follower : FollowEnd → Option (List ℕ)
+sentence_of_follower follow_ends.Done = None
+sentence_of_follower follow_ends.NoMessages = Some NO_MESSAGE.now
+sentence_of_follower (follow_ends.Fault line fault) = Some (line_text line (words_of_message fault))
+sentence_of_follower follow_ends.Spent = Some SPENT.now
+sentence_of_follower follow_ends.Input = Some INPUT.now
+sentence_of_follower follow_ends.Output = Some OUTPUT.now
+sentence_of_follower follow_ends.Memory = Some MEMORY.now

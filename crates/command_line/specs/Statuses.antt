@@ -1,0 +1,26 @@
+-- The exit status that each end leaves the caller of the program (this project).
+use Rattle.std.specs.Prelude.{ℕ, ◌≢◌}
+use Rattle.clap.specs.declared.error.kind.ErrorKind.{ErrorKind}
+use Rattle.clap.specs.declared.error.kind.ErrorKind.TheVariants as kinds
+use Rattle.jobs.specs.declared.ending.End.{End}
+use Rattle.jobs.specs.declared.ending.End.TheVariants as ends
+use Rattle.follow.specs.declared.ending.FollowEnd.{FollowEnd}
+use Rattle.follow.specs.declared.ending.FollowEnd.TheVariants as follow_ends
+
+-- 0 where all was done, 2 for a faulty line, 3 for what is not right, and 1 where the program failed
+abbrev pub status_of : End → ℕ
+status_of ends.Done = 0
+status_of (ends.Faulty line fault) = 2
+status_of (ends.No position) = 3
+status_of _ = 1
+
+-- the same of a follower, to which an input without a message is no failure
+abbrev pub status_of_follower : FollowEnd → ℕ
+status_of_follower follow_ends.Done = 0
+status_of_follower follow_ends.NoMessages = 0
+status_of_follower (follow_ends.Fault line fault) = 2
+status_of_follower _ = 1
+
+-- words were refused: clap answered them neither with help nor with the version
+abbrev pub IsRefusal : ErrorKind → Type 0
+IsRefusal kind = (kind ≢ kinds.DisplayHelp) × (kind ≢ kinds.DisplayVersion)
