@@ -1,6 +1,6 @@
 #!/usr/bin/env python3
-"""Tests of the script `refused-by-tests`: what of a test's end shows a refusal, how an edit is planted, and whole runs
-by an `rt` that only plays one."""
+"""Tests of the script `refused-by-tests`: what of a test's end shows a refusal, and what of a prover's, how an edit is
+planted, and whole runs by an `rt` that only plays one."""
 
 import importlib.machinery
 import importlib.util
@@ -15,16 +15,30 @@ import unittest
 
 TOP = os.path.dirname(os.path.dirname(os.path.abspath(__file__)))
 sys.dont_write_bytecode = True
+sys.path.insert(0, os.path.join(TOP, "tools"))
 loader = importlib.machinery.SourceFileLoader("refused_by_tests", os.path.join(TOP, "tools", "refused-by-tests"))
 script = importlib.util.module_from_spec(importlib.util.spec_from_loader("refused_by_tests", loader))
 loader.exec_module(script)
 
+import still_proved  # noqa: E402
+
+PARTS = ("refused-by-tests", "still_proved.py", "library.py", "body_edits.py", "side_by_side.py", "origin.py")
+GOAL = "note: `returns-clause-closed` of proofs/closing/Closing/release/Answers.antt must prove:"
 FAILS = "test tests::leases::leases_end ... FAILED\n"
 # Its test fails where the source says `wrong`, isn't run where it says `unread`, and takes long where it says `slow`.
-# It notes each source that it saw.
+# Its proof lacks an answer where the source says `refused`, and a name where it says `nameless`. It notes each source
+# that its test saw.
 PLAYER = """#!/usr/bin/env python3
 import os, sys, time
 text, notes = open("../low/src/lib.rt").read(), os.environ["NOTES"]
+if sys.argv[1] == "check":
+    if "refused" in text:
+        print("note: `returns-clause-one` of proofs/one/Answers.antt must prove:")
+    if "nameless" in text:
+        print("./proofs/one/Answers.antt:3:4: error: `two` is not in scope")
+    is_proved = "refused" not in text and "nameless" not in text
+    print("logic=proved functions=1" if is_proved else "logic=not-proved")
+    sys.exit(not is_proved)
 with open(notes, "a") as it:
     it.write(" ".join(text.split()) + chr(10))
 if "slow" in text:
@@ -49,6 +63,40 @@ class Refusals(unittest.TestCase):
         self.assertFalse(script.is_refused(2, "", "leases_end"))
 
 
+class Proofs(unittest.TestCase):
+    def test_only_a_verdict_shows_that_a_body_is_proved(self):
+        self.assertTrue(still_proved.is_proved(0, "fn a::b: proved\nlogic=proved functions=3 sum=1\n"))
+        self.assertTrue(still_proved.is_proved(0, "holes=0 only=2 proved=2\n"))
+        for status, told in ((1, "logic=proved"), (0, "only=2 proved=1"), (0, "only=0 proved=0"), (0, "")):
+            self.assertFalse(still_proved.is_proved(status, told))
+
+    def test_only_a_wrong_answer_or_a_goal_without_one_shows_a_refusal(self):
+        """A source that isn't read shows nothing, nor does a proof that misses a name."""
+        self.assertEqual(still_proved.refusal(1, GOAL + "\nlogic=not-proved\n"), GOAL)
+        self.assertEqual(still_proved.refusal(0, GOAL + "\nlogic=proved\n"), "")
+        self.assertEqual(still_proved.refusal(1, "src/lib.rt:1:1: error: no word\n" + GOAL), "")
+        lost = "./proofs/one/Answers.antt:3:4: error: `two` is not in scope\nlogic=not-proved\n"
+        self.assertEqual(still_proved.refusal(1, lost), "")
+
+    def test_the_changed_functions_are_found_where_they_are_all(self):
+        text = "fn one() {\n    1;\n}\n\nfn two() {\n    2;\n}\n\nconst THREE: u8 = 3;\n"
+        with tempfile.TemporaryDirectory() as room:
+            path = os.path.join(room, "lib.rt")
+            for old, new, found in (("1;", "4;", ["one"]), ("2;", "4;", ["two"]), ("= 3", "= 5", [])):
+                script.write(path, text.replace(old, new))
+                self.assertEqual(still_proved.functions_of({path: text}), found)
+
+    def test_libraries_are_laid_in_where_all_are_there(self):
+        with tempfile.TemporaryDirectory() as top, tempfile.TemporaryDirectory() as room:
+            script.write(os.path.join(room, "crates.txt"), "low:\nmiddle: low\nhigh: middle\n")
+            for name in ("low", "middle"):
+                self.assertFalse(still_proved.lay_in(top, room, "high"))
+                os.makedirs(os.path.join(top, "crates", name, "out", "rlib"))
+                script.write(os.path.join(top, "crates", name, "out", "rlib", "statements"), "one\n")
+            self.assertTrue(still_proved.lay_in(top, room, "high"))
+            self.assertTrue(os.path.exists(os.path.join(room, "crates/low/out/rlib/statements")))
+
+
 class Runs(unittest.TestCase):
     def setUp(self):
         self.room = tempfile.TemporaryDirectory()
@@ -62,7 +110,9 @@ class Runs(unittest.TestCase):
         self.write("crates/low_tests/lib.rt", "tests\n")
         self.write("../bin/rt", PLAYER)
         os.chmod(os.path.join(self.bin, "rt"), 0o755)
-        shutil.copy2(os.path.join(TOP, "tools", "refused-by-tests"), os.path.join(self.top, "tools"))
+        self.write("crates.txt", "low:\nlow_tests: low\n")
+        for name in PARTS:
+            shutil.copy2(os.path.join(TOP, "tools", name), os.path.join(self.top, "tools"))
 
     def tearDown(self):
         self.room.cleanup()
@@ -98,14 +148,20 @@ class Runs(unittest.TestCase):
 
     def test_each_is_tried_alone_after_the_test_as_it_stands(self):
         """What one edit turned is put back before the next."""
-        last = "refused-by-tests: 2 tried, 0 let through; without LIBRARY no leak was tried"
+        last = "refused-by-tests: 2 tried, 0 let through, 0 no longer proved; without LIBRARY no leak was tried"
         sources = ["one two", "wrong two", "one wrong"]
         self.assertEqual(self.ran(a="one wrong", b="two wrong"), (0, last, sources))
 
     def test_one_that_is_let_through_is_counted(self):
         """A body that its test passes is let through, and so is one that isn't compiled."""
-        last = "refused-by-tests: 3 tried, 2 let through; without LIBRARY no leak was tried"
+        last = "refused-by-tests: 3 tried, 2 let through, 0 no longer proved; without LIBRARY no leak was tried"
         self.assertEqual(self.ran(a="one fine", b="two unread", c="two wrong")[:2], (1, last))
+
+    def test_one_that_the_prover_refuses_is_no_longer_proved(self):
+        """Its test isn't run. One of which the prover tells nothing, because a name is gone, is let through."""
+        last = "refused-by-tests: 3 tried, 1 let through, 1 no longer proved; without LIBRARY no leak was tried"
+        sources = ["one two", "one wrong"]
+        self.assertEqual(self.ran(a="one refused", b="two nameless", c="two wrong"), (1, last, sources))
 
     def test_a_test_that_fails_as_it_stands_ends_the_run(self):
         self.write("crates/low/src/lib.rt", "one wrong\n")
