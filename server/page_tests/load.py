@@ -28,6 +28,11 @@ class Load:
     async def calls(self):
         return json.loads((await (await self.client.get("/holders")).text()).splitlines()[0])["calls"]
 
+    async def memory(self):
+        """Resident megabytes."""
+        lines = (await (await self.client.get("/metrics")).text()).splitlines()
+        return next(float(it.split()[1]) for it in lines if it.startswith("ripsawbean_memory_bytes ")) / 1e6
+
     async def stall(self):
         """A transaction that begins and doesn't end."""
         return await ask(self.sessions[-1], "begin\nput . stalled 1\n")
